@@ -399,6 +399,46 @@ fn writers_write_what_was_read() {
     );
 }
 
+/// Every sheet one byte away: the byte at each place left out, replaced, or one put before it.
+fn damaged(sheet: &[u8]) -> Vec<Vec<u8>> {
+    let mut sheets = Vec::new();
+    for at in 0..sheet.len() {
+        let (before, after) = (&sheet[..at], &sheet[at + 1..]);
+        sheets.push([before, after].concat());
+        for byte in *b"0123456789-,\nHFRTCVK$.ab\x80\xC3\xA9" {
+            sheets.push([before, &[byte], after].concat());
+            sheets.push([before, &[byte], &sheet[at..]].concat());
+        }
+    }
+    sheets
+}
+
+#[test]
+fn what_decodes_is_the_writing_of_its_tree() {
+    let schemas = damaged(b"H,0,2,1,1\nF,6,0,1,0,1,-,a\nF,7,1,0,1,0,2,\xC3\xA9\nF,1,0,0,0,0,-,\nF,11,0,0,0,1,0,b\nF,12,0,0,0,0,-,\n");
+    for sheet in &schemas {
+        if let Some(schema) = decode_schema(sheet) {
+            assert_eq!(&write_schema(&schema), sheet);
+        }
+    }
+    let rules = damaged(b"R,2,-,\xC3\xA9\nC,2,3,\nC,1,0,\nC,20,1,b\nV,5,2,$a\nC,18,2,\nV,4,2,-1\nV,1,0,\nC,8,0,\nV,7,2,\nK,0,\nV,2,0,\nK,1,a\nV,3,0,\nV,6,1,\nV,5,0,\n");
+    for sheet in &rules {
+        if let Some(rule) = decode_rule(sheet) {
+            assert_eq!(&write_rule(&rule), sheet);
+        }
+    }
+    let well_formed = schemas
+        .iter()
+        .filter(|sheet| decode_schema(sheet).is_some())
+        .count();
+    assert!(0 < well_formed && well_formed < schemas.len());
+    let well_formed = rules
+        .iter()
+        .filter(|sheet| decode_rule(sheet).is_some())
+        .count();
+    assert!(0 < well_formed && well_formed < rules.len());
+}
+
 #[test]
 fn entry_numbers_count_every_entry() {
     let sheet = format!(
