@@ -77,7 +77,7 @@ fn json_in_place_of_an_array_would_break_a_quantifier() {
 }
 
 /// Ways for a field `a` to be, the first being not there.
-const FIELDS: [&str; 14] = [
+const FIELDS: [&str; 15] = [
     "",
     "F,1,0,0,0,1,-,a\n",
     "F,6,0,0,0,1,-,a\n",
@@ -91,6 +91,7 @@ const FIELDS: [&str; 14] = [
     "F,7,1,0,1,1,-,a\nF,1,0,0,0,1,-,b\n",
     "F,8,0,0,0,1,-,a\n",
     "F,11,0,0,0,1,1,ab\n",
+    "F,11,0,0,0,1,1,ac\n",
     "F,1,0,0,1,1,-,a\nF,1,0,0,0,1,-,b\n",
 ];
 
