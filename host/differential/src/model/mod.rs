@@ -6,7 +6,7 @@ pub mod instant;
 pub mod number;
 mod paths;
 mod program;
-mod settings;
+pub mod settings;
 mod sheets;
 pub mod text;
 mod walks;
