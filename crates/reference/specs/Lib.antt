@@ -1,0 +1,4 @@
+pub mod Setting
+pub mod Path
+pub mod Walk
+pub mod Reference

@@ -1,0 +1,5 @@
+pub mod Ascii
+pub mod Reader
+pub mod Numeral
+pub mod Order
+pub mod Entries
