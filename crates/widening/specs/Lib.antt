@@ -1,0 +1,4 @@
+pub mod Widening
+pub mod Distinct
+pub mod WalkLaws
+pub mod ReferenceLaws
