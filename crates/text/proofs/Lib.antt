@@ -1,1 +1,5 @@
+pub mod Bools
+pub mod Bytes
+pub mod White
+pub mod Decode
 pub mod Samples
