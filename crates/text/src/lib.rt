@@ -3,7 +3,8 @@ ghost use mathlib.Core.Path.{_≡_};
 ghost use Prim.Native.Nat.{ℕ};
 ghost use Rattle.text.specs.Utf8.{between, isTail, isUtf8-2, codeOf2, isSecondOf3, isUtf8-3, codeOf3, isSecondOf4, isUtf8-4, codeOf4, isUtf8};
 ghost use Rattle.text.specs.WhiteSpace.{isWhiteSpace};
-ghost use Rattle.text.specs.Decodes.{Decodes};
+ghost use Rattle.text.specs.Blank.{isBlank, trim};
+ghost use Rattle.text.specs.Decodes.{Decodes, StartsAt, EndsAt};
 
 // What stands at an offset of a text.
 pub enum Decoded {
@@ -147,4 +148,91 @@ pub fn is_white_space(c: u32) -> bool
         | 0x3000 => true,
         _ => false,
     }
+}
+
+pub fn is_utf8(s: &[u8]) -> bool
+    ensures { λ r. ⌜ r ≡ isUtf8 (now (s .entry)) ⌝ }
+{
+    let mut at = 0;
+    while at < s.len() {
+        // Most text is ASCII: such a byte needs no call.
+        if s[at] <= 0x7F {
+            at += 1;
+            continue;
+        }
+        let Decoded::CodePoint(_, next) = decode_one(s, at) else {
+            return false;
+        };
+        at = next;
+    }
+    true
+}
+
+// Whether a text is empty or all White_Space.
+pub fn is_blank(s: &[u8]) -> bool
+    ensures { λ r. ⌜ r ≡ isBlank (now (s .entry)) ⌝ }
+{
+    let mut at = 0;
+    while at < s.len() {
+        let Decoded::CodePoint(c, next) = decode_one(s, at) else {
+            return false;
+        };
+        if is_white_space(c) {
+            at = next;
+        } else {
+            return false;
+        }
+    }
+    true
+}
+
+// Where the White_Space at the start of a text ends.
+fn start_of(s: &[u8]) -> usize
+    ensures { λ r. ⌜ StartsAt (now (s .entry)) r ⌝ }
+{
+    let mut at = 0;
+    while at < s.len() {
+        let Decoded::CodePoint(c, next) = decode_one(s, at) else {
+            return at;
+        };
+        if is_white_space(c) {
+            at = next;
+        } else {
+            return at;
+        }
+    }
+    at
+}
+
+// Where the White_Space at the end of a text begins: behind the last code point, or byte of none, that is no White_Space.
+fn end_of(s: &[u8]) -> usize
+    ensures { λ r. ⌜ EndsAt (now (s .entry)) r ⌝ }
+{
+    let mut at = 0;
+    let mut end = 0;
+    while at < s.len() {
+        match decode_one(s, at) {
+            Decoded::CodePoint(c, next) => {
+                at = next;
+                if is_white_space(c) {
+                    continue;
+                }
+            }
+            Decoded::Malformed => {
+                at += 1;
+            }
+        }
+        end = at;
+    }
+    end
+}
+
+// The text without the White_Space at both its ends.
+pub fn trim(s: &[u8]) -> &[u8]
+    ensures { λ r. ⌜ now r ≡ trim (now (s .entry)) ⌝ }
+{
+    let start = start_of(s);
+    let rest = &s[start..];
+    let end = end_of(rest);
+    &rest[..end]
 }
