@@ -5,4 +5,5 @@ pub mod Decode
 pub mod Shape
 pub mod Points
 pub mod Passes
+pub mod End
 pub mod Samples
