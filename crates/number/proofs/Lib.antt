@@ -1,1 +1,7 @@
+pub mod Decides
+pub mod Digits
 pub mod Examples
+pub mod Levels
+pub mod Numeral
+pub mod Reading
+pub mod Tens
