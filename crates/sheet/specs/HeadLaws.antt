@@ -62,17 +62,17 @@ unfolding argumentsHead writeArgumentsHead ascii
 argumentsHead-sound s o t e =
     ⊎-elim
     (λ e.
-      past _ _ _ e λ s₁ e₁ e.
-      past _ _ _ e λ s₂ e₂ e.
-      then-inv _ _ _ e λ n s₃ e₃ e.
-      let q = pure-inv _ _ e in
-      let r = item-exact 0 0 .sound _ _ _ e₃ in
-      let z : n ≡ 0 = omega arith in
-      rw (← (q .0), ← (q .1)) (rw (e₁, e₂, r .0, z, writeItem-zero), tt))
+    past _ _ _ e λ s₁ e₁ e.
+    past _ _ _ e λ s₂ e₂ e.
+    then-inv _ _ _ e λ n s₃ e₃ e.
+    let q = pure-inv _ _ e in
+    let r = item-exact 0 0 .sound _ _ _ e₃ in
+    let z : n ≡ 0 = omega arith in
+    rw (← (q .0), ← (q .1)) (rw (e₁, e₂, r .0, z, writeItem-zero), tt))
     (λ e.
-      step holderHead-exact _ _ e λ h s₁ e₁ h₁ e.
-      let q = pure-inv _ _ e in
-      rw (← (q .0), ← (q .1)) (e₁, h₁))
+    step holderHead-exact _ _ e λ h s₁ e₁ h₁ e.
+    let q = pure-inv _ _ e in
+    rw (← (q .0), ← (q .1)) (e₁, h₁))
     (either-inv _ _ _ e)
 
 argumentsHead-complete : (o : Option HolderHead) (t : List ℕ) → ArgumentsFit o → beginsWithoutDigit t ≡ true → Reads argumentsHead (writeArgumentsHead o ++ t) o t
@@ -83,7 +83,7 @@ argumentsHead-complete none t f d =
     (then-reads _ _ (byte-complete 45 _) (then-reads _ _ (rw writeItem-zero at (item-complete 0 0 0 t (omega arith, omega arith) d)) refl)))
 argumentsHead-complete (some h) t f d =
     either-second _ _ _ (holder-dash _ h t) (bind-reads _ _ (holderHead-complete h t f d) refl)
-  
+
 argumentsHead-exact : Exact argumentsHead writeArgumentsHead ArgumentsFit beginsWithoutDigit
 argumentsHead-exact = record { sound = argumentsHead-sound; complete = argumentsHead-complete }
 
@@ -152,9 +152,10 @@ fieldHead-sound s h t e =
     let r₇ = textLength-sound _ _ _ e₇ in
     let r₉ = text-sound _ _ _ _ e₉ in
     let r₁₀ = optionalText-sound _ _ _ _ (r₇ .1) e₁₀ in
-    rw (← (q .0), ← (q .1))
-    (rw (fieldHead-parts, r₉ .1, r₁₀ .1, e₁, e₂, e₃, e₄, e₅, e₆, r₇ .0, e₈, r₉ .0, r₁₀ .0, e₁₁),
-      record { kind = h₂; count = h₅ .1; name = record { short = rw (r₉ .1) (h₆ .1); utf8 = r₉ .2 }; tag = r₁₀ .2 })
+    rw (← (q .0), ← (q .1)) (
+      rw (fieldHead-parts, r₉ .1, r₁₀ .1, e₁, e₂, e₃, e₄, e₅, e₆, r₇ .0, e₈, r₉ .0, r₁₀ .0, e₁₁),
+      record { kind = h₂; count = h₅ .1; name = record { short = rw (r₉ .1) (h₆ .1); utf8 = r₉ .2 }; tag = r₁₀ .2 },
+    )
 
 fieldHead-complete : (h : FieldHead) (t : List ℕ) → FieldHeadFits h → anything t ≡ true → Reads fieldHead (writeFieldHead h ++ t) h t
 unfolding fieldHead writeEnd ascii pure

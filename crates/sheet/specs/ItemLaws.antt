@@ -36,8 +36,8 @@ byte-sound b [] a t e = absurd (Option·none-ne-some _ e)
 byte-sound b (x ∷ s) a t e =
     by-test (eqb x b)
     (λ q.
-      rw (eqb-true x b q)
-      (ap (λ (r : Unit {0} × List ℕ). b ∷ r .1) (Option·some-injective (tt, s) (a, t) (rw q at e))))
+    rw (eqb-true x b q)
+    (ap (λ (r : Unit {0} × List ℕ). b ∷ r .1) (Option·some-injective (tt, s) (a, t) (rw q at e))))
     (λ q. absurd (Option·none-ne-some (a, t) (rw q at e)))
 
 pub byte-complete : (b : ℕ) (t : List ℕ) → Reads (byte b) (b ∷ t) tt t
@@ -106,10 +106,10 @@ unfolding bytes
 bytes-sound n s x t e =
     by-test (leb n (length s))
     (λ q.
-      let r = Option·some-injective (take n s, drop n s) (x, t) (rw q at e) in
-      let q₀ = ap (λ (r : List ℕ × List ℕ). r .0) r in
-      let q₁ = ap (λ (r : List ℕ × List ℕ). r .1) r in
-      rw (← q₀, ← q₁) (sym (take-append-drop n s), length-take-le n s (leb-true n (length s) q)))
+    let r = Option·some-injective (take n s, drop n s) (x, t) (rw q at e) in
+    let q₀ = ap (λ (r : List ℕ × List ℕ). r .0) r in
+    let q₁ = ap (λ (r : List ℕ × List ℕ). r .1) r in
+    rw (← q₀, ← q₁) (sym (take-append-drop n s), length-take-le n s (leb-true n (length s) q)))
     (λ q. absurd (Option·none-ne-some (x, t) (rw q at e)))
 
 bytes-complete : (x t : List ℕ) → Reads (bytes (length x)) (x ++ t) x t
@@ -155,14 +155,14 @@ unfolding textLength writeLengthOf ascii
 textLength-sound s o t e =
     ⊎-elim
     (λ e.
-      past _ _ _ e λ s₁ e₁ e.
-      past _ _ _ e λ s₂ e₂ e.
-      let q = pure-inv _ _ e in
-      rw (← (q .0), ← (q .1)) (rw (e₁, e₂), tt))
+    past _ _ _ e λ s₁ e₁ e.
+    past _ _ _ e λ s₂ e₂ e.
+    let q = pure-inv _ _ e in
+    rw (← (q .0), ← (q .1)) (rw (e₁, e₂), tt))
     (λ e.
-      step (item-exact 0 maxText) _ _ e λ n s₁ e₁ h e.
-      let q = pure-inv _ _ e in
-      rw (← (q .0), ← (q .1)) (e₁, h .1))
+    step (item-exact 0 maxText) _ _ e λ n s₁ e₁ h e.
+    let q = pure-inv _ _ e in
+    rw (← (q .0), ← (q .1)) (e₁, h .1))
     (either-inv _ _ _ e)
 
 pub textLength-complete : (x : Option (List ℕ)) (t : List ℕ) → OptionWithin x → beginsWithoutDigit t ≡ true

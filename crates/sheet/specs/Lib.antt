@@ -10,3 +10,4 @@ pub mod NumeralLaws
 pub mod OrderLaws
 pub mod ItemLaws
 pub mod HeadLaws
+pub mod RuleHeadLaws

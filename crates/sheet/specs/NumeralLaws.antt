@@ -35,10 +35,10 @@ decimalIn-turns (suc t) zero n behind h k = absurd (omega arith)
 decimalIn-turns (suc t) (suc u) n behind h k =
     by-test (ltb n 10) (λ e. decimalIn-small t n behind e ∙ sym (decimalIn-small u n behind e))
     (λ e.
-      let l = ltb-false n 10 e in
-      decimalIn-large t n behind e
-      ∙ decimalIn-turns t u (n / 10) ((48 + n % 10) ∷ behind) (omega arith) (omega arith)
-      ∙ sym (decimalIn-large u n behind e))
+    let l = ltb-false n 10 e in
+    decimalIn-large t n behind e
+    ∙ decimalIn-turns t u (n / 10) ((48 + n % 10) ∷ behind) (omega arith) (omega arith)
+    ∙ sym (decimalIn-large u n behind e))
 
 decimalIn-append : (turns n : ℕ) (b t : List ℕ) → decimalIn turns n (b ++ t) ≡ decimalIn turns n b ++ t
 unfolding decimalIn
@@ -77,11 +77,11 @@ digits-sound v [] n t h e = ap (λ (r : ℕ × List ℕ). decimalOf (r .0) ++ r 
 digits-sound v (b ∷ s) n t h e =
     by-test (isDigit b)
     (λ q.
-      let r = isDigit-range b q in
-      let d : 48 + (b - 48) ≡ b = omega arith in
-      let more : digits (v * 10 + (b - 48)) s ≡ (n, t) = rw q at e in
-      let l : decimalOf (v * 10 + (b - 48)) ≡ decimalOf v ++ b ∷ [] = rw d at (decimalOf-digit v (b - 48) h (omega arith)) in
-      sym (append-assoc (decimalOf v) (b ∷ []) s) ∙ rw l at (digits-sound (v * 10 + (b - 48)) s n t (omega arith) more))
+    let r = isDigit-range b q in
+    let d : 48 + (b - 48) ≡ b = omega arith in
+    let more : digits (v * 10 + (b - 48)) s ≡ (n, t) = rw q at e in
+    let l : decimalOf (v * 10 + (b - 48)) ≡ decimalOf v ++ b ∷ [] = rw d at (decimalOf-digit v (b - 48) h (omega arith)) in
+    sym (append-assoc (decimalOf v) (b ∷ []) s) ∙ rw l at (digits-sound (v * 10 + (b - 48)) s n t (omega arith) more))
     (λ q. ap (λ (r : ℕ × List ℕ). decimalOf (r .0) ++ r .1) (rw q at e))
 
 pub decimal-sound : (s : List ℕ) (n : ℕ) (t : List ℕ) → Reads decimal s n t → s ≡ decimalOf n ++ t
@@ -90,18 +90,18 @@ decimal-sound [] n t e = absurd (Option·none-ne-some _ e)
 decimal-sound (b ∷ s) n t e =
     by-test (eqb b 48)
     (λ q.
-      let r = Option·some-injective (0, s) (n, t) (rw q at e) in
-      rw (eqb-true b 48 q) (rw decimalOf-zero at (ap (λ (r : ℕ × List ℕ). decimalOf (r .0) ++ r .1) r)))
+    let r = Option·some-injective (0, s) (n, t) (rw q at e) in
+    rw (eqb-true b 48 q) (rw decimalOf-zero at (ap (λ (r : ℕ × List ℕ). decimalOf (r .0) ++ r .1) r)))
     (λ q.
-      by-test (isDigit b)
-      (λ d.
-        let h = isDigit-range b d in
-        let k : (b ≡ 48) → ⊥ = eqb-false b 48 q in
-        let r = Option·some-injective (digits (b - 48) s) (n, t) (rw (q, d) at e) in
-        let l : 48 + (b - 48) ≡ b = omega arith in
-        let one : decimalOf (b - 48) ≡ b ∷ [] = rw l at (decimalOf-one (b - 48) (omega arith)) in
-        rw one at (digits-sound (b - 48) s n t (omega arith) r))
-      (λ d. absurd (Option·none-ne-some (n, t) (rw (q, d) at e))))
+    by-test (isDigit b)
+    (λ d.
+    let h = isDigit-range b d in
+    let k : (b ≡ 48) → ⊥ = eqb-false b 48 q in
+    let r = Option·some-injective (digits (b - 48) s) (n, t) (rw (q, d) at e) in
+    let l : 48 + (b - 48) ≡ b = omega arith in
+    let one : decimalOf (b - 48) ≡ b ∷ [] = rw l at (decimalOf-one (b - 48) (omega arith)) in
+    rw one at (digits-sound (b - 48) s n t (omega arith) r))
+    (λ d. absurd (Option·none-ne-some (n, t) (rw (q, d) at e))))
 
 -- what a written number puts before a text is read as the number
 decimal-in : (turns n : ℕ) (behind : List ℕ) → 0 < n → n < turns → decimal (decimalIn turns n behind) ≡ some (digits n behind)
@@ -110,13 +110,13 @@ decimal-in zero n behind h k = absurd (omega arith)
 decimal-in (suc turns) n behind h k =
     by-test (ltb n 10)
     (λ e.
-      let l = ltb-true n 10 e in
-      let d : 48 + n - 48 ≡ n = omega arith in
-      rw (decimalIn-small turns n behind e, ne-eqb (48 + n) 48 (λ q. omega arith), isDigit-of n l, d))
+    let l = ltb-true n 10 e in
+    let d : 48 + n - 48 ≡ n = omega arith in
+    rw (decimalIn-small turns n behind e, ne-eqb (48 + n) 48 (λ q. omega arith), isDigit-of n l, d))
     (λ e.
-      let l = ltb-false n 10 e in
-      let d : n / 10 * 10 + (48 + n % 10 - 48) ≡ n = omega arith in
-      rw (decimalIn-large turns n behind e, decimal-in turns (n / 10) ((48 + n % 10) ∷ behind) (omega arith) (omega arith), isDigit-of (n % 10) (omega arith), d))
+    let l = ltb-false n 10 e in
+    let d : n / 10 * 10 + (48 + n % 10 - 48) ≡ n = omega arith in
+    rw (decimalIn-large turns n behind e, decimal-in turns (n / 10) ((48 + n % 10) ∷ behind) (omega arith) (omega arith), isDigit-of (n % 10) (omega arith), d))
 
 digits-end : (n : ℕ) (t : List ℕ) → beginsWithoutDigit t ≡ true → digits n t ≡ (n, t)
 unfolding digits beginsWithoutDigit
@@ -135,9 +135,9 @@ decimalIn-begins zero n behind h = absurd (omega arith)
 decimalIn-begins (suc turns) n behind h =
     by-test (ltb n 10) (λ e. (48 + n, behind, decimalIn-small turns n behind e, isDigit-of n (ltb-true n 10 e)))
     (λ e.
-      let l = ltb-false n 10 e in
-      let r = decimalIn-begins turns (n / 10) ((48 + n % 10) ∷ behind) (omega arith) in
-      (r .0, r .1, decimalIn-large turns n behind e ∙ r .2, r .3))
+    let l = ltb-false n 10 e in
+    let r = decimalIn-begins turns (n / 10) ((48 + n % 10) ∷ behind) (omega arith) in
+    (r .0, r .1, decimalIn-large turns n behind e ∙ r .2, r .3))
 
 pub decimalOf-begins : (n : ℕ) → (d : ℕ) × (s : List ℕ) × (decimalOf n ≡ d ∷ s) × (isDigit d ≡ true)
 unfolding decimalOf

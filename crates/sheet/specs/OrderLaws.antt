@@ -38,8 +38,8 @@ unfolding precedes
 precedes-parts a b s t e =
     by-test (ltb a b) (λ q. inl (ltb-true a b q))
     (λ q.
-      let h = and-eq-true-iff (eqb a b) (precedes s t) .0 (rw q at e) in
-      inr (eqb-true a b (h .0), h .1))
+    let h = and-eq-true-iff (eqb a b) (precedes s t) .0 (rw q at e) in
+    inr (eqb-true a b (h .0), h .1))
 
 precedes-first : (a b : ℕ) (s t : List ℕ) → a < b → precedes (a ∷ s) (b ∷ t) ≡ true
 unfolding precedes
