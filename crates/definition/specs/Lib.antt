@@ -5,3 +5,4 @@ pub mod Write
 pub mod Within
 pub mod TreeLaws
 pub mod ValueLaws
+pub mod ConditionLaws

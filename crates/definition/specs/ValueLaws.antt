@@ -35,10 +35,10 @@ pub record PairsGood (depth n : ℕ) (before : Option Text) (next : ℕ) (ps : P
   pub fits : PairsFit before ps
   pub numbers : PairsFrom next ps
 
-abbrev ValueLaw : ℕ → Reader Ahead Value → Type 0
+abbrev pub ValueLaw : ℕ → Reader Ahead Value → Type 0
 ValueLaw depth p = TreeLaw p writeValue valueEntries (λ v. 1) (ValueGood depth)
 
-value-takes : (v : Value) → 1 ≤ valueEntries v
+pub value-takes : (v : Value) → 1 ≤ valueEntries v
 unfolding valueEntries
 value-takes (constant e type) = omega arith
 value-takes (number e digits) = omega arith
@@ -199,20 +199,20 @@ module _ (depth : ℕ) (p : Reader Ahead Value) (law : ValueLaw depth p) where
       (record { count = refl; nesting = omega arith; fits = g .fits; numbers = rw (m₂ .next, m₁ .next) (g .numbers .1) }))
       (rw (g .numbers .0))))
 
-value-refuses : (v : Value) → 1 ≤ valueNesting v
+value-nests : (v : Value) → 1 ≤ valueNesting v
 unfolding valueNesting
-value-refuses (constant e type) = omega arith
-value-refuses (number e digits) = omega arith
-value-refuses (string e text) = omega arith
-value-refuses (array e values) = omega arith
-value-refuses (object e pairs) = omega arith
+value-nests (constant e type) = omega arith
+value-nests (number e digits) = omega arith
+value-nests (string e text) = omega arith
+value-nests (array e values) = omega arith
+value-nests (object e pairs) = omega arith
 
 pub value-law : (depth : ℕ) → ValueLaw depth (valueIn depth)
 unfolding valueIn
 value-law zero =
     record {
       sound = λ a v b e. absurd (refuse-inv _ e);
-      complete = λ a v b l m g. absurd (omega (arith, value-refuses v));
+      complete = λ a v b l m g. absurd (omega (arith, value-nests v));
       announced-first = value-takes;
     }
 value-law (suc depth) =
