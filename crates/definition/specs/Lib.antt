@@ -6,3 +6,4 @@ pub mod Within
 pub mod TreeLaws
 pub mod ValueLaws
 pub mod ConditionLaws
+pub mod FieldLaws
