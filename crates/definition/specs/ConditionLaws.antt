@@ -44,7 +44,7 @@ operand-law =
       announced-first = value-takes;
     }
 
-condition-takes : (c : Condition) → 1 ≤ conditionEntries c
+pub condition-takes : (c : Condition) → 1 ≤ conditionEntries c
 unfolding conditionEntries
 condition-takes (literal e truth) = omega arith
 condition-takes (many e op children) = omega arith

@@ -56,12 +56,12 @@ unfolding hasItems toCount itemsEntries
 items-take absent = omega arith
 items-take (element f) = field-takes f
 
-members-take : (ms : Members) → memberCount ms ≤ membersEntries ms
+pub members-take : (ms : Members) → memberCount ms ≤ membersEntries ms
 unfolding memberCount membersEntries
 members-take noMembers = omega arith
 members-take (member name f others) = omega (arith, field-takes f, members-take others)
 
-length-zero : (t : List ℕ) → length t ≡ 0 → t ≡ []
+pub length-zero : (t : List ℕ) → length t ≡ 0 → t ≡ []
 length-zero [] e = refl
 length-zero (b ∷ t) e = absurd (omega arith)
 

@@ -7,3 +7,5 @@ pub mod TreeLaws
 pub mod ValueLaws
 pub mod ConditionLaws
 pub mod FieldLaws
+pub mod SheetLaws
+pub mod RoundTrip
