@@ -2,31 +2,20 @@
 use Prim.Native.Nat.{ℕ, zero, suc, _+_, _*_, _<_, _≤_, _^_}
 use mathlib.Core.Path.{_≡_, refl, sym, ap, subst₂, _∙_}
 use mathlib.Core.Bool.{Bool, true, false, cond}
-use mathlib.Core.List.{List, [], _∷_}
+use mathlib.Core.List.{List, [], _∷_, _++_, map}
 use native.Mathlib.Omega.{arith}
 use native.Mathlib.Nat.{add-zero, one-mul, mul-assoc, mul-right-comm, le-trans, le-of-eq, lt-of-lt-of-le, mul-le-mul-right, mul-lt-mul-of-pos-right, pow-le-pow-right, not-suc-le-zero}
 use lib.ListN.{length, drop}
 use lib.Pow.{pow-add}
-use lib.Dec.{eqb, ltb, lit≤, lit<}
+use lib.Dec.{eqb, ltb, lit≤}
 use borrow.Author.Tests.{ltb-true, ltb-false, eqb-false, lt-ltb, le-ltb}
 use Rattle.number.specs.Bound.{bound}
-use Rattle.number.specs.Finite.{numeralFrom, numeral, limit, isBelow, isBelowAt}
-use Rattle.number.specs.Place.{zeros, significant, order, levelOf, isLess, decided, byPlace}
+use Rattle.number.specs.Grammar.{Number}
+use Rattle.number.specs.Finite.{digit, numeralFrom, numeral, value, limit, isBelow, isBelowAt, finite}
+use Rattle.number.specs.FirstDigit.{zeros, significant, order, levelOf, isLess, decided, byPlace, byFirstDigit}
+use Rattle.number.proofs.Table.{bound-value, bound-tens, bound-length}
 use Rattle.number.proofs.Levels.{order-below, order-above, order-even}
 use Rattle.number.proofs.Numeral.{tens, tens-tail, ten-pos, numeral-least, numeral-most, numeral-significant, Says, says-test, says-times, says-over, less-says}
-
--- the table's digits write the limit: computed
-bound-value : numeral bound ≡ limit
-unfolding bound numeral numeralFrom
-bound-value = refl
-
-bound-tens : tens bound ≡ true
-unfolding bound tens
-bound-tens = refl
-
-bound-length : length bound ≡ 309
-unfolding bound
-bound-length = refl
 
 below-positive : (m a b : ℕ) → 0 < m → isBelow m a b ≡ ltb (m * 10 ^ a) (limit * 10 ^ b)
 unfolding isBelow
@@ -124,8 +113,10 @@ by-place-row true [] f e h t = refl
 by-place-row false (d ∷ ds) f e h t = by-first d ds h t e f
 by-place-row true (d ∷ ds) f e h t = ap (λ (n : ℕ). decided (order n (309 + (f + e))) (isLess (d ∷ ds) bound)) (sym (add-zero (suc (length ds)))) ∙ by-first d ds h t 0 (f + e)
 
-pub by-place-right : (lowered : Bool) (ds : List ℕ) (f e : ℕ) → tens ds ≡ true → byPlace lowered (significant ds) f e ≡ isBelowAt lowered (numeral ds) f e
-unfolding significant
-by-place-right lowered ds f e t =
-    by-place-row lowered (significant ds) f e (leads-significant ds) (tens-drop (zeros ds) ds t)
-    ∙ ap (λ (m : ℕ). isBelowAt lowered m f e) (numeral-significant ds)
+-- a number whose digits are digits is finite as the place of its first nonzero one decides
+pub finite-decided : (n : Number) → tens (map digit (n .whole ++ n .fraction)) ≡ true → byFirstDigit (n .lowered) (n .whole) (n .fraction) (n .exponent) ≡ finite n
+unfolding significant finite value
+finite-decided n t =
+    let ds = map digit (n .whole ++ n .fraction) in
+    by-place-row (n .lowered) (significant ds) (length (n .fraction)) (value (n .exponent)) (leads-significant ds) (tens-drop (zeros ds) ds t)
+    ∙ ap (λ (m : ℕ). isBelowAt (n .lowered) m (length (n .fraction)) (value (n .exponent))) (numeral-significant ds)

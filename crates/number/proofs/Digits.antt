@@ -1,17 +1,17 @@
 -- Laws of rows of digits at a place: each way through the code's loops, as an equation of what the loop computes.
-use Prim.Native.Nat.{ℕ, zero, suc, _+_, _*_, _-_, _<_, _≤_, zero-le, suc-le-suc}
-use mathlib.Core.Path.{_≡_, refl, sym, ap, ap₂, _∙_}
+use Prim.Native.Nat.{ℕ, zero, suc, _+_, _*_, _-_, _<_, _≤_}
+use mathlib.Core.Path.{_≡_, refl, sym, ap, _∙_}
 use mathlib.Core.Bool.{Bool, true, false, cond}
-use mathlib.Core.List.{List, [], _∷_, _++_, map, map-append, append-nil}
+use mathlib.Core.List.{List, [], _∷_, _++_, map, map-append}
 use native.Mathlib.Omega.{arith}
 use native.Mathlib.Nat.{add-zero, le-of-suc-le-suc, not-suc-le-zero}
 use native.Mathlib.Numerals.{add-one}
-use lib.ListN.{length, take, drop, getD, length-map, List·getD-map, List·getD-append, List·getD-eq-default, drop-of-length-le, length-append, length-drop}
-use lib.Seq.{drop-cons, drop-drop, getD-drop, getD-append-add, drop-append-le, drop-append-add, take-all}
-use lib.Dec.{eqb, ltb}
+use lib.ListN.{length, drop, getD, length-map, List·getD-map, List·getD-append, List·getD-eq-default, drop-of-length-le, length-append}
+use lib.Seq.{drop-cons, drop-drop, getD-drop, getD-append-add, drop-append-le, drop-append-add}
+use lib.Dec.{eqb}
 use borrow.Author.Tests.{lt-ltb, le-ltb, eq-eqb, ne-eqb}
 use Rattle.number.specs.Finite.{digit, numeralFrom}
-use Rattle.number.specs.Place.{zeros, significant, isLess}
+use Rattle.number.specs.FirstDigit.{zeros, significant, isLess}
 
 pub map-drop : (f : ℕ → ℕ) (n : ℕ) (s : List ℕ) → map f (drop n s) ≡ drop n (map f s)
 map-drop f zero s = refl

@@ -1,7 +1,7 @@
 -- Laws of the place of the first nonzero digit against 10^308.
 use Prim.Native.Nat.{ℕ, _+_, _-_, _<_, _≤_, _^_, min}
 use mathlib.Core.Path.{_≡_, refl, sym, ap, _∙_}
-use mathlib.Core.Bool.{Bool, true, false, cond}
+use mathlib.Core.Bool.{Bool, true, false}
 use mathlib.Core.List.{List, [], _∷_, _++_, map, append-nil}
 use native.Mathlib.Omega.{arith}
 use native.Mathlib.Nat.{not-suc-le-zero}
@@ -11,7 +11,7 @@ use lib.Dec.{ltb}
 use borrow.Author.Tests.{ltb-true, ltb-false, lt-ltb, le-ltb}
 use Rattle.number.specs.Bound.{bound}
 use Rattle.number.specs.Finite.{digit}
-use Rattle.number.specs.Place.{zeros, significant, order, levelOf, isLess, decided, byPlace}
+use Rattle.number.specs.FirstDigit.{largest, zeros, significant, order, levelOf, isLess, decided, byPlace}
 use Rattle.number.specs.declared.magnitude.Level.the-variants.{Below, Even, Above}
 use Rattle.number.proofs.Digits.{map-drop, significant-whole, significant-fraction}
 
@@ -57,9 +57,6 @@ level-shift : (lowered : Bool) (n f m g e : ℕ) → n + g ≡ m + f → levelOf
 unfolding levelOf
 level-shift false n f m g e h = order-same (n + e) (309 + f) (m + e) (309 + g) (omega (arith, h))
 level-shift true n f m g e h = order-same n (309 + (f + e)) m (309 + (g + e)) (omega (arith, h))
-
-abbrev largest : ℕ
-largest = 10000000000000000000
 
 -- an exponent past the largest one decides alone, whatever its digits
 level-large : (lowered : Bool) (n f e : ℕ) → n + f < 2 ^ 63 → largest < e → levelOf lowered n f largest ≡ levelOf lowered n f e

@@ -4,4 +4,5 @@ pub mod Examples
 pub mod Levels
 pub mod Numeral
 pub mod Reading
+pub mod Table
 pub mod Tens

@@ -1,15 +1,15 @@
 -- What rows of digits write: bounds by their length, and the digit by digit comparison of two rows.
-use Prim.Native.Nat.{ℕ, zero, suc, _+_, _*_, _<_, _≤_, _^_}
+use Prim.Native.Nat.{ℕ, suc, _+_, _*_, _<_, _≤_, _^_}
 use mathlib.Core.Path.{_≡_, refl, sym, ap, _∙_}
 use mathlib.Core.Bool.{Bool, true, false, cond, _&&_, false≢true}
-use mathlib.Core.List.{List, [], _∷_, _++_, map}
+use mathlib.Core.List.{List, [], _∷_}
 use native.Mathlib.Omega.{arith}
-use native.Mathlib.Nat.{mul-one, mul-assoc, mul-right-comm, le-trans, le-of-lt, lt-of-lt-of-le, lt-of-le-of-lt, mul-le-mul-right, mul-lt-mul-of-pos-right, le-of-mul-le-mul-right, lt-of-mul-lt-mul-right, pow-succ', one-le-pow}
-use lib.ListN.{length, drop, getD}
+use native.Mathlib.Nat.{mul-one, mul-assoc, mul-right-comm, le-trans, le-of-lt, lt-of-lt-of-le, mul-le-mul-right, mul-lt-mul-of-pos-right, le-of-mul-le-mul-right, lt-of-mul-lt-mul-right, pow-succ', one-le-pow}
+use lib.ListN.{length, drop}
 use lib.Dec.{eqb, ltb}
-use borrow.Author.Tests.{ltb-true, ltb-false, eqb-true, eqb-false, lt-ltb, le-ltb}
-use Rattle.number.specs.Finite.{digit, numeralFrom, numeral}
-use Rattle.number.specs.Place.{zeros, significant, isLess}
+use borrow.Author.Tests.{ltb-true, ltb-false, eqb-true, lt-ltb, le-ltb}
+use Rattle.number.specs.Finite.{numeralFrom, numeral}
+use Rattle.number.specs.FirstDigit.{zeros, significant, isLess}
 
 -- every digit is below ten
 unfoldable pub tens : List ℕ → Bool

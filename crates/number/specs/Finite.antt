@@ -1,4 +1,4 @@
--- Which numbers are finite: those whose magnitude is below 2^1024 - 2^970 (docs/FORMAT.md, "Numbers"). Digits, fraction length and exponent
+-- Which numbers are finite: those whose magnitude is below 2^1024 - 2^970 (docs/FORMAT.md). Digits, fraction length and exponent
 -- are numbers without a bound, so that every number text has its answer. Text that is no number is not finite.
 use Prim.Native.Nat.{ℕ, zero, suc, _+_, _*_, _-_, _^_}
 use mathlib.Core.Bool.{Bool, true, false}

@@ -3,10 +3,10 @@ use crate::bound::BOUND;
 ghost use mathlib.Core.Path.{_≡_};
 ghost use mathlib.Core.List.{map, _++_};
 ghost use Prim.Native.Nat.{_+_, _<_, _≤_, _^_, min};
-ghost use lib.ListN.{length, getD};
+ghost use lib.ListN.{getD};
 ghost use Rattle.number.specs.Bound.{bound};
 ghost use Rattle.number.specs.Finite.{digit, value};
-ghost use Rattle.number.specs.Place.{zeros, significant, order, levelOf, isLess, decided, byPlace};
+ghost use Rattle.number.specs.FirstDigit.{largest, zeros, order, levelOf, isLess, decided, byFirstDigit};
 
 // A place against 10^308, the place of the bound's first digit.
 pub enum Level {
@@ -26,7 +26,7 @@ fn digit(b: u8) -> u8
 
 // The number that `s` writes, or LARGEST where it is larger.
 fn capped(s: &[u8]) -> usize
-    ensures { λ r. ⌜ r ≡ min (value (now (s .entry))) 10000000000000000000 ⌝ }
+    ensures { λ r. ⌜ r ≡ min (value (now (s .entry))) largest ⌝ }
 {
     let mut v: usize = 0;
     let mut i = 0;
@@ -70,7 +70,7 @@ fn order(a: usize, b: usize) -> Level
 
 // The first nonzero digit is the first of `places` before the point, or stands behind it after `zeros` zeros.
 fn level_of(places: usize, zeros: usize, lowered: bool, exponent: usize) -> Level
-    requires { ⌜ (places + zeros < 2 ^ 63) × (exponent ≤ 10000000000000000000) ⌝ }
+    requires { ⌜ (places + zeros < 2 ^ 63) × (exponent ≤ largest) ⌝ }
     ensures { λ r. ⌜ r ≡ levelOf lowered places zeros exponent ⌝ }
 {
     if lowered {
@@ -130,7 +130,7 @@ fn by_level(l: Level, high: &[u8], low: &[u8]) -> bool
 
 // Whether the number with these digits before and behind the point, and this exponent, is below the bound.
 pub fn is_below(whole: &[u8], fraction: &[u8], lowered: bool, exponent: &[u8]) -> bool
-    ensures { λ r. ⌜ r ≡ byPlace lowered (significant (map digit (now (whole .entry) ++ now (fraction .entry)))) (length (now (fraction .entry))) (value (now (exponent .entry))) ⌝ }
+    ensures { λ r. ⌜ r ≡ byFirstDigit lowered (now (whole .entry)) (now (fraction .entry)) (now (exponent .entry)) ⌝ }
 {
     let e = capped(exponent);
     let w = zeros(whole);

@@ -1,44 +1,39 @@
-use native.Mathlib.Omega.{arith}
+-- `number::magnitude::digit_at` meets its contract: the place lies in the first row, in the second, or behind both.
+use mathlib.Core.Path.{_∙_}
 use borrow.Author.Needs.{needs}
-use mathlib.Core.Path.{_≡_, refl, _∙_, sym}
 use Rattle.number.proofs.Digits.{digit-high, digit-low, digit-out}
 use Rattle.number.proofs.magnitude.digit_at.Statement.{statement}
 use Rattle.number.proofs.magnitude.digit_at.Tie as tie
-use Rattle.number.proofs.magnitude.digit_at.Reads as reads
-use Rattle.number.proofs.magnitude.digit_at.Lts as lts
-use Rattle.number.proofs.magnitude.digit.Reads as digit-reads
 
--- src/magnitude.rt:102:22
 shared-slice-read-digit : tie.Need-shared-slice-read-digit
 shared-slice-read-digit c = search needs
 
--- src/magnitude.rt:102:9
 digit-requires : tie.Need-digit-requires
 digit-requires c κs = search needs
 
--- src/magnitude.rt:102:9
 returns : tie.Need-returns
-returns c = let a = c .before .before .before .before .before .args in c .digit .ensures ∙ digit-high (a .high .now) (a .low .now) (a .i) (c .before .before .if1 .taken)
+returns c =
+    let a = c .before .before .before .before .before .args in
+    c .digit .ensures ∙ digit-high (a .high .now) (a .low .now) (a .i) (c .before .before .if1 .taken)
 
--- src/magnitude.rt:104:13
 sub-j : tie.Need-sub-j
 sub-j c = search needs
 
--- src/magnitude.rt:106:22
 shared-slice-read-digit-2 : tie.Need-shared-slice-read-digit-2
 shared-slice-read-digit-2 c = search needs
 
--- src/magnitude.rt:106:9
 digit-requires-2 : tie.Need-digit-requires-2
 digit-requires-2 c κs = search needs
 
--- src/magnitude.rt:106:9
 returns-2 : tie.Need-returns-2
-returns-2 c = let a = c .before .before .before .before .before .before .args in c .digit2 .ensures ∙ digit-low (a .high .now) (a .low .now) (a .i) (c .before .before .before .if1 .left)
+returns-2 c =
+    let a = c .before .before .before .before .before .before .args in
+    c .digit2 .ensures ∙ digit-low (a .high .now) (a .low .now) (a .i) (c .before .before .before .if1 .left)
 
--- src/magnitude.rt:98:1
 returns-3 : tie.Need-returns-3
-returns-3 c = let a = c .before .before .before .before .args in digit-out (a .high .now) (a .low .now) (a .i) (c .before .if1 .left) (c .if2 .left)
+returns-3 c =
+    let a = c .before .before .before .before .args in
+    digit-out (a .high .now) (a .low .now) (a .i) (c .before .if1 .left) (c .if2 .left)
 
 pub digit-at-spec : {M : Type 1} → statement M
 digit-at-spec =

@@ -1,83 +1,67 @@
+-- `number::magnitude::is_below` meets its contract: one law for each way: the first nonzero digit stands before the point, behind it, or nowhere.
 use native.Mathlib.Omega.{arith}
 use borrow.Author.Needs.{needs}
 use Rattle.number.specs.Finite.{value}
 use Rattle.number.proofs.Levels.{below-whole, below-fraction, below-zero}
 use Rattle.number.proofs.magnitude.is_below.Statement.{statement}
 use Rattle.number.proofs.magnitude.is_below.Tie as tie
-use Rattle.number.proofs.magnitude.is_below.Reads as reads
-use Rattle.number.proofs.magnitude.is_below.Lts as lts
-use Rattle.number.proofs.magnitude.by_level.Reads as by-level-reads
-use Rattle.number.proofs.magnitude.capped.Reads as capped-reads
-use Rattle.number.proofs.magnitude.level_of.Reads as level-of-reads
-use Rattle.number.proofs.magnitude.zeros.Reads as zeros-reads
 
--- src/magnitude.rt:146:9
 capped-requires : tie.Need-capped-requires
 capped-requires c κs = search needs
 
--- src/magnitude.rt:147:9
 zeros-requires : tie.Need-zeros-requires
 zeros-requires c κs = search needs
 
--- src/magnitude.rt:149:20
 sub-high : tie.Need-sub-high
 sub-high c = search needs
 
--- src/magnitude.rt:149:20
 part-high-start : tie.Need-part-high-start
 part-high-start c = search needs
 
--- src/magnitude.rt:149:20
 part-high-end : tie.Need-part-high-end
 part-high-end c = search needs
 
--- src/magnitude.rt:150:25
 level-of-requires : tie.Need-level-of-requires
 level-of-requires c κs = search needs
 
--- src/magnitude.rt:150:9
 by-level-requires : tie.Need-by-level-requires
 by-level-requires c κs = search needs
 
--- src/magnitude.rt:150:9
 returns : tie.Need-returns
-returns c = let a = c .before .before .before .before .before .before .before .before .before .args in rw (c .by-level .ensures, c .before .level-of .ensures, c .before .before .before .before .before .capped .ensures) (below-whole (a .whole .now) (a .fraction .now) (a .lowered) (value (a .exponent .now)) (c .before .before .before .before .zeros .result) (c .before .before .before .before .zeros .ensures) (c .before .before .before .if1 .taken) (omega arith))
+returns c =
+    let a = c .before .before .before .before .before .before .before .before .before .args in
+    rw (c .by-level .ensures, c .before .level-of .ensures, c .before .before .before .before .before .capped .ensures) (below-whole (a .whole .now) (a .fraction .now) (a .lowered) (value (a .exponent .now)) (c .before .before .before .before .zeros .result) (c .before .before .before .before .zeros .ensures) (c .before .before .before .if1 .taken) (omega arith))
 
--- src/magnitude.rt:152:9
 zeros-requires-2 : tie.Need-zeros-requires-2
 zeros-requires-2 c κs = search needs
 
--- src/magnitude.rt:154:19
 sub-low : tie.Need-sub-low
 sub-low c = search needs
 
--- src/magnitude.rt:154:19
 part-low-start : tie.Need-part-low-start
 part-low-start c = search needs
 
--- src/magnitude.rt:154:19
 part-low-end : tie.Need-part-low-end
 part-low-end c = search needs
 
--- src/magnitude.rt:155:25
 level-of-requires-2 : tie.Need-level-of-requires-2
 level-of-requires-2 c κs = search needs
 
--- src/magnitude.rt:155:58
 slice-aggregate-by-level : tie.Need-slice-aggregate-by-level
 slice-aggregate-by-level c = search needs
 
--- src/magnitude.rt:155:9
 by-level-requires-2 : tie.Need-by-level-requires-2
 by-level-requires-2 c κs = search needs
 
--- src/magnitude.rt:155:9
 returns-2 : tie.Need-returns-2
-returns-2 c = let a = c .before .before .before .before .before .before .before .before .before .before .before .before .args in rw (c .by-level2 .ensures, c .before .before .level-of2 .ensures, c .before .before .before .before .before .before .before .before .capped .ensures) (below-fraction (a .whole .now) (a .fraction .now) (a .lowered) (value (a .exponent .now)) (c .before .before .before .before .before .before .before .zeros .result) (c .before .before .before .before .before .before .before .zeros .ensures) (c .before .before .before .before .before .zeros2 .result) (c .before .before .before .before .before .zeros2 .ensures) (c .before .before .before .before .before .before .if1 .left) (c .before .before .before .before .if2 .taken) (omega arith))
+returns-2 c =
+    let a = c .before .before .before .before .before .before .before .before .before .before .before .before .args in
+    rw (c .by-level2 .ensures, c .before .before .level-of2 .ensures, c .before .before .before .before .before .before .before .before .capped .ensures) (below-fraction (a .whole .now) (a .fraction .now) (a .lowered) (value (a .exponent .now)) (c .before .before .before .before .before .before .before .zeros .result) (c .before .before .before .before .before .before .before .zeros .ensures) (c .before .before .before .before .before .zeros2 .result) (c .before .before .before .before .before .zeros2 .ensures) (c .before .before .before .before .before .before .if1 .left) (c .before .before .before .before .if2 .taken) (omega arith))
 
--- src/magnitude.rt:141:1
 returns-3 : tie.Need-returns-3
-returns-3 c = let a = c .before .before .before .before .before .before .before .before .args in below-zero (a .whole .now) (a .fraction .now) (a .lowered) (value (a .exponent .now)) (c .before .before .before .zeros .result) (c .before .before .before .zeros .ensures) (c .before .zeros2 .result) (c .before .zeros2 .ensures) (c .before .before .if1 .left) (c .if2 .left)
+returns-3 c =
+    let a = c .before .before .before .before .before .before .before .before .args in
+    below-zero (a .whole .now) (a .fraction .now) (a .lowered) (value (a .exponent .now)) (c .before .before .before .zeros .result) (c .before .before .before .zeros .ensures) (c .before .zeros2 .result) (c .before .zeros2 .ensures) (c .before .before .if1 .left) (c .if2 .left)
 
 pub is-below-spec : {M : Type 1} → statement M
 is-below-spec =

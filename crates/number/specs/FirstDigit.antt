@@ -1,12 +1,17 @@
 -- How the code decides whether a number is finite: by the place of its first nonzero digit, and by the digits only where that place is 10^308.
 use Prim.Native.Nat.{ℕ, suc, _+_}
 use mathlib.Core.Bool.{Bool, true, false, cond}
-use mathlib.Core.List.{List, [], _∷_}
+use mathlib.Core.List.{List, [], _∷_, _++_, map}
 use lib.ListN.{length, getD, drop}
 use lib.Dec.{ltb, eqb}
 use Rattle.number.specs.Bound.{bound}
+use Rattle.number.specs.Finite.{digit, value}
 use Rattle.number.specs.declared.magnitude.Level.{Level}
 use Rattle.number.specs.declared.magnitude.Level.the-variants.{Below, Even, Above}
+
+-- an exponent from here on counts as this one: no text is long enough for them to differ
+abbrev pub largest : ℕ
+largest = 10_000_000_000_000_000_000
 
 -- how many zeros lead
 unfoldable pub zeros : List ℕ → ℕ
@@ -39,3 +44,7 @@ decided Above less = false
 unfoldable pub byPlace : Bool → List ℕ → ℕ → ℕ → Bool
 byPlace lowered [] f e = true
 byPlace lowered (d ∷ ds) f e = decided (levelOf lowered (suc (length ds)) f e) (isLess (d ∷ ds) bound)
+
+-- of a number's parts
+abbrev pub byFirstDigit : Bool → List ℕ → List ℕ → List ℕ → Bool
+byFirstDigit lowered whole fraction exponent = byPlace lowered (significant (map digit (whole ++ fraction))) (length fraction) (value exponent)
