@@ -1,3 +1,4 @@
 pub mod Tree
 pub mod Limits
 pub mod Decode
+pub mod Computing

@@ -2,3 +2,4 @@ pub mod Setting
 pub mod Path
 pub mod Walk
 pub mod Reference
+pub mod Computing

@@ -3,3 +3,4 @@ pub mod Reader
 pub mod Numeral
 pub mod Order
 pub mod Entries
+pub mod Computing
