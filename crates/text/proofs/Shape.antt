@@ -1,16 +1,16 @@
 -- The bytes that `decodeOne` takes: one to four, all but the first of them tail bytes, and no tail byte first.
-use Prim.Native.Nat.{ℕ, suc, _+_, _≤_, _<_}
-use mathlib.Core.Path.{_≡_, refl, ap}
-use mathlib.Core.Bool.{Bool, true, false, cond, _&&_, _||_}
+use Prim.Native.Nat.{ℕ, _≤_, _<_}
+use mathlib.Core.Path.{_≡_, ap}
+use mathlib.Core.Bool.{true, _&&_}
 use mathlib.Core.List.{List, [], _∷_}
-use mathlib.Core.Option.{Option, none, some, Option·some-injective, Option·none-ne-some}
+use mathlib.Core.Option.{Option, none, some, Option·none-ne-some}
 use native.Mathlib.Omega.{arith}
 use lib.Dec.{leb}
 use lib.ListN.{length}
-use borrow.Author.Tests.{leb-true, lt-leb}
+use borrow.Author.Tests.{leb-true}
 use Rattle.text.specs.Utf8.{between, isTail, utf8-1, isUtf8-2, utf8-2, isSecondOf3, isUtf8-3, utf8-3, isSecondOf4, isUtf8-4, utf8-4, orElse, decodeOne}
 use Rattle.text.proofs.Bools.{and-true-0, and-true-1, or-true-cases, cond-some}
-use Rattle.text.proofs.Bytes.{between-inside, between-below, second3-below, second4-below}
+use Rattle.text.proofs.Bytes.{between-inside}
 
 pub data Shape : List ℕ → List ℕ → Type 0 where
   one : {a : ℕ} {t : List ℕ} → Shape (a ∷ t) t
