@@ -1,1 +1,2 @@
 pub mod CollectionDetails
+pub mod Edges
