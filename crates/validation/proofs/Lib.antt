@@ -1,2 +1,3 @@
 pub mod CollectionDetails
+pub mod Calls
 pub mod Edges
