@@ -1,10 +1,10 @@
 -- Calls with sheets that are written out, and what is heard of them.
-use Prim.Native.Nat.{ℕ, zero, suc}
-use Prim.Native.String.{String}
+use Prim.Native.Nat.{ℕ}
 use mathlib.Core.List.{List, []}
 use Rattle.sheet.specs.Ascii.{ascii}
 use Rattle.definition.specs.Tree.{Text}
 use Rattle.validation.specs.Result.{Call, any, Answer, refused, accepted, defect, Numbers, numbersOf, resultOf}
+use Rattle.validation.specs.Computing.{computing}
 
 -- a call with the label `r` and buffers of the least lengths
 unfoldable pub ask : (kind semantics : ℕ) (schema rule : List ℕ) → Call
@@ -26,9 +26,6 @@ heardOf (refused n) = (numbersOf (refused n), [])
 heardOf (accepted n) = (numbersOf (accepted n), [])
 heardOf (defect d) = (numbersOf (defect d), d .path)
 
-unfoldable pub heard : Call → Numbers × Text
-heard c = heardOf (resultOf c)
-
 unfoldable pub accepts : (passed : ℕ) → Numbers × Text
 accepts passed =
     (record { number = 0; family = 0; detail = 0; place = 0; overPlace = 0; passed = passed; pathLength = 0 }, [])
@@ -46,3 +43,8 @@ finds number family detail place overPlace passed pathLength path = (
   },
   path,
 )
+
+-- what is heard of a call; under `unfolding heard` it computes
+unfoldable pub heard : Call → Numbers × Text
+unfolding computing ask heardOf accepts finds
+heard c = heardOf (resultOf c)

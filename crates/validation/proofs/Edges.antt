@@ -3,8 +3,7 @@ use Prim.Native.Nat.{ℕ, zero, suc}
 use mathlib.Core.List.{List, _++_}
 use mathlib.Core.Path.{_≡_, refl}
 use Rattle.sheet.specs.Ascii.{ascii}
-use Rattle.validation.specs.Computing.{computing}
-use Rattle.validation.proofs.Calls.{ask, heardOf, heard, accepts, finds}
+use Rattle.validation.proofs.Calls.{ask, heard, accepts, finds}
 
 -- a closed record without fields
 unfoldable pub empty : List ℕ
@@ -80,7 +79,7 @@ pub record Edges : Type 0 where
       ≡ finds 18 8 9 5 3 9 27 (ascii "r.assert.for_all.that.lt[0]")
 
 pub edges : Edges
-unfolding computing ask heardOf heard accepts finds empty bars barsGiven tagged times negated
+unfolding heard empty bars barsGiven tagged times negated
 edges =
     record {
       depth-32 = refl;
