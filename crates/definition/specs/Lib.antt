@@ -9,3 +9,4 @@ pub mod ConditionLaws
 pub mod FieldLaws
 pub mod SheetLaws
 pub mod RoundTrip
+pub mod Computing
