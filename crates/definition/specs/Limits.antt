@@ -1,0 +1,21 @@
+-- The limits of the sheets (docs/FORMAT.md, "Sheets"). The text limit stands with the entries that hold texts.
+use Prim.Native.Nat.{ℕ}
+
+abbrev pub maxSheetBytes : ℕ
+maxSheetBytes = 30000
+
+abbrev pub maxSchemaEntries : ℕ
+maxSchemaEntries = 2048
+
+abbrev pub maxRuleEntries : ℕ
+maxRuleEntries = 2048
+
+-- how deep fields, conditions and values nest, the outermost counting 1
+abbrev pub maxFieldNesting : ℕ
+maxFieldNesting = 64
+
+abbrev pub maxConditionNesting : ℕ
+maxConditionNesting = 256
+
+abbrev pub maxValueNesting : ℕ
+maxValueNesting = 64

@@ -1,0 +1,6 @@
+pub mod Setting
+pub mod Path
+pub mod Walk
+pub mod Reference
+pub mod CollectionLaws
+pub mod Computing

@@ -1,0 +1,305 @@
+-- The entries of both sheets: a reader for each kind of entry, with a line for each of its fields (docs/FORMAT.md, "Sheets").
+use Prim.Native.Nat.{ℕ}
+use Prim.Native.Char.{Char, code}
+use mathlib.Core.Bool.{Bool, true, false, cond}
+use mathlib.Core.List.{List, [], _∷_}
+use mathlib.Core.Option.{Option, none, some}
+use lib.ListN.{length, take, drop}
+use lib.Dec.{leb, eqb}
+use Rattle.text.specs.Utf8.{isUtf8}
+use Rattle.number.specs.Grammar.{isNumber}
+use Rattle.sheet.specs.Reader.{Reader, _>>=_, _>>_, ensure, pure, either}
+use Rattle.sheet.specs.Numeral.{numeral}
+
+-- a name, tag, message, bind, key, string or number has at most this many bytes
+abbrev pub maxText : ℕ
+maxText = 512
+
+-- no entry announces more than this many others: the entry limits are not above it
+abbrev pub maxCount : ℕ
+maxCount = 2048
+
+unfoldable pub byte : ℕ → Reader (List ℕ) (Unit {0})
+byte b [] = none
+byte b (a ∷ s) = cond (eqb a b) (some (tt, s)) none
+
+abbrev pub letter : Char → Reader (List ℕ) (Unit {0})
+letter c = byte (code c)
+
+abbrev pub comma : Reader (List ℕ) (Unit {0})
+comma = letter ","
+
+abbrev pub dash : Reader (List ℕ) (Unit {0})
+dash = letter "-"
+
+abbrev pub lineEnd : Reader (List ℕ) (Unit {0})
+lineEnd = byte 10
+
+-- the next field of an entry: a comma, and a numeral from `low` to `high`
+unfoldable pub item : ℕ → ℕ → Reader (List ℕ) ℕ
+item low high = do
+  comma
+  numeral low high
+
+-- the next field, 0 or 1
+unfoldable pub mark : Reader (List ℕ) Bool
+mark = do
+  n ← item 0 1
+  pure (eqb n 1)
+
+-- the next field, `-` where the text is absent, or its length
+unfoldable pub textLength : Reader (List ℕ) (Option ℕ)
+textLength =
+    either
+    (do
+      comma
+      dash
+      pure none)
+    (do
+      n ← item 0 maxText
+      pure (some n))
+
+unfoldable pub bytes : ℕ → Reader (List ℕ) (List ℕ)
+bytes n s = cond (leb n (length s)) (some (take n s, drop n s)) none
+
+-- `n` bytes of UTF-8
+unfoldable pub text : ℕ → Reader (List ℕ) (List ℕ)
+text n = do
+  t ← bytes n
+  ensure (isUtf8 t)
+  pure t
+
+unfoldable pub optionalText : Option ℕ → Reader (List ℕ) (Option (List ℕ))
+optionalText none = pure none
+optionalText (some n) = do
+  t ← text n
+  pure (some t)
+
+-- the open mark and the field count of the record or of the arguments
+pub record HolderHead : Type 0 where
+  pub isOpen : Bool
+  pub count : ℕ
+
+unfoldable pub holderHead : Reader (List ℕ) HolderHead
+holderHead = do
+  isOpen ← mark
+  count ← item 0 maxCount
+  pure (record { isOpen = isOpen; count = count })
+
+-- `-,0` where there are no arguments
+unfoldable pub argumentsHead : Reader (List ℕ) (Option HolderHead)
+argumentsHead =
+    either
+    (do
+      comma
+      dash
+      item 0 0
+      pure none)
+    (do
+      h ← holderHead
+      pure (some h))
+
+-- H,o,n,p,m
+pub record SchemaHead : Type 0 where
+  pub fields : HolderHead
+  pub arguments : Option HolderHead
+
+unfoldable pub schemaHead : Reader (List ℕ) SchemaHead
+schemaHead = do
+  letter "H"
+  fields ← holderHead
+  arguments ← argumentsHead
+  lineEnd
+  pure (record { fields = fields; arguments = arguments })
+
+-- F,kind,open,items,count,a,t,text
+pub record FieldHead : Type 0 where
+  pub kind : ℕ
+  pub isOpen : Bool
+  pub hasItems : Bool
+  pub count : ℕ
+  pub name : List ℕ
+  pub tag : Option (List ℕ)
+
+unfoldable pub fieldHead : Reader (List ℕ) FieldHead
+fieldHead = do
+  letter "F"
+  kind ← item 1 12
+  isOpen ← mark
+  hasItems ← mark
+  count ← item 0 maxCount
+  a ← item 0 maxText
+  t ← textLength
+  comma
+  name ← text a
+  tag ← optionalText t
+  lineEnd
+  pure (record { kind = kind; isOpen = isOpen; hasItems = hasItems; count = count; name = name; tag = tag })
+
+-- R,a,b,text or T
+pub data RuleHead : Type 0 where
+  rule : (name message : Option (List ℕ)) → RuleHead
+  template : RuleHead
+
+unfoldable pub ruleHead : Reader (List ℕ) RuleHead
+ruleHead =
+    either
+    (do
+      letter "R"
+      a ← textLength
+      b ← textLength
+      comma
+      name ← optionalText a
+      message ← optionalText b
+      lineEnd
+      pure (rule name message))
+    (do
+      letter "T"
+      lineEnd
+      pure template)
+
+-- what follows the operator of a condition
+pub data Shape : Type 0 where
+  -- the truth of a literal
+  literal : Shape
+  -- so many conditions
+  many : Shape
+  -- one condition
+  negation : Shape
+  -- one value
+  one : Shape
+  -- two values
+  two : Shape
+  -- which comparison, and two values
+  comparison : Shape
+  -- a bind, the `in` value and the body
+  quantifier : Shape
+
+-- 1 literal, 2 all, 3 any, 4 not, 5 exists, 6 before to 17 ends_with, 18 compare, 19 truthy, 20 for_all, 21 for_any
+unfoldable pub shapeOf : ℕ → Shape
+shapeOf op =
+    cond (leb op 1) literal
+    (cond (leb op 3) many
+    (cond (leb op 4) negation
+    (cond (leb op 5) one
+    (cond (leb op 17) two
+    (cond (leb op 18) comparison
+    (cond (leb op 19) one quantifier))))))
+
+-- C,op,n,text
+pub data ConditionHead : Type 0 where
+  literalHead : (truth : Bool) → ConditionHead
+  manyHead : (op count : ℕ) → ConditionHead
+  negationHead : ConditionHead
+  oneHead : (op : ℕ) → ConditionHead
+  twoHead : (op : ℕ) → ConditionHead
+  comparisonHead : (which : ℕ) → ConditionHead
+  quantifierHead : (op : ℕ) (bind : List ℕ) → ConditionHead
+
+unfoldable pub behindOperator : ℕ → Shape → Reader (List ℕ) ConditionHead
+behindOperator op literal = do
+  truth ← mark
+  comma
+  pure (literalHead truth)
+behindOperator op many = do
+  n ← item 0 maxCount
+  comma
+  pure (manyHead op n)
+behindOperator op negation = do
+  item 0 0
+  comma
+  pure negationHead
+behindOperator op one = do
+  item 0 0
+  comma
+  pure (oneHead op)
+behindOperator op two = do
+  item 0 0
+  comma
+  pure (twoHead op)
+behindOperator op comparison = do
+  which ← item 1 6
+  comma
+  pure (comparisonHead which)
+behindOperator op quantifier = do
+  n ← item 0 maxText
+  comma
+  bind ← text n
+  pure (quantifierHead op bind)
+
+unfoldable pub conditionHead : Reader (List ℕ) ConditionHead
+conditionHead = do
+  letter "C"
+  op ← item 1 21
+  h ← behindOperator op (shapeOf op)
+  lineEnd
+  pure h
+
+-- V,type,n,text
+pub data ValueHead : Type 0 where
+  -- 1 null, 2 false, 3 true
+  constantHead : (type : ℕ) → ValueHead
+  numberHead : (digits : List ℕ) → ValueHead
+  stringHead : (string : List ℕ) → ValueHead
+  arrayHead : (count : ℕ) → ValueHead
+  objectHead : (count : ℕ) → ValueHead
+
+unfoldable pub constantRest : ℕ → Reader (List ℕ) ValueHead
+constantRest type = do
+  item 0 0
+  comma
+  pure (constantHead type)
+
+-- the text of a number is one of RFC 8259
+unfoldable pub numberRest : Reader (List ℕ) ValueHead
+numberRest = do
+  n ← item 0 maxText
+  comma
+  t ← text n
+  ensure (isNumber t)
+  pure (numberHead t)
+
+unfoldable pub stringRest : Reader (List ℕ) ValueHead
+stringRest = do
+  n ← item 0 maxText
+  comma
+  t ← text n
+  pure (stringHead t)
+
+unfoldable pub arrayRest : Reader (List ℕ) ValueHead
+arrayRest = do
+  n ← item 0 maxCount
+  comma
+  pure (arrayHead n)
+
+unfoldable pub objectRest : Reader (List ℕ) ValueHead
+objectRest = do
+  n ← item 0 maxCount
+  comma
+  pure (objectHead n)
+
+-- by type: 1 null, 2 false, 3 true, 4 number, 5 string, 6 array, 7 object
+unfoldable pub behindType : ℕ → Reader (List ℕ) ValueHead
+behindType type =
+    cond (leb type 3) (constantRest type)
+    (cond (leb type 4) numberRest
+    (cond (leb type 5) stringRest
+    (cond (leb type 6) arrayRest objectRest)))
+
+unfoldable pub valueHead : Reader (List ℕ) ValueHead
+valueHead = do
+  letter "V"
+  type ← item 1 7
+  h ← behindType type
+  lineEnd
+  pure h
+
+-- K,n,key
+unfoldable pub keyHead : Reader (List ℕ) (List ℕ)
+keyHead = do
+  letter "K"
+  n ← item 0 maxText
+  comma
+  key ← text n
+  lineEnd
+  pure key
