@@ -1,12 +1,12 @@
 use Prim.Native.Nat.{_≤_, _-_}
 use lib.ListN.{length}
-use Rattle.resolve.proofs.Dots.{Passed, passed-none, passed-more, passed-dot, passed-all}
+use Rattle.walk.proofs.Dots.{Passed, passed-none, passed-more, passed-dot, passed-all}
 use native.Mathlib.Omega.{arith}
 use borrow.Author.Needs.{needs}
-use Rattle.resolve.proofs.path.first_dot.Statement.{statement}
-use Rattle.resolve.proofs.path.first_dot.Tie as tie
-use Rattle.resolve.proofs.path.first_dot.Reads as reads
-use Rattle.resolve.proofs.path.first_dot.Lts as lts
+use Rattle.walk.proofs.path.first_dot.Statement.{statement}
+use Rattle.walk.proofs.path.first_dot.Tie as tie
+use Rattle.walk.proofs.path.first_dot.Reads as reads
+use Rattle.walk.proofs.path.first_dot.Lts as lts
 
 abbrev Inv-loop : tie.InvT-loop
 Inv-loop path i₀ i = (i ≤ length path) × Passed path i

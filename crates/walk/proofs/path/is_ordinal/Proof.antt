@@ -1,11 +1,11 @@
-use Rattle.resolve.proofs.Digits.{ordinal-empty, ordinal-zero, ordinal-other}
+use Rattle.walk.proofs.Digits.{ordinal-empty, ordinal-zero, ordinal-other}
 use native.Mathlib.Omega.{arith}
 use borrow.Author.Needs.{needs}
-use Rattle.resolve.proofs.path.is_ordinal.Statement.{statement}
-use Rattle.resolve.proofs.path.is_ordinal.Tie as tie
-use Rattle.resolve.proofs.path.is_ordinal.Reads as reads
-use Rattle.resolve.proofs.path.is_ordinal.Lts as lts
-use Rattle.resolve.proofs.path.is_digits.Reads as is-digits-reads
+use Rattle.walk.proofs.path.is_ordinal.Statement.{statement}
+use Rattle.walk.proofs.path.is_ordinal.Tie as tie
+use Rattle.walk.proofs.path.is_ordinal.Reads as reads
+use Rattle.walk.proofs.path.is_ordinal.Lts as lts
+use Rattle.walk.proofs.path.is_digits.Reads as is-digits-reads
 
 -- src/path.rt:49:9
 returns : tie.Need-returns

@@ -1,12 +1,12 @@
 use Prim.Native.Nat.{_≤_, _-_}
 use lib.ListN.{length}
-use Rattle.resolve.proofs.Digits.{SoFar, digit-passed, below-digits, above-digits, digits-ended}
+use Rattle.walk.proofs.Digits.{SoFar, digit-passed, below-digits, above-digits, digits-ended}
 use native.Mathlib.Omega.{arith}
 use borrow.Author.Needs.{needs}
-use Rattle.resolve.proofs.path.is_digits.Statement.{statement}
-use Rattle.resolve.proofs.path.is_digits.Tie as tie
-use Rattle.resolve.proofs.path.is_digits.Reads as reads
-use Rattle.resolve.proofs.path.is_digits.Lts as lts
+use Rattle.walk.proofs.path.is_digits.Statement.{statement}
+use Rattle.walk.proofs.path.is_digits.Tie as tie
+use Rattle.walk.proofs.path.is_digits.Reads as reads
+use Rattle.walk.proofs.path.is_digits.Lts as lts
 
 abbrev Inv-loop : tie.InvT-loop
 Inv-loop segment i₀ i = (i ≤ length segment) × SoFar segment i

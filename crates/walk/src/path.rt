@@ -1,7 +1,7 @@
 // Paths: segments parted by dots.
 ghost use mathlib.Core.Path.{_≡_};
 ghost use Rattle.reference.specs.Path.{isDigits, isOrdinal};
-ghost use Rattle.resolve.specs.Dots.{Cuts};
+ghost use Rattle.walk.specs.Dots.{Cuts};
 
 // Where a path is cut.
 pub enum Dot {

@@ -4,8 +4,8 @@ use mathlib.Core.List.{List, [], _∷_}
 use mathlib.Core.Path.{_≡_}
 use lib.ListN.{length, take, drop}
 use Rattle.reference.specs.Path.{Segments, split, cut}
-use Rattle.resolve.specs.declared.path.Dot.{Dot}
-use Rattle.resolve.specs.declared.path.Dot.the-variants.{At, Nowhere}
+use Rattle.walk.specs.declared.path.Dot.{Dot}
+use Rattle.walk.specs.declared.path.Dot.the-variants.{At, Nowhere}
 
 abbrev pub Cuts : List ℕ → Dot → Type 0
 Cuts path (At d) =
