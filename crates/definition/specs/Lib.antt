@@ -1,4 +1,12 @@
 pub mod Tree
 pub mod Limits
 pub mod Decode
+pub mod Write
+pub mod Within
+pub mod TreeLaws
+pub mod ValueLaws
+pub mod ConditionLaws
+pub mod FieldLaws
+pub mod SheetLaws
+pub mod RoundTrip
 pub mod Computing

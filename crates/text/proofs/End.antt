@@ -29,7 +29,7 @@ tail-none b (c ∷ d ∷ e ∷ t) l h =
     rw
     (lt-leb b 0x7F l, between-below 0xC2 0xDF b h, second3-below b c (omega arith), second4-below b c (omega arith))
 
-tail-solid : (b : ℕ) (t : List ℕ) → isTail b ≡ true → isBlank (b ∷ t) ≡ false
+pub tail-solid : (b : ℕ) (t : List ℕ) → isTail b ≡ true → isBlank (b ∷ t) ≡ false
 unfolding isTail between
 tail-solid b t e =
     let h = leb-true b 0xBF (and-true-1 (leb 0x80 b) _ e) in
@@ -37,18 +37,18 @@ tail-solid b t e =
     blank-none (b ∷ t) (omega arith) (tail-none b t l (omega arith))
 
 -- behind the first of a code point's bytes no text is blank
-inside-solid : {u t : List ℕ} → Shape u t → (j : ℕ) → 0 < j → j + length t < length u → isBlank (drop j u) ≡ false
+inside-solid : {u t : List ℕ} {w : ℕ} → Shape u w t → (j : ℕ) → 0 < j → j + length t < length u → isBlank (drop j u) ≡ false
 inside-solid s zero p h = absurd (omega arith)
-inside-solid one (suc j) p h = absurd (omega arith)
-inside-solid (two {b = b} {t = t} q) (suc zero) p h = tail-solid b t q
-inside-solid (two q) (suc (suc j)) p h = absurd (omega arith)
-inside-solid (three {b = b} {c = c} {t = t} q r) (suc zero) p h = tail-solid b (c ∷ t) q
-inside-solid (three {b = b} {c = c} {t = t} q r) (suc (suc zero)) p h = tail-solid c t r
-inside-solid (three q r) (suc (suc (suc j))) p h = absurd (omega arith)
-inside-solid (four {b = b} {c = c} {d = d} {t = t} q r v) (suc zero) p h = tail-solid b (c ∷ d ∷ t) q
-inside-solid (four {b = b} {c = c} {d = d} {t = t} q r v) (suc (suc zero)) p h = tail-solid c (d ∷ t) r
-inside-solid (four {b = b} {c = c} {d = d} {t = t} q r v) (suc (suc (suc zero))) p h = tail-solid d t v
-inside-solid (four q r v) (suc (suc (suc (suc j)))) p h = absurd (omega arith)
+inside-solid (one f) (suc j) p h = absurd (omega arith)
+inside-solid (two {b = b} {t = t} f q) (suc zero) p h = tail-solid b t q
+inside-solid (two f q) (suc (suc j)) p h = absurd (omega arith)
+inside-solid (three {b = b} {c = c} {t = t} f q r) (suc zero) p h = tail-solid b (c ∷ t) q
+inside-solid (three {b = b} {c = c} {t = t} f q r) (suc (suc zero)) p h = tail-solid c t r
+inside-solid (three f q r) (suc (suc (suc j))) p h = absurd (omega arith)
+inside-solid (four {b = b} {c = c} {d = d} {t = t} f q r v) (suc zero) p h = tail-solid b (c ∷ d ∷ t) q
+inside-solid (four {b = b} {c = c} {d = d} {t = t} f q r v) (suc (suc zero)) p h = tail-solid c (d ∷ t) r
+inside-solid (four {b = b} {c = c} {d = d} {t = t} f q r v) (suc (suc (suc zero))) p h = tail-solid d t v
+inside-solid (four f q r v) (suc (suc (suc (suc j)))) p h = absurd (omega arith)
 
 -- what is kept: no text from before the end on is blank, and what lies between the end and the place is White_Space
 pub record Passed (s : List ℕ) (at end : ℕ) : Type 0 where
