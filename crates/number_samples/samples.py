@@ -51,7 +51,7 @@ def shifted(digits, scale):
     """Ways to write digits * 10^scale: as they are, with a point, behind zeros, before zeros."""
     n = len(digits)
     yield f"{digits}e{scale}"
-    yield f"-{digits[0]}.{digits[1:] or '0'}E+{scale + n - 1}" if scale + n > 0 else f"{digits}e{scale}"
+    yield f"-{digits[0]}.{digits[1:] or '0'}E+{scale + n - 1}"
     yield f"0.{digits}e{scale + n}"
     yield f"0.{'0' * 40}{digits}e+{scale + n + 40:05}"
     yield f"{digits}{'0' * 40}e{scale - 40}"
@@ -68,6 +68,23 @@ def sides(length):
     for digits in (cut - 1, cut, cut + 1):
         if digits > 0:
             yield str(digits), 309 - length
+
+
+def short_texts():
+    for length in range(1, 6):
+        yield from map("".join, itertools.product("-+.01e", repeat=length))
+
+
+def cut_bounds():
+    for length in range(1, 312):
+        for digits, scale in sides(length):
+            yield f"{digits}e{scale}" if scale else digits
+
+
+def shifted_bounds():
+    for length in (1, 2, 3, 16, 17, 18, 100, 307, 308, 309, 310, 330):
+        for digits, scale in sides(length):
+            yield from shifted(digits, scale)
 
 
 RFC_SHOWN = "1E400 3.141592653589793238462643383279 800 600 125 100 116 943 234 38793 37.7668 -122.3959 37.371991 -122.026020"
@@ -102,10 +119,10 @@ def main():
     samples("numbers by each rule of RFC 8259, section 6, with 0e99999 and 1e309 (docs/FORMAT.md)", TAKEN.split())
     samples("texts that break one rule of RFC 8259, section 6, most after the n_number files of JSONTestSuite", REFUSED.split())
     samples("blanks and bytes past ASCII", REFUSED_BLANK)
-    samples("every text of 1 to 5 bytes over - + . 0 1 e", map("".join, itertools.chain.from_iterable(itertools.product("-+.01e", repeat=n) for n in range(1, 6))))
+    samples("every text of 1 to 5 bytes over - + . 0 1 e", short_texts())
     samples("large and small numbers, some after the i_number files of JSONTestSuite, and the doubles next to the bound", LARGE.split())
-    samples("2^1024 - 2^970 cut to each number of digits, and one more and one less in the last place", (f"{d}e{s}" if s else d for n in range(1, 312) for d, s in sides(n)))
-    samples("the same, shifted by point, zeros and exponent", (t for n in (1, 2, 3, 16, 17, 18, 100, 307, 308, 309, 310, 330) for d, s in sides(n) for t in shifted(d, s)))
+    samples("2^1024 - 2^970 cut to each number of digits, and one more and one less in the last place", cut_bounds())
+    samples("the same, shifted by point, zeros and exponent", shifted_bounds())
     samples("exponents of many digits", long_exponents())
 
 
