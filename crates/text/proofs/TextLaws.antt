@@ -1,7 +1,7 @@
 -- What crates above may want to know of trimmed text: it is empty exactly where the text is blank, and it is UTF-8 where the text is.
 use Prim.Native.Nat.{ℕ, zero, suc, _≤_}
 use mathlib.Core.Path.{_≡_, refl, sym, _∙_}
-use mathlib.Core.Bool.{Bool, true, false, cond, _&&_, false≢true}
+use mathlib.Core.Bool.{Bool, true, false, cond, false≢true}
 use mathlib.Core.List.{List, [], _∷_}
 use mathlib.Core.Option.{Option, none, some}
 use native.Mathlib.Omega.{arith}
@@ -23,6 +23,7 @@ module _ (f : List ℕ → Bool) (passed : (s : List ℕ) (r : ℕ × List ℕ) 
       white : (r : ℕ × List ℕ) (w : Bool) → decodeOne s ≡ some r → isWhiteSpace (r .0) ≡ w → f (trimStartIn n (r .1)) ≡ f (r .1) → f (cond w (trimStartIn n (r .1)) s) ≡ f s
       white r true e h k = k ∙ sym (passed s r e h)
       white r false e h k = refl
+
       go : (o : Option (ℕ × List ℕ)) → decodeOne s ≡ o → ((t : List ℕ) → f (trimStartIn n t) ≡ f t) → f (startFrom (λ t. trimStartIn n t) s o) ≡ f s
       go none e k = refl
       go (some r) e k = white r (isWhiteSpace (r .0)) e refl (k (r .1))
