@@ -1,24 +1,21 @@
 -- Each head is read back as it was written, and what is read as a head is one as it is written.
-use Prim.Native.Nat.{ℕ, zero, suc, _+_, _≤_, _<_}
-use mathlib.Core.Bool.{Bool, true, false, cond, _&&_, and-eq-true-iff, false≢true}
+use Prim.Native.Nat.{ℕ, _≤_}
+use mathlib.Core.Bool.{true}
 use mathlib.Core.List.{List, [], _∷_, _++_, append-assoc}
-use mathlib.Core.Option.{Option, none, some, Option·none-ne-some, Option·some-injective, Option·map}
-use mathlib.Core.Logic.{⊎-elim, _⊎_, inl, inr}
-use mathlib.Core.Path.{_≡_, refl, sym, ap, subst, _∙_}
+use mathlib.Core.Option.{Option, none, some}
+use mathlib.Core.Logic.{⊎-elim}
+use mathlib.Core.Path.{_≡_, refl}
 use native.Mathlib.Omega.{arith}
-use lib.Dec.{leb, ltb, eqb}
 use lib.ListN.{length}
-use borrow.Author.Tests.{leb-true, leb-false, le-leb, lt-leb}
-use Rattle.number.specs.Grammar.{isNumber}
 use Rattle.sheet.specs.Ascii.{ascii}
-use Rattle.sheet.specs.Reader.{Reader, _>>=_, _>>_, andThen, ensure, pure, either, orElse}
-use Rattle.sheet.specs.ReaderLaws.{Reads, by-test, bind-inv, then-inv, bind-reads, then-reads, pure-inv, ensure-inv, ensure-reads, either-inv, either-first, either-second}
+use Rattle.sheet.specs.Reader.{Reader, _>>_, pure}
+use Rattle.sheet.specs.ReaderLaws.{Reads, bind-inv, then-inv, bind-reads, then-reads, pure-inv, either-inv, either-first, either-second}
 use Rattle.sheet.specs.Numeral.{isDigit, decimalOf, decimalIn}
 use Rattle.sheet.specs.NumeralLaws.{beginsWithoutDigit}
 use Rattle.sheet.specs.Entries.{maxText, maxCount, comma, dash, HolderHead, holderHead, argumentsHead, SchemaHead, schemaHead, FieldHead, fieldHead}
-use Rattle.sheet.specs.Write.{writeItem, writeMark, markOf, writeLength, writeText, writeEnd, writeHolderHead, writeArgumentsHead, writeSchemaHead, writeFieldHead}
+use Rattle.sheet.specs.Write.{writeItem, writeMark, writeLength, writeText, writeEnd, writeHolderHead, writeArgumentsHead, writeSchemaHead, writeFieldHead}
 use Rattle.sheet.specs.Within.{TextWithin, OptionWithin}
-use Rattle.sheet.specs.ItemLaws.{Exact, anything, past, step, item-exact, item-complete, mark-exact, mark-complete, byte-complete, dash-none, text-sound, text-complete, textLength-sound, textLength-complete, optionalText-sound, optionalText-complete, item-begins, mark-begins, length-begins, last-begins, comma-begins, end-begins}
+use Rattle.sheet.specs.ItemLaws.{Exact, anything, past, step, item-exact, item-complete, mark-exact, mark-complete, byte-complete, dash-none, text-sound, text-complete, textLength-sound, textLength-complete, optionalText-sound, optionalText-complete, item-begins, mark-begins, length-begins, comma-begins, end-begins}
 
 writeItem-zero : writeItem 0 ≡ 44 ∷ 48 ∷ []
 unfolding writeItem ascii decimalOf decimalIn
