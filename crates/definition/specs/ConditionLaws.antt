@@ -101,17 +101,17 @@ module _ (depth : ℕ) (p : Reader Ahead Condition) (law : ConditionLaw depth p)
       let q = pure-inv _ _ e in
       rw (← (q .0), ← (q .1)) (record { rest = m .rest; next = m .next; left = omega arith }, record { nesting = omega arith; fits = tt; numbers = refl })
   conditionOf-sound (manyHead op n) a a₁ c b m e =
-      announced-inv (conditions-law n) n (λ next x g. g .count) _ _ e λ children a₂ m₂ g e.
+      announced-inv (conditions-law n) _ (λ next x g. g .count) _ _ e λ children a₂ m₂ g e.
       let q = pure-inv _ _ e in
       rw (← (q .0), ← (q .1), g .count)
       (enters-moves m m₂, record { nesting = omega arith; fits = (m .fits .0, g .fits); numbers = (refl, rw (m .next) at (g .numbers)) })
   conditionOf-sound negationHead a a₁ c b m e =
-      announced-inv law 1 (λ next x g. refl) _ _ e λ child a₂ m₂ g e.
+      announced-inv law _ (λ next x g. refl) _ _ e λ child a₂ m₂ g e.
       let q = pure-inv _ _ e in
       rw (← (q .0), ← (q .1))
       (enters-moves m m₂, record { nesting = omega arith; fits = g .fits; numbers = (refl, rw (m .next) at (g .numbers)) })
   conditionOf-sound (oneHead op) a a₁ c b m e =
-      announced-inv operand-law 1 (λ next x g. refl) _ _ e λ v a₂ m₂ g e.
+      announced-inv operand-law _ (λ next x g. refl) _ _ e λ v a₂ m₂ g e.
       let q = pure-inv _ _ e in
       rw (← (q .0), ← (q .1))
       (enters-moves m m₂, record { nesting = omega arith; fits = (m .fits, g .0); numbers = (refl, rw (m .next) at (g .1)) })

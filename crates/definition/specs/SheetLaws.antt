@@ -33,14 +33,14 @@ pub record HolderGood (h : HolderHead) (next : ℕ) (x : Holder) : Type 0 where
   pub fits : MembersFit (x .members)
   pub numbers : MembersFrom next (x .members)
 
-anyMembers-law : (n : ℕ) → TreeLaw (membersOf n none (fieldIn maxFieldNesting)) writeMembers membersEntries memberCount (MembersGood maxFieldNesting n none)
-anyMembers-law n = members-law maxFieldNesting (fieldIn maxFieldNesting) (field-law maxFieldNesting) n none
+fields-law : (depth n : ℕ) → TreeLaw (membersOf n none (fieldIn depth)) writeMembers membersEntries memberCount (MembersGood depth n none)
+fields-law depth n = members-law depth (fieldIn depth) (field-law depth) n none
 
 holder-sound : (h : HolderHead) (a : Ahead) (x : Holder) (b : Ahead) → Reads (holderOf h) a x b
     → Moves (writeMembers (x .members)) (membersEntries (x .members)) 0 a b × HolderGood h (a .next) x
 unfolding holderOf headOf
 holder-sound h a x b e =
-    announced-inv (anyMembers-law (h .count)) (h .count) (λ next x g. g .count) _ _ e λ members a₁ m g e.
+    announced-inv (fields-law _ (h .count)) _ (λ next x g. g .count) _ _ e λ members a₁ m g e.
     let q = pure-inv _ _ e in
     rw (← (q .0), ← (q .1))
     (m, record { head = rw (g .count); nesting = g .nesting; rises = g .rises; fits = g .fits; numbers = g .numbers })
@@ -50,7 +50,7 @@ holder-complete : (h : HolderHead) (a : Ahead) (x : Holder) (b : Ahead) → a .l
 unfolding holderOf headOf pure
 holder-complete h a x b l m g =
     rw (← (g .head))
-    (announced-reads (anyMembers-law (memberCount (x .members))) _ (x .members) a b l m
+    (announced-reads (fields-law _ (memberCount (x .members))) _ (x .members) a b l m
     (record { count = refl; nesting = g .nesting; rises = g .rises; fits = g .fits; numbers = g .numbers })
     refl)
 
@@ -179,11 +179,11 @@ ruleOf-sound : (h : RuleHead) (a a₁ : Ahead) (t : Rule) (b : Ahead) → Enters
     → Moves (writeRule t) (ruleEntries t) 1 a b × RuleGood (a .next) t
 unfolding ruleOf writeRule ruleEntries
 ruleOf-sound (Entries.rule name message) a a₁ t b m e =
-    announced-inv (condition-law maxConditionNesting) 1 (λ next x g. refl) _ _ e λ assert a₂ m₂ g e.
+    announced-inv (condition-law _) _ (λ next x g. refl) _ _ e λ assert a₂ m₂ g e.
     let q = pure-inv _ _ e in
     rw (← (q .0), ← (q .1)) (enters-moves m m₂, ((m .fits .0, m .fits .1, g .nesting, g .fits), rw (m .next) at (g .numbers)))
 ruleOf-sound Entries.template a a₁ t b m e =
-    announced-inv operand-law 1 (λ next x g. refl) _ _ e λ v a₂ m₂ g e.
+    announced-inv operand-law _ (λ next x g. refl) _ _ e λ v a₂ m₂ g e.
     let q = pure-inv _ _ e in
     rw (← (q .0), ← (q .1)) (enters-moves m m₂, (g .0, rw (m .next) at (g .1)))
 
@@ -192,7 +192,7 @@ unfolding anyRule ruleOf writeRule ruleEntries pure
 rule-complete a (rule name message assert) b l m g =
     enters-first (Entries.rule name message) (g .0 .0, g .0 .1) (writeCondition assert) _ 0 a b m λ a₁ m₁ m₂.
     bind-reads _ _ (entry-reads ruleHead-exact a (Entries.rule name message) a₁ m₁)
-    (announced-reads (condition-law maxConditionNesting) _ assert a₁ b (omega arith) m₂
+    (announced-reads (condition-law _) _ assert a₁ b (omega arith) m₂
     (record { nesting = g .0 .2; fits = g .0 .3; numbers = rw (m₁ .next) (g .1) })
     refl)
 rule-complete a (template v) b l m g =
@@ -246,9 +246,8 @@ module _ {A : Type 0} {p : Reader Ahead A} {w : A → List ℕ} {entries : A →
   pub whole-sound : (s : List ℕ) (t : A) → whole limit p s ≡ some t → (s ≡ w t) × (entries t ≤ limit) × (length s ≤ maxSheetBytes) × Good 1 t
   unfolding whole
   whole-sound s t e =
-      let start : Ahead = record { next = 1; left = limit; rest = s } in
-      map-inv (λ (r : A × Ahead). r .0) (chain (length s) p start) e λ r e q.
-      rw q at (chain-sound (length s) start (r .0) (r .1) e)
+      map-inv (λ (r : A × Ahead). r .0) (chain (length s) p _) e λ r e q.
+      rw q at (chain-sound (length s) _ (r .0) (r .1) e)
 
   pub whole-complete : limit ≤ maxCount → (s : List ℕ) (t : A) → (s ≡ w t) × (entries t ≤ limit) × (length s ≤ maxSheetBytes) × Good 1 t → whole limit p s ≡ some t
   unfolding whole atEnd pure

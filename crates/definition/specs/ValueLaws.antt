@@ -151,12 +151,12 @@ module _ (depth : ℕ) (p : Reader Ahead Value) (law : ValueLaw depth p) where
       let q = pure-inv _ _ e in
       rw (← (q .0), ← (q .1)) (record { rest = m .rest; next = m .next; left = omega arith }, record { nesting = omega arith; fits = m .fits; numbers = refl })
   valueOf-sound (arrayHead n) a a₁ v b m e =
-      announced-inv (values-law n) n (λ next x g. g .count) _ _ e λ values a₂ m₂ g e.
+      announced-inv (values-law n) _ (λ next x g. g .count) _ _ e λ values a₂ m₂ g e.
       let q = pure-inv _ _ e in
       rw (← (q .0), ← (q .1), g .count)
       (enters-moves m m₂, record { nesting = omega arith; fits = g .fits; numbers = (refl, rw (m .next) at (g .numbers)) })
   valueOf-sound (objectHead n) a a₁ v b m e =
-      announced-inv (pairs-law n none) (2 * n) (λ next x g. ap (λ (k : ℕ). 2 * k) (g .count)) _ _ e λ pairs a₂ m₂ g e.
+      announced-inv (pairs-law n none) _ (λ next x g. ap (λ (k : ℕ). 2 * k) (g .count)) _ _ e λ pairs a₂ m₂ g e.
       let q = pure-inv _ _ e in
       rw (← (q .0), ← (q .1), g .count)
       (enters-moves m m₂, record { nesting = omega arith; fits = g .fits; numbers = (refl, rw (m .next) at (g .numbers)) })

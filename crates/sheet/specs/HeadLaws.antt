@@ -29,7 +29,7 @@ holderHead-sound : (s : List ℕ) (h : HolderHead) (t : List ℕ) → Reads hold
 unfolding holderHead writeHolderHead
 holderHead-sound s h t e =
     step mark-exact _ _ e λ isOpen s₁ e₁ _ e.
-    step (item-exact 0 maxCount) _ _ e λ count s₂ e₂ h₂ e.
+    step (item-exact _ _) _ _ e λ count s₂ e₂ h₂ e.
     let q = pure-inv _ _ e in
     rw (← (q .0), ← (q .1)) (rw (e₁, e₂) (simp append-assoc), h₂ .1)
 
@@ -63,7 +63,7 @@ argumentsHead-sound s o t e =
     past _ _ _ e λ s₂ e₂ e.
     then-inv _ _ _ e λ n s₃ e₃ e.
     let q = pure-inv _ _ e in
-    let r = item-exact 0 0 .sound _ _ _ e₃ in
+    let r = item-exact _ _ .sound _ _ _ e₃ in
     let z : n ≡ 0 = omega arith in
     rw (← (q .0), ← (q .1)) (rw (e₁, e₂, r .0, z, writeItem-zero), tt))
     (λ e.
@@ -135,11 +135,11 @@ fieldHead-sound : (s : List ℕ) (h : FieldHead) (t : List ℕ) → Reads fieldH
 unfolding fieldHead writeEnd ascii
 fieldHead-sound s h t e =
     past _ _ _ e λ s₁ e₁ e.
-    step (item-exact 1 12) _ _ e λ kind s₂ e₂ h₂ e.
+    step (item-exact _ _) _ _ e λ kind s₂ e₂ h₂ e.
     step mark-exact _ _ e λ isOpen s₃ e₃ _ e.
     step mark-exact _ _ e λ hasItems s₄ e₄ _ e.
-    step (item-exact 0 maxCount) _ _ e λ count s₅ e₅ h₅ e.
-    step (item-exact 0 maxText) _ _ e λ a s₆ e₆ h₆ e.
+    step (item-exact _ _) _ _ e λ count s₅ e₅ h₅ e.
+    step (item-exact _ _) _ _ e λ a s₆ e₆ h₆ e.
     bind-inv _ _ _ e λ o s₇ e₇ e.
     past _ _ _ e λ s₈ e₈ e.
     bind-inv _ _ _ e λ name s₉ e₉ e.

@@ -85,7 +85,7 @@ markOf-test n h =
 mark-sound : (s : List ℕ) (b : Bool) (t : List ℕ) → Reads mark s b t → (s ≡ writeMark b ++ t) × Unit {0}
 unfolding mark writeMark
 mark-sound s b t e =
-    step (item-exact 0 1) _ _ e λ n s₁ e₁ h e.
+    step (item-exact _ _) _ _ e λ n s₁ e₁ h e.
     let q = pure-inv _ _ e in
     rw (← (q .0), ← (q .1), markOf-test n (h .1)) (e₁, tt)
 
@@ -158,7 +158,7 @@ textLength-sound s o t e =
     let q = pure-inv _ _ e in
     rw (← (q .0), ← (q .1)) (rw (e₁, e₂), tt))
     (λ e.
-    step (item-exact 0 maxText) _ _ e λ n s₁ e₁ h e.
+    step (item-exact _ _) _ _ e λ n s₁ e₁ h e.
     let q = pure-inv _ _ e in
     rw (← (q .0), ← (q .1)) (e₁, h .1))
     (either-inv _ _ _ e)

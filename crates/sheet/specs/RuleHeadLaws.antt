@@ -319,7 +319,7 @@ conditionHead-sound : (s : List ℕ) (h : ConditionHead) (t : List ℕ) → Read
 unfolding conditionHead writeEnd ascii
 conditionHead-sound s h t e =
     past _ _ _ e λ s₁ e₁ e.
-    step (item-exact 1 21) _ _ e λ op s₂ e₂ h₂ e.
+    step (item-exact _ _) _ _ e λ op s₂ e₂ h₂ e.
     bind-inv _ _ _ e λ g s₃ e₃ e.
     past _ _ _ e λ s₄ e₄ e.
     let q = pure-inv _ _ e in
@@ -454,7 +454,7 @@ valueHead-sound : (s : List ℕ) (h : ValueHead) (t : List ℕ) → Reads valueH
 unfolding valueHead writeEnd ascii
 valueHead-sound s h t e =
     past _ _ _ e λ s₁ e₁ e.
-    step (item-exact 1 7) _ _ e λ type s₂ e₂ h₂ e.
+    step (item-exact _ _) _ _ e λ type s₂ e₂ h₂ e.
     bind-inv _ _ _ e λ g s₃ e₃ e.
     past _ _ _ e λ s₄ e₄ e.
     let q = pure-inv _ _ e in
