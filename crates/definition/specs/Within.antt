@@ -120,7 +120,7 @@ unfoldable mutual
   conditionsNesting noConditions = 0
   conditionsNesting (condition c others) = max (conditionNesting c) (conditionsNesting others)
 
--- Sibling names rise, none twice: each stands behind the one before it, if there is one. The record's and the arguments' fields are no siblings.
+-- Sibling names rise, none twice: each stands behind the one before it, if there is one. An element is no sibling of the properties beside it.
 
 abbrev pub Behind : Option Text → Text → Type 0
 Behind none name = Unit {0}
