@@ -10,3 +10,4 @@ pub mod ValueLaws
 pub mod ConditionLaws
 pub mod FieldLaws
 pub mod SheetLaws
+pub mod Computing

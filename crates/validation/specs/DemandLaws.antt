@@ -1,0 +1,193 @@
+-- The laws that the demands cite.
+use Prim.Native.Nat.{ℕ, _+_, _≤_, _<_}
+use native.Mathlib.Omega.{arith}
+use mathlib.Core.Bool.{Bool, true, false, cond}
+use mathlib.Core.List.{List, [], _∷_}
+use mathlib.Core.Option.{Option, none, some}
+use mathlib.Core.Path.{_≡_, refl, ap, sym}
+use Rattle.definition.specs.Tree.{Text, Schema, Rule}
+use Rattle.definition.specs.Decode.{decodeSchema, decodeRule}
+use Rattle.definition.specs.RoundTrip.{schema-round-trip}
+use Rattle.reference.specs.Setting.{Setting}
+use Rattle.widening.specs.Widening.{Level, marks, anything, WiderSchema}
+use Rattle.widening.specs.Distinct.{DistinctSchema}
+use Rattle.widening.specs.DistinctLaws.{schema-distinct}
+use Rattle.widening.specs.WalkLaws.{Details, equal, differ}
+use Rattle.widening.specs.ReferenceLaws.{GrownSchema}
+use Rattle.validation.specs.Check.{Binder, Question, Check, check, checks}
+use Rattle.validation.specs.Judge.{Outcome, outcome, Verdict, allPass, failsAt, decide, judgeFrom, judge}
+use Rattle.validation.specs.CheckLaws.{IsDefect, Every, every-check, sure-checks}
+use Rattle.validation.specs.WideningLaws.{VerdictFares, stillAccepted, sameDefect, later, passedOf, judge-fares}
+use Rattle.validation.specs.Result.{Call, Defect, Answer, refused, accepted, defect, answerOf, Refusal, refusals, firstRefusal, settingFor, checked, judged, refusedOr, resultOf}
+use Rattle.validation.specs.Growth.{against, Widens, NotRefused, passed, SameDefect}
+
+accepted-no-defect : (n : ℕ) (d : Defect) → accepted n ≡ defect d → ⊥
+accepted-no-defect n d e = let z : _≡_ {A = ℕ} 0 1 = cc in omega arith
+
+defect-injective : (d d′ : Defect) → defect d ≡ defect d′ → d ≡ d′
+defect-injective d d′ e = cc
+
+-- Widening: two answers by one check list, the second under a widened schema
+pub data Fared : Level → Answer → Answer → Type 0 where
+  bothAccept : {l : Level} {n : ℕ} → Fared l (accepted n) (accepted n)
+  bothFail : {l : Level} {d d′ : Defect} → SameDefect d d′ → d′ .passed ≡ d .passed → Details l (d .detail) (d′ .detail) → Fared l (defect d) (defect d′)
+  passesMore : {l : Level} {d : Defect} {a′ : Answer} → d .passed < passed a′ → Fared l (defect d) a′
+
+passed-answer : (setting : Setting) (label : Text) (r : Rule) (v : Verdict) → passed (answerOf setting label r v) ≡ passedOf v
+unfolding answerOf passedOf
+passed-answer setting label r (allPass n) = refl
+passed-answer setting label r (failsAt n c d) = refl
+
+answer-fares : {l : Level} {v v′ : Verdict} (setting : Setting) (label : Text) (r : Rule)
+    → VerdictFares l v v′
+    → Fared l (answerOf setting label r v) (answerOf setting label r v′)
+unfolding answerOf
+answer-fares setting label r stillAccepted = bothAccept
+answer-fares setting label r (sameDefect details) =
+    bothFail (record { number = refl; family = refl; path = refl; place = refl; overPlace = refl }) refl details
+answer-fares setting label r (later {v = v} less) = passesMore (rw (← (passed-answer setting label r v)) at less)
+
+sheets-fare : {l : Level} {s s′ : Schema} (setting : Setting) (label : Text)
+    → GrownSchema l s s′
+    → (refusal refusal′ : Option ℕ) (r : Option Rule)
+    → NotRefused (refusedOr refusal (judged setting label (some s) r))
+    → NotRefused (refusedOr refusal′ (judged setting label (some s′) r))
+    → Fared l (refusedOr refusal (judged setting label (some s) r)) (refusedOr refusal′ (judged setting label (some s′) r))
+unfolding refusedOr judged checked
+sheets-fare setting label g none none none h h′ = absurd h
+sheets-fare {s = s} setting label g none none (some r) h h′ =
+    answer-fares setting label r (judge-fares setting (checks setting r) g (sure-checks setting s r))
+sheets-fare setting label g none (some n) r h h′ = absurd h′
+sheets-fare setting label g (some n) refusal′ r h h′ = absurd h
+
+distinct-names : (sheet : List ℕ) (s : Schema) → decodeSchema sheet ≡ some s → DistinctSchema s
+distinct-names sheet s e = schema-distinct s (schema-round-trip sheet s .0 e .1 .rises)
+
+pub calls-fare : {l : Level} (c : Call) (schema′ : List ℕ) (pathLength′ scratchLength′ : ℕ)
+    → Widens l (c .schema) schema′
+    → NotRefused (resultOf c)
+    → NotRefused (resultOf (against c schema′ pathLength′ scratchLength′))
+    → Fared l (resultOf c) (resultOf (against c schema′ pathLength′ scratchLength′))
+unfolding resultOf against
+calls-fare c schema′ p q w =
+    rw (w .decodesFirst, w .decodesSecond)
+    (sheets-fare (settingFor c) (c .label)
+    (record { isWider = w .isWider; isDistinct = distinct-names schema′ (w .second) (w .decodesSecond) })
+    (firstRefusal (refusals c))
+    (firstRefusal (refusals (against c schema′ p q)))
+    (decodeRule (c .rule)))
+
+pub accepts-still : {l : Level} {a a′ : Answer} → Fared l a a′ → (n : ℕ) → a ≡ accepted n → a′ ≡ accepted n
+accepts-still bothAccept n e = e
+accepts-still (bothFail {d = d} s p details) n e = absurd (accepted-no-defect n d (sym e))
+accepts-still (passesMore {d = d} less) n e = absurd (accepted-no-defect n d (sym e))
+
+pub passes-as-many : {l : Level} {a a′ : Answer} → Fared l a a′ → (d : Defect) → a ≡ defect d → d .passed ≤ passed a′
+passes-as-many (bothAccept {n = n}) d e = absurd (accepted-no-defect n d e)
+passes-as-many (bothFail {d = x} {d′ = x′} s p details) d e =
+    let same : x ≡ d = defect-injective x d e in rw (← same) (omega arith)
+passes-as-many (passesMore {d = x} {a′ = a′} less) d e =
+    let same : x ≡ d = defect-injective x d e in rw (← same) (omega arith)
+
+pub fails-alike : {l : Level} {a a′ : Answer} → Fared l a a′ → (d : Defect) → a ≡ defect d → passed a′ ≡ d .passed → (d′ : Defect) × (a′ ≡ defect d′) × SameDefect d d′
+fails-alike (bothAccept {n = n}) d e p = absurd (accepted-no-defect n d e)
+fails-alike (bothFail {d = x} {d′ = x′} s q details) d e p = rw (← (defect-injective x d e)) (x′, refl, s)
+fails-alike (passesMore {d = x} {a′ = a′} less) d e p =
+    let h : x .passed ≡ d .passed = ap (λ (y : Defect). y .passed) (defect-injective x d e) in
+    absurd (omega arith)
+
+details-equal : {d d′ : ℕ} (l : Level) → l ≡ marks → Details l d d′ → d′ ≡ d
+details-equal l e equal = refl
+details-equal l e differ = cc
+
+pub explains-alike : {l : Level} {a a′ : Answer} → Fared l a a′ → l ≡ marks → (d d′ : Defect) → a ≡ defect d → a′ ≡ defect d′ → d′ .passed ≡ d .passed → d′ .detail ≡ d .detail
+explains-alike (bothAccept {n = n}) m d d′ e e′ p = absurd (accepted-no-defect n d e)
+explains-alike (bothFail {l = l} {d = x} {d′ = x′} s q details) m d d′ e e′ p =
+    rw (← (defect-injective x d e), ← (defect-injective x′ d′ e′)) (details-equal l m details)
+explains-alike (passesMore {d = x} {a′ = a′} less) m d d′ e e′ p =
+    let h : x .passed ≡ d .passed = ap (λ (y : Defect). y .passed) (defect-injective x d e) in
+    let h′ : passed a′ ≡ d′ .passed = ap passed e′ in
+    absurd (omega arith)
+
+-- What a caller hears: one of refusals 1 to 5, acceptance, or a defect from 11 to 22
+pub data Heard : Answer → Type 0 where
+  refusal : {n : ℕ} → 1 ≤ n → n ≤ 5 → Heard (refused n)
+  acceptance : {n : ℕ} → Heard (accepted n)
+  finding : {d : Defect} → IsDefect (d .number) → Heard (defect d)
+
+data Due : Option ℕ → Type 0 where
+  notDue : Due none
+  due : {n : ℕ} → 1 ≤ n → n ≤ 5 → Due (some n)
+
+abbrev Numbered : List Refusal → Type 0
+Numbered [] = Unit {0}
+Numbered (r ∷ rs) = (1 ≤ r .number) × (r .number ≤ 5) × Numbered rs
+
+due-if : {x y : Option ℕ} (b : Bool) → Due x → Due y → Due (cond b x y)
+due-if true p q = p
+due-if false p q = q
+
+first-due : (rs : List Refusal) → Numbered rs → Due (firstRefusal rs)
+unfolding firstRefusal
+first-due [] h = notDue
+first-due (r ∷ rs) h = due-if (r .isDue) (due (h .0) (h .1)) (first-due rs (h .2))
+
+abbrev FailsWith : (Check → Type 0) → Verdict → Type 0
+FailsWith P (allPass n) = Unit {0}
+FailsWith P (failsAt n c d) = P c
+
+decide-with : (P : Check → Type 0) (o : Outcome) (n : ℕ) (c : Check) (v : Verdict) → P c → FailsWith P v → FailsWith P (decide o n c v)
+unfolding decide
+decide-with P none n c v p h = h
+decide-with P (some d) n c v p h = p
+
+judge-with : (P : Check → Type 0) (ask : Check → Outcome) (n : ℕ) (cs : List Check) → Every P cs → FailsWith P (judgeFrom ask n cs)
+unfolding judgeFrom
+judge-with P ask n [] h = tt
+judge-with P ask n (c ∷ cs) h = decide-with P (ask c) n c (judgeFrom ask (n + 1) cs) (h .0) (judge-with P ask (n + 1) cs (h .1))
+
+abbrev Found : Check → Type 0
+Found c = IsDefect (c .number)
+
+heard-answer : (setting : Setting) (label : Text) (r : Rule) (v : Verdict) → FailsWith Found v → Heard (answerOf setting label r v)
+unfolding answerOf
+heard-answer setting label r (allPass n) h = acceptance
+heard-answer setting label r (failsAt n c d) h = finding h
+
+found : (n p : ℕ) (bs : List Binder) (q : Question) → IsDefect n → Found (check n p bs q)
+unfolding check
+found n p bs q d = d
+
+heard-judged : (setting : Setting) (label : Text) (s : Option Schema) (r : Option Rule) → Heard (judged setting label s r)
+unfolding judged checked judge
+heard-judged setting label none r = refusal {n = 4} (omega arith) (omega arith)
+heard-judged setting label (some s) none = refusal {n = 5} (omega arith) (omega arith)
+heard-judged setting label (some s) (some r) =
+    heard-answer setting label r _ (judge-with Found (outcome setting s) 0 (checks setting r) (every-check Found found setting r))
+
+heard-or : {x : Option ℕ} {a : Answer} → Due x → Heard a → Heard (refusedOr x a)
+unfolding refusedOr
+heard-or notDue h = h
+heard-or (due p q) h = refusal p q
+
+pub heard : (c : Call) → Heard (resultOf c)
+unfolding resultOf refusals
+heard c =
+    heard-or (first-due (refusals c) (omega arith))
+    (heard-judged (settingFor c) (c .label) (decodeSchema (c .schema)) (decodeRule (c .rule)))
+
+or-checked : (x : Option ℕ) (setting : Setting) (label : Text) (s : Schema) (r : Rule)
+    → NotRefused (refusedOr x (judged setting label (some s) (some r)))
+    → refusedOr x (judged setting label (some s) (some r)) ≡ checked setting label s r
+unfolding refusedOr judged
+or-checked none setting label s r h = refl
+or-checked (some n) setting label s r h = absurd h
+
+-- a call that is not refused answers by its check list
+pub answers-by-checks : (c : Call) (s : Schema) (r : Rule)
+    → decodeSchema (c .schema) ≡ some s
+    → decodeRule (c .rule) ≡ some r
+    → NotRefused (resultOf c)
+    → resultOf c ≡ checked (settingFor c) (c .label) s r
+unfolding resultOf
+answers-by-checks c s r e e′ = rw (e, e′) (or-checked (firstRefusal (refusals c)) (settingFor c) (c .label) s r)

@@ -1,0 +1,10 @@
+pub mod Check
+pub mod Judge
+pub mod Location
+pub mod Result
+pub mod CheckLaws
+pub mod WideningLaws
+pub mod Growth
+pub mod DemandLaws
+pub mod Demands
+pub mod Computing

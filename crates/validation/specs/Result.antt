@@ -1,0 +1,218 @@
+-- The answer to a whole call, from the bytes and numbers that a caller hands over (docs/FORMAT.md, "Answers").
+use Prim.Native.Nat.{ℕ}
+use mathlib.Core.Bool.{Bool, true, false, not, cond, _&&_, _||_}
+use mathlib.Core.List.{List, [], _∷_}
+use mathlib.Core.Option.{Option, none, some}
+use lib.ListN.{length, drop}
+use lib.Seq.{sets}
+use lib.Dec.{leb, eqb}
+use mathlib.Core.Path.{_≡_}
+use Rattle.text.specs.Utf8.{isUtf8}
+use Rattle.definition.specs.Tree.{Text, Schema, Value, Rule, rule, template}
+use Rattle.definition.specs.Decode.{decodeSchema, decodeRule}
+use Rattle.reference.specs.Setting.{Setting, settingOf}
+use Rattle.validation.specs.Check.{isNone, Binder, Check, checks, entryOf}
+use Rattle.validation.specs.Judge.{Verdict, allPass, failsAt, judge}
+use Rattle.validation.specs.Location.{pathOf}
+
+-- which rule sheets an entry point takes
+pub data Takes : Type 0 where
+  any rules templates : Takes
+
+pub record Call : Type 0 where
+  pub takes : Takes
+  pub kind : ℕ
+  pub semantics : ℕ
+  pub label : List ℕ
+  pub schema : List ℕ
+  pub rule : List ℕ
+  -- the elements of the lent buffers
+  pub pathLength : ℕ
+  pub scratchLength : ℕ
+
+pub record Defect : Type 0 where
+  pub number : ℕ
+  pub family : ℕ
+  pub detail : ℕ
+  pub place : ℕ
+  pub overPlace : ℕ
+  pub passed : ℕ
+  pub path : List ℕ
+
+pub data Answer : Type 0 where
+  refused : (number : ℕ) → Answer
+  accepted : (passed : ℕ) → Answer
+  defect : Defect → Answer
+
+-- Families: 1 InvalidRule, 2 InvalidTemplate, 3 SemanticsKeyNotAvailable, 4 ConditionTooDeep, 5 CompareOperandNotAddressable,
+-- 6 QuantifierBindInvalid, 7 QuantifierOverNotCollection, 8 QuantifierBodyScope.
+
+-- the family of a defect outside all quantifier bodies
+unfoldable pub ownFamily : Setting → (number : ℕ) → ℕ
+ownFamily setting n =
+    cond (eqb n 18) (cond (setting .isRuleKind) 1 2)
+    (cond (eqb n 15) 3
+    (cond (eqb n 13) 4
+    (cond (eqb n 17) 5
+    (cond (eqb n 21) 6
+    (cond (eqb n 22) 7 1)))))
+
+-- family 1 becomes 8 in a body, and the over place is then the innermost quantifier's `in` entry
+unfoldable pub familyIn : List Binder → ℕ → ℕ
+familyIn [] family = family
+familyIn (b ∷ bs) family = cond (eqb family 1) 8 family
+
+unfoldable pub overPlaceIn : List Binder → ℕ → ℕ
+overPlaceIn [] family = 0
+overPlaceIn (b ∷ bs) family = cond (eqb family 1) (entryOf (b .over)) 0
+
+unfoldable pub answerOf : Setting → (label : Text) → Rule → Verdict → Answer
+answerOf setting label r (allPass passed) = accepted passed
+answerOf setting label r (failsAt passed c d) =
+    defect
+    (record {
+      number = c .number;
+      family = familyIn (c .binders) (ownFamily setting (c .number));
+      detail = d;
+      place = c .place;
+      overPlace = overPlaceIn (c .binders) (ownFamily setting (c .number));
+      passed = passed;
+      path = pathOf label r (c .number) (c .place);
+    })
+
+abbrev pub maxLabelBytes : ℕ
+maxLabelBytes = 256
+
+abbrev pub pathBytes : ℕ
+pathBytes = 32768
+
+abbrev pub scratchWords : ℕ
+scratchWords = 8192
+
+unfoldable pub isWithin : ℕ → ℕ → ℕ → Bool
+isWithin low high n = leb low n && leb n high
+
+unfoldable pub isTaken : Takes → Option Rule → Bool
+isTaken takes none = false
+isTaken any (some r) = true
+isTaken rules (some (rule name message assert)) = true
+isTaken rules (some (template v)) = false
+isTaken templates (some (rule name message assert)) = false
+isTaken templates (some (template v)) = true
+
+abbrev pub settingFor : Call → Setting
+settingFor c = settingOf (c .kind) (c .semantics)
+
+-- a refusal's number, and whether it is due
+pub record Refusal : Type 0 where
+  pub number : ℕ
+  pub isDue : Bool
+
+-- the refusals in the order in which they are tried
+unfoldable pub refusals : Call → List Refusal
+refusals c =
+    record { number = 1; isDue = not (isWithin 1 8 (c .kind) && isWithin 1 4 (c .semantics)) }
+    ∷ record { number = 2; isDue = not (leb (length (c .label)) maxLabelBytes && isUtf8 (c .label)) }
+    ∷ record { number = 3; isDue = not (leb pathBytes (c .pathLength) && leb scratchWords (c .scratchLength)) }
+    ∷ record { number = 4; isDue = isNone (decodeSchema (c .schema)) }
+    ∷ record { number = 5; isDue = not (isTaken (c .takes) (decodeRule (c .rule))) }
+    ∷ []
+
+unfoldable pub firstRefusal : List Refusal → Option ℕ
+firstRefusal [] = none
+firstRefusal (r ∷ rs) = cond (r .isDue) (some (r .number)) (firstRefusal rs)
+
+-- the answer of a schema about a rule or template
+unfoldable pub checked : Setting → (label : Text) → Schema → Rule → Answer
+checked setting label s r = answerOf setting label r (judge setting s (checks setting r))
+
+-- the same, where both sheets are well formed
+unfoldable pub judged : Setting → (label : Text) → Option Schema → Option Rule → Answer
+judged setting label none r = refused 4
+judged setting label (some s) none = refused 5
+judged setting label (some s) (some r) = checked setting label s r
+
+unfoldable pub refusedOr : Option ℕ → Answer → Answer
+refusedOr none a = a
+refusedOr (some n) a = refused n
+
+-- the whole answer: the first refusal that is due, or what the check list says
+unfoldable pub resultOf : Call → Answer
+resultOf c =
+    let verdict = judged (settingFor c) (c .label) (decodeSchema (c .schema)) (decodeRule (c .rule)) in
+    refusedOr (firstRefusal (refusals c)) verdict
+
+-- the seven numbers of a result
+pub record Numbers : Type 0 where
+  pub number : ℕ
+  pub family : ℕ
+  pub detail : ℕ
+  pub place : ℕ
+  pub overPlace : ℕ
+  pub passed : ℕ
+  pub pathLength : ℕ
+
+unfoldable pub numbersOf : Answer → Numbers
+numbersOf (refused n) =
+    record { number = n; family = 0; detail = 0; place = 0; overPlace = 0; passed = 0; pathLength = 0 }
+numbersOf (accepted n) =
+    record { number = 0; family = 0; detail = 0; place = 0; overPlace = 0; passed = n; pathLength = 0 }
+numbersOf (defect d) =
+    record {
+      number = d .number;
+      family = d .family;
+      detail = d .detail;
+      place = d .place;
+      overPlace = d .overPlace;
+      passed = d .passed;
+      pathLength = length (d .path);
+    }
+
+-- the path buffer after the call: a defect's path lies at its start, and all other bytes keep their values
+unfoldable pub pathAfter : Answer → List ℕ → List ℕ
+pathAfter (refused n) before = before
+pathAfter (accepted n) before = before
+pathAfter (defect d) before = sets before 0 (d .path)
+
+-- the scratch after the call: unchanged under refusals 1 to 3, else free in its first elements
+unfoldable pub keptScratch : Answer → ℕ
+keptScratch (refused n) = cond (leb n 3) 0 scratchWords
+keptScratch (accepted n) = scratchWords
+keptScratch (defect d) = scratchWords
+
+pub record ScratchAfter (a : Answer) (before after : List ℕ) : Type 0 where
+  pub size : length after ≡ length before
+  pub kept : drop (keptScratch a) after ≡ drop (keptScratch a) before
+
+-- what a caller hands over, and what it has after the call
+pub record Run : Type 0 where
+  pub takes : Takes
+  pub kind : ℕ
+  pub semantics : ℕ
+  pub label : List ℕ
+  pub schema : List ℕ
+  pub rule : List ℕ
+  pub pathBefore : List ℕ
+  pub scratchBefore : List ℕ
+  pub result : Numbers
+  pub path : List ℕ
+  pub scratch : List ℕ
+
+unfoldable pub callOf : Run → Call
+callOf r =
+    record {
+      takes = r .takes;
+      kind = r .kind;
+      semantics = r .semantics;
+      label = r .label;
+      schema = r .schema;
+      rule = r .rule;
+      pathLength = length (r .pathBefore);
+      scratchLength = length (r .scratchBefore);
+    }
+
+-- what a whole call promises of its run
+pub record Meets (r : Run) : Type 0 where
+  pub result : r .result ≡ numbersOf (resultOf (callOf r))
+  pub path : r .path ≡ pathAfter (resultOf (callOf r)) (r .pathBefore)
+  pub scratch : ScratchAfter (resultOf (callOf r)) (r .scratchBefore) (r .scratch)

@@ -1,0 +1,5 @@
+pub mod Widening
+pub mod Distinct
+pub mod WalkLaws
+pub mod ReferenceLaws
+pub mod DistinctLaws
