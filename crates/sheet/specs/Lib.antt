@@ -3,3 +3,11 @@ pub mod Reader
 pub mod Numeral
 pub mod Order
 pub mod Entries
+pub mod Write
+pub mod Within
+pub mod ReaderLaws
+pub mod NumeralLaws
+pub mod OrderLaws
+pub mod ItemLaws
+pub mod HeadLaws
+pub mod RuleHeadLaws
