@@ -1,2 +1,5 @@
-pub mod Grammar
+pub mod Bound
 pub mod Finite
+pub mod FirstDigit
+pub mod Grammar
+pub mod Parts

@@ -11,3 +11,4 @@ pub mod OrderLaws
 pub mod ItemLaws
 pub mod HeadLaws
 pub mod RuleHeadLaws
+pub mod Computing
