@@ -4,12 +4,12 @@ use mathlib.Core.Bool.{Bool, true, false}
 use mathlib.Core.List.{List, [], _∷_}
 use mathlib.Core.Option.{bind}
 use Prim.Native.Nat.{ℕ}
-use Rattle.number.specs.Grammar.{isDigit, run, past, someDigits, digits, leads, int, frac, last, power, exp, unsigned, number, isSome, isNumber}
+use Rattle.number.specs.Grammar.{isDigit, run, past, someDigits, digits, leads, int, frac, isEmpty, last, power, exp, unsigned, number, isSome, isNumber}
 use Rattle.number.specs.Finite.{valueFrom, value, isBelow, isBelowAt, finite, finiteIf, isFinite}
 
 -- opens every definition, so that an example computes
 opened : List ℕ → Bool
-unfolding isDigit run past someDigits digits leads int frac last power exp unsigned number isSome isNumber bind valueFrom value isBelow isBelowAt finite finiteIf isFinite
+unfolding isDigit run past someDigits digits leads int frac isEmpty last power exp unsigned number isSome isNumber bind valueFrom value isBelow isBelowAt finite finiteIf isFinite
 opened s = isFinite s
 
 -- 1e309

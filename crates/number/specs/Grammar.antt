@@ -6,9 +6,9 @@ use mathlib.Core.List.{List, [], _∷_}
 use mathlib.Core.Option.{Option, none, some, bind}
 use lib.Dec.{leb, eqb}
 
--- what a number text says: its digits before and behind the point, and its exponent. What is left out has no digits
+-- what a number text says but for its sign: the digits before and behind the point, and the exponent, which is negative where it is lowered.
+-- What is left out has no digits
 pub record Number : Type 0 where
-  pub negative : Bool
   pub whole : List ℕ
   pub fraction : List ℕ
   pub lowered : Bool
@@ -55,38 +55,36 @@ unfoldable pub frac : List ℕ → Option Read
 frac [] = some (record { digits = []; rest = [] })
 frac (b ∷ s) = cond (eqb b 0x2E) (digits s) (some (record { digits = []; rest = b ∷ s }))
 
--- the text's last digits, the exponent's, with the minus before them or not
-unfoldable pub last : Bool → Read → Option (Bool × List ℕ)
-last minus r = ended (r .rest)
-  where
-    ended : List ℕ → Option (Bool × List ℕ)
-    ended [] = some (minus, r .digits)
-    ended (b ∷ s) = none
+unfoldable pub isEmpty : List ℕ → Bool
+isEmpty [] = true
+isEmpty (b ∷ s) = false
 
--- [ minus / plus ] 1*DIGIT, to the end
+-- 1*DIGIT, the exponent's, to the end of the text
+unfoldable pub last : Bool → List ℕ → Option (Bool × List ℕ)
+last lowered s = bind (digits s) (λ r. cond (isEmpty (r .rest)) (some (lowered, r .digits)) none)
+
+-- [ minus / plus ] 1*DIGIT
 unfoldable pub power : List ℕ → Option (Bool × List ℕ)
 power [] = none
-power (b ∷ s) =
-    cond (eqb b 0x2D) (bind (digits s) (last true))
-    (cond (eqb b 0x2B) (bind (digits s) (last false)) (bind (digits (b ∷ s)) (last false)))
+power (b ∷ s) = cond (eqb b 0x2D) (last true s) (cond (eqb b 0x2B) (last false s) (last false (b ∷ s)))
 
--- [ exp ], exp = e [ minus / plus ] 1*DIGIT, to the end
+-- [ exp ], exp = e [ minus / plus ] 1*DIGIT
 unfoldable pub exp : List ℕ → Option (Bool × List ℕ)
 exp [] = some (false, [])
 exp (b ∷ s) = cond (eqb b 0x65 || eqb b 0x45) (power s) none
 
 -- int [ frac ] [ exp ]
-unfoldable pub unsigned : Bool → List ℕ → Option Number
-unsigned minus s =
+unfoldable pub unsigned : List ℕ → Option Number
+unsigned s =
     bind (int s)
     λ i. bind (frac (i .rest))
     λ f. bind (exp (f .rest))
-    λ e. some (record { negative = minus; whole = i .digits; fraction = f .digits; lowered = e .0; exponent = e .1 })
+    λ e. some (record { whole = i .digits; fraction = f .digits; lowered = e .0; exponent = e .1 })
 
 -- number = [ minus ] int [ frac ] [ exp ], and nothing behind it
 unfoldable pub number : List ℕ → Option Number
 number [] = none
-number (b ∷ s) = cond (eqb b 0x2D) (unsigned true s) (unsigned false (b ∷ s))
+number (b ∷ s) = cond (eqb b 0x2D) (unsigned s) (unsigned (b ∷ s))
 
 unfoldable pub isSome : Option Number → Bool
 isSome none = false

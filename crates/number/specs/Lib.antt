@@ -1,2 +1,4 @@
 pub mod Grammar
 pub mod Finite
+pub mod Bound
+pub mod Places

@@ -1,3 +1,4 @@
 pub mod Utf8
 pub mod WhiteSpace
 pub mod Blank
+pub mod Decodes

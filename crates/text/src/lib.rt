@@ -1,9 +1,238 @@
-// Text as bytes: UTF-8, White_Space, blank text, and text trimmed at both ends.
+// Text as bytes: UTF-8, White_Space, blank text, and text trimmed at both ends. Every function takes any bytes.
+ghost use mathlib.Core.Path.{_≡_};
+ghost use Prim.Native.Nat.{ℕ};
+ghost use Rattle.text.specs.Utf8.{between, isTail, isUtf8-2, codeOf2, isSecondOf3, isUtf8-3, codeOf3, isSecondOf4, isUtf8-4, codeOf4, isUtf8};
+ghost use Rattle.text.specs.WhiteSpace.{isWhiteSpace};
+ghost use Rattle.text.specs.Blank.{isBlank, trim};
+ghost use Rattle.text.specs.Decodes.{Decodes, StartsAt, EndsAt};
 
-// A byte that stands second or later in the UTF-8 of a code point.
-fn is_tail(b: u8) -> bool {
-    match b {
-        0x80..=0xBF => true,
+// What stands at an offset of a text.
+pub enum Decoded {
+    // A code point, and the offset behind its bytes.
+    CodePoint(u32, usize),
+    // No code point begins there, or the text has ended.
+    Malformed,
+}
+
+fn is_between(low: u8, high: u8, b: u8) -> bool
+    ensures { λ r. ⌜ r ≡ between low high b ⌝ }
+{
+    low <= b && b <= high
+}
+
+fn is_tail(b: u8) -> bool
+    ensures { λ r. ⌜ r ≡ isTail b ⌝ }
+{
+    is_between(0x80, 0xBF, b)
+}
+
+fn is_utf8_2(a: u8, b: u8) -> bool
+    ensures { λ r. ⌜ r ≡ isUtf8-2 a b ⌝ }
+{
+    is_between(0xC2, 0xDF, a) && is_tail(b)
+}
+
+// Whether b may stand behind a, the first of three bytes.
+fn is_second_of_3(a: u8, b: u8) -> bool
+    ensures { λ r. ⌜ r ≡ isSecondOf3 a b ⌝ }
+{
+    match a {
+        0xE0 => is_between(0xA0, 0xBF, b),
+        0xED => is_between(0x80, 0x9F, b),
+        0xE1..=0xEC | 0xEE..=0xEF => is_tail(b),
         _ => false,
     }
+}
+
+fn is_utf8_3(a: u8, b: u8, c: u8) -> bool
+    ensures { λ r. ⌜ r ≡ isUtf8-3 a b c ⌝ }
+{
+    is_second_of_3(a, b) && is_tail(c)
+}
+
+// Whether b may stand behind a, the first of four bytes.
+fn is_second_of_4(a: u8, b: u8) -> bool
+    ensures { λ r. ⌜ r ≡ isSecondOf4 a b ⌝ }
+{
+    match a {
+        0xF0 => is_between(0x90, 0xBF, b),
+        0xF4 => is_between(0x80, 0x8F, b),
+        0xF1..=0xF3 => is_tail(b),
+        _ => false,
+    }
+}
+
+fn is_utf8_4(a: u8, b: u8, c: u8, d: u8) -> bool
+    ensures { λ r. ⌜ r ≡ isUtf8-4 a b c d ⌝ }
+{
+    if is_second_of_4(a, b) {
+        is_tail(c) && is_tail(d)
+    } else {
+        false
+    }
+}
+
+fn wide(b: u8) -> u32
+    ensures { λ r. ⌜ r ≡ b ⌝ }
+{
+    b as u32
+}
+
+fn code_of_2(a: u8, b: u8) -> u32
+    ensures { λ r. ⌜ r ≡ codeOf2 a b ⌝ }
+{
+    (a as u32) % 32 * 64 + (b as u32) % 64
+}
+
+fn code_of_3(a: u8, b: u8, c: u8) -> u32
+    ensures { λ r. ⌜ r ≡ codeOf3 a b c ⌝ }
+{
+    (a as u32) % 16 * 4096 + (b as u32) % 64 * 64 + (c as u32) % 64
+}
+
+fn code_of_4(a: u8, b: u8, c: u8, d: u8) -> u32
+    ensures { λ r. ⌜ r ≡ codeOf4 a b c d ⌝ }
+{
+    (a as u32) % 8 * 262144 + (b as u32) % 64 * 4096 + (c as u32) % 64 * 64 + (d as u32) % 64
+}
+
+// The code point whose bytes begin at an offset.
+pub fn decode_one(s: &[u8], at: usize) -> Decoded
+    ensures { λ r. ⌜ Decodes (now (s .entry)) at r ⌝ }
+{
+    if s.len() <= at {
+        return Decoded::Malformed;
+    }
+    let left = s.len() - at;
+    let a = s[at];
+    if a <= 0x7F {
+        return Decoded::CodePoint(wide(a), at + 1);
+    }
+    if left < 2 {
+        return Decoded::Malformed;
+    }
+    let b = s[at + 1];
+    if is_utf8_2(a, b) {
+        return Decoded::CodePoint(code_of_2(a, b), at + 2);
+    }
+    if left < 3 {
+        return Decoded::Malformed;
+    }
+    let c = s[at + 2];
+    if is_utf8_3(a, b, c) {
+        return Decoded::CodePoint(code_of_3(a, b, c), at + 3);
+    }
+    if left < 4 {
+        return Decoded::Malformed;
+    }
+    let d = s[at + 3];
+    if is_utf8_4(a, b, c, d) {
+        return Decoded::CodePoint(code_of_4(a, b, c, d), at + 4);
+    }
+    Decoded::Malformed
+}
+
+pub fn is_white_space(c: u32) -> bool
+    ensures { λ r. ⌜ r ≡ isWhiteSpace c ⌝ }
+{
+    match c {
+        0x9..=0xD
+        | 0x20
+        | 0x85
+        | 0xA0
+        | 0x1680
+        | 0x2000..=0x200A
+        | 0x2028..=0x2029
+        | 0x202F
+        | 0x205F
+        | 0x3000 => true,
+        _ => false,
+    }
+}
+
+pub fn is_utf8(s: &[u8]) -> bool
+    ensures { λ r. ⌜ r ≡ isUtf8 (now (s .entry)) ⌝ }
+{
+    let mut at = 0;
+    while at < s.len() {
+        // Most text is ASCII: such a byte needs no call.
+        if s[at] <= 0x7F {
+            at += 1;
+            continue;
+        }
+        let Decoded::CodePoint(_, next) = decode_one(s, at) else {
+            return false;
+        };
+        at = next;
+    }
+    true
+}
+
+// Whether a text is empty or all White_Space.
+pub fn is_blank(s: &[u8]) -> bool
+    ensures { λ r. ⌜ r ≡ isBlank (now (s .entry)) ⌝ }
+{
+    let mut at = 0;
+    while at < s.len() {
+        let Decoded::CodePoint(c, next) = decode_one(s, at) else {
+            return false;
+        };
+        if is_white_space(c) {
+            at = next;
+        } else {
+            return false;
+        }
+    }
+    true
+}
+
+// Where the White_Space at the start of a text ends.
+fn start_of(s: &[u8]) -> usize
+    ensures { λ r. ⌜ StartsAt (now (s .entry)) r ⌝ }
+{
+    let mut at = 0;
+    while at < s.len() {
+        let Decoded::CodePoint(c, next) = decode_one(s, at) else {
+            return at;
+        };
+        if is_white_space(c) {
+            at = next;
+        } else {
+            return at;
+        }
+    }
+    at
+}
+
+// Where the White_Space at the end of a text begins: behind the last code point, or byte of none, that is no White_Space.
+fn end_of(s: &[u8]) -> usize
+    ensures { λ r. ⌜ EndsAt (now (s .entry)) r ⌝ }
+{
+    let mut at = 0;
+    let mut end = 0;
+    while at < s.len() {
+        match decode_one(s, at) {
+            Decoded::CodePoint(c, next) => {
+                at = next;
+                if is_white_space(c) {
+                    continue;
+                }
+            }
+            Decoded::Malformed => {
+                at += 1;
+            }
+        }
+        end = at;
+    }
+    end
+}
+
+// The text without the White_Space at both its ends.
+pub fn trim(s: &[u8]) -> &[u8]
+    ensures { λ r. ⌜ now r ≡ trim (now (s .entry)) ⌝ }
+{
+    let start = start_of(s);
+    let rest = &s[start..];
+    let end = end_of(rest);
+    &rest[..end]
 }

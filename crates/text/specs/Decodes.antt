@@ -1,0 +1,23 @@
+-- What the functions that work with offsets answer.
+use Prim.Native.Nat.{ℕ, _<_, _≤_}
+use mathlib.Core.Path.{_≡_}
+use mathlib.Core.List.{List}
+use mathlib.Core.Option.{none, some}
+use lib.ListN.{length, take, drop}
+use Rattle.text.specs.Utf8.{decodeOne}
+use Rattle.text.specs.Blank.{trimStart, trimEnd}
+use Rattle.text.specs.declared.Decoded.{Decoded}
+use Rattle.text.specs.declared.Decoded.the-variants.{CodePoint, Malformed}
+
+-- what is decoded at an offset, with the offset behind it
+abbrev pub Decodes : List ℕ → ℕ → Decoded → Type 0
+Decodes s at (CodePoint c next) = (decodeOne (drop at s) ≡ some (c, drop next s)) × (at < next) × (next ≤ length s)
+Decodes s at Malformed = decodeOne (drop at s) ≡ none
+
+pub record StartsAt (s : List ℕ) (start : ℕ) : Type 0 where
+  pub within : start ≤ length s
+  pub rest : drop start s ≡ trimStart s
+
+pub record EndsAt (s : List ℕ) (end : ℕ) : Type 0 where
+  pub within : end ≤ length s
+  pub front : take end s ≡ trimEnd s
