@@ -1,1 +1,2 @@
 // A rule sheet, read once: whether it is well formed, and an index of its entries in the lent scratch.
+mod cursor; // cursor.rt: where reading stands

@@ -1,0 +1,4 @@
+mod KeptLaws
+mod ReaderLaws
+mod SiblingLaws
+mod ValueLaws
