@@ -3,3 +3,7 @@ pub mod Reader
 pub mod Numeral
 pub mod Order
 pub mod Entries
+pub mod Parts
+pub mod Compares
+pub mod Pieces
+pub mod Places
