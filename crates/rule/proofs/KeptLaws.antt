@@ -1,13 +1,15 @@
 -- Laws of `Kept`: nothing done, one word stored, one thing after the other.
-use Prim.Native.Nat.{ℕ, _+_, _*_, _/_, _%_, _≤_, _<_}
-use mathlib.Core.List.{List}
+use Prim.Native.Nat.{ℕ, zero, suc, _+_, _*_, _/_, _%_, _≤_, _<_}
+use mathlib.Core.List.{List, [], _∷_}
 use mathlib.Core.Path.{_≡_, refl, ap, _∙_}
 use native.Mathlib.Omega.{arith}
 use lib.ListN.{length, getD, set, length-set}
 use lib.Seq.{getD-set-same, getD-set-other}
+use Rattle.definition.specs.Limits.{maxSheetBytes, maxRuleEntries}
+use Rattle.rule.specs.declared.cursor.Cursor.{Cursor}
 use Rattle.rule.specs.Index.{startOf, endOf}
 use Rattle.rule.specs.IndexLaws.{Agree}
-use Rattle.rule.specs.Read.{Kept}
+use Rattle.rule.specs.Read.{Kept, Ready}
 
 pub kept-all : {words : List ℕ} {a b : ℕ} → Kept words words a b
 kept-all = record { len = refl; below = λ j h. refl; above = λ j h. refl }
@@ -46,9 +48,25 @@ pub agree-above : {before after : List ℕ} {a b c d : ℕ} → Kept before afte
 agree-above kept p = record { same = λ j l r. kept .above j (omega arith) }
 
 -- a start and an end in one word
-module _ (words : List ℕ) (i start end : ℕ) (h : i < length words) where
-  pub set-start : end < 4096 → startOf (set words i (start * 4096 + end)) i ≡ start
-  set-start small = ap (λ (w : ℕ). w / 4096) (getD-set-same words i (start * 4096 + end) 0 h) ∙ omega arith
+module _ (words : List ℕ) (i start : ℕ) {x end : ℕ} (h : i < length words) (e : x ≡ start * 4096 + end) (small : end < 4096) where
+  pub set-start : startOf (set words i x) i ≡ start
+  set-start = ap (λ (w : ℕ). w / 4096) (getD-set-same words i x 0 h) ∙ omega arith
 
-  pub set-end : end < 4096 → endOf (set words i (start * 4096 + end)) i ≡ end
-  set-end small = ap (λ (w : ℕ). w % 4096) (getD-set-same words i (start * 4096 + end) 0 h) ∙ omega arith
+  pub set-end : endOf (set words i x) i ≡ end
+  set-end = ap (λ (w : ℕ). w % 4096) (getD-set-same words i x 0 h) ∙ omega arith
+
+pub ready-fewer : {s words : List ℕ} {n m : ℕ} {c : Cursor} → Ready s words n c → m ≤ n → Ready s words m c
+ready-fewer ready h = record { small = ready .small; room = ready .room; inside = ready .inside; budget = omega (arith, ready .budget) }
+
+pub ready-inside : {s words : List ℕ} {n m behind word left : ℕ} {c : Cursor}
+    → Ready s words n c
+    → behind ≤ length s
+    → word + m + left ≤ c .word + n + c .left
+    → Ready s words m (record { at = behind; word = word; left = left })
+ready-inside ready inside h = record { small = ready .small; room = ready .room; inside = inside; budget = omega (arith, ready .budget) }
+
+-- behind the last word
+pub getD-behind : (words : List ℕ) (i : ℕ) → length words ≤ i → getD words i 0 ≡ 0
+getD-behind [] i h = refl
+getD-behind (w ∷ words) zero h = absurd (omega arith)
+getD-behind (w ∷ words) (suc i) h = getD-behind words i (omega arith)

@@ -4,7 +4,7 @@ use mathlib.Core.Option.{Option, none, some, Option·some-injective}
 use mathlib.Core.Path.{_≡_, refl, ap, _∙_}
 use native.Mathlib.Omega.{arith}
 use borrow.Author.Tests.{le-leb, lt-leb}
-use Rattle.sheet.specs.Reader.{Reader, andThen}
+use Rattle.sheet.specs.Reader.{Reader, andThen, pure, _>>=_}
 use Rattle.definition.specs.Decode.{Ahead, announce}
 
 pub some-both : {A S : Type 0} {x y : A} {a b : S} → _≡_ {A = Option (A × S)} (some (x, a)) (some (y, b)) → (x ≡ y) × (a ≡ b)
@@ -22,6 +22,32 @@ pub then-some : {A B S : Type 0} (o : Option (A × S)) (k : A → Reader S B) {t
 unfolding andThen
 then-some none k e = let z : _≡_ {A = ℕ} 0 1 = cc in absurd (omega arith)
 then-some (some r) k e = record { fst = r .0; mid = r .1; first = refl; second = e }
+
+-- the first of several siblings, and the others
+pub record First {E T S : Type 0} (o : Option (E × S)) (rest : Reader S T) (cons : E → T → T) (t : T) (b : S) : Type 0 where
+  pub item : E
+  pub others : T
+  pub mid : S
+  pub isItem : o ≡ some (item, mid)
+  pub areOthers : rest mid ≡ some (others, b)
+  pub isFirst : cons item others ≡ t
+
+pub then-first : {E T S : Type 0} (o : Option (E × S)) (rest : Reader S T) (cons : E → T → T) (t : T) (b : S)
+    → andThen o (λ v. rest >>= λ others. pure (cons v others)) ≡ some (t, b)
+    → First o rest cons t b
+unfolding _>>=_ pure
+then-first {S} o rest cons t b e =
+    let x = then-some o (λ v. rest >>= λ others. pure (cons v others)) e in
+    let y = then-some (rest (x .mid)) (λ others. pure (cons (x .fst) others)) (x .second) in
+    let z = some-both (y .second) in
+    record {
+      item = x .fst;
+      others = y .fst;
+      mid = x .mid;
+      isItem = x .first;
+      areOthers = y .first ∙ ap (λ (m : S). some (y .fst, m)) (z .1);
+      isFirst = z .0;
+    }
 
 -- What is announced is paid for.
 

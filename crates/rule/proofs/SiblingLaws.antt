@@ -1,5 +1,5 @@
 -- Siblings, read one by one: what has been read is right for the whole if what is left is.
-use Prim.Native.Nat.{ℕ, suc, _+_, _≤_}
+use Prim.Native.Nat.{ℕ, suc, _+_, _-_, _≤_, _<_}
 use mathlib.Core.List.{List}
 use mathlib.Core.Option.{Option, none, some}
 use mathlib.Core.Path.{_≡_, refl, sym, ap, _∙_}
@@ -54,72 +54,76 @@ unfolding andThen pure
 then-twice f g none = refl
 then-twice f g (some r) = refl
 
-module _ {K E T : Type 0} (S : Siblings K E T) (s : List ℕ) where
-  pub siblings-begin : (words : List ℕ) (k : K) (count cost : ℕ) (c : Cursor)
-      → Ready s words cost c
-      → Passing S s words words k k count cost count cost c c
-  siblings-begin words k count cost c ready =
+pub siblings-begin : {K E T : Type 0} (S : Siblings K E T) {s words : List ℕ} (k : K) (count : ℕ) {cost : ℕ} {c : Cursor}
+    → Ready s words cost c
+    → Passing S s words words k k count cost count cost c c
+siblings-begin S {s} k count {c} ready =
+    record {
+      done = λ t. t;
+      onward = then-pure (S .all k count (aheadOf s c));
+      indexed = λ later t agree at. at;
+      size = λ t. refl;
+      kept = kept-all;
+      rises = omega arith;
+      ready = ready;
+      budget = refl;
+    }
+
+module _ {K E T : Type 0} {S : Siblings K E T} {s before words : List ℕ} {first k : K} {count cost n paid : ℕ} {c here : Cursor} (passing : Passing S s before words first k count cost n paid c here) where
+  item-then : (o : Option (E × Ahead))
+      → 0 < n
+      → S .item k (aheadOf s here) ≡ o
+      → S .all k n (aheadOf s here) ≡ andThen o (λ e. S .all (S .told e) (n - 1) >>= λ t. pure (S .cons e t))
+  item-then o h e =
+      let one-more : n ≡ suc (n - 1) = omega arith in
+      ap (λ (n : ℕ). S .all k n (aheadOf s here)) one-more
+      ∙ S .all-suc k (n - 1) (aheadOf s here)
+      ∙ ap (λ o. andThen o (λ e. S .all (S .told e) (n - 1) >>= λ t. pure (S .cons e t))) e
+
+  pub siblings-bad : {later : List ℕ}
+      → 0 < n
+      → (S .item k (aheadOf s here) ≡ none) × Kept words later (here .word) maxRuleEntries
+      → (S .all first count (aheadOf s c) ≡ none) × Kept before later (c .word) maxRuleEntries
+  unfolding andThen
+  siblings-bad h bad =
+      (passing .onward ∙ ap (λ o. andThen o (λ t. pure (passing .done t))) (item-then none h (bad .0)), kept-then (passing .kept) (bad .1) (omega arith) (passing .rises) (omega (arith, passing .ready .budget)) (omega arith))
+
+  pub siblings-next : (rest : ℕ) {later : List ℕ} {spent : ℕ} {next : Cursor}
+      → 0 < n
+      → spent + rest ≡ paid
+      → (item : Indexed (S .item k) (S .ItemAt) (S .itemSize) s words later spent here next)
+      → Passing S s before later first (S .told (item .tree)) count cost (n - 1) rest c next
+  unfolding andThen _>>=_ pure
+  siblings-next rest {later} {next} h e item =
+      let v = item .tree in
+      let step : S .all k n (aheadOf s here) ≡ andThen (S .all (S .told v) (n - 1) (aheadOf s next)) (λ t. pure (S .cons v t)) = item-then (some (v, aheadOf s next)) h (item .reads) in
+      let rises : here .word ≤ next .word = omega (arith, item .size) in
       record {
-        done = λ t. t;
-        onward = then-pure (S .all k count (aheadOf s c));
-        indexed = λ later t agree at. at;
-        size = λ t. refl;
-        kept = kept-all;
+        done = λ t. passing .done (S .cons v t);
+        onward = passing .onward ∙ ap (λ o. andThen o (λ t. pure (passing .done t))) step ∙ then-twice (passing .done) (S .cons v) (S .all (S .told v) (n - 1) (aheadOf s next));
+        indexed =
+            λ last t agree at.
+            passing .indexed last (S .cons v t)
+            (agree-then (agree-below (item .kept) (omega arith)) (agree-within agree (omega arith) (omega arith)))
+            (S .cons-at last (here .word) v t
+            (S .item-frame later last (here .word) v (item .indexed) (agree-within agree (omega arith) (omega (arith, item .size))))
+            (rw (item .size) at at));
+        size = λ t. passing .size (S .cons v t) ∙ omega (arith, S .cons-size v t, item .size);
+        kept = kept-then (passing .kept) (item .kept) (omega arith) (omega arith) (omega arith) (omega arith);
         rises = omega arith;
-        ready = ready;
-        budget = refl;
+        ready = record { small = passing .ready .small; room = omega (arith, item .kept .len); inside = item .inside; budget = omega arith };
+        budget = omega arith;
       }
 
-  module _ (before words : List ℕ) (first k : K) (count cost n paid : ℕ) (c here : Cursor) (passing : Passing S s before words first k count cost n paid c here) where
-    item-then : (m : ℕ) (o : Option (E × Ahead))
-        → n ≡ suc m
-        → S .item k (aheadOf s here) ≡ o
-        → S .all k n (aheadOf s here) ≡ andThen o (λ e. S .all (S .told e) m >>= λ t. pure (S .cons e t))
-    item-then m o f e =
-        ap (λ (n : ℕ). S .all k n (aheadOf s here)) f
-        ∙ S .all-suc k m (aheadOf s here)
-        ∙ ap (λ o. andThen o (λ e. S .all (S .told e) m >>= λ t. pure (S .cons e t))) e
-
-    pub siblings-stop : (m : ℕ) → n ≡ suc m → S .item k (aheadOf s here) ≡ none → S .all first count (aheadOf s c) ≡ none
-    unfolding andThen
-    siblings-stop m f e = passing .onward ∙ ap (λ o. andThen o (λ t. pure (passing .done t))) (item-then m none f e)
-
-    pub siblings-next : (later : List ℕ) (m spent rest : ℕ) (next : Cursor)
-        → n ≡ suc m
-        → spent + rest ≡ paid
-        → (item : Indexed (S .item k) (S .ItemAt) (S .itemSize) s words later spent here next)
-        → Passing S s before later first (S .told (item .tree)) count cost m rest c next
-    unfolding andThen _>>=_ pure
-    siblings-next later m spent rest next f e item =
-        let v = item .tree in
-        let step : S .all k n (aheadOf s here) ≡ andThen (S .all (S .told v) m (aheadOf s next)) (λ t. pure (S .cons v t)) = item-then m (some (v, aheadOf s next)) f (item .reads) in
-        let rises : here .word ≤ next .word = omega (arith, item .size) in
-        record {
-          done = λ t. passing .done (S .cons v t);
-          onward = passing .onward ∙ ap (λ o. andThen o (λ t. pure (passing .done t))) step ∙ then-twice (passing .done) (S .cons v) (S .all (S .told v) m (aheadOf s next));
-          indexed =
-              λ last t agree at.
-              passing .indexed last (S .cons v t)
-              (agree-then (agree-below (item .kept) (omega arith)) (agree-within agree (omega arith) (omega arith)))
-              (S .cons-at last (here .word) v t
-              (S .item-frame later last (here .word) v (item .indexed) (agree-within agree (omega arith) (omega (arith, item .size))))
-              (rw (item .size) at at));
-          size = λ t. passing .size (S .cons v t) ∙ omega (arith, S .cons-size v t, item .size);
-          kept = kept-then (passing .kept) (item .kept) (omega arith) (omega arith) (omega arith) (omega arith);
-          rises = omega arith;
-          ready = record { small = passing .ready .small; room = omega (arith, item .kept .len); inside = item .inside; budget = omega arith };
-          budget = omega arith;
-        }
-
-    pub siblings-end : n ≡ 0 → paid ≡ 0 → Indexed (S .all first count) (S .AllAt) (S .allSize) s before words cost c here
-    unfolding andThen pure
-    siblings-end f e =
-        record {
-          tree = passing .done (S .none-of);
-          reads = passing .onward ∙ ap (λ (n : ℕ). andThen (S .all k n (aheadOf s here)) (λ t. pure (passing .done t))) f ∙ ap (λ o. andThen o (λ t. pure (passing .done t))) (S .all-zero k (aheadOf s here));
-          indexed = passing .indexed words (S .none-of) agree-same (S .none-at words (here .word));
-          size = omega (arith, passing .size (S .none-of), S .none-size);
-          kept = passing .kept;
-          inside = passing .ready .inside;
-          budget = omega arith;
-        }
+  pub siblings-end : n ≡ 0 → paid ≡ 0 → Indexed (S .all first count) (S .AllAt) (S .allSize) s before words cost c here
+  unfolding andThen pure
+  siblings-end f e =
+      record {
+        tree = passing .done (S .none-of);
+        reads = passing .onward ∙ ap (λ (n : ℕ). andThen (S .all k n (aheadOf s here)) (λ t. pure (passing .done t))) f ∙ ap (λ o. andThen o (λ t. pure (passing .done t))) (S .all-zero k (aheadOf s here));
+        indexed = passing .indexed words (S .none-of) agree-same (S .none-at words (here .word));
+        size = omega (arith, passing .size (S .none-of), S .none-size);
+        kept = passing .kept;
+        inside = passing .ready .inside;
+        budget = omega arith;
+      }

@@ -15,7 +15,7 @@ use Rattle.definition.specs.Tree.{Text, Value, constant, number, string, array,
 use Rattle.definition.specs.Decode.{Ahead, entered, entry, announce, valuesOf, pairsOf, valueOf, valueIn}
 use Rattle.rule.specs.Index.{countOfValues, countOfPairs, sizeOfValue, sizeOfValues, sizeOfPairs, EntryAt, ValueAt, ValuesAt, PairsAt}
 use Rattle.rule.specs.Read.{pairIn}
-use Rattle.rule.proofs.ReaderLaws.{some-both, then-some, paid, announced, not-announced, nothing-paid}
+use Rattle.rule.proofs.ReaderLaws.{some-both, then-some, First, then-first, paid, announced, not-announced, nothing-paid}
 
 -- nothing may nest any more
 pub value-too-deep : (a : Ahead) (depth : ℕ) → depth ≡ 0 → valueIn depth a ≡ none
@@ -46,28 +46,11 @@ pub values-none : (p : Reader Ahead Value) (a b : Ahead) (vs : Values) → value
 unfolding valuesOf pure
 values-none p a b vs e = some-both e
 
-pub record FirstValue (n : ℕ) (p : Reader Ahead Value) (a b : Ahead) (vs : Values) : Type 0 where
-  pub v : Value
-  pub others : Values
-  pub mid : Ahead
-  pub isValue : p a ≡ some (v, mid)
-  pub areOthers : valuesOf n p mid ≡ some (others, b)
-  pub isFirst : value v others ≡ vs
-
-pub values-first : (n : ℕ) (p : Reader Ahead Value) (a b : Ahead) (vs : Values) → valuesOf (suc n) p a ≡ some (vs, b) → FirstValue n p a b vs
-unfolding valuesOf _>>=_ pure
-values-first n p a b vs e =
-    let x = then-some (p a) (λ v. valuesOf n p >>= λ others. pure (value v others)) e in
-    let y = then-some (valuesOf n p (x .mid)) (λ others. pure (value (x .fst) others)) (x .second) in
-    let z = some-both (y .second) in
-    record {
-      v = x .fst;
-      others = y .fst;
-      mid = x .mid;
-      isValue = x .first;
-      areOthers = y .first ∙ ap (λ (m : Ahead). some (y .fst, m)) (z .1);
-      isFirst = z .0;
-    }
+pub values-first : (n : ℕ) (p : Reader Ahead Value) (a b : Ahead) (vs : Values)
+    → valuesOf (suc n) p a ≡ some (vs, b)
+    → First (p a) (valuesOf n p) value vs b
+unfolding valuesOf _>>=_
+values-first n p a b vs e = then-first (p a) (valuesOf n p) value vs b e
 
 pub values-count : (n : ℕ) (p : Reader Ahead Value) (a b : Ahead) (vs : Values) → valuesOf n p a ≡ some (vs, b) → countOfValues vs ≡ n
 unfolding countOfValues
@@ -206,3 +189,37 @@ module _ (e : ℕ) (p : Reader Ahead Value) (a : Ahead) (n : ℕ) where
   pub pairs-bad : 2 * n ≤ a .left → pairsOf n none p (paid (2 * n) a) ≡ none → valueOf e (objectHead n) p a ≡ none
   unfolding valueOf _>>=_ _>>_ andThen
   pairs-bad q f = rw (announced (2 * n) a q, f)
+
+-- Each way through the reader of a key and its value.
+module _ (previous : Option Text) (p : Reader Ahead Value) (a : Ahead) where
+  with-key : Option (List ℕ × List ℕ) → Option ((Text × Value) × Ahead)
+  with-key o = andThen (entered (a .next) (a .left) o) (λ k. ensure (follows previous (k .1)) >> (p >>= λ v. pure (k .1, v)))
+
+  pair-with-key : pairIn previous p a ≡ with-key (keyHead (a .rest))
+  unfolding with-key pairIn _>>=_ entry
+  pair-with-key = refl
+
+  pub pair-keyless : keyHead (a .rest) ≡ none → pairIn previous p a ≡ none
+  unfolding with-key andThen entered
+  pair-keyless e = pair-with-key ∙ ap with-key e
+
+  module _ (key : Text) (behind : List ℕ) (head : keyHead (a .rest) ≡ some (key, behind)) where
+    pair-headed : (b : Bool) → follows previous key ≡ b → pairIn previous p a ≡ (ensure b >> (p >>= λ v. pure (key, v))) (record { next = a .next + 1; left = a .left; rest = behind })
+    unfolding with-key andThen entered
+    pair-headed b e = pair-with-key ∙ ap with-key head ∙ ap (λ b. (ensure b >> (p >>= λ v. pure (key, v))) (record { next = a .next + 1; left = a .left; rest = behind })) e
+
+    pub pair-unordered : follows previous key ≡ false → pairIn previous p a ≡ none
+    unfolding _>>_ _>>=_ ensure andThen
+    pair-unordered e = pair-headed false e
+
+    pub pair-valueless : follows previous key ≡ true → p (record { next = a .next + 1; left = a .left; rest = behind }) ≡ none → pairIn previous p a ≡ none
+    unfolding _>>_ _>>=_ ensure andThen
+    pair-valueless e f = pair-headed true e ∙ rw f
+
+pub pair-read : (previous : Option Text) (p : Reader Ahead Value) (a b : Ahead) (key : Text) (behind : List ℕ) (v : Value)
+    → keyHead (a .rest) ≡ some (key, behind)
+    → follows previous key ≡ true
+    → p (record { next = a .next + 1; left = a .left; rest = behind }) ≡ some (v, b)
+    → pairIn previous p a ≡ some ((key, v), b)
+unfolding _>>_ _>>=_ ensure andThen pure
+pair-read previous p a b key behind v head e f = pair-headed previous p a key behind head true e ∙ rw f

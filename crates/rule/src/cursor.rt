@@ -14,7 +14,3 @@ pub enum TreeRead {
     // They are not well formed.
     Bad,
 }
-
-pub fn step(c: Cursor) -> TreeRead {
-    TreeRead::Good(c)
-}
