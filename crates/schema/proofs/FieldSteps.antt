@@ -13,7 +13,7 @@ use Rattle.sheet.specs.Entries.{FieldHead, fieldHead}
 use Rattle.definition.specs.Tree.{Text, Field, field, Items, absent, element, Members}
 use Rattle.definition.specs.Decode.{Ahead, entry, entered, announce, toCount, elementOf, membersOf, fieldIn}
 use Rattle.schema.specs.Index.{maxSlots, placeWord, childWord, hasElement, elements, countOf, below, belowItems, belowMembers, HeadAt, FieldAt, ItemsAt, MembersAt}
-use Rattle.schema.specs.IndexLaws.{ItemsAt-kept}
+use Rattle.schema.specs.IndexLaws.{ItemsAt-kept, elements-marked}
 use Rattle.schema.specs.Kept.{Kept, SlotKept, OthersKept}
 use Rattle.schema.specs.Fields.{ahead, SlotPut, Ready, Moved, FieldGood, ItemsGood, MembersGood}
 use Rattle.schema.specs.declared.field.Cursor.{Cursor}
@@ -64,11 +64,6 @@ module _ (s : List ℕ) (from : Cursor) (h : FieldHead) (end elems : ℕ) (head 
         → fieldIn depth (ahead s from) ≡ some ((h .name, field (from .next) (h .kind) (h .isOpen) (h .tag) items members), c)
     unfolding andThen _>>=_ pure
     field-reads items members b c e f = field-rest ∙ rw (e, f)
-
-pub elements-marked : (items : Items) → elements items ≡ toCount (hasElement items)
-unfolding elements hasElement toCount
-elements-marked absent = refl
-elements-marked (element f) = refl
 
 -- the words at a slot, and the entry that they lead to
 slot-place : (w at e : ℕ) → e < 4096 → w ≡ at * 4096 + e → (w % 4096 ≡ e) × (w / 4096 ≡ at)

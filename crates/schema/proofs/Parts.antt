@@ -12,12 +12,12 @@ use Rattle.definition.specs.Tree.{Field, field, Items, absent, element, Members
 use Rattle.definition.specs.Within.{ItemsRise}
 use Rattle.definition.specs.Decode.{toCount}
 use Rattle.schema.specs.Index.{maxSlots, placeWord, childWord, hasElement, elements, countOf, below, belowItems, belowMembers, ItemsAt}
+use Rattle.schema.specs.IndexLaws.{head-unique, elements-marked}
 use Rattle.schema.specs.Slot.{SlotHolds, ElementAt, elementFrom, IndexedIs}
 use Rattle.sheet.specs.Places.{fieldOf}
 use Rattle.sheet.specs.declared.schema.FieldHead.{FieldHead}
 use Rattle.schema.specs.declared.index.Element.{Element}
 use Rattle.schema.specs.declared.index.IndexedField.{IndexedField}
-use Rattle.schema.proofs.FieldSteps.{elements-marked}
 
 -- a slot that holds a field has a head
 pub headless-parts : (s w : List ℕ) (k : ℕ) (r : IndexedField) → fieldHead (drop (placeWord w k / 4096) s) ≡ none → IndexedIs s w k r

@@ -1,57 +1,55 @@
+-- `schema::read::read_arguments` meets its contract, by whether there are arguments.
 use mathlib.Core.Path.{ap}
+use borrow.Author.Needs.{needs}
 use Rattle.sheet.specs.Places.{holderOf, argumentsOf}
 use Rattle.schema.proofs.Slots.{kept-all}
 use Rattle.schema.proofs.SchemaSteps.{arguments-absent, arguments-none, arguments-good}
-use native.Mathlib.Omega.{arith}
-use borrow.Author.Needs.{needs}
 use Rattle.schema.proofs.read.read_arguments.Statement.{statement}
 use Rattle.schema.proofs.read.read_arguments.Tie as tie
-use Rattle.schema.proofs.read.read_arguments.Reads as reads
-use Rattle.schema.proofs.read.read_arguments.Lts as lts
-use Rattle.schema.proofs.read.read_holder.Reads as read-holder-reads
 
--- src/read.rt:80:38
 enum-known-head : tie.Need-enum-known-head
 enum-known-head c = search needs
 
--- src/read.rt:81:36
 enum-told : tie.Need-enum-told
 enum-told c = search needs
 
--- src/read.rt:81:9
 returns : tie.Need-returns
 unfolding argumentsOf
-returns c = record { kept = kept-all (c .before .before .before .before .args .words .now); answer = arguments-absent (c .before .before .before .before .args .sheet .now) (c .before .before .before .before .args .words .now) (c .before .before .before .before .args .from) (argumentsOf (c .before .before .before .before .args .head)) (ap argumentsOf (c .enum-told .given .1)) (c .before .before .before .before .pre .at) }
+returns c =
+    let c4 = c .before .before .before .before in
+    record { kept = kept-all (c4 .args .words .now); answer = arguments-absent (c4 .args .sheet .now) (c4 .args .words .now) (c4 .args .from) (argumentsOf (c4 .args .head)) (ap argumentsOf (c .enum-told .given .1)) (c4 .pre .at) }
 
--- src/read.rt:83:40
 read-holder-requires : tie.Need-read-holder-requires
 read-holder-requires c κs = search needs
 
--- src/read.rt:83:26
 enum-known-holder : tie.Need-enum-known-holder
 enum-known-holder c = search needs
 
--- src/read.rt:84:9
 enum-told-2 : tie.Need-enum-told-2
 enum-told-2 c = search needs
 
--- src/read.rt:84:9
 same-length : tie.Need-same-length
 same-length c = search needs
 
--- src/read.rt:84:9
 returns-2 : tie.Need-returns-2
 unfolding argumentsOf
-returns-2 c = record { kept = c .before .before .before .before .read-holder .ensures .kept; answer = arguments-none (c .before .before .before .before .before .before .before .before .before .before .before .args .sheet .now) (c .before .before .before .before .before .before .before .before .before .before .before .args .from) (argumentsOf (c .before .before .before .before .before .before .before .before .before .before .before .args .head)) (holderOf (c .before .before .before .before .before .before .before .head .given .0 .0)) (ap argumentsOf (c .before .before .before .before .before .before .before .head .given .1)) (rw (c .enum-told2 .given .1) at (c .before .before .before .before .read-holder .ensures .answer)) }
+returns-2 c =
+    let c4 = c .before .before .before .before in
+    let c7 = c4 .before .before .before in
+    let c11 = c7 .before .before .before .before in
+    record { kept = c4 .read-holder .ensures .kept; answer = arguments-none (c11 .args .sheet .now) (c11 .args .from) (argumentsOf (c11 .args .head)) (holderOf (c7 .head .given .0 .0)) (ap argumentsOf (c7 .head .given .1)) (rw (c .enum-told2 .given .1) at (c4 .read-holder .ensures .answer)) }
 
--- src/read.rt:76:1
 same-length-2 : tie.Need-same-length-2
 same-length-2 c = search needs
 
--- src/read.rt:76:1
 returns-3 : tie.Need-returns-3
 unfolding argumentsOf
-returns-3 c = record { kept = c .before .before .before .before .before .read-holder .ensures .kept; answer = arguments-good (c .before .before .before .before .before .before .before .before .before .before .before .before .args .sheet .now) (c .before .before .before .before .before .before .before .before .before .before .before .before .args .from) (argumentsOf (c .before .before .before .before .before .before .before .before .before .before .before .before .args .head)) (holderOf (c .before .before .before .before .before .before .before .before .head .given .0 .0)) (ap argumentsOf (c .before .before .before .before .before .before .before .before .head .given .1)) (c .before .before .before .before .before .before .before .before .before .before .before .before .args .words .now) _ _ _ (rw (c .before .holder .given .1) at (c .before .before .before .before .before .read-holder .ensures .answer)) }
+returns-3 c =
+    let c1 = c .before in
+    let c5 = c1 .before .before .before .before in
+    let c8 = c5 .before .before .before in
+    let c12 = c8 .before .before .before .before in
+    record { kept = c5 .read-holder .ensures .kept; answer = arguments-good (c12 .args .sheet .now) (c12 .args .from) (argumentsOf (c12 .args .head)) (holderOf (c8 .head .given .0 .0)) (ap argumentsOf (c8 .head .given .1)) (c12 .args .words .now) _ _ _ (rw (c1 .holder .given .1) at (c5 .read-holder .ensures .answer)) }
 
 pub read-arguments-spec : {M : Type 1} → statement M
 read-arguments-spec =

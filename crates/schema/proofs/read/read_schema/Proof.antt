@@ -1,108 +1,129 @@
+-- `schema::read::read_schema` meets its contract: a law for each way to refuse a sheet, and one for the way to accept it.
+use native.Mathlib.Omega.{arith}
+use borrow.Author.Needs.{needs}
 use Rattle.sheet.specs.Places.{schemaOf}
 use Rattle.schema.proofs.Slots.{kept-all, kept-more}
 use Rattle.schema.proofs.SchemaSteps.{schema-long, schema-headless, schema-fieldless, schema-argumentless, behind-ready, schema-unended, schema-good}
-use native.Mathlib.Omega.{arith}
-use borrow.Author.Needs.{needs}
 use Rattle.schema.proofs.read.read_schema.Statement.{statement}
 use Rattle.schema.proofs.read.read_schema.Tie as tie
-use Rattle.schema.proofs.read.read_schema.Reads as reads
-use Rattle.schema.proofs.read.read_schema.Lts as lts
-use Rattle.sheet.proofs.schema.schema_head.Reads as schema-head-reads
-use Rattle.schema.proofs.read.read_arguments.Reads as read-arguments-reads
-use Rattle.schema.proofs.read.read_holder.Reads as read-holder-reads
 
--- src/read.rt:96:9
 returns : tie.Need-returns
-returns c = record { kept = kept-all (c .before .before .before .args .scratch .now); answer = schema-long (c .before .before .before .args .sheet .now) (c .if1 .taken) }
+returns c =
+    let c3 = c .before .before .before in
+    record { kept = kept-all (c3 .args .scratch .now); answer = schema-long (c3 .args .sheet .now) (c .if1 .taken) }
 
--- src/read.rt:98:51
 schema-head-requires : tie.Need-schema-head-requires
 schema-head-requires c κs = search needs
 
--- src/read.rt:98:38
 enum-known-head : tie.Need-enum-known-head
 enum-known-head c = search needs
 
--- src/read.rt:99:9
 enum-told : tie.Need-enum-told
 enum-told c = search needs
 
--- src/read.rt:99:9
 returns-2 : tie.Need-returns-2
-returns-2 c = record { kept = kept-all (c .before .before .before .before .before .before .args .scratch .now); answer = schema-headless (c .before .before .before .before .before .before .args .sheet .now) (c .before .before .before .if1 .left) (rw (c .enum-told .given .1) at (c .before .before .schema-head .ensures)) }
+returns-2 c =
+    let c2 = c .before .before in
+    let c3 = c2 .before in
+    let c6 = c3 .before .before .before in
+    record { kept = kept-all (c6 .args .scratch .now); answer = schema-headless (c6 .args .sheet .now) (c3 .if1 .left) (rw (c .enum-told .given .1) at (c2 .schema-head .ensures)) }
 
--- src/read.rt:107:44
 read-holder-requires : tie.Need-read-holder-requires
 read-holder-requires c κs =
-    let e = rw (c .before .before .before .head .given .1) at (c .before .before .before .before .before .schema-head .ensures) in
-    record { sheet = c .before .before .before .before .before .before .if1 .left; scratch = omega (arith, c .before .before .before .before .before .before .before .before .before .pre); at = e .0 .within; used = omega arith; slots = omega arith; entries = omega arith }
+    let c3 = c .before .before .before in
+    let c5 = c3 .before .before in
+    let c6 = c5 .before in
+    let c9 = c6 .before .before .before in
+    let e = rw (c3 .head .given .1) at (c5 .schema-head .ensures) in
+    record { sheet = c6 .if1 .left; scratch = omega (arith, c9 .pre); at = e .0 .within; used = omega arith; slots = omega arith; entries = omega arith }
 
--- src/read.rt:107:26
 enum-known-fields : tie.Need-enum-known-fields
 enum-known-fields c = search needs
 
--- src/read.rt:108:9
 enum-told-2 : tie.Need-enum-told-2
 enum-told-2 c = search needs
 
--- src/read.rt:108:9
 same-length : tie.Need-same-length
 same-length c = search needs
 
--- src/read.rt:108:9
 returns-3 : tie.Need-returns-3
 unfolding schemaOf
 returns-3 c =
-    let e = rw (c .before .before .before .before .before .before .before .before .head .given .1) at (c .before .before .before .before .before .before .before .before .before .before .schema-head .ensures) in
-    record { kept = c .before .before .before .before .read-holder .ensures .kept; answer = schema-fieldless (c .before .before .before .before .before .before .before .before .before .before .before .before .before .before .args .sheet .now) (c .before .before .before .before .before .before .before .before .before .before .before .if1 .left) (schemaOf (c .before .before .before .before .before .before .before .before .head .given .0 .0)) (c .before .before .before .before .before .before .before .before .head .given .0 .1 .0) (e .0 .reads) (rw (c .enum-told2 .given .1) at (c .before .before .before .before .read-holder .ensures .answer)) }
+    let c4 = c .before .before .before .before in
+    let c8 = c4 .before .before .before .before in
+    let c10 = c8 .before .before in
+    let c11 = c10 .before in
+    let c14 = c11 .before .before .before in
+    let e = rw (c8 .head .given .1) at (c10 .schema-head .ensures) in
+    record { kept = c4 .read-holder .ensures .kept; answer = schema-fieldless (c14 .args .sheet .now) (c11 .if1 .left) (schemaOf (c8 .head .given .0 .0)) (c8 .head .given .0 .1 .0) (e .0 .reads) (rw (c .enum-told2 .given .1) at (c4 .read-holder .ensures .answer)) }
 
--- src/read.rt:111:46
 read-arguments-requires : tie.Need-read-arguments-requires
 unfolding schemaOf
 read-arguments-requires c κs =
-    let e = rw (c .before .before .before .before .before .before .before .before .before .before .head .given .1) at (c .before .before .before .before .before .before .before .before .before .before .before .before .schema-head .ensures) in
-    behind-ready (c .before .before .before .before .before .before .before .before .before .before .before .before .before .before .before .before .args .sheet .now) (c .before .before .before .before .before .before .before .before .before .before .before .before .before .if1 .left) (schemaOf (c .before .before .before .before .before .before .before .before .before .before .head .given .0 .0)) (c .before .before .before .before .before .before .before .before .before .before .head .given .0 .1 .0) (e .0 .reads) (c .before .before .before .before .before .before .before .before .before .before .before .before .before .before .before .before .args .scratch .now) _ _ _ (rw (c .before .before .fields .given .1) at (c .before .before .before .before .before .before .read-holder .ensures .answer)) (c .before .before .before .before .before .before .before .before .before .before .before .before .before .before .before .before .pre) (c .before .before .before .before .before .before .read-holder .ensures .kept)
+    let c2 = c .before .before in
+    let c6 = c2 .before .before .before .before in
+    let c10 = c6 .before .before .before .before in
+    let c12 = c10 .before .before in
+    let c13 = c12 .before in
+    let c16 = c13 .before .before .before in
+    let e = rw (c10 .head .given .1) at (c12 .schema-head .ensures) in
+    behind-ready (c16 .args .sheet .now) (c13 .if1 .left) (schemaOf (c10 .head .given .0 .0)) (c10 .head .given .0 .1 .0) (e .0 .reads) (c16 .args .scratch .now) _ _ _ (rw (c2 .fields .given .1) at (c6 .read-holder .ensures .answer)) (c16 .pre) (c6 .read-holder .ensures .kept)
 
--- src/read.rt:111:29
 enum-known-arguments : tie.Need-enum-known-arguments
 enum-known-arguments c = search needs
 
--- src/read.rt:112:9
 enum-told-3 : tie.Need-enum-told-3
 enum-told-3 c = search needs
 
--- src/read.rt:112:9
 same-length-2 : tie.Need-same-length-2
 same-length-2 c = search needs
 
--- src/read.rt:112:9
 returns-4 : tie.Need-returns-4
 unfolding schemaOf
 returns-4 c =
-    let e = rw (c .before .before .before .before .before .before .before .before .before .before .before .before .before .before .before .head .given .1) at (c .before .before .before .before .before .before .before .before .before .before .before .before .before .before .before .before .before .schema-head .ensures) in
-    record { kept = kept-more (c .before .before .before .before .before .before .before .before .before .before .before .read-holder .ensures .kept) (c .before .before .before .before .read-arguments .ensures .kept); answer = schema-argumentless (c .before .before .before .before .before .before .before .before .before .before .before .before .before .before .before .before .before .before .before .before .before .args .sheet .now) (c .before .before .before .before .before .before .before .before .before .before .before .before .before .before .before .before .before .before .if1 .left) (schemaOf (c .before .before .before .before .before .before .before .before .before .before .before .before .before .before .before .head .given .0 .0)) (c .before .before .before .before .before .before .before .before .before .before .before .before .before .before .before .head .given .0 .1 .0) (e .0 .reads) (c .before .before .before .before .before .before .before .before .before .before .before .before .before .before .before .before .before .before .before .before .before .args .scratch .now) _ _ _ (rw (c .before .before .before .before .before .before .before .fields .given .1) at (c .before .before .before .before .before .before .before .before .before .before .before .read-holder .ensures .answer)) (rw (c .enum-told3 .given .1) at (c .before .before .before .before .read-arguments .ensures .answer)) }
+    let c4 = c .before .before .before .before in
+    let c7 = c4 .before .before .before in
+    let c11 = c7 .before .before .before .before in
+    let c15 = c11 .before .before .before .before in
+    let c17 = c15 .before .before in
+    let c18 = c17 .before in
+    let c21 = c18 .before .before .before in
+    let e = rw (c15 .head .given .1) at (c17 .schema-head .ensures) in
+    record { kept = kept-more (c11 .read-holder .ensures .kept) (c4 .read-arguments .ensures .kept); answer = schema-argumentless (c21 .args .sheet .now) (c18 .if1 .left) (schemaOf (c15 .head .given .0 .0)) (c15 .head .given .0 .1 .0) (e .0 .reads) (c21 .args .scratch .now) _ _ _ (rw (c7 .fields .given .1) at (c11 .read-holder .ensures .answer)) (rw (c .enum-told3 .given .1) at (c4 .read-arguments .ensures .answer)) }
 
--- src/read.rt:115:9
 same-length-3 : tie.Need-same-length-3
 same-length-3 c = search needs
 
--- src/read.rt:115:9
 returns-5 : tie.Need-returns-5
 unfolding schemaOf
 returns-5 c =
-    let e = rw (c .before .before .before .before .before .before .before .before .before .before .before .before .before .before .before .before .before .before .head .given .1) at (c .before .before .before .before .before .before .before .before .before .before .before .before .before .before .before .before .before .before .before .before .schema-head .ensures) in
-    record { kept = kept-more (c .before .before .before .before .before .before .before .before .before .before .before .before .before .before .read-holder .ensures .kept) (c .before .before .before .before .before .before .before .read-arguments .ensures .kept); answer = schema-unended (c .before .before .before .before .before .before .before .before .before .before .before .before .before .before .before .before .before .before .before .before .before .before .before .before .args .sheet .now) (c .before .before .before .before .before .before .before .before .before .before .before .before .before .before .before .before .before .before .before .before .before .if1 .left) (schemaOf (c .before .before .before .before .before .before .before .before .before .before .before .before .before .before .before .before .before .before .head .given .0 .0)) (c .before .before .before .before .before .before .before .before .before .before .before .before .before .before .before .before .before .before .head .given .0 .1 .0) (e .0 .reads) (c .before .before .before .before .before .before .before .before .before .before .before .before .before .before .before .before .before .before .before .before .before .before .before .before .args .scratch .now) _ _ _ (rw (c .before .before .before .before .before .before .before .before .before .before .fields .given .1) at (c .before .before .before .before .before .before .before .before .before .before .before .before .before .before .read-holder .ensures .answer)) _ _ _ (rw (c .before .before .before .arguments .given .1) at (c .before .before .before .before .before .before .before .read-arguments .ensures .answer)) (c .if2 .taken) }
+    let c3 = c .before .before .before in
+    let c7 = c3 .before .before .before .before in
+    let c10 = c7 .before .before .before in
+    let c14 = c10 .before .before .before .before in
+    let c18 = c14 .before .before .before .before in
+    let c20 = c18 .before .before in
+    let c21 = c20 .before in
+    let c24 = c21 .before .before .before in
+    let e = rw (c18 .head .given .1) at (c20 .schema-head .ensures) in
+    record { kept = kept-more (c14 .read-holder .ensures .kept) (c7 .read-arguments .ensures .kept); answer = schema-unended (c24 .args .sheet .now) (c21 .if1 .left) (schemaOf (c18 .head .given .0 .0)) (c18 .head .given .0 .1 .0) (e .0 .reads) (c24 .args .scratch .now) _ _ _ (rw (c10 .fields .given .1) at (c14 .read-holder .ensures .answer)) _ _ _ (rw (c3 .arguments .given .1) at (c7 .read-arguments .ensures .answer)) (c .if2 .taken) }
 
--- src/read.rt:91:1
 same-length-4 : tie.Need-same-length-4
 same-length-4 c = search needs
 
--- src/read.rt:91:1
 returns-6 : tie.Need-returns-6
 unfolding schemaOf
 returns-6 c =
-    let e = rw (c .before .before .before .before .before .before .before .before .before .before .before .before .before .before .before .before .before .before .head .given .1) at (c .before .before .before .before .before .before .before .before .before .before .before .before .before .before .before .before .before .before .before .before .schema-head .ensures) in
-    record { kept = kept-more (c .before .before .before .before .before .before .before .before .before .before .before .before .before .before .read-holder .ensures .kept) (c .before .before .before .before .before .before .before .read-arguments .ensures .kept); answer = schema-good (c .before .before .before .before .before .before .before .before .before .before .before .before .before .before .before .before .before .before .before .before .before .before .before .before .args .sheet .now) (c .before .before .before .before .before .before .before .before .before .before .before .before .before .before .before .before .before .before .before .before .before .if1 .left) (schemaOf (c .before .before .before .before .before .before .before .before .before .before .before .before .before .before .before .before .before .before .head .given .0 .0)) (c .before .before .before .before .before .before .before .before .before .before .before .before .before .before .before .before .before .before .head .given .0 .1 .0) (e .0 .reads) (c .before .before .before .before .before .before .before .before .before .before .before .before .before .before .before .before .before .before .before .before .before .before .before .before .args .scratch .now) _ _ _ (rw (c .before .before .before .before .before .before .before .before .before .before .fields .given .1) at (c .before .before .before .before .before .before .before .before .before .before .before .before .before .before .read-holder .ensures .answer)) _ _ _ (rw (c .before .before .before .arguments .given .1) at (c .before .before .before .before .before .before .before .read-arguments .ensures .answer)) (c .if2 .left) }
+    let c3 = c .before .before .before in
+    let c7 = c3 .before .before .before .before in
+    let c10 = c7 .before .before .before in
+    let c14 = c10 .before .before .before .before in
+    let c18 = c14 .before .before .before .before in
+    let c20 = c18 .before .before in
+    let c21 = c20 .before in
+    let c24 = c21 .before .before .before in
+    let e = rw (c18 .head .given .1) at (c20 .schema-head .ensures) in
+    record { kept = kept-more (c14 .read-holder .ensures .kept) (c7 .read-arguments .ensures .kept); answer = schema-good (c24 .args .sheet .now) (c21 .if1 .left) (schemaOf (c18 .head .given .0 .0)) (c18 .head .given .0 .1 .0) (e .0 .reads) (c24 .args .scratch .now) _ _ _ (rw (c10 .fields .given .1) at (c14 .read-holder .ensures .answer)) _ _ _ (rw (c3 .arguments .given .1) at (c7 .read-arguments .ensures .answer)) (c .if2 .left) }
 
 pub read-schema-spec : {M : Type 1} → statement M
 read-schema-spec =
