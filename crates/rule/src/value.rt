@@ -1,7 +1,7 @@
 // Values, with all that they hold.
 use crate::cursor::Cursor;
 use crate::cursor::TreeRead;
-use crate::index::word_of;
+use crate::cursor::word_of;
 use sheet::order::ByteOrder;
 use sheet::part::OptionalPart;
 use sheet::part::Part;

@@ -19,7 +19,7 @@ use Rattle.rule.proofs.condition.read_conditions.Reads as read-conditio
 use Rattle.rule.proofs.condition.read_conditions.Kinds as read-conditions-kinds
 use Rattle.rule.proofs.condition.+read_condition+read_conditions.Lts-read_conditions as read-conditions-lts
 use Rattle.rule.proofs.condition.operands_of.Reads as operands-of-reads
-use Rattle.rule.proofs.index.word_of.Reads as word-of-reads
+use Rattle.rule.proofs.cursor.word_of.Reads as word-of-reads
 use Rattle.rule.proofs.value.read_values.Reads as read-values-reads
 use Rattle.sheet.proofs.rule.condition_head.Reads as condition-head-reads
 use Rattle.rule.proofs.condition.+read_condition+read_conditions.{statement}

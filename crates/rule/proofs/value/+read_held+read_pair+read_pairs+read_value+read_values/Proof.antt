@@ -34,7 +34,7 @@ use Rattle.rule.proofs.value.+read_held+read_pair+read_pairs+read_value
 use Rattle.rule.proofs.value.read_values.Reads as read-values
 use Rattle.rule.proofs.value.read_values.Kinds as read-values-kinds
 use Rattle.rule.proofs.value.+read_held+read_pair+read_pairs+read_value+read_values.Lts-read_values as read-values-lts
-use Rattle.rule.proofs.index.word_of.Reads as word-of-reads
+use Rattle.rule.proofs.cursor.word_of.Reads as word-of-reads
 use Rattle.rule.proofs.value.cost_of.Reads as cost-of-reads
 use Rattle.rule.proofs.value.held_by.Reads as held-by-reads
 use Rattle.rule.proofs.value.is_next_key.Reads as is-next-key-reads

@@ -1,12 +1,12 @@
--- `rule::read::read_rule` meets its contract: each answer is what the decoder answers on the same bytes.
+-- `rule::read_rule` meets its contract: each answer is what the decoder answers on the same bytes.
 use native.Mathlib.Omega.{arith}
 use borrow.Author.Needs.{needs}
 use mathlib.Core.Path.{_∙_}
 use lib.ListN.{length-set}
 use denote.Ref.{now}
 use Rattle.rule.proofs.RuleLaws.{rule-long-answer, rule-headless-answer, rule-ready, rule-treeless-answer, rule-unended-answer, tree-limit, rule-answer}
-use Rattle.rule.proofs.read.read_rule.Statement.{statement}
-use Rattle.rule.proofs.read.read_rule.Tie as tie
+use Rattle.rule.proofs.read_rule.Statement.{statement}
+use Rattle.rule.proofs.read_rule.Tie as tie
 
 returns : tie.Need-returns
 returns c = rule-long-answer (now (c .before .before .before .args .s)) (now (c .before .before .before .args .scratch)) (c .if1 .taken)

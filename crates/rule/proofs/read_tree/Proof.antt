@@ -1,7 +1,7 @@
--- `rule::read::read_tree` meets its contract: a value under `T`, a condition under `R`.
+-- `rule::read_tree` meets its contract: a value under `T`, a condition under `R`.
 use borrow.Author.Needs.{needs}
-use Rattle.rule.proofs.read.read_tree.Statement.{statement}
-use Rattle.rule.proofs.read.read_tree.Tie as tie
+use Rattle.rule.proofs.read_tree.Statement.{statement}
+use Rattle.rule.proofs.read_tree.Tie as tie
 
 read-value-requires : tie.Need-read-value-requires
 read-value-requires c κs = search needs
