@@ -2,14 +2,14 @@
 use Prim.Native.Nat.{ℕ, suc, _+_, _*_, _-_, _≤_, _<_}
 use mathlib.Core.Bool.{true}
 use mathlib.Core.List.{List}
-use mathlib.Core.Option.{Option, none, some}
-use mathlib.Core.Path.{_≡_, refl, sym, ap, _∙_}
+use mathlib.Core.Option.{Option, some}
+use mathlib.Core.Path.{_≡_, refl, ap, _∙_}
 use native.Mathlib.Omega.{arith}
-use lib.ListN.{length, drop, set, length-set}
+use lib.ListN.{length, drop, set}
 use Rattle.sheet.specs.Reader.{Reader}
 use Rattle.sheet.specs.Order.{follows}
 use Rattle.sheet.specs.Entries.{ValueHead, valueHead, keyHead}
-use Rattle.definition.specs.Limits.{maxSheetBytes, maxRuleEntries}
+use Rattle.definition.specs.Limits.{maxRuleEntries}
 use Rattle.definition.specs.Tree.{Text}
 use Rattle.definition.specs.Decode.{Ahead, valueIn}
 use Rattle.rule.specs.declared.cursor.Cursor.{Cursor}

@@ -1,8 +1,8 @@
 -- What the reader of a condition answers, by what its head announces.
 use Prim.Native.Nat.{ℕ, suc, _+_, _*_, _-_, _≤_, _<_}
 use mathlib.Core.List.{List}
-use mathlib.Core.Option.{none, some}
-use mathlib.Core.Path.{_≡_, refl, sym, ap, _∙_}
+use mathlib.Core.Option.{none}
+use mathlib.Core.Path.{_≡_, ap, _∙_}
 use native.Mathlib.Omega.{arith}
 use native.Mathlib.Nat.{zero-add}
 use lib.ListN.{length, drop, set}
@@ -10,7 +10,7 @@ use Rattle.sheet.specs.Entries.{conditionHead, maxCount}
 use Rattle.sheet.specs.Places.{ReadsTo, conditionOf, conditionCount}
 use Rattle.sheet.specs.declared.rule.ConditionHead.{ConditionHead}
 use Rattle.sheet.specs.declared.rule.ConditionHead.the-variants as head
-use Rattle.definition.specs.Limits.{maxSheetBytes, maxRuleEntries}
+use Rattle.definition.specs.Limits.{maxRuleEntries}
 use Rattle.definition.specs.Decode.{Ahead, anyValue, conditionIn, valuesOf, conditionsOf}
 use Rattle.definition.specs.Decode as decode
 use Rattle.rule.specs.declared.cursor.Cursor.{Cursor}

@@ -1,5 +1,5 @@
 -- Each way through the reader of a condition, on the decoder's side.
-use Prim.Native.Nat.{ℕ, zero, suc, _+_, _-_, _≤_, _<_}
+use Prim.Native.Nat.{ℕ, zero, suc, _+_, _≤_, _<_}
 use mathlib.Core.Bool.{Bool, true}
 use mathlib.Core.List.{List}
 use mathlib.Core.Option.{Option, none, some}
@@ -8,10 +8,10 @@ use native.Mathlib.Omega.{arith}
 use Rattle.sheet.specs.Reader.{Reader, pure, refuse, andThen, _>>=_, _>>_}
 use Rattle.sheet.specs.Entries.{ConditionHead, literalHead, manyHead, negationHead, oneHead, twoHead, comparisonHead, quantifierHead, conditionHead}
 use Rattle.definition.specs.Tree.{Value, constant, Values, noValues, value, Condition, literal, many, negation, one, two, comparison, quantifier, Conditions, noConditions, condition}
-use Rattle.definition.specs.Decode.{Ahead, entered, entry, announce, anyValue, valuesOf, conditionsOf, conditionOf, conditionIn}
-use Rattle.rule.specs.Index.{countOfValues, countOfConditions, sizeOfValue, sizeOfValues, sizeOfCondition, sizeOfConditions, EntryAt, ValueAt, ValuesAt, ConditionAt, ConditionsAt}
+use Rattle.definition.specs.Decode.{Ahead, entered, entry, anyValue, valuesOf, conditionsOf, conditionOf, conditionIn}
+use Rattle.rule.specs.Index.{countOfValues, countOfConditions, sizeOfValues, sizeOfCondition, sizeOfConditions, EntryAt, ValuesAt, ConditionAt, ConditionsAt}
 use Rattle.rule.proofs.ReaderLaws.{some-both, First, then-first, paid, announced, not-announced, nothing-paid}
-use Rattle.rule.proofs.ValueLaws.{values-none, values-first, values-count}
+use Rattle.rule.proofs.ValueLaws.{values-count}
 
 -- nothing may nest any more
 pub condition-too-deep : (a : Ahead) (depth : ℕ) → depth ≡ 0 → conditionIn depth a ≡ none

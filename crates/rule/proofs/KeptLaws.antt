@@ -5,7 +5,6 @@ use mathlib.Core.Path.{_≡_, refl, ap, _∙_}
 use native.Mathlib.Omega.{arith}
 use lib.ListN.{length, getD, set, length-set}
 use lib.Seq.{getD-set-same, getD-set-other}
-use Rattle.definition.specs.Limits.{maxSheetBytes, maxRuleEntries}
 use Rattle.rule.specs.declared.cursor.Cursor.{Cursor}
 use Rattle.rule.specs.Index.{startOf, endOf}
 use Rattle.rule.specs.IndexLaws.{Agree}

@@ -1,26 +1,26 @@
 -- Each way through the reader of a whole sheet, on the decoder's side.
-use Prim.Native.Nat.{ℕ, _+_, _*_, _-_, _≤_, _<_}
+use Prim.Native.Nat.{ℕ, _+_, _*_, _≤_, _<_}
 use mathlib.Core.Bool.{Bool, true, false}
 use mathlib.Core.List.{List}
 use mathlib.Core.Option.{Option, none, some, Option·map}
-use mathlib.Core.Path.{_≡_, refl, sym, ap, _∙_}
+use mathlib.Core.Path.{_≡_, refl, ap, _∙_}
 use native.Mathlib.Omega.{arith}
 use borrow.Author.Tests.{le-leb, lt-leb, eq-eqb, ne-eqb}
 use lib.ListN.{length, drop, set, length-drop}
 use Rattle.sheet.specs.Reader.{Reader, pure, ensure, andThen, _>>=_, _>>_}
 use Rattle.sheet.specs.Entries.{ruleHead}
 use Rattle.sheet.specs.Entries as entries
-use Rattle.sheet.specs.Places.{ReadsTo, ruleOf}
+use Rattle.sheet.specs.Places.{ruleOf}
 use Rattle.sheet.specs.declared.rule.RuleHead.{RuleHead}
 use Rattle.sheet.specs.declared.rule.RuleHead.the-variants as head
 use Rattle.sheet.specs.Parts.{optionalOf}
-use Rattle.definition.specs.Limits.{maxSheetBytes, maxRuleEntries, maxConditionNesting, maxValueNesting}
+use Rattle.definition.specs.Limits.{maxSheetBytes, maxRuleEntries, maxConditionNesting}
 use Rattle.definition.specs.Tree.{Rule, rule, template}
 use Rattle.definition.specs.Decode.{Ahead, entered, entry, announce, atEnd, whole, anyValue, conditionIn, anyRule, decodeRule}
 use Rattle.definition.specs.Decode as decode
 use Rattle.rule.specs.declared.cursor.Cursor.{Cursor}
 use Rattle.rule.specs.declared.cursor.TreeRead.the-variants as tree
-use Rattle.rule.specs.Index.{sizeOfValue, sizeOfCondition, sizeOfRule, ValueAt, ConditionAt, RuleAt}
+use Rattle.rule.specs.Index.{sizeOfValue, sizeOfCondition, sizeOfRule, ValueAt, ConditionAt}
 use Rattle.rule.specs.IndexLaws.{value-frame, condition-frame}
 use Rattle.rule.specs.Read.{aheadOf, Kept, Ready, Indexed}
 use Rattle.rule.specs.Rule.{isTemplate, isTemplateHead, TreeAnswer, RuleIndexed}

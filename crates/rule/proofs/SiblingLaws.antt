@@ -2,16 +2,15 @@
 use Prim.Native.Nat.{ℕ, suc, _+_, _-_, _≤_, _<_}
 use mathlib.Core.List.{List}
 use mathlib.Core.Option.{Option, none, some}
-use mathlib.Core.Path.{_≡_, refl, sym, ap, _∙_}
+use mathlib.Core.Path.{_≡_, refl, ap, _∙_}
 use native.Mathlib.Omega.{arith}
-use lib.ListN.{length}
 use Rattle.sheet.specs.Reader.{Reader, pure, andThen, _>>=_}
-use Rattle.definition.specs.Limits.{maxSheetBytes, maxRuleEntries}
+use Rattle.definition.specs.Limits.{maxRuleEntries}
 use Rattle.definition.specs.Decode.{Ahead}
 use Rattle.rule.specs.declared.cursor.Cursor.{Cursor}
 use Rattle.rule.specs.IndexLaws.{Agree, agree-within, agree-then, agree-same}
 use Rattle.rule.specs.Read.{aheadOf, Kept, Ready, Indexed}
-use Rattle.rule.proofs.KeptLaws.{kept-all, kept-then, kept-wider, agree-below}
+use Rattle.rule.proofs.KeptLaws.{kept-all, kept-then, agree-below}
 
 -- A kind of siblings: each reader is told what the one before it read.
 pub record Siblings (K E T : Type 0) : Type 1 where

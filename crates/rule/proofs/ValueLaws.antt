@@ -1,18 +1,15 @@
 -- Each way through the reader of a value, on the decoder's side.
-use Prim.Native.Nat.{ℕ, zero, suc, _+_, _*_, _-_, _≤_, _<_}
-use mathlib.Core.Bool.{Bool, true, false, cond}
+use Prim.Native.Nat.{ℕ, zero, suc, _+_, _*_, _≤_, _<_}
+use mathlib.Core.Bool.{Bool, true, false}
 use mathlib.Core.List.{List}
 use mathlib.Core.Option.{Option, none, some}
 use mathlib.Core.Path.{_≡_, refl, sym, ap, _∙_}
 use native.Mathlib.Omega.{arith}
-use borrow.Author.Tests.{le-leb, lt-leb}
-use lib.Dec.{leb}
-use lib.ListN.{length, getD, drop, set}
 use Rattle.sheet.specs.Reader.{Reader, pure, refuse, ensure, andThen, _>>=_, _>>_}
 use Rattle.sheet.specs.Order.{follows}
 use Rattle.sheet.specs.Entries.{ValueHead, constantHead, numberHead, stringHead, arrayHead, objectHead, valueHead, keyHead}
 use Rattle.definition.specs.Tree.{Text, Value, constant, number, string, array, object, Values, noValues, value, Pairs, noPairs, pair}
-use Rattle.definition.specs.Decode.{Ahead, entered, entry, announce, valuesOf, pairsOf, valueOf, valueIn}
+use Rattle.definition.specs.Decode.{Ahead, entered, entry, valuesOf, pairsOf, valueOf, valueIn}
 use Rattle.rule.specs.Index.{countOfValues, countOfPairs, sizeOfValue, sizeOfValues, sizeOfPairs, EntryAt, ValueAt, ValuesAt, PairsAt}
 use Rattle.rule.specs.Read.{pairIn}
 use Rattle.rule.proofs.ReaderLaws.{some-both, then-some, First, then-first, paid, announced, not-announced, nothing-paid}

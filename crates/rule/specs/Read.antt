@@ -14,7 +14,7 @@ use Rattle.sheet.specs.declared.rule.ValueHead.the-variants as value-head
 use Rattle.sheet.specs.declared.rule.ConditionHead.{ConditionHead}
 use Rattle.sheet.specs.declared.rule.ConditionHead.the-variants as condition-head
 use Rattle.definition.specs.Limits.{maxSheetBytes, maxRuleEntries}
-use Rattle.definition.specs.Tree.{Text, Value, Values, Pairs, Condition, Conditions}
+use Rattle.definition.specs.Tree.{Text, Value, Values, Pairs}
 use Rattle.definition.specs.Decode.{Ahead, entry, valueIn, valuesOf, pairsOf, conditionIn, conditionsOf}
 use Rattle.rule.specs.declared.cursor.Cursor.{Cursor}
 use Rattle.rule.specs.declared.cursor.TreeRead.{TreeRead}
@@ -51,6 +51,15 @@ heldBy (value-head.Number digits) = held.Values 0
 heldBy (value-head.Text t) = held.Values 0
 heldBy (value-head.Array n) = held.Values n
 heldBy (value-head.Object n) = held.Pairs n
+
+abbrev pub countOf : Held → ℕ
+countOf (held.Values n) = n
+countOf (held.Pairs n) = n
+
+-- the entries that are announced: a key is one of its own
+abbrev pub costOf : Held → ℕ
+costOf (held.Values n) = n
+costOf (held.Pairs n) = 2 * n
 
 unfoldable pub operandsOf : ConditionHead → Operands
 operandsOf (condition-head.Literal truth) = record { values = 0; conditions = 0 }
@@ -105,6 +114,10 @@ PairAnswer s before after depth previous c pair.Bad =
 
 abbrev pub PairsAnswer : (s before after : List ℕ) (depth n : ℕ) (c : Cursor) → TreeRead → Type 0
 PairsAnswer s before after depth n c r = Answers (pairsOf n none (valueIn depth)) (PairsAt s) sizeOfPairs s before after (2 * n) c r
+
+abbrev pub HeldAnswer : (s before after : List ℕ) (depth : ℕ) (what : Held) (c : Cursor) → TreeRead → Type 0
+HeldAnswer s before after depth (held.Values n) c r = ValuesAnswer s before after depth n c r
+HeldAnswer s before after depth (held.Pairs n) c r = PairsAnswer s before after depth n c r
 
 abbrev pub ConditionAnswer : (s before after : List ℕ) (depth : ℕ) (c : Cursor) → TreeRead → Type 0
 ConditionAnswer s before after depth c r = Answers (conditionIn depth) (ConditionAt s) sizeOfCondition s before after 1 c r

@@ -11,9 +11,9 @@ use Rattle.definition.specs.Tree.{Rule, rule, template}
 use Rattle.definition.specs.Decode.{decodeRule}
 use Rattle.rule.specs.declared.cursor.Cursor.{Cursor}
 use Rattle.rule.specs.declared.cursor.TreeRead.{TreeRead}
-use Rattle.rule.specs.declared.read.RuleSheet.{RuleSheet}
-use Rattle.rule.specs.declared.read.RuleRead.{RuleRead}
-use Rattle.rule.specs.declared.read.RuleRead.the-variants.{Good, Bad}
+use Rattle.rule.specs.declared.RuleSheet.{RuleSheet}
+use Rattle.rule.specs.declared.RuleRead.{RuleRead}
+use Rattle.rule.specs.declared.RuleRead.the-variants.{Good, Bad}
 use Rattle.rule.specs.Index.{RuleAt, sizeOfRule}
 use Rattle.rule.specs.Read.{Kept, ConditionAnswer, ValueAnswer}
 

@@ -1,7 +1,7 @@
 // Conditions, with all that they hold.
 use crate::cursor::Cursor;
 use crate::cursor::TreeRead;
-use crate::index::word_of;
+use crate::cursor::word_of;
 use crate::value::MAX_VALUE_NESTING;
 use crate::value::read_values;
 use sheet::rule::ConditionHead;

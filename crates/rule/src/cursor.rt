@@ -1,4 +1,8 @@
 // Where reading stands in a rule sheet.
+use crate::index::ENDS_BELOW;
+ghost use mathlib.Core.Path.{_≡_};
+ghost use Prim.Native.Nat.{_+_, _*_, _≤_};
+ghost use Rattle.definition.specs.Limits.{maxSheetBytes, maxRuleEntries};
 
 // Behind what has been read: the next entry's first byte, its word, and how many more entries may be announced.
 pub struct Cursor {
@@ -13,4 +17,12 @@ pub enum TreeRead {
     Good(Cursor),
     // They are not well formed.
     Bad,
+}
+
+// The word of an entry that starts there, with the word behind its subtree.
+pub fn word_of(start: usize, end: usize) -> u32
+    requires { ⌜ (start ≤ maxSheetBytes) × (end ≤ maxRuleEntries) ⌝ }
+    ensures { λ r. ⌜ r ≡ start * 4096 + end ⌝ }
+{
+    (start * ENDS_BELOW + end) as u32
 }

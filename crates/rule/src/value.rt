@@ -1,7 +1,7 @@
 // Values, with all that they hold.
 use crate::cursor::Cursor;
 use crate::cursor::TreeRead;
-use crate::index::word_of;
+use crate::cursor::word_of;
 use sheet::order::ByteOrder;
 use sheet::part::OptionalPart;
 use sheet::part::Part;
@@ -12,10 +12,11 @@ use sheet::rule::ValueRead;
 use sheet::rule::key_head;
 use sheet::rule::value_head;
 ghost use mathlib.Core.Path.{_≡_};
-ghost use Prim.Native.Nat.{_*_};
+ghost use Prim.Native.Nat.{_*_, _≤_};
+ghost use Rattle.sheet.specs.Entries.{maxCount};
 ghost use Rattle.sheet.specs.Order.{follows};
 ghost use Rattle.sheet.specs.Parts.{partOf, optionalOf};
-ghost use Rattle.rule.specs.Read.{Ready, heldBy, ValueAnswer, ValuesAnswer, PairAnswer, PairsAnswer};
+ghost use Rattle.rule.specs.Read.{Ready, heldBy, countOf, costOf, HeldAnswer, ValueAnswer, ValuesAnswer, PairAnswer, PairsAnswer};
 
 // How deep values may nest.
 pub const MAX_VALUE_NESTING: usize = 64;
@@ -48,6 +49,17 @@ fn held_by(h: ValueHead) -> Held
     }
 }
 
+// The entries of what a value holds: a key is one of its own.
+fn cost_of(held: Held) -> usize
+    requires { ⌜ countOf held ≤ maxCount ⌝ }
+    ensures { λ r. ⌜ r ≡ costOf held ⌝ }
+{
+    match held {
+        Held::Values(n) => n,
+        Held::Pairs(n) => 2 * n,
+    }
+}
+
 // Whether a key may stand behind the one before it, if there is one.
 fn is_next_key(s: &[u8], previous: OptionalPart, key: Part) -> bool
     ensures { λ r. ⌜ r ≡ follows (optionalOf (now (s .entry)) previous) (partOf (now (s .entry)) key) ⌝ }
@@ -76,37 +88,31 @@ pub fn read_value(s: &[u8], scratch: &mut [u32], depth: usize, c: Cursor) -> Tre
     let ValueRead::Is(head, behind) = value_head(s, at) else {
         return TreeRead::Bad;
     };
-    match held_by(head) {
-        Held::Values(n) => {
-            if left < n {
-                return TreeRead::Bad;
-            }
-            let inner = Cursor {
-                at: behind,
-                word: word + 1,
-                left: left - n,
-            };
-            let TreeRead::Good(next) = read_values(s, scratch, depth - 1, n, inner) else {
-                return TreeRead::Bad;
-            };
-            scratch[word] = word_of(at, next.word);
-            TreeRead::Good(next)
-        }
-        Held::Pairs(n) => {
-            if left / 2 < n {
-                return TreeRead::Bad;
-            }
-            let inner = Cursor {
-                at: behind,
-                word: word + 1,
-                left: left - 2 * n,
-            };
-            let TreeRead::Good(next) = read_pairs(s, scratch, depth - 1, n, inner) else {
-                return TreeRead::Bad;
-            };
-            scratch[word] = word_of(at, next.word);
-            TreeRead::Good(next)
-        }
+    let held = held_by(head);
+    let cost = cost_of(held);
+    if left < cost {
+        return TreeRead::Bad;
+    }
+    let inner = Cursor {
+        at: behind,
+        word: word + 1,
+        left: left - cost,
+    };
+    let TreeRead::Good(next) = read_held(s, scratch, depth - 1, held, inner) else {
+        return TreeRead::Bad;
+    };
+    scratch[word] = word_of(at, next.word);
+    TreeRead::Good(next)
+}
+
+// What a value holds, its entries announced.
+fn read_held(s: &[u8], scratch: &mut [u32], depth: usize, held: Held, c: Cursor) -> TreeRead
+    requires { ⌜ Ready (now s) (now scratch) (costOf held) c ⌝ }
+    ensures { λ r. ⌜ HeldAnswer (now (s .entry)) (now (scratch .entry)) (now (scratch .exit)) depth held c r ⌝ }
+{
+    match held {
+        Held::Values(n) => read_values(s, scratch, depth, n, c),
+        Held::Pairs(n) => read_pairs(s, scratch, depth, n, c),
     }
 }
 

@@ -1,3 +1,4 @@
+-- `rule::index::end_of` meets its contract: past the last word the definition reads 0 too.
 use native.Mathlib.Omega.{arith}
 use borrow.Author.Needs.{needs}
 use Prim.Native.Nat.{ℕ, _%_}
@@ -6,26 +7,19 @@ use denote.Ref.{now}
 use Rattle.rule.proofs.KeptLaws.{getD-behind}
 use Rattle.rule.proofs.index.end_of.Statement.{statement}
 use Rattle.rule.proofs.index.end_of.Tie as tie
-use Rattle.rule.proofs.index.end_of.Reads as reads
-use Rattle.rule.proofs.index.end_of.Lts as lts
 
--- src/index.rt:36:16
 mul-result : tie.Need-mul-result
 mul-result c = search needs
 
--- src/index.rt:36:16
 shared-slice-read-result : tie.Need-shared-slice-read-result
 shared-slice-read-result c = search needs
 
--- src/index.rt:36:16
 cast-result : tie.Need-cast-result
 cast-result c = omega (arith, c .shared-slice-known .given (c .before .before .args .i))
 
--- src/index.rt:36:9
 returns : tie.Need-returns
 returns c = search needs
 
--- src/index.rt:32:1
 returns-2 : tie.Need-returns-2
 returns-2 c = ap (λ (w : ℕ). w % 4096) (sym (getD-behind (now (c .before .args .scratch)) (c .before .args .i) (c .if1 .left)))
 
