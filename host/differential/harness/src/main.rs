@@ -1,3 +1,71 @@
+//! Holds a plain model of docs/FORMAT.md against the Rust that it describes. See README.md beside the script `run`.
+
+mod agreement;
+mod bound;
+mod case;
+mod compare;
+mod generate;
+mod nodes;
 mod oracle;
 mod random;
-fn main() {}
+mod shrink;
+mod tally;
+
+use std::collections::BTreeMap;
+use std::process::ExitCode;
+
+const USAGE: &str = "usage: differential COMMAND [OPTION..]
+  compare --cases N --seed S     N generated cases, the model against the Rust";
+
+fn main() -> ExitCode {
+    let arguments: Vec<String> = std::env::args().skip(1).collect();
+    match run(&arguments) {
+        Ok(()) => ExitCode::SUCCESS,
+        Err(Trouble::Usage(problem)) => {
+            eprintln!("differential: {problem}\n{USAGE}");
+            ExitCode::from(2)
+        }
+        Err(Trouble::Failed(problem)) => {
+            eprintln!("differential: {problem}");
+            ExitCode::FAILURE
+        }
+    }
+}
+
+enum Trouble {
+    /// The arguments are wrong; nothing was done.
+    Usage(String),
+    Failed(String),
+}
+
+fn run(arguments: &[String]) -> Result<(), Trouble> {
+    let (command, rest) = arguments.split_first().ok_or_else(|| Trouble::Usage("no command".to_owned()))?;
+    match command.as_str() {
+        "compare" => {
+            let options = options(rest, &["cases", "seed"])?;
+            compare::compare(numeral(&options, "cases", 1_000_000)?, numeral(&options, "seed", 1)?).map_err(Trouble::Failed)
+        }
+        other => Err(Trouble::Usage(format!("there is no command {other}"))),
+    }
+}
+
+/// The options by name, each given at most once and each with a value.
+fn options<'a>(arguments: &'a [String], known: &[&str]) -> Result<BTreeMap<&'a str, &'a str>, Trouble> {
+    let mut options = BTreeMap::new();
+    for pair in arguments.chunks(2) {
+        let name = pair[0].strip_prefix("--").filter(|name| known.contains(name));
+        let name = name.ok_or_else(|| Trouble::Usage(format!("{} is no option of this command", pair[0])))?;
+        let value = pair.get(1).ok_or_else(|| Trouble::Usage(format!("--{name} has no value")))?;
+        if options.insert(name, value.as_str()).is_some() {
+            return Err(Trouble::Usage(format!("--{name} is given twice")));
+        }
+    }
+    Ok(options)
+}
+
+fn numeral(options: &BTreeMap<&str, &str>, name: &str, default: u64) -> Result<u64, Trouble> {
+    match options.get(name) {
+        None => Ok(default),
+        Some(text) => text.parse().map_err(|_| Trouble::Usage(format!("--{name} takes a number, not {text}"))),
+    }
+}

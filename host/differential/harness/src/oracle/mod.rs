@@ -6,7 +6,7 @@ mod sentences;
 
 pub use kept_out::is_kept_out;
 
-use differential::trees::{Schema, Sheet};
+use differential::trees::{Schema, Sheet, Value};
 use entity_core::validation::entry::{self, Setting};
 use entity_core::DefinitionError;
 use std::panic::{catch_unwind, AssertUnwindSafe};
@@ -82,6 +82,11 @@ pub fn ask(frame: Frame<'_>, schemas: &Schemas, sheet: &Sheet) -> Result<Verdict
         Ok(Ok(())) => Ok(Verdict::Accepted),
         Ok(Err(error)) => read_error(error, frame, sheet).map(Verdict::Defect),
     }
+}
+
+/// A value as the Rust prints it: compact JSON.
+pub fn json(value: &Value) -> String {
+    convert::value(value).to_string()
 }
 
 fn call(sheet: &Sheet, setting: &Setting<'_>) -> Result<(), DefinitionError> {
