@@ -64,8 +64,7 @@ fn date_of(text: &[u8]) -> Option<[u32; 3]> {
 
 /// How many days the month has; none where there is no such month.
 fn days_of(year: u32, month: u32) -> u32 {
-    let divides = |years: u32| year.checked_rem(years) == Some(0);
-    let leap = divides(4) && (!divides(100) || divides(400));
+    let leap = matches!((year % 4, year % 100, year % 400), (_, _, 0) | (0, 1.., _));
     match month {
         1 | 3 | 5 | 7 | 8 | 10 | 12 => 31,
         4 | 6 | 9 | 11 => 30,

@@ -5,7 +5,8 @@ pub mod checks;
 pub mod instant;
 pub mod number;
 mod paths;
-mod settings;
+mod program;
+pub mod settings;
 mod sheets;
 pub mod text;
 mod walks;
@@ -18,6 +19,7 @@ use crate::trees::{Field, Schema, Sheet};
 use checks::{Binders, Check, Question};
 use settings::Setting;
 
+pub use program::rulecheck;
 pub use sheets::{decode_rule, decode_schema, write_rule, write_schema};
 pub use walks::is_ordinal;
 pub use widening::{is_widening, only_marks_opened};
