@@ -4,12 +4,16 @@ mod agreement;
 mod bound;
 mod case;
 mod compare;
+mod exhaustive;
 mod generate;
+mod instants;
+mod leaves;
 mod nodes;
 mod oracle;
 mod random;
 mod shrink;
 mod tally;
+mod widened;
 
 use std::collections::BTreeMap;
 use std::process::ExitCode;
@@ -45,6 +49,18 @@ fn run(arguments: &[String]) -> Result<(), Trouble> {
             let options = options(rest, &["cases", "seed"])?;
             compare::compare(numeral(&options, "cases", 1_000_000)?, numeral(&options, "seed", 1)?).map_err(Trouble::Failed)
         }
+        "widened" => {
+            let options = options(rest, &["cases", "seed"])?;
+            widened::widened(numeral(&options, "cases", 200_000)?, numeral(&options, "seed", 1)?).map_err(Trouble::Failed)
+        }
+        "exhaustive" => {
+            let options = options(rest, &["tokens"])?;
+            exhaustive::exhaustive(tokens(&options)?).map_err(Trouble::Failed)
+        }
+        "leaves" => {
+            options(rest, &[])?;
+            leaves::leaves().map_err(Trouble::Failed)
+        }
         other => Err(Trouble::Usage(format!("there is no command {other}"))),
     }
 }
@@ -61,6 +77,14 @@ fn options<'a>(arguments: &'a [String], known: &[&str]) -> Result<BTreeMap<&'a s
         }
     }
     Ok(options)
+}
+
+/// Two tokens are a binder's reference; past seven a run takes hours.
+fn tokens(options: &BTreeMap<&str, &str>) -> Result<u32, Trouble> {
+    match numeral(options, "tokens", 6)? {
+        tokens @ 2..=7 => Ok(tokens as u32),
+        other => Err(Trouble::Usage(format!("--tokens takes a number from 2 to 7, not {other}"))),
+    }
 }
 
 fn numeral(options: &BTreeMap<&str, &str>, name: &str, default: u64) -> Result<u64, Trouble> {

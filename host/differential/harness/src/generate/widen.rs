@@ -16,12 +16,43 @@ pub enum Level {
     Any,
 }
 
-/// A case whose schema is the widening of the one its rule was made for.
+/// A case whose schema is a widening of the one its rule was made for, or has that one as a widening.
 pub fn case(random: &mut Random) -> Case {
     let slip = random.between(0, 20);
     let mut pair = Pair::new(random, slip);
-    pair.schema = widened(random, &pair.schema, Level::Any);
+    pair.schema = if random.chance(50) { widened(random, &pair.schema, Level::Any) } else { unwidened(random, &pair.schema, Level::Any) };
     pair.case()
+}
+
+/// A schema of which the given one is a widening, so that rules made for the given one read what is not there yet.
+pub fn unwidened(random: &mut Random, schema: &Schema, level: Level) -> Schema {
+    let mut narrow = schema.clone();
+    unwiden(random, &mut narrow.record.open, &mut narrow.record.fields, level);
+    if level == Level::Any && random.chance(10) {
+        narrow.arguments = None;
+    }
+    if let Some(arguments) = &mut narrow.arguments {
+        unwiden(random, &mut arguments.open, &mut arguments.fields, level);
+    }
+    narrow
+}
+
+/// Only what is closed in the narrower schema may lack fields there.
+fn unwiden(random: &mut Random, open: &mut bool, fields: &mut Vec<Field>, level: Level) {
+    *open &= random.chance(50);
+    if level == Level::Any && !*open {
+        fields.retain(|_| random.chance(85));
+    }
+    for kept in fields {
+        unwiden_field(random, kept, level);
+    }
+}
+
+fn unwiden_field(random: &mut Random, field: &mut Field, level: Level) {
+    if let Some(items) = &mut field.items {
+        unwiden_field(random, items, level);
+    }
+    unwiden(random, &mut field.open, &mut field.properties, level);
 }
 
 /// A widening of the schema.
