@@ -3,6 +3,7 @@
 use crate::case::Case;
 use crate::nodes::{entries, node, Node};
 use crate::oracle::{self, Defect, Frame, Quoted, Schemas, Verdict};
+use crate::plan::plan;
 use differential::model::{self, checks::depth, Answer};
 use differential::trees::{Data, Operator, Schema, Sheet, Value};
 
@@ -30,7 +31,7 @@ pub fn hold(case: &Case) -> Result<Held, String> {
         return if answer == bare { Ok(Held::Refused(answer.number)) } else { Err(format!("a refusal with more than its number: {}", line(&answer))) };
     }
     let (schema, sheet) = trees(case)?;
-    shape(&sheet, &answer)?;
+    shape(&sheet, &answer, case.semantics > 1)?;
     if oracle::is_kept_out(&sheet) {
         return Ok(Held::KeptOut);
     }
@@ -55,9 +56,15 @@ fn trees(case: &Case) -> Result<(Schema, Sheet), String> {
 }
 
 /// What holds of every answer, whatever the Rust says.
-fn shape(sheet: &Sheet, answer: &Answer) -> Result<(), String> {
-    if answer.passed > 3 * entries(sheet) + 3 {
-        return Err(format!("more checks than a rule of this size has: {}", line(answer)));
+fn shape(sheet: &Sheet, answer: &Answer, service: bool) -> Result<(), String> {
+    let plan = plan(sheet, service);
+    let passed = plan.iter().position(|check| *check == (answer.number, answer.place));
+    let passed = if answer.number == 0 { Some(plan.len()) } else { passed };
+    if passed != Some(answer.passed as usize) {
+        return Err(format!("a passed count that the check list does not give: {}", line(answer)));
+    }
+    if plan.len() > 3 * entries(sheet) as usize + 3 {
+        return Err(format!("{} checks, more than three for each entry and three", plan.len()));
     }
     let bare = Answer { passed: answer.passed, ..Answer::default() };
     if answer.number == 0 && *answer != bare {

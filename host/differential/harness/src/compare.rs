@@ -2,6 +2,7 @@
 
 use crate::agreement::hold;
 use crate::case::Case;
+use crate::edges::edges;
 use crate::generate::{self, PROFILES};
 use crate::random::Random;
 use crate::shrink::shrink;
@@ -16,6 +17,9 @@ pub fn compare(cases: u64, seed: u64) -> Result<(), String> {
     let current = watch(seed);
     let mut tally = Tally::default();
     let mut made = [0_u64; PROFILES.len()];
+    for case in edges() {
+        hold(&case).map_err(|trouble| report(&case, &trouble, "a known edge"))?;
+    }
     let began = Instant::now();
     for number in 0..cases {
         current.store(number, Ordering::Relaxed);

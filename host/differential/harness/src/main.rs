@@ -4,22 +4,29 @@ mod agreement;
 mod bound;
 mod case;
 mod compare;
+mod edges;
 mod exhaustive;
 mod generate;
 mod instants;
 mod leaves;
 mod nodes;
 mod oracle;
+mod plan;
 mod random;
 mod shrink;
 mod tally;
+mod vectors;
 mod widened;
 
 use std::collections::BTreeMap;
 use std::process::ExitCode;
 
 const USAGE: &str = "usage: differential COMMAND [OPTION..]
-  compare --cases N --seed S     N generated cases, the model against the Rust";
+  compare [--cases N] [--seed S]   known edges, then N generated cases: the model against the Rust
+  widened [--cases N] [--seed S]   N rules, each under a schema and a widening of it
+  exhaustive [--tokens N]          every reference of up to N tokens (2 to 7, else 6), every instant near a good one
+  leaves                           text and numbers of the model against Rust's own
+  vectors --out FILE [--seed S]    writes the fixed list of answers";
 
 fn main() -> ExitCode {
     let arguments: Vec<String> = std::env::args().skip(1).collect();
@@ -56,6 +63,11 @@ fn run(arguments: &[String]) -> Result<(), Trouble> {
         "exhaustive" => {
             let options = options(rest, &["tokens"])?;
             exhaustive::exhaustive(tokens(&options)?).map_err(Trouble::Failed)
+        }
+        "vectors" => {
+            let options = options(rest, &["out", "seed"])?;
+            let file = options.get("out").ok_or_else(|| Trouble::Usage("vectors needs --out FILE".to_owned()))?;
+            vectors::vectors(file, numeral(&options, "seed", 1)?).map_err(Trouble::Failed)
         }
         "leaves" => {
             options(rest, &[])?;

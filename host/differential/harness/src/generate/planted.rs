@@ -9,6 +9,7 @@ use super::values::{near_bound, INSTANTS, NO_INSTANTS};
 use super::Setting;
 use crate::case::{Case, Expect};
 use crate::random::Random;
+use differential::model::write_rule;
 use differential::trees::{Condition, Data, Field, Holder, Operator, Rule, Schema, Sheet, Value};
 
 /// Every number from 11 on with each of its details.
@@ -16,6 +17,9 @@ pub const TARGETS: [(u32, u32); 32] = [
     (11, 0), (12, 0), (13, 0), (14, 0), (15, 0), (16, 0), (17, 1), (17, 2), (18, 1), (18, 2), (18, 3), (18, 4), (18, 5), (18, 6), (18, 7), (18, 8),
     (18, 9), (18, 10), (18, 11), (18, 12), (19, 0), (20, 1), (20, 2), (21, 0), (22, 1), (22, 2), (22, 3), (22, 4), (22, 5), (18, 11), (18, 12), (14, 0),
 ];
+
+/// The fields that defects are planted on.
+const PLANTED: [&str; 7] = ["parr", "pobjs", "pmap", "puni", "pstr", "pobj", "pint"];
 
 /// Binds that hide no root.
 const PLAIN_BINDS: [&str; 4] = ["b", "c", "x", "q"];
@@ -31,10 +35,23 @@ pub fn case(random: &mut Random) -> Case {
 /// A case with that number and detail.
 pub fn planted(random: &mut Random, target: (u32, u32)) -> Case {
     let setting = setting(random, target);
-    let schema = schema(random, target, setting.kind);
+    let mut schema = schema(random, target, setting.kind);
     let plant = Plant { target, scope: setting.scope(&schema, 0) };
     let sheet = plant.sheet(random);
+    if random.chance(70) {
+        drop_unread(&mut schema, &sheet);
+    }
     setting.case(&schema, &sheet).expecting(Expect::Detail(target.0, target.1))
+}
+
+/// Drops the planted fields that the rule does not name, which changes no answer and keeps the case small.
+fn drop_unread(schema: &mut Schema, sheet: &Sheet) {
+    let rule = write_rule(sheet);
+    let is_named = |name: &str| rule.windows(name.len()).any(|part| part == name.as_bytes());
+    let holders = std::iter::once(&mut schema.record).chain(&mut schema.arguments);
+    for holder in holders {
+        holder.fields.retain(|field| !PLANTED.contains(&field.name.as_str()) || is_named(&field.name));
+    }
 }
 
 /// A setting under which the defect can occur.
