@@ -4,6 +4,7 @@ use crate::case::Case;
 use crate::nodes::{entries, node, Node};
 use crate::oracle::{self, Defect, Frame, Quoted, Schemas, Verdict};
 use crate::plan::plan;
+use crate::refusals::refusal;
 use differential::model::{self, checks::depth, Answer};
 use differential::trees::{Data, Operator, Schema, Sheet, Value};
 
@@ -26,7 +27,11 @@ pub fn hold(case: &Case) -> Result<Held, String> {
     if !case.expect.allows(answer.number, answer.detail) {
         return Err(format!("the case was made for {:?}, the model answers {}", case.expect, line(&answer)));
     }
-    if (1..=5).contains(&answer.number) {
+    let refused = refusal(case);
+    if refused != if answer.number > 5 { 0 } else { answer.number } {
+        return Err(format!("the model answers {}, the second reading of the refusals {refused}", line(&answer)));
+    }
+    if refused > 0 {
         let bare = Answer { number: answer.number, ..Answer::default() };
         return if answer == bare { Ok(Held::Refused(answer.number)) } else { Err(format!("a refusal with more than its number: {}", line(&answer))) };
     }

@@ -3,6 +3,7 @@
 use crate::bound::bound;
 use crate::generate::values::near_bound;
 use crate::random::Random;
+use crate::refusals::is_number;
 use differential::model::{number, text};
 use std::fmt::Debug;
 
@@ -129,20 +130,14 @@ fn each_text(alphabet: &[u8], length: u32, check: impl Fn(&str) -> Result<(), St
     Ok(count)
 }
 
-/// serde_json reads white space around a number, which is no part of its text.
-fn is_json_number(text: &str) -> bool {
-    let is_bare = !text.bytes().any(|byte| byte.is_ascii_whitespace());
-    is_bare && serde_json::from_str::<serde_json::Value>(text).is_ok_and(|value| value.is_number())
-}
-
 fn short_numbers() -> Result<u64, String> {
-    let grammar = |text: &str| equal(text, number::is_number(text), is_json_number(text));
+    let grammar = |text: &str| equal(text, number::is_number(text), is_number(text));
     Ok(each_text(b"019-+.eE", 7, grammar)? + each_text(b"0-+.eE xX\n\"_a", 5, grammar)?)
 }
 
 /// The value decides, whatever the form: `f64` rounds to nearest, ties to even.
 fn same_finite(text: &str) -> Result<(), String> {
-    let read = is_json_number(text) && text.parse::<f64>().is_ok_and(f64::is_finite);
+    let read = is_number(text) && text.parse::<f64>().is_ok_and(f64::is_finite);
     equal(text, number::is_finite(text), read)
 }
 

@@ -13,6 +13,7 @@ mod nodes;
 mod oracle;
 mod plan;
 mod random;
+mod refusals;
 mod shrink;
 mod tally;
 mod vectors;
