@@ -15,13 +15,7 @@ pub struct Setting<'a> {
 
 impl Setting<'_> {
     fn scope(&self) -> Scope<'_> {
-        Scope {
-            kind: scope_kind(self.kind),
-            fields: self.fields,
-            args: self.args,
-            binders: None,
-            semantics: semantics(self.semantics),
-        }
+        Scope { kind: scope_kind(self.kind), fields: self.fields, args: self.args, binders: None, semantics: semantics(self.semantics) }
     }
 }
 

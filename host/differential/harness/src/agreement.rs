@@ -33,7 +33,11 @@ pub fn hold(case: &Case) -> Result<Held, String> {
     }
     if refused > 0 {
         let bare = Answer { number: answer.number, ..Answer::default() };
-        return if answer == bare { Ok(Held::Refused(answer.number)) } else { Err(format!("a refusal with more than its number: {}", line(&answer))) };
+        return if answer == bare {
+            Ok(Held::Refused(answer.number))
+        } else {
+            Err(format!("a refusal with more than its number: {}", line(&answer)))
+        };
     }
     let (schema, sheet) = trees(case)?;
     shape(&sheet, &answer, case.semantics > 1)?;

@@ -2,7 +2,9 @@
 
 use crate::bound::bound;
 use crate::case::{Case, Expect};
-use crate::generate::build::{all, array, compare, condition, element, exists, field, holder, literal, not, number, object, pair, quantifier, rule};
+use crate::generate::build::{
+    all, array, compare, condition, element, exists, field, holder, literal, not, number, object, pair, quantifier, rule,
+};
 use crate::generate::build::{schema, text, value, ARRAY, INTEGER, JSON, MAP, OBJECT, STRING, UNION};
 use differential::model::{write_rule, write_schema};
 use differential::trees::{Condition, Data, Field, Operator, Rule, Schema, Sheet};

@@ -137,7 +137,7 @@ fn numbered_schema(index: usize) -> Schema {
         named.chain([Field { items: element(shape(index)), ..field("arr", ARRAY) }]).collect()
     };
     let record: Holder = holder(index % 4 == 1, fields(0));
-    let arguments = (index % 3 != 0).then(|| holder(index % 4 == 2, fields(3)));
+    let arguments = if index % 3 == 0 { None } else { Some(holder(index % 4 == 2, fields(3))) };
     schema(record, arguments)
 }
 

@@ -59,7 +59,8 @@ fn dates() -> Result<u64, String> {
 }
 
 fn same(text: &str) -> Result<(), String> {
-    let model = instant::parse(text).map(|read| [read.year, read.month, read.day, read.hour, read.minute, read.second, read.nanosecond].map(i64::from));
+    let model = instant::parse(text)
+        .map(|read| [read.year, read.month, read.day, read.hour, read.minute, read.second, read.nanosecond].map(i64::from));
     let other = second::parse(text).map(|read| [read.year, read.month, read.day, read.hour, read.minute, read.second, read.nanosecond]);
     if model != other {
         return Err(format!("{text:?}: the model reads {model:?}, the second reading {other:?}"));

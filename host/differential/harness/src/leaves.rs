@@ -10,9 +10,12 @@ use std::fmt::Debug;
 const RANDOM_INPUTS: u64 = 2_000_000;
 const SEED: u64 = 1;
 
+/// What is checked, and the check, which answers how many inputs it tried.
+type Check = (&'static str, fn() -> Result<u64, String>);
+
 /// Runs every check; an error names the first input on which two readings differ.
 pub fn leaves() -> Result<(), String> {
-    let checks: [(&str, fn() -> Result<u64, String>); 8] = [
+    let checks: [Check; 8] = [
         ("UTF-8, all strings of up to 3 bytes", short_utf8),
         ("UTF-8, 4 bytes at the edges of the ranges", four_byte_utf8),
         ("UTF-8, random bytes", random_utf8),
@@ -92,8 +95,34 @@ fn random_utf8() -> Result<u64, String> {
 /// A short text of characters of every length, white space among them.
 fn a_text(random: &mut Random) -> String {
     const CHARACTERS: [char; 28] = [
-        'a', '$', '.', ' ', '\t', '\n', '\u{b}', '\r', '\u{1c}', '\u{1f}', '\u{85}', '\u{a0}', 'é', '\u{1680}', '\u{180e}', '\u{2000}', '\u{200a}',
-        '\u{200b}', '\u{2028}', '\u{2029}', '\u{202f}', '\u{205f}', '\u{2060}', '\u{3000}', '\u{feff}', '\u{ffff}', '\u{10000}', '\u{10ffff}',
+        'a',
+        '$',
+        '.',
+        ' ',
+        '\t',
+        '\n',
+        '\u{b}',
+        '\r',
+        '\u{1c}',
+        '\u{1f}',
+        '\u{85}',
+        '\u{a0}',
+        'é',
+        '\u{1680}',
+        '\u{180e}',
+        '\u{2000}',
+        '\u{200a}',
+        '\u{200b}',
+        '\u{2028}',
+        '\u{2029}',
+        '\u{202f}',
+        '\u{205f}',
+        '\u{2060}',
+        '\u{3000}',
+        '\u{feff}',
+        '\u{ffff}',
+        '\u{10000}',
+        '\u{10ffff}',
     ];
     (0..random.below(9)).map(|_| random.pick(&CHARACTERS)).collect()
 }

@@ -34,7 +34,10 @@ fn candidates(case: &Case) -> Vec<Case> {
 fn shorter(bytes: &[u8]) -> Vec<Vec<u8>> {
     let halves = std::iter::successors(Some(bytes.len() / 2), |size| (*size > 1).then_some(size / 2)).filter(|size| *size > 0);
     let without = |start: usize, size: usize| [&bytes[..start], &bytes[(start + size).min(bytes.len())..]].concat();
-    halves.flat_map(|size| (0..bytes.len()).step_by(size).map(move |start| (start, size))).map(|(start, size)| without(start, size)).collect()
+    halves
+        .flat_map(|size| (0..bytes.len()).step_by(size).map(move |start| (start, size)))
+        .map(|(start, size)| without(start, size))
+        .collect()
 }
 
 fn schemas(schema: &Schema) -> Vec<Schema> {
@@ -70,7 +73,8 @@ fn lists<T: Clone>(list: &[T], smaller: impl Fn(&T) -> Vec<T>) -> Vec<Vec<T>> {
 }
 
 fn fields(field: &Field) -> Vec<Field> {
-    let mut found: Vec<Field> = lists(&field.properties, fields).into_iter().map(|properties| Field { properties, ..field.clone() }).collect();
+    let mut found: Vec<Field> =
+        lists(&field.properties, fields).into_iter().map(|properties| Field { properties, ..field.clone() }).collect();
     if field.tag.is_some() {
         found.push(Field { tag: None, ..field.clone() });
     }
@@ -104,26 +108,32 @@ fn conditions(condition: &Condition) -> Vec<Condition> {
     let with = |operator| Condition { entry: 0, operator };
     let mut found = match &condition.operator {
         Operator::Literal(_) => return Vec::new(),
-        Operator::All(children) => [children.clone(), lists(children, conditions).into_iter().map(Operator::All).map(with).collect()].concat(),
-        Operator::Any(children) => [children.clone(), lists(children, conditions).into_iter().map(Operator::Any).map(with).collect()].concat(),
+        Operator::All(children) => {
+            [children.clone(), lists(children, conditions).into_iter().map(Operator::All).map(with).collect()].concat()
+        }
+        Operator::Any(children) => {
+            [children.clone(), lists(children, conditions).into_iter().map(Operator::Any).map(with).collect()].concat()
+        }
         Operator::Not(child) => {
             let inner = conditions(child).into_iter().map(|child| with(Operator::Not(Box::new(child))));
             std::iter::once((**child).clone()).chain(inner).collect()
         }
         Operator::Exists(value) => values(value).into_iter().map(Operator::Exists).map(with).collect(),
         Operator::Truthy(value) => values(value).into_iter().map(Operator::Truthy).map(with).collect(),
-        Operator::Pair(number, sides) => pairs(sides).into_iter().map(|sides| with(Operator::Pair(*number, sides))).collect(),
-        Operator::Compare(number, sides) => pairs(sides).into_iter().map(|sides| with(Operator::Compare(*number, sides))).collect(),
+        Operator::Pair(number, sides) => pairs(sides).into_iter().map(|sides| with(Operator::Pair(*number, Box::new(sides)))).collect(),
+        Operator::Compare(number, sides) => {
+            pairs(sides).into_iter().map(|sides| with(Operator::Compare(*number, Box::new(sides)))).collect()
+        }
         Operator::Quantifier { .. } => quantifiers(&condition.operator).into_iter().map(with).collect(),
     };
     found.push(with(Operator::Literal(true)));
     found
 }
 
-fn pairs(sides: &[Value; 2]) -> Vec<Box<[Value; 2]>> {
+fn pairs(sides: &[Value; 2]) -> Vec<[Value; 2]> {
     let [left, right] = sides;
-    let lefts = values(left).into_iter().map(|left| Box::new([left, right.clone()]));
-    let rights = values(right).into_iter().map(|right| Box::new([left.clone(), right]));
+    let lefts = values(left).into_iter().map(|left| [left, right.clone()]);
+    let rights = values(right).into_iter().map(|right| [left.clone(), right]);
     lefts.chain(rights).collect()
 }
 

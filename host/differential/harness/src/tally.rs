@@ -37,7 +37,19 @@ impl Tally {
 
 /// Every number from 11 on with each family and detail that it can have.
 pub fn all_answers() -> Vec<Answered> {
-    let fixed = [(11, 1, 0), (12, 1, 0), (13, 4, 0), (14, 1, 0), (15, 3, 0), (16, 1, 0), (16, 8, 0), (17, 5, 1), (17, 5, 2), (19, 1, 0), (19, 8, 0)];
+    let fixed = [
+        (11, 1, 0),
+        (12, 1, 0),
+        (13, 4, 0),
+        (14, 1, 0),
+        (15, 3, 0),
+        (16, 1, 0),
+        (16, 8, 0),
+        (17, 5, 1),
+        (17, 5, 2),
+        (19, 1, 0),
+        (19, 8, 0),
+    ];
     let instants = [(20, 1, 1), (20, 1, 2), (20, 8, 1), (20, 8, 2), (21, 6, 0)];
     let references = [1, 2, 8].into_iter().flat_map(|family| (1..=12).map(move |detail| (18, family, detail)));
     let collections = (1..=5).map(|detail| (22, 7, detail));

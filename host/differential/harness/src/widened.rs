@@ -20,8 +20,9 @@ pub fn widened(cases: u64, seed: u64) -> Result<(), String> {
         let level = if random.chance(40) { Level::Marks } else { Level::Any };
         let (narrow, wide) = schemas(&mut random, &pair.schema, level);
         relation(&mut random, &narrow, &wide, level).map_err(|trouble| format!("case {number} of seed {seed}: {trouble}"))?;
-        let [first, second] = [&narrow, &wide].map(|schema| pair.setting.case(schema, &pair.sheet));
-        let fared = fare(&first, &second, level).map_err(|trouble| told(&trouble, number, seed))?;
+        let cases = [&narrow, &wide].map(|schema| pair.setting.case(schema, &pair.sheet));
+        let fared =
+            fare(&cases, level).map_err(|(which, problem)| report(&cases[which], &problem, &format!("case {number} of seed {seed}")))?;
         *counts.entry(fared).or_default() += 1;
     }
     for (fared, count) in &counts {
@@ -54,26 +55,15 @@ fn relation(random: &mut Random, first: &Schema, second: &Schema, level: Level) 
     }
 }
 
-struct Trouble {
-    case: Case,
-    problem: String,
-}
-
-fn told(trouble: &Trouble, number: u64, seed: u64) -> String {
-    report(&trouble.case, &trouble.problem, &format!("case {number} of seed {seed}"))
-}
-
-/// Both calls, each held against the Rust, and the promise about the two.
-fn fare(first: &Case, second: &Case, level: Level) -> Result<&'static str, Trouble> {
-    let trouble = |case: &Case, problem: String| Trouble { case: case.clone(), problem };
-    let held_first = hold(first).map_err(|problem| trouble(first, problem))?;
-    let held_second = hold(second).map_err(|problem| trouble(second, problem))?;
-    match (held_first, held_second) {
-        (Held::Agreed(one), Held::Agreed(two)) => {
-            promise(&one, &two, level).ok_or_else(|| trouble(second, format!("{} under the first schema, {} under the second", line(&one), line(&two))))
-        }
-        _ => Ok("refused or kept out"),
-    }
+/// Both calls, each held against the Rust, and the promise about the two. An error tells which case it is about, 0 or 1.
+fn fare(cases: &[Case; 2], level: Level) -> Result<&'static str, (usize, String)> {
+    let first = hold(&cases[0]).map_err(|problem| (0, problem))?;
+    let second = hold(&cases[1]).map_err(|problem| (1, problem))?;
+    let (Held::Agreed(first), Held::Agreed(second)) = (first, second) else {
+        return Ok("refused or kept out");
+    };
+    let broken = || (1, format!("{} under the first schema, {} under the second", line(&first), line(&second)));
+    promise(&first, &second, level).ok_or_else(broken)
 }
 
 /// How the second answer stands to the first; none if the promise is broken.

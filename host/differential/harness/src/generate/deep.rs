@@ -52,7 +52,8 @@ fn deeper(random: &mut Random, inner: Condition) -> Condition {
 fn deep_value(random: &mut Random) -> Case {
     let setting = Setting::new(random);
     let depth = random.pick(&[62, 63, 64, 65, 66]);
-    let wrap = |inner: Value, random: &mut Random| if random.chance(50) { array(vec![inner]) } else { object(vec![("k".to_owned(), inner)]) };
+    let wrap =
+        |inner: Value, random: &mut Random| if random.chance(50) { array(vec![inner]) } else { object(vec![("k".to_owned(), inner)]) };
     let core = text(if random.chance(50) { "$id" } else { "$nope" });
     let tree = (1..depth).fold(core, |inner, _| wrap(inner, random));
     let expect = if depth > MAX_VALUE_NESTING { Expect::Number(5) } else { Expect::Read };

@@ -19,8 +19,11 @@ use scope::Scope;
 
 const LABELS: [&str; 8] = ["r", "", "invariants[0]", "a.b", "é", "x,y", "l\nl", "operations.release.preconditions[12]"];
 
-/// The kinds of cases, with how often in a thousand each comes.
-pub const PROFILES: [(&str, usize, fn(&mut Random) -> Case); 9] = [
+/// A name, how often in a thousand cases it comes, and what makes it.
+type Profile = (&'static str, usize, fn(&mut Random) -> Case);
+
+/// The kinds of cases.
+pub const PROFILES: [Profile; 9] = [
     ("right", 200, right),
     ("slips", 330, slips),
     ("planted", 250, planted::case),

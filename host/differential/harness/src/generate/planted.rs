@@ -1,6 +1,8 @@
 //! Cases with one defect planted behind conditions that are right: number and detail are known beforehand.
 
-use super::build::{all, array, compare, condition, element, exists, field, literal, not, number, object, pair, quantifier, sorted, text, value};
+use super::build::{
+    all, array, compare, condition, element, exists, field, literal, not, number, object, pair, quantifier, sorted, text, value,
+};
 use super::build::{ARRAY, INTEGER, MAP, OBJECT, STRING, UNION};
 use super::rules::{BAD_BINDS, BLANKS};
 use super::schemas;
@@ -14,8 +16,38 @@ use differential::trees::{Condition, Data, Field, Holder, Operator, Rule, Schema
 
 /// Every number from 11 on with each of its details.
 pub const TARGETS: [(u32, u32); 32] = [
-    (11, 0), (12, 0), (13, 0), (14, 0), (15, 0), (16, 0), (17, 1), (17, 2), (18, 1), (18, 2), (18, 3), (18, 4), (18, 5), (18, 6), (18, 7), (18, 8),
-    (18, 9), (18, 10), (18, 11), (18, 12), (19, 0), (20, 1), (20, 2), (21, 0), (22, 1), (22, 2), (22, 3), (22, 4), (22, 5), (18, 11), (18, 12), (14, 0),
+    (11, 0),
+    (12, 0),
+    (13, 0),
+    (14, 0),
+    (15, 0),
+    (16, 0),
+    (17, 1),
+    (17, 2),
+    (18, 1),
+    (18, 2),
+    (18, 3),
+    (18, 4),
+    (18, 5),
+    (18, 6),
+    (18, 7),
+    (18, 8),
+    (18, 9),
+    (18, 10),
+    (18, 11),
+    (18, 12),
+    (19, 0),
+    (20, 1),
+    (20, 2),
+    (21, 0),
+    (22, 1),
+    (22, 2),
+    (22, 3),
+    (22, 4),
+    (22, 5),
+    (18, 11),
+    (18, 12),
+    (14, 0),
 ];
 
 /// The fields that defects are planted on.

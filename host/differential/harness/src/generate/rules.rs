@@ -7,7 +7,8 @@ use differential::trees::{Condition, Data, Operator, Rule, Sheet, Value};
 
 pub const BINDS: [&str; 14] = ["b", "b", "c", "x", "fields", "args", "id", "state", "é", " b ", "$b", "count", "old_fields", "日本"];
 pub const BAD_BINDS: [&str; 7] = ["", " ", "a.b", ".", "\u{3000}", "b.", "\u{85}\t"];
-pub const BLANKS: [&str; 6] = ["", " ", "\t\n\u{b}\u{c}\r", "\u{85}", "\u{a0}\u{1680}\u{2000}\u{200a}", "\u{2028}\u{2029}\u{202f}\u{205f}\u{3000}"];
+pub const BLANKS: [&str; 6] =
+    ["", " ", "\t\n\u{b}\u{c}\r", "\u{85}", "\u{a0}\u{1680}\u{2000}\u{200a}", "\u{2028}\u{2029}\u{202f}\u{205f}\u{3000}"];
 
 /// Texts that look blank and are not.
 const NOT_BLANK: [&str; 7] = ["n", " n ", "\u{200b}", "\u{feff}", "\u{1c}", "\u{180e}", "\u{2060}"];

@@ -6,8 +6,34 @@ use differential::trees::{Field, Holder, Schema};
 
 /// Names that collide with roots, binders, ordinals, tags and counts, or that hold dots, blanks and pieces of messages.
 pub const NAMES: [&str; 28] = [
-    "a", "b", "c", "d", "é", "x", "xb", "$b", "count", "value", "content", "fields", "args", "id", "0", "1", "7", "01", "10", "", "a.b", "t",
-    " ", "a' cannot resolve: the path is empty", "' is a count, so '", "b,c", "n\nn", "日本",
+    "a",
+    "b",
+    "c",
+    "d",
+    "é",
+    "x",
+    "xb",
+    "$b",
+    "count",
+    "value",
+    "content",
+    "fields",
+    "args",
+    "id",
+    "0",
+    "1",
+    "7",
+    "01",
+    "10",
+    "",
+    "a.b",
+    "t",
+    " ",
+    "a' cannot resolve: the path is empty",
+    "' is a count, so '",
+    "b,c",
+    "n\nn",
+    "日本",
 ];
 
 const TAGS: [&str; 10] = ["value", "t", "content", "count", "0", "", "é", "x.y", "b", "' and 'value"];

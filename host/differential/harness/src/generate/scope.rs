@@ -72,7 +72,8 @@ impl<'s> Scope<'s> {
         let visible = |(index, binder): &(usize, &Binder<'s>)| !self.binders[index + 1..].iter().any(|inner| inner.name == binder.name);
         let binders = self.binders.iter().enumerate().filter(visible);
         let mut starts: Vec<_> = binders.map(|(_, binder)| (binder.name.clone(), Start::Element(binder.element))).collect();
-        let roots = [("fields", Some(&self.schema.record)), ("old_fields", Some(&self.schema.record)), ("args", self.schema.arguments.as_ref())];
+        let roots =
+            [("fields", Some(&self.schema.record)), ("old_fields", Some(&self.schema.record)), ("args", self.schema.arguments.as_ref())];
         for (root, holder) in roots {
             if let Some(holder) = holder.filter(|_| may_read(self.kind, root) && !self.is_bound(root)) {
                 starts.push((root.to_owned(), Start::Holder(holder)));
@@ -118,7 +119,9 @@ impl<'s> Scope<'s> {
             match reach {
                 _ if is_binder && path.len() == bare => return Some((path, None)),
                 Reach::Unknown if path.len() > bare => return Some((path, None)),
-                Reach::Field(field) if matches!(field.kind, ARRAY | MAP) && path.len() > bare => return Some((path, field.items.as_deref())),
+                Reach::Field(field) if matches!(field.kind, ARRAY | MAP) && path.len() > bare => {
+                    return Some((path, field.items.as_deref()))
+                }
                 _ => {}
             }
         }

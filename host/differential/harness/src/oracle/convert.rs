@@ -11,17 +11,11 @@ pub struct Schemas {
 }
 
 pub fn schemas(schema: &trees::Schema) -> Schemas {
-    Schemas {
-        fields: object(&schema.record),
-        args: schema.arguments.as_ref().map(object),
-    }
+    Schemas { fields: object(&schema.record), args: schema.arguments.as_ref().map(object) }
 }
 
 fn object(holder: &trees::Holder) -> ObjectSchema {
-    ObjectSchema {
-        fields: members(&holder.fields),
-        additional_fields: holder.open,
-    }
+    ObjectSchema { fields: members(&holder.fields), additional_fields: holder.open }
 }
 
 fn members(fields: &[trees::Field]) -> BTreeMap<String, FieldDefinition> {
@@ -58,11 +52,7 @@ fn field_kind(number: u8) -> FieldKind {
 }
 
 pub fn rule(rule: &trees::Rule) -> RuleDefinition {
-    RuleDefinition {
-        name: rule.name.clone(),
-        condition: condition(&rule.condition),
-        message: rule.message.clone(),
-    }
+    RuleDefinition { name: rule.name.clone(), condition: condition(&rule.condition), message: rule.message.clone() }
 }
 
 fn condition(tree: &trees::Condition) -> Condition {
@@ -73,22 +63,13 @@ fn condition(tree: &trees::Condition) -> Condition {
         trees::Operator::Not(child) => Condition::Not { not: Box::new(condition(child)) },
         trees::Operator::Exists(operand) => Condition::Exists { exists: value(operand) },
         trees::Operator::Pair(operator, sides) => pair(*operator, [value(&sides[0]), value(&sides[1])]),
-        trees::Operator::Compare(op, sides) => Condition::Compare {
-            compare: Box::new(Comparison {
-                left: value(&sides[0]),
-                op: compare_op(*op),
-                right: value(&sides[1]),
-            }),
-        },
+        trees::Operator::Compare(op, sides) => {
+            Condition::Compare { compare: Box::new(Comparison { left: value(&sides[0]), op: compare_op(*op), right: value(&sides[1]) }) }
+        }
         trees::Operator::Truthy(operand) => Condition::Truthy { truthy: value(operand) },
-        trees::Operator::Quantifier { operator, bind, over, body } => quantifier(
-            *operator,
-            Quantifier {
-                over: value(over),
-                bind: bind.clone(),
-                body: Box::new(condition(body)),
-            },
-        ),
+        trees::Operator::Quantifier { operator, bind, over, body } => {
+            quantifier(*operator, Quantifier { over: value(over), bind: bind.clone(), body: Box::new(condition(body)) })
+        }
     }
 }
 

@@ -32,8 +32,7 @@ const ESCAPED_END: &str = "', which is not an instant this kernel reads";
 const UNREAD_END: &str = " is not an instant this kernel reads";
 
 /// The kinds of a field as a message spells them.
-const KINDS: [&str; 12] =
-    ["string", "integer", "number", "boolean", "enum", "array", "object", "json", "ref", "map", "union", "binary64"];
+const KINDS: [&str; 12] = ["string", "integer", "number", "boolean", "enum", "array", "object", "json", "ref", "map", "union", "binary64"];
 
 /// The roots whose paths are walked, and what a message calls their members.
 const ROOTS: [(&str, &str); 3] = [("$fields.", "field"), ("$old_fields.", "field"), ("$args.", "argument")];
