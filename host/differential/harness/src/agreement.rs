@@ -7,6 +7,7 @@ use crate::plan::plan;
 use crate::refusals::refusal;
 use differential::model::{self, checks::depth, Answer};
 use differential::trees::{Data, Operator, Schema, Sheet, Value};
+use std::panic::catch_unwind;
 
 /// How a case went where both agree.
 #[derive(Clone, Debug, PartialEq, Eq)]
@@ -23,7 +24,7 @@ const MAX_PATH_BYTES: usize = 31_122;
 
 /// The model's answer, held against the Rust's. An error tells in what they differ.
 pub fn hold(case: &Case) -> Result<Held, String> {
-    let answer = model::check(&case.call());
+    let answer = catch_unwind(|| model::check(&case.call())).map_err(|_| "the model panics".to_owned())?;
     if !case.expect.allows(answer.number, answer.detail) {
         return Err(format!("the case was made for {:?}, the model answers {}", case.expect, line(&answer)));
     }

@@ -45,3 +45,20 @@ fn overruns(number: &str) -> bool {
     let is_zero = !mantissa.bytes().any(|byte| (b'1'..=b'9').contains(&byte));
     OVERFLOWING.contains(&magnitude) || (is_zero && magnitude > MAX_ZERO_EXPONENT)
 }
+
+#[cfg(test)]
+mod tests {
+    use super::overruns;
+
+    #[test]
+    fn exponents_just_below_two_to_the_63_stay_out() {
+        assert!(overruns("1e9223372036854774784") && overruns("-1.5E-9223372036854775807"));
+        assert!(!overruns("1e9223372036854774783") && !overruns("1e9223372036854775808"));
+    }
+
+    #[test]
+    fn zeros_with_a_huge_exponent_stay_out() {
+        assert!(overruns("0e1000001") && overruns("-0.00E-0001000001") && overruns(&format!("0e{}", "9".repeat(60))));
+        assert!(!overruns("0e1000000") && !overruns("0.1e1000001") && !overruns("0"));
+    }
+}

@@ -234,3 +234,30 @@ fn member_detail(segment: &str, sentence: &str) -> Option<u32> {
     }
     KINDS.iter().any(|kind| sentence == format!("a {kind} field has no member '{segment}'")).then_some(3)
 }
+
+#[cfg(test)]
+mod tests {
+    use super::{is_union_end, of_collection, reference_detail};
+
+    /// A reference whose name reads like the end of another message.
+    const TRICKY: &str = "$fields.a' cannot resolve: the path is empty";
+
+    #[test]
+    fn a_name_that_holds_a_message_is_not_taken_for_it() {
+        let message = format!("'{TRICKY}' cannot resolve: unknown field 'a' cannot resolve: the path is empty'");
+        assert_eq!(reference_detail(1, TRICKY, &message), Some(2));
+        assert_eq!(reference_detail(1, "$fields.a", &message), None);
+    }
+
+    #[test]
+    fn a_tag_that_holds_a_message_is_not_taken_for_it() {
+        assert!(is_union_end("; it carries '' and 'value' and 'value'"));
+        assert!(!is_union_end("; it carries 'value' and 'value'"));
+    }
+
+    #[test]
+    fn sentences_that_cannot_occur_are_not_in_the_table() {
+        assert!(of_collection("$fields.a", "'$fields.a' names nothing the schema declares").is_err());
+        assert!(of_collection("$args.a", "'$args.a' is not available here").is_err());
+    }
+}
