@@ -3,12 +3,18 @@
 use crate::case::{Case, Expect};
 use differential::model::{decode_rule, decode_schema, write_rule, write_schema};
 use differential::trees::{Condition, Data, Field, Operator, Schema, Sheet, Value};
+use std::time::{Duration, Instant};
 
-/// The smallest case that the steps below lead to. What was expected of the first case says nothing about smaller ones.
+/// Large cases have many parts to try; what is small by then is printed.
+const TIME: Duration = Duration::from_secs(30);
+
+/// The smallest case that the steps below lead to in time. What was expected of the first case says nothing about smaller ones.
 pub fn shrink(case: &Case, fails: impl Fn(&Case) -> bool) -> Case {
     let free = Case { expect: Expect::Anything, ..case.clone() };
     let mut small = if fails(&free) { free } else { return case.clone() };
-    while let Some(smaller) = candidates(&small).into_iter().find(|candidate| fails(candidate)) {
+    let end = Instant::now() + TIME;
+    let in_time = |_: &Case| Instant::now() < end;
+    while let Some(smaller) = candidates(&small).into_iter().take_while(in_time).find(|candidate| fails(candidate)) {
         small = smaller;
     }
     small
