@@ -1,6 +1,7 @@
 //! One case of the comparison: what a caller hands over, and what is known of the answer beforehand.
 
-use differential::model::{Call, PATH_BYTES, SCRATCH_WORDS};
+use crate::refusals::{MIN_PATH_BYTES, MIN_SCRATCH_WORDS};
+use differential::model::Call;
 
 #[derive(Clone, Debug, PartialEq, Eq)]
 pub struct Case {
@@ -44,8 +45,8 @@ impl Case {
             label: label.to_vec(),
             schema,
             rule,
-            path_len: PATH_BYTES,
-            scratch_len: SCRATCH_WORDS,
+            path_len: MIN_PATH_BYTES,
+            scratch_len: MIN_SCRATCH_WORDS,
             expect: Expect::Anything,
         }
     }

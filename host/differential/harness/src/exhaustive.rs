@@ -8,8 +8,9 @@ use crate::generate::build::{ARRAY, INTEGER, JSON, MAP, OBJECT, STRING, UNION};
 use crate::generate::scope::may_read;
 use crate::instants;
 use crate::oracle::{self, Frame, Schemas};
+use crate::refusals::{MIN_PATH_BYTES, MIN_SCRATCH_WORDS};
 use crate::tally::Tally;
-use differential::model::{check, decode_rule, write_rule, write_schema, Call, PATH_BYTES, SCRATCH_WORDS};
+use differential::model::{check, decode_rule, write_rule, write_schema, Call};
 use differential::trees::{Field, Holder, Schema, Sheet};
 
 const TOKENS: [&str; 10] = ["$", "b", ".", "0", "1", "é", "fields", "args", "count", "value"];
@@ -47,7 +48,15 @@ impl World {
     }
 
     fn call<'a>(&'a self, kind: u64, semantics: u64, rule: &'a [u8]) -> Call<'a> {
-        Call { kind, semantics, label: LABEL.as_bytes(), schema: &self.sheet, rule, path_len: PATH_BYTES, scratch_len: SCRATCH_WORDS }
+        Call {
+            kind,
+            semantics,
+            label: LABEL.as_bytes(),
+            schema: &self.sheet,
+            rule,
+            path_len: MIN_PATH_BYTES,
+            scratch_len: MIN_SCRATCH_WORDS,
+        }
     }
 
     /// Holds one rule against both, under each of the settings.

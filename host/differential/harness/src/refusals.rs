@@ -3,12 +3,15 @@
 
 use crate::case::Case;
 
-const MAX_SHEET_BYTES: usize = 30_000;
-const MAX_ENTRIES: usize = 2_048;
-const MAX_TEXT_BYTES: usize = 512;
-const MAX_LABEL_BYTES: usize = 256;
-const MIN_PATH_BYTES: usize = 32_768;
-const MIN_SCRATCH_WORDS: usize = 8_192;
+pub const MAX_SHEET_BYTES: usize = 30_000;
+pub const MAX_ENTRIES: usize = 2_048;
+pub const MAX_TEXT_BYTES: usize = 512;
+pub const MAX_LABEL_BYTES: usize = 256;
+pub const MIN_PATH_BYTES: usize = 32_768;
+pub const MIN_SCRATCH_WORDS: usize = 8_192;
+pub const MAX_FIELD_NESTING: usize = 64;
+pub const MAX_VALUE_NESTING: usize = 64;
+pub const MAX_CONDITION_NESTING: usize = 256;
 
 /// The refusal that answers a call, or 0.
 pub fn refusal(case: &Case) -> u32 {
@@ -124,7 +127,7 @@ impl<'a> Reading<'a> {
 
     fn field(&mut self, nesting: usize, group: Option<usize>) -> Option<()> {
         let [_, kind, open, items, count, name, tag] = self.head(b'F', *b",,,,,,,")?;
-        ((1..=12).contains(&numeral(kind)?) && nesting <= 64).then_some(())?;
+        ((1..=12).contains(&numeral(kind)?) && nesting <= MAX_FIELD_NESTING).then_some(())?;
         mark(open)?;
         let has_items = mark(items)?;
         let count = numeral(count)?;
@@ -175,7 +178,7 @@ impl<'a> Reading<'a> {
             self.text(n)?;
         }
         self.end()?;
-        (nesting <= 256).then_some(())?;
+        (nesting <= MAX_CONDITION_NESTING).then_some(())?;
         self.siblings(conditions, |_| Due::Condition { nesting: nesting + 1 })?;
         self.siblings(values, |_| Due::Value { nesting: 1 })
     }
@@ -185,7 +188,7 @@ impl<'a> Reading<'a> {
         let (kind, n) = (numeral(kind)?, numeral(n)?);
         let text = if matches!(kind, 4 | 5) { self.text(n)? } else { "" };
         self.end()?;
-        (nesting <= 64).then_some(())?;
+        (nesting <= MAX_VALUE_NESTING).then_some(())?;
         match (kind, n) {
             (1..=3, 0) | (5, _) => Some(()),
             (4, _) => is_number(text).then_some(()),

@@ -5,11 +5,10 @@ use super::build::{ARRAY, OBJECT};
 use super::Setting;
 use crate::case::{Case, Expect};
 use crate::random::Random;
+use crate::refusals::{MAX_CONDITION_NESTING, MAX_FIELD_NESTING, MAX_VALUE_NESTING};
 use differential::trees::{Condition, Field, Operator, Sheet, Value};
 
-const MAX_FIELD_NESTING: usize = 64;
-const MAX_VALUE_NESTING: usize = 64;
-const MAX_SHEET_DEPTH: usize = 256;
+/// A condition that is deeper and can be read is refused with 13.
 const MAX_CONDITION_DEPTH: usize = 32;
 
 pub fn case(random: &mut Random) -> Case {
@@ -32,7 +31,7 @@ fn deep_condition(random: &mut Random) -> Case {
     let is_empty = matches!(core.operator, Operator::All(_));
     let tree = (1..depth).fold(core, |inner, _| deeper(random, inner));
     let expect = match depth {
-        _ if depth > MAX_SHEET_DEPTH => Expect::Number(5),
+        _ if depth > MAX_CONDITION_NESTING => Expect::Number(5),
         _ if depth > MAX_CONDITION_DEPTH => Expect::Number(13),
         _ if is_empty => Expect::Number(16),
         _ => Expect::Number(0),

@@ -5,12 +5,9 @@ use super::build::{INTEGER, UNION};
 use super::{schemas, Setting};
 use crate::case::{Case, Expect};
 use crate::random::Random;
-use differential::model::{write_rule, write_schema, MAX_LABEL_BYTES, PATH_BYTES, SCRATCH_WORDS};
+use crate::refusals::{MAX_ENTRIES, MAX_LABEL_BYTES, MAX_SHEET_BYTES, MAX_TEXT_BYTES, MIN_PATH_BYTES, MIN_SCRATCH_WORDS};
+use differential::model::{write_rule, write_schema};
 use differential::trees::{Field, Operator, Rule, Schema, Sheet, Value};
-
-const MAX_SHEET_BYTES: usize = 30_000;
-const MAX_ENTRIES: usize = 2_048;
-const MAX_TEXT_BYTES: usize = 512;
 
 /// Numbers of kinds and semantics that there are not, some past 32 bits.
 const NO_SETTINGS: [u64; 6] = [0, 9, 255, 256 + 1, (1 << 32) + 1, u64::MAX];
@@ -39,8 +36,8 @@ fn refuse(random: &mut Random, case: &mut Case, refusal: u32) {
         1 => case.semantics = random.pick(&[0, 5, 6, (1 << 32) + 2, u64::MAX]),
         2 if random.chance(50) => case.label = vec![b'l'; MAX_LABEL_BYTES + 1],
         2 => case.label = random.pick(&NO_UTF8).to_vec(),
-        3 if random.chance(50) => case.path_len = random.pick(&[0, PATH_BYTES - 1]),
-        3 => case.scratch_len = random.pick(&[0, SCRATCH_WORDS - 1]),
+        3 if random.chance(50) => case.path_len = random.pick(&[0, MIN_PATH_BYTES - 1]),
+        3 => case.scratch_len = random.pick(&[0, MIN_SCRATCH_WORDS - 1]),
         4 => case.schema = broken(random, &case.schema),
         _ => case.rule = broken(random, &case.rule),
     }

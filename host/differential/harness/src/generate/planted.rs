@@ -14,7 +14,7 @@ use crate::random::Random;
 use differential::model::write_rule;
 use differential::trees::{Condition, Data, Field, Holder, Operator, Rule, Schema, Sheet, Value};
 
-/// Every number from 11 on with each of its details.
+/// Every number from 11 on with each of its details; those that can come about in many ways stand twice.
 pub const TARGETS: [(u32, u32); 32] = [
     (11, 0),
     (12, 0),
