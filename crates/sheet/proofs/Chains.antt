@@ -237,7 +237,7 @@ optional-refused l n s at e t = rw (e, t)
 
 module _ (s : List ℕ) (start len : ℕ) where
   pub part-out : length s ≤ start → take (length s - length s) (drop (length s) s) ≡ take len (drop start s)
-  part-out h = rw (drop-of-length-le s h, drop-length s, take-nil, take-nil)
+  part-out h = rw (drop-of-length-le s h, drop-length s, take-nil (length s - length s), take-nil len)
 
   pub part-rest : length s - start ≤ len → take (length s - start) (drop start s) ≡ take len (drop start s)
   part-rest h =
