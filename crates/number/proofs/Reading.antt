@@ -1,18 +1,17 @@
 -- Laws of the grammar's rules at a place of a text: each way through the code's readers, as an equation of the rule.
 use Prim.Native.Nat.{ℕ, zero, suc, _+_, _-_, _<_, _≤_, suc-le-suc, zero-le}
 use mathlib.Core.Path.{_≡_, refl, sym, ap, ap₂, _∙_}
-use mathlib.Core.Bool.{Bool, true, false, cond, not}
+use mathlib.Core.Bool.{Bool, true, false, cond}
 use mathlib.Core.List.{List, [], _∷_}
-use mathlib.Core.Option.{Option, none, some, bind}
+use mathlib.Core.Option.{none, some, bind}
 use native.Mathlib.Omega.{arith}
-use native.Mathlib.Nat.{sub-self, add-sub-cancel-left, le-of-suc-le-suc, not-suc-le-zero}
+use native.Mathlib.Nat.{sub-self, not-suc-le-zero}
 use native.Mathlib.Numerals.{add-one}
 use lib.ListN.{length, take, drop, getD, length-drop, drop-of-length-le}
 use lib.Seq.{drop-cons, drop-drop, take-all}
-use lib.Dec.{eqb, ltb}
 use borrow.Author.Tests.{eq-eqb, ne-eqb}
-use Rattle.number.specs.Grammar.{Number, Read, isDigit, run, past, someDigits, digits, leads, int, frac, isEmpty, last, power, exp, unsigned, number}
-use Rattle.number.specs.Places.{part, Ends}
+use Rattle.number.specs.Grammar.{Read, isDigit, run, past, someDigits, digits, leads, int, frac, isEmpty, last, power, exp, unsigned, number}
+use Rattle.number.specs.Parts.{part, Ends}
 use Rattle.number.specs.declared.grammar.Run.the-variants.{To}
 
 -- the digits that a text begins with are its first bytes, and what follows them is what is left

@@ -1,4 +1,5 @@
-pub mod Grammar
-pub mod Finite
 pub mod Bound
-pub mod Places
+pub mod Finite
+pub mod FirstDigit
+pub mod Grammar
+pub mod Parts

@@ -3,7 +3,7 @@ ghost use mathlib.Core.Path.{_≡_};
 ghost use Prim.Native.Nat.{ℕ, _+_, _≤_};
 ghost use lib.ListN.{length, drop};
 ghost use Rattle.number.specs.Grammar.{isDigit, run, digits, int, frac, last, power, exp, unsigned, number};
-ghost use Rattle.number.specs.Places.{Ends, Spans, Raises, Splits};
+ghost use Rattle.number.specs.Parts.{Ends, Spans, Raises, Splits};
 
 // Where a run of digits ends.
 pub enum Run {

@@ -1,9 +1,12 @@
 // Number text (RFC 8259, section 6), and which of it is finite. Every public function takes any bytes.
+mod bound;
 mod grammar;
+mod magnitude;
 
 use grammar::Found;
 ghost use mathlib.Core.Path.{_≡_};
 ghost use Rattle.number.specs.Grammar.{isNumber};
+ghost use Rattle.number.specs.Finite.{isFinite};
 
 // Whether `s` is a number text, all of it.
 pub fn is_number(s: &[u8]) -> bool
@@ -13,4 +16,24 @@ pub fn is_number(s: &[u8]) -> bool
         return false;
     };
     true
+}
+
+// Whether `s` is a number text whose magnitude is below 2^1024 - 2^970.
+pub fn is_finite(s: &[u8]) -> bool
+    ensures { λ r. ⌜ r ≡ isFinite (now (s .entry)) ⌝ }
+{
+    let Found::Number(p) = grammar::split(s) else {
+        return false;
+    };
+    let whole = p.whole;
+    let point = p.point;
+    let fraction = p.fraction;
+    let end = p.end;
+    let exponent = p.exponent;
+    magnitude::is_below(
+        &s[whole..point],
+        &s[fraction..end],
+        p.lowered,
+        &s[exponent..],
+    )
 }

@@ -2,3 +2,5 @@ pub mod Setting
 pub mod Path
 pub mod Walk
 pub mod Reference
+pub mod CollectionLaws
+pub mod Computing

@@ -7,3 +7,12 @@ pub mod Parts
 pub mod Compares
 pub mod Pieces
 pub mod Places
+pub mod Write
+pub mod Within
+pub mod ReaderLaws
+pub mod NumeralLaws
+pub mod OrderLaws
+pub mod ItemLaws
+pub mod HeadLaws
+pub mod RuleHeadLaws
+pub mod Computing

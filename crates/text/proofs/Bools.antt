@@ -1,7 +1,7 @@
 -- What the two ways through `p && q` show of the result.
 use mathlib.Core.Path.{_≡_, refl}
 use mathlib.Core.Bool.{Bool, true, false, cond, _&&_, _||_, false≢true}
-use mathlib.Core.Option.{none, some, Option·some-injective, Option·none-ne-some}
+use mathlib.Core.Option.{none, some, Option·some-injective, Option·none-ne-some, Option·some-ne-none}
 
 pub and-taken : (p q : Bool) {x r : Bool} → x ≡ p → x ≡ true → r ≡ q → r ≡ (p && q)
 and-taken p q e t h = let f : p ≡ true = cc in rw f h
@@ -27,3 +27,7 @@ or-true-cases false q f g e = g e
 pub cond-some : {A : Type 0} (b : Bool) {x r : A} → cond b (some x) none ≡ some r → (b ≡ true) × (x ≡ r)
 cond-some true {x} {r} e = (refl, Option·some-injective x r e)
 cond-some false {r = r} e = absurd (Option·none-ne-some r e)
+
+pub cond-none : {A : Type 0} (b : Bool) (x : A) → cond b (some x) none ≡ none → b ≡ false
+cond-none true x e = absurd (Option·some-ne-none x e)
+cond-none false x e = refl

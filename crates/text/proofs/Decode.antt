@@ -1,13 +1,12 @@
 -- What stands at an offset, at each way through `decode_one`. `u` is what a test answered, `w` the code point that was computed.
 use Prim.Native.Nat.{ℕ, _+_, _-_, _≤_, _<_}
-use mathlib.Core.Path.{_≡_, refl, sym, _∙_}
-use mathlib.Core.Bool.{Bool, true, false, cond}
+use mathlib.Core.Path.{_≡_, sym, _∙_}
+use mathlib.Core.Bool.{Bool, true, false}
 use mathlib.Core.List.{List, [], _∷_}
 use mathlib.Core.Option.{none, some}
 use native.Mathlib.Omega.{arith}
-use native.Mathlib.Numerals.{add-one, add-two, add-three, add-four}
-use lib.Dec.{leb}
-use lib.ListN.{length, getD, drop, drop-of-length-le, length-drop}
+use native.Mathlib.Numerals.{add-one}
+use lib.ListN.{length, getD, drop, drop-of-length-le}
 use lib.Seq.{drop-cons}
 use borrow.Author.Tests.{le-leb, lt-leb}
 use Rattle.text.specs.Utf8.{utf8-1, isUtf8-2, codeOf2, utf8-2, isUtf8-3, codeOf3, utf8-3, isUtf8-4, codeOf4, utf8-4, orElse, decodeOne}

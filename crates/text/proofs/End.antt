@@ -1,14 +1,14 @@
 -- The pass that finds the end of a trimmed text: what it keeps, and why its answer is `trimEnd`.
 use Prim.Native.Nat.{ℕ, zero, suc, _+_, _-_, _≤_, _<_}
 use mathlib.Core.Path.{_≡_, refl, sym, ap, _∙_}
-use mathlib.Core.Bool.{Bool, true, false, cond, _&&_}
+use mathlib.Core.Bool.{Bool, true, false}
 use mathlib.Core.List.{List, [], _∷_}
-use mathlib.Core.Option.{Option, none, some}
+use mathlib.Core.Option.{none, some}
 use native.Mathlib.Omega.{arith}
 use lib.Dec.{leb, ltb}
-use lib.ListN.{length, getD, take, drop, length-drop, drop-of-length-le}
+use lib.ListN.{length, take, drop, length-drop, drop-of-length-le}
 use lib.Seq.{drop-drop, take-all}
-use borrow.Author.Tests.{lt-leb, leb-true, leb-false, ltb-true, ltb-false}
+use borrow.Author.Tests.{lt-leb, leb-true, ltb-true, ltb-false}
 use Rattle.text.specs.Utf8.{between, isTail, utf8-1, isUtf8-2, utf8-2, isUtf8-3, utf8-3, isUtf8-4, utf8-4, orElse, decodeOne}
 use Rattle.text.specs.WhiteSpace.{isWhiteSpace}
 use Rattle.text.specs.Blank.{isBlank, trimStart, trimEnd, trim}
@@ -29,7 +29,7 @@ tail-none b (c ∷ d ∷ e ∷ t) l h =
     rw
     (lt-leb b 0x7F l, between-below 0xC2 0xDF b h, second3-below b c (omega arith), second4-below b c (omega arith))
 
-tail-solid : (b : ℕ) (t : List ℕ) → isTail b ≡ true → isBlank (b ∷ t) ≡ false
+pub tail-solid : (b : ℕ) (t : List ℕ) → isTail b ≡ true → isBlank (b ∷ t) ≡ false
 unfolding isTail between
 tail-solid b t e =
     let h = leb-true b 0xBF (and-true-1 (leb 0x80 b) _ e) in
@@ -37,18 +37,18 @@ tail-solid b t e =
     blank-none (b ∷ t) (omega arith) (tail-none b t l (omega arith))
 
 -- behind the first of a code point's bytes no text is blank
-inside-solid : {u t : List ℕ} → Shape u t → (j : ℕ) → 0 < j → j + length t < length u → isBlank (drop j u) ≡ false
+inside-solid : {u t : List ℕ} {w : ℕ} → Shape u w t → (j : ℕ) → 0 < j → j + length t < length u → isBlank (drop j u) ≡ false
 inside-solid s zero p h = absurd (omega arith)
-inside-solid one (suc j) p h = absurd (omega arith)
-inside-solid (two {b = b} {t = t} q) (suc zero) p h = tail-solid b t q
-inside-solid (two q) (suc (suc j)) p h = absurd (omega arith)
-inside-solid (three {b = b} {c = c} {t = t} q r) (suc zero) p h = tail-solid b (c ∷ t) q
-inside-solid (three {b = b} {c = c} {t = t} q r) (suc (suc zero)) p h = tail-solid c t r
-inside-solid (three q r) (suc (suc (suc j))) p h = absurd (omega arith)
-inside-solid (four {b = b} {c = c} {d = d} {t = t} q r v) (suc zero) p h = tail-solid b (c ∷ d ∷ t) q
-inside-solid (four {b = b} {c = c} {d = d} {t = t} q r v) (suc (suc zero)) p h = tail-solid c (d ∷ t) r
-inside-solid (four {b = b} {c = c} {d = d} {t = t} q r v) (suc (suc (suc zero))) p h = tail-solid d t v
-inside-solid (four q r v) (suc (suc (suc (suc j)))) p h = absurd (omega arith)
+inside-solid (one f) (suc j) p h = absurd (omega arith)
+inside-solid (two {b = b} {t = t} f q) (suc zero) p h = tail-solid b t q
+inside-solid (two f q) (suc (suc j)) p h = absurd (omega arith)
+inside-solid (three {b = b} {c = c} {t = t} f q r) (suc zero) p h = tail-solid b (c ∷ t) q
+inside-solid (three {b = b} {c = c} {t = t} f q r) (suc (suc zero)) p h = tail-solid c t r
+inside-solid (three f q r) (suc (suc (suc j))) p h = absurd (omega arith)
+inside-solid (four {b = b} {c = c} {d = d} {t = t} f q r v) (suc zero) p h = tail-solid b (c ∷ d ∷ t) q
+inside-solid (four {b = b} {c = c} {d = d} {t = t} f q r v) (suc (suc zero)) p h = tail-solid c (d ∷ t) r
+inside-solid (four {b = b} {c = c} {d = d} {t = t} f q r v) (suc (suc (suc zero))) p h = tail-solid d t v
+inside-solid (four f q r v) (suc (suc (suc (suc j)))) p h = absurd (omega arith)
 
 -- what is kept: no text from before the end on is blank, and what lies between the end and the place is White_Space
 pub record Passed (s : List ℕ) (at end : ℕ) : Type 0 where
@@ -60,13 +60,13 @@ pub record Passed (s : List ℕ) (at end : ℕ) : Type 0 where
 
 pub passed-none : (s : List ℕ) → Passed s 0 0
 passed-none s =
-    record
-      { behind = omega arith
-      ; within = omega arith
-      ; solid = λ k h. absurd (omega arith)
-      ; soft = λ k l h. absurd (omega arith)
-      ; blank = λ e. e
-      }
+    record {
+      behind = omega arith;
+      within = omega arith;
+      solid = λ k h. absurd (omega arith);
+      soft = λ k l h. absurd (omega arith);
+      blank = λ e. e;
+    }
 
 module _ (s : List ℕ) (at : ℕ) where
   inside
@@ -120,13 +120,13 @@ module _ (s : List ℕ) (at : ℕ) where
         → ((k : ℕ) → at < k → k < next → isBlank (drop k s) ≡ false)
         → Passed s next next
     passed-solid next h f inner =
-        record
-          { behind = omega arith
-          ; within = h
-          ; solid = below next p f inner
-          ; soft = λ k l m. absurd (omega arith)
-          ; blank = λ e. e
-          }
+        record {
+          behind = omega arith;
+          within = h;
+          solid = below next p f inner;
+          soft = λ k l m. absurd (omega arith);
+          blank = λ e. e;
+        }
 
     pub passed-other
         : (next : ℕ) {c : ℕ} {w : Bool}
@@ -154,13 +154,13 @@ module _ (s : List ℕ) (at : ℕ) where
     passed-white next e l h q t =
         let same : isBlank (drop at s) ≡ isBlank (drop next s) = blank-some (drop at s) e ∙ rw (sym q ∙ t) in
         let b = p .behind in
-        record
-          { behind = omega arith
-          ; within = h
-          ; solid = p .solid
-          ; soft = λ k i m f. below next p (same ∙ f) (inside next e h) k m
-          ; blank = λ f. p .blank (same ∙ f)
-          }
+        record {
+          behind = omega arith;
+          within = h;
+          solid = p .solid;
+          soft = λ k i m f. below next p (same ∙ f) (inside next e h) k m;
+          blank = λ f. p .blank (same ∙ f);
+        }
 
 -- what is solid stays
 kept : (n : ℕ) (s : List ℕ) → n ≤ length s → ((k : ℕ) → k < n → isBlank (drop k s) ≡ false) → isBlank (drop n s) ≡ true → take n s ≡ trimEnd s
@@ -188,5 +188,5 @@ pub part-trimmed
 unfolding trim
 part-trimmed s start end p q =
     let whole : take (length s - start) (drop start s) ≡ trimStart s =
-        take-all (length s - start) (drop start s) (rw length-drop (omega arith)) ∙ p .rest in
+    take-all (length s - start) (drop start s) (rw length-drop (omega arith)) ∙ p .rest in
     q .front ∙ ap trimEnd whole

@@ -6,4 +6,5 @@ pub mod Shape
 pub mod Points
 pub mod Passes
 pub mod End
+pub mod TextLaws
 pub mod Samples

@@ -1,21 +1,15 @@
 -- What the loops over a text keep from turn to turn: the answer for the rest is the answer for the whole.
-use Prim.Native.Nat.{ℕ, zero, suc, _+_, _-_, _≤_, _<_}
+use Prim.Native.Nat.{ℕ, _+_, _≤_, _<_}
 use mathlib.Core.Path.{_≡_, refl, sym, ap, _∙_}
-use mathlib.Core.Bool.{Bool, true, false, cond, _&&_}
-use mathlib.Core.List.{List, [], _∷_, _++_, append-nil}
-use mathlib.Core.Option.{Option, none, some}
+use mathlib.Core.Bool.{Bool, true, false}
+use mathlib.Core.List.{List}
+use mathlib.Core.Option.{none, some}
 use native.Mathlib.Omega.{arith}
-use lib.Dec.{leb}
-use lib.ListN.{length, getD, take, drop, length-drop, drop-of-length-le}
-use lib.Seq.{drop-length}
-use borrow.Author.Tests.{lt-leb, leb-true}
-use Rattle.text.specs.Utf8.{between, isTail, utf8-1, isUtf8-2, utf8-2, isUtf8-3, utf8-3, isUtf8-4, utf8-4, orElse, decodeOne, isUtf8}
+use lib.ListN.{length, getD, drop, length-drop, drop-of-length-le}
+use Rattle.text.specs.Utf8.{utf8-1, utf8-2, utf8-3, utf8-4, orElse, decodeOne, isUtf8}
 use Rattle.text.specs.WhiteSpace.{isWhiteSpace}
-use Rattle.text.specs.Blank.{isBlank, trimStart, trimEnd, trim}
-use Rattle.text.proofs.Bools.{and-true-0}
-use Rattle.text.proofs.Bytes.{between-below, second3-below, second4-below}
+use Rattle.text.specs.Blank.{isBlank, trimStart}
 use Rattle.text.proofs.Decode.{one-byte}
-use Rattle.text.proofs.Shape.{Shape, one, two, three, four, decoded-shape, shape-shorter}
 use Rattle.text.proofs.Points.{utf8-empty, utf8-none, utf8-some, blank-empty, blank-none, blank-some, start-none, start-white, start-other}
 
 more-left : (s : List ℕ) (at : ℕ) → at < length s → 0 < length (drop at s)

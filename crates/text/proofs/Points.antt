@@ -1,15 +1,15 @@
 -- How the definitions go on behind the first code point: the turns that they count are always enough.
-use Prim.Native.Nat.{ℕ, zero, suc, _+_, _≤_, _<_}
+use Prim.Native.Nat.{ℕ, zero, suc, _≤_, _<_}
 use mathlib.Core.Path.{_≡_, refl, sym, ap, _∙_}
 use mathlib.Core.Bool.{Bool, true, false, cond, _&&_}
 use mathlib.Core.List.{List, [], _∷_}
 use mathlib.Core.Option.{Option, none, some, Option·map}
 use native.Mathlib.Omega.{arith}
 use lib.ListN.{length}
-use Rattle.text.specs.Utf8.{isTail, decodeOne, pointsFrom, codePointsIn, codePoints, isSome, isUtf8}
+use Rattle.text.specs.Utf8.{decodeOne, pointsFrom, codePointsIn, codePoints, isSome, isUtf8}
 use Rattle.text.specs.WhiteSpace.{isWhiteSpace}
-use Rattle.text.specs.Blank.{allWhiteSpace, blankPoints, isBlank, startFrom, trimStartIn, trimStart, trimEnd, trim}
-use Rattle.text.proofs.Shape.{Shape, decoded-shape, shape-shorter}
+use Rattle.text.specs.Blank.{allWhiteSpace, blankPoints, isBlank, startFrom, trimStartIn, trimStart}
+use Rattle.text.proofs.Shape.{decoded-shape, shape-shorter}
 
 -- two continuations that agree on what is shorter
 points-agree

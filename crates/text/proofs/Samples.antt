@@ -3,7 +3,7 @@ use Prim.Native.Nat.{ℕ}
 use mathlib.Core.Path.{_≡_, refl}
 use mathlib.Core.Bool.{Bool, true, false}
 use mathlib.Core.List.{List, [], _∷_}
-use mathlib.Core.Option.{Option, none, some}
+use mathlib.Core.Option.{Option, some}
 use Rattle.text.specs.Utf8.{between, isTail, utf8-1, isUtf8-2, utf8-2, isSecondOf3, isUtf8-3, utf8-3, isSecondOf4, isUtf8-4, utf8-4, orElse, decodeOne, pointsFrom, codePointsIn, codePoints, isSome, isUtf8}
 use Rattle.text.specs.WhiteSpace.{isWhiteSpace}
 use Rattle.text.specs.Blank.{allWhiteSpace, blankPoints, isBlank, startFrom, trimStartIn, trimStart, trimEnd, trim}

@@ -192,11 +192,11 @@ fn start_of(s: &[u8]) -> usize
 {
     let mut at = 0;
     while at < s.len() {
-        let Decoded::CodePoint(c, next) = decode_one(s, at) else {
+        let Decoded::CodePoint(c, behind) = decode_one(s, at) else {
             return at;
         };
         if is_white_space(c) {
-            at = next;
+            at = behind;
         } else {
             return at;
         }

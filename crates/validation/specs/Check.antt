@@ -7,7 +7,7 @@ use mathlib.Core.Option.{Option, none, some}
 use lib.Dec.{leb, eqb}
 use Rattle.text.specs.Blank.{isBlank}
 use Rattle.number.specs.Finite.{isFinite}
-use Rattle.timestamp.specs.Instant.{isInstant}
+use Rattle.timestamp.specs.Instant.{instant}
 use Rattle.definition.specs.Tree.{Text, Value, constant, number, string, array, object, Values, noValues, value, Pairs, noPairs, pair, Condition, literal, many, negation, one, two, comparison, quantifier, Conditions, noConditions, condition, Rule, rule, template}
 use Rattle.reference.specs.Setting.{Setting}
 
@@ -34,6 +34,10 @@ pub record Check : Type 0 where
 unfoldable pub failsIf : Bool → ℕ → Question
 failsIf true detail = settled (some detail)
 failsIf false detail = settled none
+
+unfoldable pub isNone : {A : Type 0} → Option A → Bool
+isNone none = true
+isNone (some a) = false
 
 unfoldable pub check : (number place : ℕ) → List Binder → Question → Check
 check n p bs q = record { number = n; place = p; binders = bs; question = q }
@@ -132,7 +136,7 @@ unfoldable pub instantText : Text → Question
 instantText [] = settled (some 2)
 instantText (a ∷ []) = failsIf (not (eqb a (code "$"))) 2
 instantText (a ∷ b ∷ t) =
-    cond (eqb a (code "$")) (failsIf (eqb b (code "$")) 1) (failsIf (not (isInstant (a ∷ b ∷ t))) 2)
+    cond (eqb a (code "$")) (failsIf (eqb b (code "$")) 1) (failsIf (isNone (instant (a ∷ b ∷ t))) 2)
 
 unfoldable pub instantForm : Value → Question
 instantForm (constant e type) = settled (some 2)
@@ -165,16 +169,16 @@ hasDot (b ∷ t) = eqb b (code ".") || hasDot t
 unfoldable pub operatorCheck : Setting → List Binder → (entry op : ℕ) → Check
 operatorCheck setting binders e op = check 15 e binders (failsIf (leb 18 op && not (setting .isService)) 0)
 
-unfoldable pub isNone : Conditions → Bool
-isNone noConditions = true
-isNone (condition c others) = false
+unfoldable pub isEmpty : Conditions → Bool
+isEmpty noConditions = true
+isEmpty (condition c others) = false
 
 unfoldable mutual
   pub body : Setting → List Binder → Condition → List Check
   body setting binders (literal e truth) = operatorCheck setting binders e 1 ∷ []
   body setting binders (many e op children) =
       operatorCheck setting binders e op
-      ∷ check 16 e binders (failsIf (isNone children) 0)
+      ∷ check 16 e binders (failsIf (isEmpty children) 0)
       ∷ bodies setting binders children
   body setting binders (negation e child) = operatorCheck setting binders e 4 ∷ body setting binders child
   body setting binders (one e op v) = operatorCheck setting binders e op ∷ references binders v

@@ -1,15 +1,19 @@
--- As long as the checks of a list pass, the binders of the next one walk collections: their own checks stand before it.
+-- As long as the checks of a list pass, the binders of the next one walk collections, since their own checks stand before it; and if the next one
+-- asks for a collection, it is not refused with a detail that stands for a sentence which never occurs, since the references stand before it.
 use Prim.Native.Nat.{ℕ, _≤_}
+use Prim.Native.Char.{code}
 use mathlib.Core.Bool.{Bool, true, false, cond, not, _&&_, _||_}
 use mathlib.Core.List.{List, [], _∷_, _++_, map}
 use mathlib.Core.Option.{Option, none, some, IsSome}
 use mathlib.Core.Path.{_≡_, refl}
 use native.Mathlib.Omega.{arith}
 use lib.Dec.{leb}
+use borrow.Author.Tests.{ne-eqb}
 use Rattle.definition.specs.Tree.{Text, Schema, Value, constant, number, string, array, object, Values, noValues, value, Pairs, noPairs, pair, Condition, literal, many, negation, one, two, comparison, quantifier, Conditions, noConditions, condition, Rule, rule, template}
 use Rattle.reference.specs.Setting.{Setting}
 use Rattle.reference.specs.Walk.{Reached, refused, unknown, known}
-use Rattle.reference.specs.Reference.{Environment, collection}
+use Rattle.reference.specs.Reference.{Environment, reference, collectionText, collection}
+use Rattle.reference.specs.CollectionLaws.{Reads, Listed, Explained, text-explained}
 use Rattle.validation.specs.Check.{Binder, Question, readable, walkable, failsIf, Check, check, referenceText, referenceCheck, references, referencesOfValues, referencesOfPairs, Literal, literals, literalCheck, entryOf, isString, isHolder, instantForm, instantOperand, affixOperand, compareSide, operand, operatorCheck, body, bodies, literalChecks, checks}
 use Rattle.validation.specs.Judge.{Outcome, verdict, extend, enter, environment, answer, answerIn, outcome}
 
@@ -17,6 +21,14 @@ use Rattle.validation.specs.Judge.{Outcome, verdict, extend, enter, envi
 pub record IsDefect (n : ℕ) : Type 0 where
   pub low : 11 ≤ n
   pub high : n ≤ 22
+
+-- those of values and operands
+record IsOperandDefect (n : ℕ) : Type 0 where
+  low : 17 ≤ n
+  high : n ≤ 20
+
+any-defect : {n : ℕ} → IsOperandDefect n → IsDefect n
+any-defect d = omega (arith, d)
 
 abbrev pub Every : (Check → Type 0) → List Check → Type 0
 Every P [] = Unit {0}
@@ -31,7 +43,7 @@ every-if P true xs ys u w = u
 every-if P false xs ys u w = w
 
 -- what holds of every check under the binders holds of the checks of a value and of an operand
-module _ (P : Check → Type 0) (bs : List Binder) (h : (n p : ℕ) (q : Question) → IsDefect n → P (check n p bs q)) where
+module _ (P : Check → Type 0) (bs : List Binder) (h : (n p : ℕ) (q : Question) → IsOperandDefect n → P (check n p bs q)) where
   every-reference : (e : ℕ) (o : Option Text) → Every P (referenceCheck bs e o)
   unfolding referenceCheck
   every-reference e none = tt
@@ -40,7 +52,7 @@ module _ (P : Check → Type 0) (bs : List Binder) (h : (n p : ℕ) (q : Questio
   mutual
     unfolding references
 
-    pub every-references : (v : Value) → Every P (references bs v)
+    every-references : (v : Value) → Every P (references bs v)
     every-references (constant e type) = tt
     every-references (number e digits) = tt
     every-references (string e t) = every-reference e (referenceText t)
@@ -57,7 +69,7 @@ module _ (P : Check → Type 0) (bs : List Binder) (h : (n p : ℕ) (q : Questio
     every-pairs (pair key v others) =
         every-append P (references bs v) (referencesOfPairs bs others) (every-references v) (every-pairs others)
 
-  every-with : (v : Value) (n : ℕ) (q : Question) → IsDefect n → Every P (references bs v ++ (check n (entryOf v) bs q ∷ []))
+  every-with : (v : Value) (n : ℕ) (q : Question) → IsOperandDefect n → Every P (references bs v ++ (check n (entryOf v) bs q ∷ []))
   every-with v n q d = every-append P (references bs v) _ (every-references v) (h n (entryOf v) q d, tt)
 
   every-operand : (op : ℕ) (v : Value) → Every P (operand op bs v)
@@ -79,25 +91,25 @@ module _ (P : Check → Type 0) (h : (n p : ℕ) (bs : List Binder) (q : Questio
     every-body bs (literal e truth) = (h 15 e bs _ (omega arith), tt)
     every-body bs (many e op children) = (h 15 e bs _ (omega arith), (h 16 e bs _ (omega arith), every-bodies bs children))
     every-body bs (negation e child) = (h 15 e bs _ (omega arith), every-body bs child)
-    every-body bs (one e op v) = (h 15 e bs _ (omega arith), every-references P bs (λ n p q. h n p bs q) v)
+    every-body bs (one e op v) = (h 15 e bs _ (omega arith), every-references P bs (λ n p q d. h n p bs q (any-defect d)) v)
     every-body bs (two e op left right) = (
       h 15 e bs _ (omega arith),
       every-append P (operand op bs left) (operand op bs right)
-          (every-operand P bs (λ n p q. h n p bs q) op left)
-          (every-operand P bs (λ n p q. h n p bs q) op right),
+          (every-operand P bs (λ n p q d. h n p bs q (any-defect d)) op left)
+          (every-operand P bs (λ n p q d. h n p bs q (any-defect d)) op right),
     )
     every-body bs (comparison e which left right) = (
       h 15 e bs _ (omega arith),
       every-append P (compareSide bs 1 left) (compareSide bs 2 right)
-          (every-side P bs (λ n p q. h n p bs q) 1 left)
-          (every-side P bs (λ n p q. h n p bs q) 2 right),
+          (every-side P bs (λ n p q d. h n p bs q (any-defect d)) 1 left)
+          (every-side P bs (λ n p q d. h n p bs q (any-defect d)) 2 right),
     )
     every-body bs (quantifier e op bind over that) = (
       h 15 e bs _ (omega arith),
       (
         h 21 e bs _ (omega arith),
         every-append P (references bs over) _
-            (every-references P bs (λ n p q. h n p bs q) over)
+            (every-references P bs (λ n p q d. h n p bs q (any-defect d)) over)
             (h 22 e bs _ (omega arith), every-body (record { name = bind; over = over } ∷ bs) that),
       ),
     )
@@ -126,27 +138,69 @@ module _ (P : Check → Type 0) (h : (n p : ℕ) (bs : List Binder) (q : Questio
       ),
     ),
   )
-  every-check (template v) = every-references P [] (λ n p q. h n p [] q) v
+  every-check (template v) = every-references P [] (λ n p q d. h n p [] q (any-defect d)) v
 
-abbrev Under : List Binder → Check → Type 0
-Under bs c = c .binders ≡ bs
+-- a check under the binders that asks for no collection
+record Under (bs : List Binder) (c : Check) : Type 0 where
+  binders : c .binders ≡ bs
+  other : c .number ≡ 22 → ⊥
 
-under : (bs : List Binder) (n p : ℕ) (q : Question) → IsDefect n → Under bs (check n p bs q)
+under : (bs : List Binder) (n p : ℕ) (q : Question) → IsOperandDefect n → Under bs (check n p bs q)
 unfolding check
-under bs n p q d = refl
+under bs n p q d = record { binders = refl; other = λ e. omega (arith, d) }
+
+under-literals : (ls : List Literal) → Every (Under []) (map literalCheck ls)
+unfolding literalCheck check
+under-literals [] = tt
+under-literals (l ∷ ls) = (record { binders = refl; other = λ e. omega arith }, under-literals ls)
+
+-- passes, or fails with one of the details of number 22
+abbrev pub Explains : Outcome → Type 0
+Explains none = Unit {0}
+Explains (some d) = Listed d
+
+passes-reads : (r : Reached) → verdict r ≡ none → Reads r
+unfolding verdict
+passes-reads (refused d at left) e = let z : _≡_ {A = ℕ} 0 1 = cc in omega arith
+passes-reads unknown e = tt
+passes-reads (known f) e = tt
+
+explained-verdict : (r : Reached) → Explained r → Explains (verdict r)
+unfolding verdict
+explained-verdict (refused d at left) h = h
+explained-verdict unknown h = tt
+explained-verdict (known f) h = tt
+
+single-dollar : (b : ℕ) (t : Text) → (b ≡ code "$" → ⊥) → referenceText (code "$" ∷ b ∷ t) ≡ some (b ∷ t)
+unfolding referenceText
+single-dollar b t h = rw (ne-eqb b (code "$") h)
 
 module _ (setting : Setting) (schema : Schema) where
   -- the binders walk collections
   abbrev pub Resolved : List Binder → Type 0
   Resolved bs = IsSome (environment schema bs)
 
+  pub record Fit (c : Check) : Type 0 where
+    pub resolved : Resolved (c .binders)
+    pub explained : c .number ≡ 22 → Explains (outcome setting schema c)
+
   abbrev pub Sure : List Check → Type 0
   Sure [] = Unit {0}
-  Sure (c ∷ cs) = Resolved (c .binders) × (outcome setting schema c ≡ none → Sure cs)
+  Sure (c ∷ cs) = Fit c × (outcome setting schema c ≡ none → Sure cs)
 
-  sure-append : (bs : List Binder) (xs ys : List Check) → Resolved bs → Every (Under bs) xs → Sure ys → Sure (xs ++ ys)
-  sure-append bs [] ys r u s = s
-  sure-append bs (c ∷ xs) ys r u s = (rw (u .0) r, λ e. sure-append bs xs ys r (u .1) s)
+  abbrev Passes : Check → Type 0
+  Passes c = outcome setting schema c ≡ none
+
+  fit-under : (bs : List Binder) (c : Check) → Resolved bs → Under bs c → Fit c
+  fit-under bs c r u = record { resolved = rw (u .binders) r; explained = λ e. absurd (u .other e) }
+
+  fit-other : (n p : ℕ) (bs : List Binder) (q : Question) → Resolved bs → (n ≡ 22 → ⊥) → Fit (check n p bs q)
+  unfolding check
+  fit-other n p bs q r h = record { resolved = r; explained = λ e. absurd (h e) }
+
+  sure-append : (bs : List Binder) (xs ys : List Check) → Resolved bs → Every (Under bs) xs → (Every Passes xs → Sure ys) → Sure (xs ++ ys)
+  sure-append bs [] ys r u s = s tt
+  sure-append bs (c ∷ xs) ys r u s = (fit-under bs c r (u .0), λ e. sure-append bs xs ys r (u .1) (λ ps. s (e, ps)))
 
   sure-both : (xs ys : List Check) → Sure xs → Sure ys → Sure (xs ++ ys)
   sure-both [] ys s t = t
@@ -154,7 +208,7 @@ module _ (setting : Setting) (schema : Schema) where
 
   sure-under : (bs : List Binder) (xs : List Check) → Resolved bs → Every (Under bs) xs → Sure xs
   sure-under bs [] r u = tt
-  sure-under bs (c ∷ xs) r u = (rw (u .0) r, λ e. sure-under bs xs r (u .1))
+  sure-under bs (c ∷ xs) r u = (fit-under bs c r (u .0), λ e. sure-under bs xs r (u .1))
 
   extend-resolved : (name : Text) (env : Environment) (r : Reached) → verdict r ≡ none → IsSome (extend name env r)
   unfolding verdict extend
@@ -169,30 +223,77 @@ module _ (setting : Setting) (schema : Schema) where
   enter-resolved name over none e = let z : _≡_ {A = ℕ} 0 1 = cc in omega arith
   enter-resolved name over (some env) e = extend-resolved name env (collection schema env over) e
 
+  reference-passes : (e : ℕ) (bs : List Binder) (o : Option Text) (t : Text)
+      → Every Passes (referenceCheck bs e o)
+      → o ≡ some t
+      → answerIn setting schema (readable t) (environment schema bs) ≡ none
+  unfolding referenceCheck check outcome
+  reference-passes e bs none t ps same = let z : _≡_ {A = ℕ} 0 1 = cc in absurd (omega arith)
+  reference-passes e bs (some u) t ps same = let h : u ≡ t = cc in rw (← h) (ps .0)
+
+  value-listed : (x : Option Environment) (v : Value)
+      → IsSome x
+      → ((env : Environment) → Explained (collection schema env v))
+      → Explains (answerIn setting schema (walkable v) x)
+  unfolding answerIn answer
+  value-listed (some env) v r h = explained-verdict (collection schema env v) (h env)
+
+  text-listed : (x : Option Environment) (e : ℕ) (t : Text)
+      → IsSome x
+      → ((u : Text) → referenceText t ≡ some u → answerIn setting schema (readable u) x ≡ none)
+      → Explains (answerIn setting schema (walkable (string e t)) x)
+  unfolding answerIn answer collection
+  text-listed (some env) e t r h =
+      explained-verdict (collectionText schema env t)
+      (text-explained setting schema env t
+      (λ b u same other. passes-reads (reference setting schema env (b ∷ u)) (h (b ∷ u) (rw same (single-dollar b u other)))))
+
+  -- an `in` value whose references pass
+  over-listed : (bs : List Binder) (over : Value)
+      → Resolved bs
+      → Every Passes (references bs over)
+      → Explains (answerIn setting schema (walkable over) (environment schema bs))
+  unfolding references collection
+  over-listed bs (constant e type) r ps = value-listed (environment schema bs) (constant e type) r (λ env. omega arith)
+  over-listed bs (number e digits) r ps = value-listed (environment schema bs) (number e digits) r (λ env. omega arith)
+  over-listed bs (string e t) r ps =
+      text-listed (environment schema bs) e t r (λ u same. reference-passes e bs (referenceText t) u ps same)
+  over-listed bs (array e values) r ps = value-listed (environment schema bs) (array e values) r (λ env. omega arith)
+  over-listed bs (object e pairs) r ps = value-listed (environment schema bs) (object e pairs) r (λ env. omega arith)
+
   mutual
     unfolding body bodies operatorCheck check outcome environment
 
     sure-body : (bs : List Binder) → Resolved bs → (c : Condition) → Sure (body setting bs c)
-    sure-body bs r (literal e truth) = (r, λ _. tt)
-    sure-body bs r (many e op children) = (r, λ _. (r, λ _. sure-bodies bs r children))
-    sure-body bs r (negation e child) = (r, λ _. sure-body bs r child)
-    sure-body bs r (one e op v) = (r, λ _. sure-under bs (references bs v) r (every-references (Under bs) bs (under bs) v))
+    sure-body bs r (literal e truth) = (fit-other 15 e bs _ r (λ n. omega arith), λ _. tt)
+    sure-body bs r (many e op children) = (
+      fit-other 15 e bs _ r (λ n. omega arith),
+      λ _. (fit-other 16 e bs _ r (λ n. omega arith), λ _. sure-bodies bs r children),
+    )
+    sure-body bs r (negation e child) = (fit-other 15 e bs _ r (λ n. omega arith), λ _. sure-body bs r child)
+    sure-body bs r (one e op v) = (
+      fit-other 15 e bs _ r (λ n. omega arith),
+      λ _. sure-under bs (references bs v) r (every-references (Under bs) bs (under bs) v),
+    )
     sure-body bs r (two e op left right) = (
-      r,
+      fit-other 15 e bs _ r (λ n. omega arith),
       λ _. sure-append bs (operand op bs left) (operand op bs right) r (every-operand (Under bs) bs (under bs) op left)
-          (sure-under bs (operand op bs right) r (every-operand (Under bs) bs (under bs) op right)),
+          (λ _. sure-under bs (operand op bs right) r (every-operand (Under bs) bs (under bs) op right)),
     )
     sure-body bs r (comparison e which left right) = (
-      r,
+      fit-other 15 e bs _ r (λ n. omega arith),
       λ _. sure-append bs (compareSide bs 1 left) (compareSide bs 2 right) r (every-side (Under bs) bs (under bs) 1 left)
-          (sure-under bs (compareSide bs 2 right) r (every-side (Under bs) bs (under bs) 2 right)),
+          (λ _. sure-under bs (compareSide bs 2 right) r (every-side (Under bs) bs (under bs) 2 right)),
     )
     sure-body bs r (quantifier e op bind over that) = (
-      r,
+      fit-other 15 e bs _ r (λ n. omega arith),
       λ _. (
-        r,
+        fit-other 21 e bs _ r (λ n. omega arith),
         λ _. sure-append bs (references bs over) _ r (every-references (Under bs) bs (under bs) over)
-            (r, λ p. sure-body (record { name = bind; over = over } ∷ bs) (enter-resolved bind over (environment schema bs) p) that),
+            (λ ps. (
+              record { resolved = r; explained = λ _. over-listed bs over r ps },
+              λ p. sure-body (record { name = bind; over = over } ∷ bs) (enter-resolved bind over (environment schema bs) p) that,
+            )),
       ),
     )
 
@@ -200,22 +301,17 @@ module _ (setting : Setting) (schema : Schema) where
     sure-bodies bs r noConditions = tt
     sure-bodies bs r (condition c others) = sure-both (body setting bs c) (bodies setting bs others) (sure-body bs r c) (sure-bodies bs r others)
 
-  sure-literals : (ls : List Literal) → Every (Under []) (map literalCheck ls)
-  unfolding literalCheck check
-  sure-literals [] = tt
-  sure-literals (l ∷ ls) = (refl, sure-literals ls)
-
   pub sure-checks : (r : Rule) → Sure (checks setting r)
   unfolding checks check literalChecks environment
   sure-checks (rule name message assert) = (
-    tt,
+    fit-other 11 1 [] _ tt (λ n. omega arith),
     λ _. (
-      tt,
+      fit-other 12 1 [] _ tt (λ n. omega arith),
       λ _. (
-        tt,
+        fit-other 13 2 [] _ tt (λ n. omega arith),
         λ _. sure-append [] (literalChecks setting assert) (body setting [] assert) tt
-            (every-if (Under []) (setting .isService) (map literalCheck (literals assert)) [] (sure-literals (literals assert)) tt)
-            (sure-body [] tt assert),
+            (every-if (Under []) (setting .isService) (map literalCheck (literals assert)) [] (under-literals (literals assert)) tt)
+            (λ _. sure-body [] tt assert),
       ),
     ),
   )

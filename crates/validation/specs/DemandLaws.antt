@@ -7,9 +7,11 @@ use mathlib.Core.Option.{Option, none, some}
 use mathlib.Core.Path.{_≡_, refl, ap, sym}
 use Rattle.definition.specs.Tree.{Text, Schema, Rule}
 use Rattle.definition.specs.Decode.{decodeSchema, decodeRule}
+use Rattle.definition.specs.RoundTrip.{schema-round-trip}
 use Rattle.reference.specs.Setting.{Setting}
 use Rattle.widening.specs.Widening.{Level, marks, anything, WiderSchema}
 use Rattle.widening.specs.Distinct.{DistinctSchema}
+use Rattle.widening.specs.DistinctLaws.{schema-distinct}
 use Rattle.widening.specs.WalkLaws.{Details, equal, differ}
 use Rattle.widening.specs.ReferenceLaws.{GrownSchema}
 use Rattle.validation.specs.Check.{Binder, Question, Check, check, checks}
@@ -59,7 +61,7 @@ sheets-fare setting label g none (some n) r h h′ = absurd h′
 sheets-fare setting label g (some n) refusal′ r h h′ = absurd h
 
 distinct-names : (sheet : List ℕ) (s : Schema) → decodeSchema sheet ≡ some s → DistinctSchema s
-distinct-names sheet s e = ?
+distinct-names sheet s e = schema-distinct s (schema-round-trip sheet s .0 e .1 .rises)
 
 pub calls-fare : {l : Level} (c : Call) (schema′ : List ℕ) (pathLength′ scratchLength′ : ℕ)
     → Widens l (c .schema) schema′

@@ -7,3 +7,4 @@ pub mod WideningLaws
 pub mod Growth
 pub mod DemandLaws
 pub mod Demands
+pub mod Computing

@@ -11,7 +11,7 @@ use Rattle.text.specs.Utf8.{isUtf8}
 use Rattle.definition.specs.Tree.{Text, Schema, Value, Rule, rule, template}
 use Rattle.definition.specs.Decode.{decodeSchema, decodeRule}
 use Rattle.reference.specs.Setting.{Setting, settingOf}
-use Rattle.validation.specs.Check.{Binder, Check, checks, entryOf}
+use Rattle.validation.specs.Check.{isNone, Binder, Check, checks, entryOf}
 use Rattle.validation.specs.Judge.{Verdict, allPass, failsAt, judge}
 use Rattle.validation.specs.Location.{pathOf}
 
@@ -91,10 +91,6 @@ scratchWords = 8192
 
 unfoldable pub isWithin : ℕ → ℕ → ℕ → Bool
 isWithin low high n = leb low n && leb n high
-
-unfoldable pub isNone : {A : Type 0} → Option A → Bool
-isNone none = true
-isNone (some a) = false
 
 unfoldable pub isTaken : Takes → Option Rule → Bool
 isTaken takes none = false

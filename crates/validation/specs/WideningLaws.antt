@@ -124,7 +124,7 @@ judge-from-fares : {l : Level} {s s′ : Schema} (setting : Setting) (n : ℕ) (
 unfolding judgeFrom
 judge-from-fares setting n [] g sure = stillAccepted
 judge-from-fares {s′ = s′} setting n (c ∷ cs) g sure =
-    decide-fares n c (outcome-fares setting c g (sure .0))
+    decide-fares n c (outcome-fares setting c g (sure .0 .resolved))
     (λ e. judge-from-fares setting (n + 1) cs g (sure .1 e))
     (passed-more (outcome setting s′) (n + 1) cs)
 

@@ -2,3 +2,4 @@ pub mod Widening
 pub mod Distinct
 pub mod WalkLaws
 pub mod ReferenceLaws
+pub mod DistinctLaws

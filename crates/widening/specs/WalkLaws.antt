@@ -3,11 +3,11 @@ use Prim.Native.Nat.{ℕ}
 use mathlib.Core.Bool.{Bool, true, false, cond, _&&_, _||_}
 use mathlib.Core.List.{List, [], _∷_}
 use mathlib.Core.Option.{Option, none, some}
-use mathlib.Core.Path.{_≡_, refl, ap₂}
+use mathlib.Core.Path.{_≡_, refl}
 use lib.Dec.{eqb}
-use borrow.Author.Tests.{eqb-true}
 use Rattle.definition.specs.Tree.{Text, Field, field, Items, absent, element, Members, noMembers, member, Holder, Schema}
 use Rattle.sheet.specs.Order.{sameBytes}
+use Rattle.sheet.specs.OrderLaws.{sameBytes-equal}
 use Rattle.reference.specs.Path.{isOrdinal, isCount}
 use Rattle.reference.specs.Walk.{Step, refuse, leaf, free, into, lookup, memberStep, itemStep, Reached, refused, unknown, known, lastOr, arrive, entryOf, travel, isEmpty, arrayStep, mapStep, isTag, contentKey, unionStep, walkStep, fieldStep, elementOr, elementOfField, elementOf}
 use Rattle.widening.specs.Widening.{Level, marks, anything, Opened, kept, opened, MayGrow, closed, WiderField, wider, WiderItems, neither, both, WiderMembers, end, keep, more}
@@ -42,21 +42,6 @@ pub data Finds : Level → Bool → Option Field → Option Field → Type 0 whe
   found : {l : Level} {o : Bool} {f f′ : Field} → Grown l f f′ → Finds l o (some f) (some f′)
   nothing : {l : Level} {o : Bool} → Finds l o none none
   added : {l : Level} {o : Bool} {f′ : Field} → MayGrow l o → Finds l o none (some f′)
-
-and-left : (a b : Bool) → (a && b) ≡ true → a ≡ true
-and-left true b e = refl
-and-left false b e = e
-
-and-right : (a b : Bool) → (a && b) ≡ true → b ≡ true
-and-right true b e = e
-and-right false b e = cc
-
-same-bytes : (a b : Text) → sameBytes a b ≡ true → a ≡ b
-unfolding sameBytes
-same-bytes [] [] e = refl
-same-bytes [] (b ∷ t) e = cc
-same-bytes (a ∷ s) [] e = cc
-same-bytes (a ∷ s) (b ∷ t) e = ap₂ _∷_ (eqb-true a b (and-left (eqb a b) (sameBytes s t) e)) (same-bytes s t (and-right (eqb a b) (sameBytes s t) e))
 
 -- a name that the second schema's holder lacks is lacking in the first's
 lacks-if : (b : Bool) (f f′ : Field) (x x′ : Option Field)
@@ -102,7 +87,7 @@ lookup-finds s (keep {name = n} w ws) d =
     finds-kept (sameBytes n s) (record { isWider = w; isDistinct = d .1 }) (lookup-finds s ws (d .2))
 lookup-finds s (more {name = n} {f′ = f′} {m = m} g ws) d =
     finds-added f′ (sameBytes n s) g
-    (λ e. lookup-lacks s ws (rw (same-bytes n s e) at (d .0)))
+    (λ e. lookup-lacks s ws (rw (sameBytes-equal n s e) at (d .0)))
     (lookup-finds s ws (d .2))
 
 pub member-fares : {l : Level} {o o′ : Bool} {x x′ : Option Field} (d : ℕ)

@@ -1,18 +1,13 @@
-use native.Mathlib.Omega.{arith}
-use borrow.Author.Needs.{needs}
+-- `text::is_between` meets its contract.
 use borrow.Author.Tests.{le-leb, lt-leb}
 use Rattle.text.specs.Utf8.{between}
 use Rattle.text.proofs.is_between.Statement.{statement}
 use Rattle.text.proofs.is_between.Tie as tie
-use Rattle.text.proofs.is_between.Reads as reads
-use Rattle.text.proofs.is_between.Lts as lts
 
--- src/lib.rt:16:1
 returns : tie.Need-returns
 unfolding between
 returns c = rw (le-leb _ _ (c .if1 .taken))
 
--- src/lib.rt:16:1
 returns-2 : tie.Need-returns-2
 unfolding between
 returns-2 c = rw (lt-leb _ _ (c .if1 .left))

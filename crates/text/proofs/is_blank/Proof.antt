@@ -1,17 +1,13 @@
+-- `text::is_blank` meets its contract. The invariant: what is left is blank exactly if the whole is.
 use native.Mathlib.Omega.{arith}
 use borrow.Author.Needs.{needs}
 use Prim.Native.Nat.{_≤_, _-_}
-use mathlib.Core.Path.{_≡_, refl}
+use mathlib.Core.Path.{_≡_}
 use lib.ListN.{length, drop}
 use Rattle.text.proofs.Passes.{blank-again, blank-stopped, blank-refused, blank-passed}
-use Rattle.text.specs.Utf8.{isUtf8}
-use Rattle.text.specs.Blank.{isBlank, trimStart}
+use Rattle.text.specs.Blank.{isBlank}
 use Rattle.text.proofs.is_blank.Statement.{statement}
 use Rattle.text.proofs.is_blank.Tie as tie
-use Rattle.text.proofs.is_blank.Reads as reads
-use Rattle.text.proofs.is_blank.Lts as lts
-use Rattle.text.proofs.decode_one.Reads as decode-one-reads
-use Rattle.text.proofs.is_white_space.Reads as is-white-space-reads
 
 abbrev Inv-loop : tie.InvT-loop
 Inv-loop s at₀ at = (at ≤ length s) × (isBlank (drop at s) ≡ isBlank s)
@@ -19,51 +15,41 @@ Inv-loop s at₀ at = (at ≤ length s) × (isBlank (drop at s) ≡ isBlank s)
 abbrev μ-loop : tie.MeasureT-loop
 μ-loop s at₀ at = length s - at
 
--- src/lib.rt:176:5
 loop-holds : tie.Need-loop-holds Inv-loop μ-loop
 loop-holds c = search needs
 
--- src/lib.rt:177:43
 decode-one-requires : tie.Need-decode-one-requires Inv-loop μ-loop
 decode-one-requires c κs = tt
 
--- src/lib.rt:177:32
 enum-known-c : tie.Need-enum-known-c Inv-loop μ-loop
 enum-known-c c = search needs
 
--- src/lib.rt:178:13
 enum-told : tie.Need-enum-told Inv-loop μ-loop
 enum-told c = search needs
 
--- src/lib.rt:178:13
 returns : tie.Need-returns Inv-loop μ-loop
-returns c = 
+returns c =
     let e = rw (c .enum-told .given .1) at (c .before .before .decode-one .ensures) in
     blank-refused (c .before .before .before .before .before .before .args .s .now) (c .before .before .before .before .loop .at) (c .before .before .before .before .loop .inv .1) (c .before .before .before .loop-test .taken) e
 
--- src/lib.rt:180:12
 is-white-space-requires : tie.Need-is-white-space-requires Inv-loop μ-loop
 is-white-space-requires c κs = tt
 
--- src/lib.rt:176:5
 loop-less : tie.Need-loop-less Inv-loop μ-loop
-loop-less c = 
+loop-less c =
     let e = rw (c .before .before .before .c .given .1) at (c .before .before .before .before .before .decode-one .ensures) in
     omega arith
 
--- src/lib.rt:176:5
 loop-again : tie.Need-loop-again Inv-loop μ-loop
-loop-again c = 
+loop-again c =
     let e = rw (c .before .before .before .c .given .1) at (c .before .before .before .before .before .decode-one .ensures) in
     (e .2, blank-again (c .before .before .before .before .before .before .before .before .before .args .s .now) (c .before .before .before .before .before .before .before .loop .at) (c .before .before .before .before .before .before .before .loop .inv .1) (c .before .before .before .c .given .0 .1 .0) (e .0) (c .before .is-white-space .ensures) (c .if1 .taken))
 
--- src/lib.rt:183:13
 returns-2 : tie.Need-returns-2 Inv-loop μ-loop
-returns-2 c = 
+returns-2 c =
     let e = rw (c .before .before .before .c .given .1) at (c .before .before .before .before .before .decode-one .ensures) in
     blank-stopped (c .before .before .before .before .before .before .before .before .before .args .s .now) (c .before .before .before .before .before .before .before .loop .at) (c .before .before .before .before .before .before .before .loop .inv .1) (c .before .before .before .c .given .0 .1 .0) (e .0) (c .before .is-white-space .ensures) (c .if1 .left)
 
--- src/lib.rt:172:1
 returns-3 : tie.Need-returns-3 Inv-loop μ-loop
 returns-3 c = blank-passed (c .before .before .before .args .s .now) (c .before .loop .at) (c .before .loop .inv .1) (c .loop-test .left)
 

@@ -1,28 +1,19 @@
-use native.Mathlib.Omega.{arith}
-use borrow.Author.Needs.{needs}
+-- `text::is_utf8_2` meets its contract.
 use Rattle.text.specs.Utf8.{isUtf8-2}
 use Rattle.text.proofs.Bools.{and-taken, and-left}
 use Rattle.text.proofs.is_utf8_2.Statement.{statement}
 use Rattle.text.proofs.is_utf8_2.Tie as tie
-use Rattle.text.proofs.is_utf8_2.Reads as reads
-use Rattle.text.proofs.is_utf8_2.Lts as lts
-use Rattle.text.proofs.is_between.Reads as is-between-reads
-use Rattle.text.proofs.is_tail.Reads as is-tail-reads
 
--- src/lib.rt:31:5
 is-between-requires : tie.Need-is-between-requires
 is-between-requires c κs = tt
 
--- src/lib.rt:31:34
 is-tail-requires : tie.Need-is-tail-requires
 is-tail-requires c κs = tt
 
--- src/lib.rt:28:1
 returns : tie.Need-returns
 unfolding isUtf8-2
 returns c = and-taken _ _ (c .before .before .is-between .ensures) (c .before .if1 .taken) (c .is-tail .ensures)
 
--- src/lib.rt:28:1
 returns-2 : tie.Need-returns-2
 unfolding isUtf8-2
 returns-2 c = and-left _ _ (c .before .is-between .ensures) (c .if1 .left)

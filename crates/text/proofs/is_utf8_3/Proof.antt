@@ -1,28 +1,19 @@
-use native.Mathlib.Omega.{arith}
-use borrow.Author.Needs.{needs}
+-- `text::is_utf8_3` meets its contract.
 use Rattle.text.specs.Utf8.{isUtf8-3}
 use Rattle.text.proofs.Bools.{and-taken, and-left}
 use Rattle.text.proofs.is_utf8_3.Statement.{statement}
 use Rattle.text.proofs.is_utf8_3.Tie as tie
-use Rattle.text.proofs.is_utf8_3.Reads as reads
-use Rattle.text.proofs.is_utf8_3.Lts as lts
-use Rattle.text.proofs.is_second_of_3.Reads as is-second-of-3-reads
-use Rattle.text.proofs.is_tail.Reads as is-tail-reads
 
--- src/lib.rt:49:5
 is-second-of-3-requires : tie.Need-is-second-of-3-requires
 is-second-of-3-requires c κs = tt
 
--- src/lib.rt:49:29
 is-tail-requires : tie.Need-is-tail-requires
 is-tail-requires c κs = tt
 
--- src/lib.rt:46:1
 returns : tie.Need-returns
 unfolding isUtf8-3
 returns c = and-taken _ _ (c .before .before .is-second-of-3 .ensures) (c .before .if1 .taken) (c .is-tail .ensures)
 
--- src/lib.rt:46:1
 returns-2 : tie.Need-returns-2
 unfolding isUtf8-3
 returns-2 c = and-left _ _ (c .before .is-second-of-3 .ensures) (c .if1 .left)

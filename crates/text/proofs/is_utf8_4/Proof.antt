@@ -1,41 +1,31 @@
-use native.Mathlib.Omega.{arith}
+-- `text::is_utf8_4` meets its contract.
 use borrow.Author.Needs.{needs}
 use Rattle.text.specs.Utf8.{isUtf8-4}
 use Rattle.text.proofs.Bools.{and-taken, and-left, and-none}
 use Rattle.text.proofs.is_utf8_4.Statement.{statement}
 use Rattle.text.proofs.is_utf8_4.Tie as tie
-use Rattle.text.proofs.is_utf8_4.Reads as reads
-use Rattle.text.proofs.is_utf8_4.Lts as lts
-use Rattle.text.proofs.is_second_of_4.Reads as is-second-of-4-reads
-use Rattle.text.proofs.is_tail.Reads as is-tail-reads
 
--- src/lib.rt:67:8
 is-second-of-4-requires : tie.Need-is-second-of-4-requires
 is-second-of-4-requires c κs = search needs
 
--- src/lib.rt:68:9
 is-tail-requires : tie.Need-is-tail-requires
 is-tail-requires c κs = search needs
 
--- src/lib.rt:68:23
 is-tail-requires-2 : tie.Need-is-tail-requires-2
 is-tail-requires-2 c κs = search needs
 
--- src/lib.rt:64:1
 returns : tie.Need-returns
 unfolding isUtf8-4
 returns c =
     and-taken _ _ (c .before .before .before .before .is-second-of-4 .ensures) (c .before .before .before .if1 .taken)
     (and-taken _ _ (c .before .before .is-tail .ensures) (c .before .if2 .taken) (c .is-tail2 .ensures))
 
--- src/lib.rt:64:1
 returns-2 : tie.Need-returns-2
 unfolding isUtf8-4
 returns-2 c =
     and-taken _ _ (c .before .before .before .is-second-of-4 .ensures) (c .before .before .if1 .taken)
     (and-left _ _ (c .before .is-tail .ensures) (c .if2 .left))
 
--- src/lib.rt:64:1
 returns-3 : tie.Need-returns-3
 unfolding isUtf8-4
 returns-3 c =

@@ -1,21 +1,15 @@
-use native.Mathlib.Omega.{arith}
+-- `number::grammar::digits` meets its contract: there is a digit exactly where the run ends further on.
 use borrow.Author.Needs.{needs}
 use Rattle.number.proofs.Reading.{digits-some, digits-none}
 use Rattle.number.proofs.grammar.digits.Statement.{statement}
 use Rattle.number.proofs.grammar.digits.Tie as tie
-use Rattle.number.proofs.grammar.digits.Reads as reads
-use Rattle.number.proofs.grammar.digits.Lts as lts
-use Rattle.number.proofs.grammar.run_end.Reads as run-end-reads
 
--- src/grammar.rt:68:9
 run-end-requires : tie.Need-run-end-requires
 run-end-requires c κs = search needs
 
--- src/grammar.rt:65:1
 returns : tie.Need-returns
 returns c = digits-some _ _ _ (c .before .run-end .ensures) (c .if1 .taken)
 
--- src/grammar.rt:65:1
 returns-2 : tie.Need-returns-2
 returns-2 c = digits-none _ _ _ (c .before .run-end .ensures) (c .if1 .left)
 

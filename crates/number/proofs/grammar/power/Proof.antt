@@ -1,53 +1,39 @@
-use native.Mathlib.Omega.{arith}
+-- `number::grammar::power` meets its contract: each way through the code is a law of the rule `power` at a place.
 use borrow.Author.Needs.{needs}
 use Rattle.number.proofs.Reading.{power-end, power-minus, power-plus, power-bare}
 use Rattle.number.proofs.grammar.power.Statement.{statement}
 use Rattle.number.proofs.grammar.power.Tie as tie
-use Rattle.number.proofs.grammar.power.Reads as reads
-use Rattle.number.proofs.grammar.power.Lts as lts
-use Rattle.number.proofs.grammar.last.Reads as last-reads
 
--- src/grammar.rt:123:9
 returns : tie.Need-returns
 returns c = power-end _ _ (c .if1 .taken)
 
--- src/grammar.rt:125:8
 shared-slice-read-if2 : tie.Need-shared-slice-read-if2
 shared-slice-read-if2 c = search needs
 
--- src/grammar.rt:126:30
 add-last : tie.Need-add-last
 add-last c = search needs
 
--- src/grammar.rt:126:9
 last-requires : tie.Need-last-requires
 last-requires c κs = search needs
 
--- src/grammar.rt:126:9
 returns-2 : tie.Need-returns-2
 returns-2 c = rw (power-minus _ _ (c .before .before .before .if1 .left) (c .before .if2 .taken)) (c .last .ensures)
 
--- src/grammar.rt:128:8
 shared-slice-read-if3 : tie.Need-shared-slice-read-if3
 shared-slice-read-if3 c = search needs
 
--- src/grammar.rt:129:31
 add-last-2 : tie.Need-add-last-2
 add-last-2 c = search needs
 
--- src/grammar.rt:129:9
 last-requires-2 : tie.Need-last-requires-2
 last-requires-2 c κs = search needs
 
--- src/grammar.rt:129:9
 returns-3 : tie.Need-returns-3
 returns-3 c = rw (power-plus _ _ (c .before .before .before .before .before .if1 .left) (c .before .before .before .if2 .left) (c .before .if3 .taken)) (c .last2 .ensures)
 
--- src/grammar.rt:131:5
 last-requires-3 : tie.Need-last-requires-3
 last-requires-3 c κs = search needs
 
--- src/grammar.rt:119:1
 returns-4 : tie.Need-returns-4
 returns-4 c = rw (power-bare _ _ (c .before .before .before .before .before .if1 .left) (c .before .before .before .if2 .left) (c .before .if3 .left)) (c .last3 .ensures)
 

@@ -1,15 +1,12 @@
-use native.Mathlib.Omega.{arith}
-use borrow.Author.Needs.{needs}
+-- `number::grammar::run_end` meets its contract: where the digits from `i` on end is where those from `at` on do, at each turn.
 use Prim.Native.Nat.{_+_, _-_}
 use mathlib.Core.Path.{_≡_, _∙_, sym}
 use lib.ListN.{length, drop}
+use borrow.Author.Needs.{needs}
 use Rattle.number.specs.Grammar.{run}
 use Rattle.number.proofs.Reading.{run-on, run-stop, run-out}
 use Rattle.number.proofs.grammar.run_end.Statement.{statement}
 use Rattle.number.proofs.grammar.run_end.Tie as tie
-use Rattle.number.proofs.grammar.run_end.Reads as reads
-use Rattle.number.proofs.grammar.run_end.Lts as lts
-use Rattle.number.proofs.grammar.is_digit.Reads as is-digit-reads
 
 abbrev Inv-loop : tie.InvT-loop
 Inv-loop s at i₀ i = i + length (run (drop i s)) ≡ at + length (run (drop at s))
@@ -17,35 +14,27 @@ Inv-loop s at i₀ i = i + length (run (drop i s)) ≡ at + length (run (drop at
 abbrev μ-loop : tie.MeasureT-loop
 μ-loop s at i₀ i = length s - i
 
--- src/grammar.rt:55:5
 loop-holds : tie.Need-loop-holds Inv-loop μ-loop
 loop-holds c = search needs
 
--- src/grammar.rt:56:21
 shared-slice-read-is-digit : tie.Need-shared-slice-read-is-digit Inv-loop μ-loop
 shared-slice-read-is-digit c = search needs
 
--- src/grammar.rt:56:12
 is-digit-requires : tie.Need-is-digit-requires Inv-loop μ-loop
 is-digit-requires c κs = search needs
 
--- src/grammar.rt:57:13
 add-i : tie.Need-add-i Inv-loop μ-loop
 add-i c = search needs
 
--- src/grammar.rt:55:5
 loop-less : tie.Need-loop-less Inv-loop μ-loop
 loop-less c = search needs
 
--- src/grammar.rt:55:5
 loop-again : tie.Need-loop-again Inv-loop μ-loop
 loop-again c = sym (run-on _ _ (c .before .before .before .loop-test .taken) (sym (c .before .is-digit .ensures) ∙ c .if1 .taken)) ∙ c .before .before .before .before .loop .inv
 
--- src/grammar.rt:59:13
 returns : tie.Need-returns Inv-loop μ-loop
 returns c = sym (run-stop _ _ (c .before .before .before .loop-test .taken) (sym (c .before .is-digit .ensures) ∙ c .if1 .left)) ∙ c .before .before .before .before .loop .inv
 
--- src/grammar.rt:51:1
 returns-2 : tie.Need-returns-2 Inv-loop μ-loop
 returns-2 c = sym (run-out _ _ (c .loop-test .left)) ∙ c .before .loop .inv
 

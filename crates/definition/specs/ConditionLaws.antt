@@ -1,0 +1,209 @@
+-- A condition is read back as it was written, and what is read as a condition is one as it is written.
+use Prim.Native.Nat.{ℕ, zero, suc, _≤_}
+use mathlib.Core.List.{_++_, append-assoc}
+use mathlib.Core.Path.{_≡_, refl}
+use native.Mathlib.Omega.{arith}
+use Rattle.sheet.specs.Reader.{Reader, _>>=_, pure}
+use Rattle.sheet.specs.ReaderLaws.{Reads, bind-inv, bind-reads, pure-inv, refuse-inv}
+use Rattle.sheet.specs.Entries.{maxCount, ConditionHead, literalHead, manyHead, negationHead, oneHead, twoHead, comparisonHead, quantifierHead, conditionHead}
+use Rattle.sheet.specs.Write.{writeConditionHead}
+use Rattle.sheet.specs.RuleHeadLaws.{ConditionHeadFits, conditionHead-exact}
+use Rattle.definition.specs.Tree.{Value, Condition, literal, many, negation, one, two, comparison, quantifier, Conditions, noConditions, condition}
+use Rattle.definition.specs.Limits.{maxValueNesting}
+use Rattle.definition.specs.Decode.{Ahead, entry, anyValue, conditionsOf, conditionOf, conditionIn}
+use Rattle.definition.specs.Write.{writeValue, conditionCount, writeCondition, writeConditions}
+use Rattle.definition.specs.Within.{valueEntries, OperandFits, ValueFrom, conditionEntries, conditionsEntries, conditionNesting, conditionsNesting, ConditionFits, ConditionsFit, ConditionFrom, ConditionsFrom}
+use Rattle.definition.specs.TreeLaws.{Moves, TreeLaw, moves-none, moves-split, Enters, entering, entry-reads, announced-inv, announced-reads, announced-both-inv, announced-both-reads, enters-alone, enters-moves, enters-first}
+use Rattle.definition.specs.ValueLaws.{value-law, value-takes}
+
+pub record ConditionGood (depth next : ℕ) (c : Condition) : Type 0 where
+  pub nesting : conditionNesting c ≤ depth
+  pub fits : ConditionFits c
+  pub numbers : ConditionFrom next c
+
+pub record ConditionsGood (depth n next : ℕ) (cs : Conditions) : Type 0 where
+  pub count : conditionCount cs ≡ n
+  pub nesting : conditionsNesting cs ≤ depth
+  pub fits : ConditionsFit cs
+  pub numbers : ConditionsFrom next cs
+
+abbrev pub ConditionLaw : ℕ → Reader Ahead Condition → Type 0
+ConditionLaw depth p = TreeLaw p writeCondition conditionEntries (λ c. 1) (ConditionGood depth)
+
+-- a value that stands in a condition
+abbrev pub OperandGood : ℕ → Value → Type 0
+OperandGood next v = OperandFits v × ValueFrom next v
+
+pub operand-law : TreeLaw anyValue writeValue valueEntries (λ v. 1) OperandGood
+operand-law =
+    let law = value-law maxValueNesting in
+    record {
+      sound = λ a v b e. let m = law .sound a v b e in (m .0, (record { nesting = m .1 .nesting; fits = m .1 .fits }, m .1 .numbers));
+      complete = λ a v b l m g. law .complete a v b l m (record { nesting = g .0 .nesting; fits = g .0 .fits; numbers = g .1 });
+      announced-first = value-takes;
+    }
+
+pub condition-takes : (c : Condition) → 1 ≤ conditionEntries c
+unfolding conditionEntries
+condition-takes (literal e truth) = omega arith
+condition-takes (many e op children) = omega arith
+condition-takes (negation e child) = omega arith
+condition-takes (one e op v) = omega arith
+condition-takes (two e op left right) = omega arith
+condition-takes (comparison e which left right) = omega arith
+condition-takes (quantifier e op bind over body) = omega arith
+
+conditions-take : (cs : Conditions) → conditionCount cs ≤ conditionsEntries cs
+unfolding conditionCount conditionsEntries
+conditions-take noConditions = omega arith
+conditions-take (condition c others) = omega (arith, condition-takes c, conditions-take others)
+
+module _ (depth : ℕ) (p : Reader Ahead Condition) (law : ConditionLaw depth p) where
+  conditions-sound : (n : ℕ) (a : Ahead) (cs : Conditions) (b : Ahead) → Reads (conditionsOf n p) a cs b
+      → Moves (writeConditions cs) (conditionsEntries cs) (conditionCount cs) a b × ConditionsGood depth n (a .next) cs
+  unfolding conditionsOf writeConditions conditionsEntries conditionCount conditionsNesting
+  conditions-sound zero a cs b e =
+      let q = pure-inv _ _ e in
+      rw (← (q .0), ← (q .1)) (record { rest = refl; next = omega arith; left = omega arith }, record { count = refl; nesting = omega arith; fits = tt; numbers = tt })
+  conditions-sound (suc n) a cs b e =
+      bind-inv _ _ _ e λ c a₁ e₁ e.
+      bind-inv _ _ _ e λ others a₂ e₂ e.
+      let q = pure-inv _ _ e in
+      let m₁ = law .sound a c a₁ e₁ in
+      let m₂ = conditions-sound n a₁ others a₂ e₂ in
+      rw (← (q .0), ← (q .1)) (
+        record { rest = rw (m₁ .0 .rest, m₂ .0 .rest) (simp append-assoc); next = omega arith; left = omega arith },
+        record { count = omega arith; nesting = omega arith; fits = (m₁ .1 .fits, m₂ .1 .fits); numbers = (m₁ .1 .numbers, rw (m₁ .0 .next) at (m₂ .1 .numbers)) },
+      )
+
+  conditions-complete : (n : ℕ) (a : Ahead) (cs : Conditions) (b : Ahead) → a .left ≤ maxCount
+      → Moves (writeConditions cs) (conditionsEntries cs) (conditionCount cs) a b → ConditionsGood depth n (a .next) cs → Reads (conditionsOf n p) a cs b
+  unfolding conditionsOf writeConditions conditionsEntries conditionCount conditionsNesting pure
+  conditions-complete zero a noConditions b l m g = rw (moves-none a b m)
+  conditions-complete zero a (condition c others) b l m g = absurd (omega arith)
+  conditions-complete (suc n) a noConditions b l m g = absurd (omega arith)
+  conditions-complete (suc n) a (condition c others) b l m g =
+      moves-split (writeCondition c) (writeConditions others) _ _ _ _ a b m (conditions-take others) λ a₁ m₁ m₂.
+      bind-reads _ _ (law .complete a c a₁ l m₁ (record { nesting = omega arith; fits = g .fits .0; numbers = g .numbers .0 }))
+      (bind-reads _ _
+      (conditions-complete n a₁ others b (omega (arith, condition-takes c)) m₂
+      (record { count = omega arith; nesting = omega arith; fits = g .fits .1; numbers = rw (m₁ .next) (g .numbers .1) }))
+      refl)
+
+  conditions-law : (n : ℕ) → TreeLaw (conditionsOf n p) writeConditions conditionsEntries conditionCount (ConditionsGood depth n)
+  conditions-law n = record { sound = conditions-sound n; complete = conditions-complete n; announced-first = conditions-take }
+
+  -- a condition of each kind, whose parts are read by `p`
+  conditionOf-sound : (h : ConditionHead) (a a₁ : Ahead) (c : Condition) (b : Ahead) → Enters writeConditionHead ConditionHeadFits a h a₁
+      → Reads (conditionOf (a .next) h p) a₁ c b → Moves (writeCondition c) (conditionEntries c) 1 a b × ConditionGood (suc depth) (a .next) c
+  unfolding conditionOf writeCondition conditionEntries conditionNesting
+  conditionOf-sound (literalHead truth) a a₁ c b m e =
+      let q = pure-inv _ _ e in
+      rw (← (q .0), ← (q .1)) (record { rest = m .rest; next = m .next; left = omega arith }, record { nesting = omega arith; fits = tt; numbers = refl })
+  conditionOf-sound (manyHead op n) a a₁ c b m e =
+      announced-inv (conditions-law n) _ (λ next x g. g .count) _ _ e λ children a₂ m₂ g e.
+      let q = pure-inv _ _ e in
+      rw (← (q .0), ← (q .1), g .count)
+      (enters-moves m m₂, record { nesting = omega arith; fits = (m .fits .0, g .fits); numbers = (refl, rw (m .next) at (g .numbers)) })
+  conditionOf-sound negationHead a a₁ c b m e =
+      announced-inv law _ (λ next x g. refl) _ _ e λ child a₂ m₂ g e.
+      let q = pure-inv _ _ e in
+      rw (← (q .0), ← (q .1))
+      (enters-moves m m₂, record { nesting = omega arith; fits = g .fits; numbers = (refl, rw (m .next) at (g .numbers)) })
+  conditionOf-sound (oneHead op) a a₁ c b m e =
+      announced-inv operand-law _ (λ next x g. refl) _ _ e λ v a₂ m₂ g e.
+      let q = pure-inv _ _ e in
+      rw (← (q .0), ← (q .1))
+      (enters-moves m m₂, record { nesting = omega arith; fits = (m .fits, g .0); numbers = (refl, rw (m .next) at (g .1)) })
+  conditionOf-sound (twoHead op) a a₁ c b m e =
+      announced-both-inv operand-law operand-law 1 1 (λ next x g. refl) (λ next x g. refl) _ _ e λ left right a₂ m₂ g₁ g₂ e.
+      let q = pure-inv _ _ e in
+      rw (← (q .0), ← (q .1)) (
+        enters-moves m m₂,
+        record { nesting = omega arith; fits = (m .fits, g₁ .0, g₂ .0); numbers = (refl, rw (m .next) at (g₁ .1), rw (m .next) at (g₂ .1)) },
+      )
+  conditionOf-sound (comparisonHead which) a a₁ c b m e =
+      announced-both-inv operand-law operand-law 1 1 (λ next x g. refl) (λ next x g. refl) _ _ e λ left right a₂ m₂ g₁ g₂ e.
+      let q = pure-inv _ _ e in
+      rw (← (q .0), ← (q .1)) (
+        enters-moves m m₂,
+        record { nesting = omega arith; fits = (m .fits, g₁ .0, g₂ .0); numbers = (refl, rw (m .next) at (g₁ .1), rw (m .next) at (g₂ .1)) },
+      )
+  conditionOf-sound (quantifierHead op bind) a a₁ c b m e =
+      announced-both-inv operand-law law 1 1 (λ next x g. refl) (λ next x g. refl) _ _ e λ over body a₂ m₂ g₁ g₂ e.
+      let q = pure-inv _ _ e in
+      rw (← (q .0), ← (q .1)) (
+        enters-moves m m₂,
+        record {
+          nesting = omega arith;
+          fits = (m .fits .0, m .fits .1, g₁ .0, g₂ .fits);
+          numbers = (refl, rw (m .next) at (g₁ .1), rw (m .next) at (g₂ .numbers));
+        },
+      )
+
+  conditionOf-complete : (a : Ahead) (c : Condition) (b : Ahead) → a .left ≤ maxCount → Moves (writeCondition c) (conditionEntries c) 1 a b
+      → ConditionGood (suc depth) (a .next) c → Reads (entry conditionHead >>= λ h. conditionOf (h .0) (h .1) p) a c b
+  unfolding conditionOf writeCondition conditionEntries conditionNesting pure
+  conditionOf-complete a (literal e truth) b l m g =
+      bind-reads _ _ (entry-reads conditionHead-exact a (literalHead truth) b (enters-alone _ tt a b m)) (rw (g .numbers))
+  conditionOf-complete a (many e op children) b l m g =
+      let k = conditions-take children in
+      enters-first (manyHead op (conditionCount children)) (g .fits .0, omega arith) (writeConditions children) _ 0 a b m λ a₁ m₁ m₂.
+      bind-reads _ _ (entry-reads conditionHead-exact a (manyHead op (conditionCount children)) a₁ m₁)
+      (announced-reads (conditions-law (conditionCount children)) _ children a₁ b (omega arith) m₂
+      (record { count = refl; nesting = omega arith; fits = g .fits .1; numbers = rw (m₁ .next) (g .numbers .1) })
+      (rw (g .numbers .0)))
+  conditionOf-complete a (negation e child) b l m g =
+      enters-first negationHead tt (writeCondition child) _ 0 a b m λ a₁ m₁ m₂.
+      bind-reads _ _ (entry-reads conditionHead-exact a negationHead a₁ m₁)
+      (announced-reads law _ child a₁ b (omega arith) m₂
+      (record { nesting = omega arith; fits = g .fits; numbers = rw (m₁ .next) (g .numbers .1) })
+      (rw (g .numbers .0)))
+  conditionOf-complete a (one e op v) b l m g =
+      enters-first (oneHead op) (g .fits .0) (writeValue v) _ 0 a b m λ a₁ m₁ m₂.
+      bind-reads _ _ (entry-reads conditionHead-exact a (oneHead op) a₁ m₁)
+      (announced-reads operand-law _ v a₁ b (omega arith) m₂ (g .fits .1, rw (m₁ .next) (g .numbers .1)) (rw (g .numbers .0)))
+  conditionOf-complete a (two e op left right) b l m g =
+      enters-first (twoHead op) (g .fits .0) (writeValue left ++ writeValue right) _ 0 a b m λ a₁ m₁ m₂.
+      bind-reads _ _ (entry-reads conditionHead-exact a (twoHead op) a₁ m₁)
+      (announced-both-reads operand-law operand-law _ left right a₁ b (omega arith) m₂
+      (g .fits .1, rw (m₁ .next) (g .numbers .1)) (g .fits .2, rw (m₁ .next) (g .numbers .2))
+      (rw (g .numbers .0)))
+  conditionOf-complete a (comparison e which left right) b l m g =
+      enters-first (comparisonHead which) (g .fits .0) (writeValue left ++ writeValue right) _ 0 a b m λ a₁ m₁ m₂.
+      bind-reads _ _ (entry-reads conditionHead-exact a (comparisonHead which) a₁ m₁)
+      (announced-both-reads operand-law operand-law _ left right a₁ b (omega arith) m₂
+      (g .fits .1, rw (m₁ .next) (g .numbers .1)) (g .fits .2, rw (m₁ .next) (g .numbers .2))
+      (rw (g .numbers .0)))
+  conditionOf-complete a (quantifier e op bind over body) b l m g =
+      enters-first (quantifierHead op bind) (g .fits .0, g .fits .1) (writeValue over ++ writeCondition body) _ 0 a b m λ a₁ m₁ m₂.
+      bind-reads _ _ (entry-reads conditionHead-exact a (quantifierHead op bind) a₁ m₁)
+      (announced-both-reads operand-law law _ over body a₁ b (omega arith) m₂
+      (g .fits .2, rw (m₁ .next) (g .numbers .1))
+      (record { nesting = omega arith; fits = g .fits .3; numbers = rw (m₁ .next) (g .numbers .2) })
+      (rw (g .numbers .0)))
+
+condition-nests : (c : Condition) → 1 ≤ conditionNesting c
+unfolding conditionNesting
+condition-nests (literal e truth) = omega arith
+condition-nests (many e op children) = omega arith
+condition-nests (negation e child) = omega arith
+condition-nests (one e op v) = omega arith
+condition-nests (two e op left right) = omega arith
+condition-nests (comparison e which left right) = omega arith
+condition-nests (quantifier e op bind over body) = omega arith
+
+pub condition-law : (depth : ℕ) → ConditionLaw depth (conditionIn depth)
+unfolding conditionIn
+condition-law zero =
+    record {
+      sound = λ a c b e. absurd (refuse-inv _ e);
+      complete = λ a c b l m g. absurd (omega (arith, condition-nests c));
+      announced-first = condition-takes;
+    }
+condition-law (suc depth) =
+    record {
+      sound = λ a c b e. entering conditionHead-exact _ _ e λ h a₁ m₁ e. conditionOf-sound depth (conditionIn depth) (condition-law depth) h a a₁ c b m₁ e;
+      complete = conditionOf-complete depth (conditionIn depth) (condition-law depth);
+      announced-first = condition-takes;
+    }

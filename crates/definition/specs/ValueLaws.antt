@@ -1,0 +1,209 @@
+-- A value is read back as it was written, and what is read as a value is one as it is written.
+use Prim.Native.Nat.{ℕ, zero, suc, _+_, _*_, _≤_}
+use mathlib.Core.List.{_++_, append-assoc}
+use mathlib.Core.Option.{Option, none, some}
+use mathlib.Core.Path.{_≡_, refl, ap}
+use native.Mathlib.Omega.{arith}
+use Rattle.sheet.specs.Reader.{Reader, _>>=_, pure}
+use Rattle.sheet.specs.ReaderLaws.{Reads, bind-inv, then-inv, bind-reads, then-reads, pure-inv, ensure-inv, ensure-reads, refuse-inv}
+use Rattle.sheet.specs.Entries.{maxCount, ValueHead, constantHead, numberHead, stringHead, arrayHead, objectHead, valueHead}
+use Rattle.sheet.specs.Write.{writeValueHead}
+use Rattle.sheet.specs.RuleHeadLaws.{ValueHeadFits, valueHead-exact, keyHead-exact}
+use Rattle.definition.specs.Tree.{Text, Value, constant, number, string, array, object, Values, noValues, value, Pairs, noPairs, pair}
+use Rattle.definition.specs.Decode.{Ahead, entry, valuesOf, pairsOf, valueOf, valueIn}
+use Rattle.definition.specs.Write.{valueCount, pairCount, writeValue, writeValues, writePairs}
+use Rattle.definition.specs.Within.{valueEntries, valuesEntries, pairsEntries, valueNesting, valuesNesting, pairsNesting, ValueFits, ValuesFit, PairsFit, ValueFrom, ValuesFrom, PairsFrom}
+use Rattle.definition.specs.RisingLaws.{follows-behind, behind-follows}
+use Rattle.definition.specs.TreeLaws.{Moves, TreeLaw, moves-none, moves-split, Enters, entering, entry-reads, announced-inv, announced-reads, enters-alone, enters-moves, enters-first}
+
+pub record ValueGood (depth next : ℕ) (v : Value) : Type 0 where
+  pub nesting : valueNesting v ≤ depth
+  pub fits : ValueFits v
+  pub numbers : ValueFrom next v
+
+pub record ValuesGood (depth n next : ℕ) (vs : Values) : Type 0 where
+  pub count : valueCount vs ≡ n
+  pub nesting : valuesNesting vs ≤ depth
+  pub fits : ValuesFit vs
+  pub numbers : ValuesFrom next vs
+
+pub record PairsGood (depth n : ℕ) (before : Option Text) (next : ℕ) (ps : Pairs) : Type 0 where
+  pub count : pairCount ps ≡ n
+  pub nesting : pairsNesting ps ≤ depth
+  pub fits : PairsFit before ps
+  pub numbers : PairsFrom next ps
+
+abbrev pub ValueLaw : ℕ → Reader Ahead Value → Type 0
+ValueLaw depth p = TreeLaw p writeValue valueEntries (λ v. 1) (ValueGood depth)
+
+pub value-takes : (v : Value) → 1 ≤ valueEntries v
+unfolding valueEntries
+value-takes (constant e type) = omega arith
+value-takes (number e digits) = omega arith
+value-takes (string e text) = omega arith
+value-takes (array e values) = omega arith
+value-takes (object e pairs) = omega arith
+
+values-take : (vs : Values) → valueCount vs ≤ valuesEntries vs
+unfolding valueCount valuesEntries
+values-take noValues = omega arith
+values-take (value v others) = omega (arith, value-takes v, values-take others)
+
+pairs-take : (ps : Pairs) → 2 * pairCount ps ≤ pairsEntries ps
+unfolding pairCount pairsEntries
+pairs-take noPairs = omega arith
+pairs-take (pair key v others) = omega (arith, value-takes v, pairs-take others)
+
+module _ (depth : ℕ) (p : Reader Ahead Value) (law : ValueLaw depth p) where
+  values-sound : (n : ℕ) (a : Ahead) (vs : Values) (b : Ahead) → Reads (valuesOf n p) a vs b
+      → Moves (writeValues vs) (valuesEntries vs) (valueCount vs) a b × ValuesGood depth n (a .next) vs
+  unfolding valuesOf writeValues valuesEntries valueCount valuesNesting
+  values-sound zero a vs b e =
+      let q = pure-inv _ _ e in
+      rw (← (q .0), ← (q .1)) (record { rest = refl; next = omega arith; left = omega arith }, record { count = refl; nesting = omega arith; fits = tt; numbers = tt })
+  values-sound (suc n) a vs b e =
+      bind-inv _ _ _ e λ v a₁ e₁ e.
+      bind-inv _ _ _ e λ others a₂ e₂ e.
+      let q = pure-inv _ _ e in
+      let m₁ = law .sound a v a₁ e₁ in
+      let m₂ = values-sound n a₁ others a₂ e₂ in
+      rw (← (q .0), ← (q .1)) (
+        record { rest = rw (m₁ .0 .rest, m₂ .0 .rest) (simp append-assoc); next = omega arith; left = omega arith },
+        record { count = omega arith; nesting = omega arith; fits = (m₁ .1 .fits, m₂ .1 .fits); numbers = (m₁ .1 .numbers, rw (m₁ .0 .next) at (m₂ .1 .numbers)) },
+      )
+
+  values-complete : (n : ℕ) (a : Ahead) (vs : Values) (b : Ahead) → a .left ≤ maxCount → Moves (writeValues vs) (valuesEntries vs) (valueCount vs) a b
+      → ValuesGood depth n (a .next) vs → Reads (valuesOf n p) a vs b
+  unfolding valuesOf writeValues valuesEntries valueCount valuesNesting pure
+  values-complete zero a noValues b l m g = rw (moves-none a b m)
+  values-complete zero a (value v others) b l m g = absurd (omega arith)
+  values-complete (suc n) a noValues b l m g = absurd (omega arith)
+  values-complete (suc n) a (value v others) b l m g =
+      moves-split (writeValue v) (writeValues others) _ _ _ _ a b m (values-take others) λ a₁ m₁ m₂.
+      bind-reads _ _ (law .complete a v a₁ l m₁ (record { nesting = omega arith; fits = g .fits .0; numbers = g .numbers .0 }))
+      (bind-reads _ _
+      (values-complete n a₁ others b (omega (arith, value-takes v)) m₂
+      (record { count = omega arith; nesting = omega arith; fits = g .fits .1; numbers = rw (m₁ .next) (g .numbers .1) }))
+      refl)
+
+  pub values-law : (n : ℕ) → TreeLaw (valuesOf n p) writeValues valuesEntries valueCount (ValuesGood depth n)
+  values-law n = record { sound = values-sound n; complete = values-complete n; announced-first = values-take }
+
+  pairs-sound : (n : ℕ) (before : Option Text) (a : Ahead) (ps : Pairs) (b : Ahead) → Reads (pairsOf n before p) a ps b
+      → Moves (writePairs ps) (pairsEntries ps) (2 * pairCount ps) a b × PairsGood depth n before (a .next) ps
+  unfolding pairsOf writePairs pairsEntries pairCount pairsNesting
+  pairs-sound zero before a ps b e =
+      let q = pure-inv _ _ e in
+      rw (← (q .0), ← (q .1)) (record { rest = refl; next = omega arith; left = omega arith }, record { count = refl; nesting = omega arith; fits = tt; numbers = tt })
+  pairs-sound (suc n) before a ps b e =
+      entering keyHead-exact _ _ e λ key a₁ m₁ e.
+      then-inv _ _ _ e λ _ a₂ e₂ e.
+      bind-inv _ _ _ e λ v a₃ e₃ e.
+      bind-inv _ _ _ e λ others a₄ e₄ e.
+      let h = ensure-inv _ _ e₂ in
+      let q = pure-inv _ _ e in
+      let m₃ = law .sound a₁ v a₃ (rw (h .1) e₃) in
+      let m₄ = pairs-sound n (some key) a₃ others a₄ e₄ in
+      rw (← (q .0), ← (q .1)) (
+        record { rest = rw (m₁ .rest, m₃ .0 .rest, m₄ .0 .rest) (simp append-assoc); next = omega arith; left = omega arith },
+        record {
+          count = omega arith;
+          nesting = omega arith;
+          fits = (m₁ .fits, follows-behind before key (h .0), m₃ .1 .fits, m₄ .1 .fits);
+          numbers = (rw (m₁ .next) at (m₃ .1 .numbers), rw (m₃ .0 .next, m₁ .next) at (m₄ .1 .numbers));
+        },
+      )
+
+  pairs-complete : (n : ℕ) (before : Option Text) (a : Ahead) (ps : Pairs) (b : Ahead) → a .left ≤ maxCount
+      → Moves (writePairs ps) (pairsEntries ps) (2 * pairCount ps) a b → PairsGood depth n before (a .next) ps → Reads (pairsOf n before p) a ps b
+  unfolding pairsOf writePairs pairsEntries pairCount pairsNesting pure
+  pairs-complete zero before a noPairs b l m g = rw (moves-none a b m)
+  pairs-complete zero before a (pair key v others) b l m g = absurd (omega arith)
+  pairs-complete (suc n) before a noPairs b l m g = absurd (omega arith)
+  pairs-complete (suc n) before a (pair key v others) b l m g =
+      let f = g .fits in
+      enters-first key (f .0) (writeValue v ++ writePairs others) _ (1 + 2 * pairCount others) a b
+      (record { rest = m .rest; next = m .next; left = omega arith }) λ a₁ m₁ m₂.
+      moves-split (writeValue v) (writePairs others) _ _ _ _ a₁ b m₂ (pairs-take others) λ a₂ m₃ m₄.
+      bind-reads _ _ (entry-reads keyHead-exact a key a₁ m₁)
+      (then-reads _ _ (ensure-reads _ _ (behind-follows before key (f .1)))
+      (bind-reads _ _
+      (law .complete a₁ v a₂ (omega arith) m₃ (record { nesting = omega arith; fits = f .2; numbers = rw (m₁ .next) (g .numbers .0) }))
+      (bind-reads _ _
+      (pairs-complete n (some key) a₂ others b (omega (arith, value-takes v)) m₄
+      (record { count = omega arith; nesting = omega arith; fits = f .3; numbers = rw (m₃ .next, m₁ .next) (g .numbers .1) }))
+      refl)))
+
+  pub pairs-law : (n : ℕ) (before : Option Text) → TreeLaw (pairsOf n before p) writePairs pairsEntries (λ ps. 2 * pairCount ps) (PairsGood depth n before)
+  pairs-law n before = record { sound = pairs-sound n before; complete = pairs-complete n before; announced-first = pairs-take }
+
+  -- a value of each kind, whose parts are read by `p`
+  valueOf-sound : (h : ValueHead) (a a₁ : Ahead) (v : Value) (b : Ahead) → Enters writeValueHead ValueHeadFits a h a₁ → Reads (valueOf (a .next) h p) a₁ v b
+      → Moves (writeValue v) (valueEntries v) 1 a b × ValueGood (suc depth) (a .next) v
+  unfolding valueOf writeValue valueEntries valueNesting
+  valueOf-sound (constantHead type) a a₁ v b m e =
+      let q = pure-inv _ _ e in
+      rw (← (q .0), ← (q .1)) (record { rest = m .rest; next = m .next; left = omega arith }, record { nesting = omega arith; fits = m .fits; numbers = refl })
+  valueOf-sound (numberHead digits) a a₁ v b m e =
+      let q = pure-inv _ _ e in
+      rw (← (q .0), ← (q .1)) (record { rest = m .rest; next = m .next; left = omega arith }, record { nesting = omega arith; fits = m .fits; numbers = refl })
+  valueOf-sound (stringHead text) a a₁ v b m e =
+      let q = pure-inv _ _ e in
+      rw (← (q .0), ← (q .1)) (record { rest = m .rest; next = m .next; left = omega arith }, record { nesting = omega arith; fits = m .fits; numbers = refl })
+  valueOf-sound (arrayHead n) a a₁ v b m e =
+      announced-inv (values-law n) _ (λ next x g. g .count) _ _ e λ values a₂ m₂ g e.
+      let q = pure-inv _ _ e in
+      rw (← (q .0), ← (q .1), g .count)
+      (enters-moves m m₂, record { nesting = omega arith; fits = g .fits; numbers = (refl, rw (m .next) at (g .numbers)) })
+  valueOf-sound (objectHead n) a a₁ v b m e =
+      announced-inv (pairs-law n none) _ (λ next x g. ap (λ (k : ℕ). 2 * k) (g .count)) _ _ e λ pairs a₂ m₂ g e.
+      let q = pure-inv _ _ e in
+      rw (← (q .0), ← (q .1), g .count)
+      (enters-moves m m₂, record { nesting = omega arith; fits = g .fits; numbers = (refl, rw (m .next) at (g .numbers)) })
+
+  valueOf-complete : (a : Ahead) (v : Value) (b : Ahead) → a .left ≤ maxCount → Moves (writeValue v) (valueEntries v) 1 a b → ValueGood (suc depth) (a .next) v
+      → Reads (entry valueHead >>= λ h. valueOf (h .0) (h .1) p) a v b
+  unfolding valueOf writeValue valueEntries valueNesting pure
+  valueOf-complete a (constant e type) b l m g =
+      bind-reads _ _ (entry-reads valueHead-exact a (constantHead type) b (enters-alone _ (g .fits) a b m)) (rw (g .numbers))
+  valueOf-complete a (number e digits) b l m g =
+      bind-reads _ _ (entry-reads valueHead-exact a (numberHead digits) b (enters-alone _ (g .fits) a b m)) (rw (g .numbers))
+  valueOf-complete a (string e text) b l m g =
+      bind-reads _ _ (entry-reads valueHead-exact a (stringHead text) b (enters-alone _ (g .fits) a b m)) (rw (g .numbers))
+  valueOf-complete a (array e values) b l m g =
+      let k = values-take values in
+      enters-first (arrayHead (valueCount values)) (omega arith) (writeValues values) _ 0 a b m λ a₁ m₁ m₂.
+      bind-reads _ _ (entry-reads valueHead-exact a (arrayHead (valueCount values)) a₁ m₁)
+      (announced-reads (values-law (valueCount values)) _ values a₁ b (omega arith) m₂
+      (record { count = refl; nesting = omega arith; fits = g .fits; numbers = rw (m₁ .next) (g .numbers .1) })
+      (rw (g .numbers .0)))
+  valueOf-complete a (object e pairs) b l m g =
+      let k = pairs-take pairs in
+      enters-first (objectHead (pairCount pairs)) (omega arith) (writePairs pairs) _ 0 a b m λ a₁ m₁ m₂.
+      bind-reads _ _ (entry-reads valueHead-exact a (objectHead (pairCount pairs)) a₁ m₁)
+      (announced-reads (pairs-law (pairCount pairs) none) _ pairs a₁ b (omega arith) m₂
+      (record { count = refl; nesting = omega arith; fits = g .fits; numbers = rw (m₁ .next) (g .numbers .1) })
+      (rw (g .numbers .0)))
+
+value-nests : (v : Value) → 1 ≤ valueNesting v
+unfolding valueNesting
+value-nests (constant e type) = omega arith
+value-nests (number e digits) = omega arith
+value-nests (string e text) = omega arith
+value-nests (array e values) = omega arith
+value-nests (object e pairs) = omega arith
+
+pub value-law : (depth : ℕ) → ValueLaw depth (valueIn depth)
+unfolding valueIn
+value-law zero =
+    record {
+      sound = λ a v b e. absurd (refuse-inv _ e);
+      complete = λ a v b l m g. absurd (omega (arith, value-nests v));
+      announced-first = value-takes;
+    }
+value-law (suc depth) =
+    record {
+      sound = λ a v b e. entering valueHead-exact _ _ e λ h a₁ m₁ e. valueOf-sound depth (valueIn depth) (value-law depth) h a a₁ v b m₁ e;
+      complete = valueOf-complete depth (valueIn depth) (value-law depth);
+      announced-first = value-takes;
+    }

@@ -1,0 +1,50 @@
+-- How the code decides whether a number is finite: by the place of its first nonzero digit, and by the digits only where that place is 10^308.
+use Prim.Native.Nat.{ℕ, suc, _+_}
+use mathlib.Core.Bool.{Bool, true, false, cond}
+use mathlib.Core.List.{List, [], _∷_, _++_, map}
+use lib.ListN.{length, getD, drop}
+use lib.Dec.{ltb, eqb}
+use Rattle.number.specs.Bound.{bound}
+use Rattle.number.specs.Finite.{digit, value}
+use Rattle.number.specs.declared.magnitude.Level.{Level}
+use Rattle.number.specs.declared.magnitude.Level.the-variants.{Below, Even, Above}
+
+-- an exponent from here on counts as this one: no text is long enough for them to differ
+abbrev pub largest : ℕ
+largest = 10_000_000_000_000_000_000
+
+-- how many zeros lead
+unfoldable pub zeros : List ℕ → ℕ
+zeros [] = 0
+zeros (d ∷ ds) = cond (eqb d 0) (suc (zeros ds)) 0
+
+-- the digits from the first nonzero one on
+unfoldable pub significant : List ℕ → List ℕ
+significant ds = drop (zeros ds) ds
+
+unfoldable pub order : ℕ → ℕ → Level
+order a b = cond (ltb a b) Below (cond (ltb b a) Above Even)
+
+-- of n digits f stand behind the point: the first stands at 10^(n - f - 1), times 10^e or, lowered, by 10^e. Here that place against 10^308
+unfoldable pub levelOf : Bool → ℕ → ℕ → ℕ → Level
+levelOf false n f e = order (n + e) (309 + f)
+levelOf true n f e = order n (309 + (f + e))
+
+-- digit by digit, the first that differs decides. Missing digits are 0; the bound itself is not less
+unfoldable pub isLess : List ℕ → List ℕ → Bool
+isLess ds [] = false
+isLess ds (b ∷ bs) = cond (ltb (getD ds 0 0) b) true (cond (ltb b (getD ds 0 0)) false (isLess (drop 1 ds) bs))
+
+unfoldable pub decided : Level → Bool → Bool
+decided Below less = true
+decided Even less = less
+decided Above less = false
+
+-- by the digits from the first nonzero one on. Zero has none
+unfoldable pub byPlace : Bool → List ℕ → ℕ → ℕ → Bool
+byPlace lowered [] f e = true
+byPlace lowered (d ∷ ds) f e = decided (levelOf lowered (suc (length ds)) f e) (isLess (d ∷ ds) bound)
+
+-- of a number's parts
+abbrev pub byFirstDigit : Bool → List ℕ → List ℕ → List ℕ → Bool
+byFirstDigit lowered whole fraction exponent = byPlace lowered (significant (map digit (whole ++ fraction))) (length fraction) (value exponent)

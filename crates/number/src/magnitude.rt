@@ -1,0 +1,147 @@
+// Decides whether a number's magnitude is below 2^1024 - 2^970, from the place of its first nonzero digit.
+use crate::bound::BOUND;
+ghost use mathlib.Core.Path.{_≡_};
+ghost use mathlib.Core.List.{map, _++_};
+ghost use Prim.Native.Nat.{_+_, _<_, _≤_, _^_, min};
+ghost use lib.ListN.{getD};
+ghost use Rattle.number.specs.Bound.{bound};
+ghost use Rattle.number.specs.Finite.{digit, value};
+ghost use Rattle.number.specs.FirstDigit.{largest, zeros, order, levelOf, isLess, decided, byFirstDigit};
+
+// A place against 10^308, the place of the bound's first digit.
+pub enum Level {
+    Below,
+    Even,
+    Above,
+}
+
+// An exponent from here on counts as this one: no text is long enough for them to differ.
+const LARGEST: usize = 10_000_000_000_000_000_000;
+
+fn digit(b: u8) -> u8
+    ensures { λ r. ⌜ r ≡ digit b ⌝ }
+{
+    if b < b'0' { 0 } else { b - b'0' }
+}
+
+// The number that `s` writes, or LARGEST where it is larger.
+fn capped(s: &[u8]) -> usize
+    ensures { λ r. ⌜ r ≡ min (value (now (s .entry))) largest ⌝ }
+{
+    let mut v: usize = 0;
+    let mut i = 0;
+    while i < s.len() {
+        if LARGEST / 10 <= v {
+            return LARGEST;
+        }
+        let d = digit(s[i]);
+        v = v * 10 + d as usize;
+        i += 1;
+    }
+    if v < LARGEST { v } else { LARGEST }
+}
+
+// How many zeros `s` begins with.
+fn zeros(s: &[u8]) -> usize
+    ensures { λ r. ⌜ r ≡ zeros (map digit (now (s .entry))) ⌝ }
+{
+    let mut i = 0;
+    while i < s.len() {
+        if digit(s[i]) == 0 {
+            i += 1;
+        } else {
+            return i;
+        }
+    }
+    i
+}
+
+fn order(a: usize, b: usize) -> Level
+    ensures { λ r. ⌜ r ≡ order a b ⌝ }
+{
+    if a < b {
+        return Level::Below;
+    }
+    if b < a {
+        return Level::Above;
+    }
+    Level::Even
+}
+
+// The first nonzero digit is the first of `places` before the point, or stands behind it after `zeros` zeros.
+fn level_of(places: usize, zeros: usize, lowered: bool, exponent: usize) -> Level
+    requires { ⌜ (places + zeros < 2 ^ 63) × (exponent ≤ largest) ⌝ }
+    ensures { λ r. ⌜ r ≡ levelOf lowered places zeros exponent ⌝ }
+{
+    if lowered {
+        if places <= zeros {
+            return Level::Below;
+        }
+        return order(places - zeros, 309 + exponent);
+    }
+    if 309 + zeros < exponent {
+        return Level::Above;
+    }
+    order(places + exponent, 309 + zeros)
+}
+
+// The digit at place i of `high` and, behind that, `low`: 0 where both have ended.
+fn digit_at(high: &[u8], low: &[u8], i: usize) -> u8
+    ensures { λ r. ⌜ r ≡ getD (map digit (now (high .entry) ++ now (low .entry))) i 0 ⌝ }
+{
+    if i < high.len() {
+        return digit(high[i]);
+    }
+    let j = i - high.len();
+    if j < low.len() {
+        return digit(low[j]);
+    }
+    0
+}
+
+// Whether the digits of `high` and `low` are less than the bound's: the first that differs decides.
+fn is_less(high: &[u8], low: &[u8]) -> bool
+    ensures { λ r. ⌜ r ≡ isLess (map digit (now (high .entry) ++ now (low .entry))) bound ⌝ }
+{
+    let mut i = 0;
+    while i < 309 {
+        let d = digit_at(high, low, i);
+        let b = BOUND[i];
+        if d < b {
+            return true;
+        }
+        if b < d {
+            return false;
+        }
+        i += 1;
+    }
+    false
+}
+
+fn by_level(l: Level, high: &[u8], low: &[u8]) -> bool
+    ensures { λ r. ⌜ r ≡ decided l (isLess (map digit (now (high .entry) ++ now (low .entry))) bound) ⌝ }
+{
+    match l {
+        Level::Below => true,
+        Level::Even => is_less(high, low),
+        Level::Above => false,
+    }
+}
+
+// Whether the number with these digits before and behind the point, and this exponent, is below the bound.
+pub fn is_below(whole: &[u8], fraction: &[u8], lowered: bool, exponent: &[u8]) -> bool
+    ensures { λ r. ⌜ r ≡ byFirstDigit lowered (now (whole .entry)) (now (fraction .entry)) (now (exponent .entry)) ⌝ }
+{
+    let e = capped(exponent);
+    let w = zeros(whole);
+    if w < whole.len() {
+        let high = &whole[w..];
+        return by_level(level_of(high.len(), 0, lowered, e), high, fraction);
+    }
+    let f = zeros(fraction);
+    if f < fraction.len() {
+        let low = &fraction[f..];
+        return by_level(level_of(0, f, lowered, e), low, &fraction[..0]);
+    }
+    true
+}

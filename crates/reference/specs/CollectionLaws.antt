@@ -1,0 +1,191 @@
+-- The two further sentences of `collection_element`, details 6 and 7 here, cannot occur where the references of the `in` value can be read.
+use Prim.Native.Nat.{ℕ, _≤_}
+use Prim.Native.Char.{code}
+use native.Mathlib.Omega.{arith}
+use mathlib.Core.Bool.{Bool, true, false, cond, _&&_, _||_}
+use mathlib.Core.List.{List, [], _∷_}
+use mathlib.Core.Option.{Option, none, some}
+use mathlib.Core.Path.{_≡_, refl, ap}
+use lib.Dec.{eqb}
+use borrow.Author.Tests.{eqb-true, eqb-false}
+use Rattle.definition.specs.Tree.{Text, Field, field, Items, absent, element, Members, Holder, Schema}
+use Rattle.sheet.specs.Ascii.{ascii}
+use Rattle.sheet.specs.Order.{sameBytes}
+use Rattle.reference.specs.Setting.{Name, spelling, named, nameOf, Setting}
+use Rattle.reference.specs.Path.{Segments, cut, extend, split, isOrdinal}
+use Rattle.reference.specs.Walk.{Step, refuse, leaf, free, into, lookup, memberStep, itemStep, Reached, refused, unknown, known, lastOr, arrive, entryOf, travel, isEmpty, walkStep, fieldStep, elementOr, elementOfField, elementOf}
+use Rattle.reference.specs.Reference.{Environment, bound, Root, noRoot, missing, root, rootOf, fromHolder, rootWalk, fromRoot, fromName, fromBound, reference, behindFirst, beginsWithDollar, collectionIn, collectionNamed, collectionElement, collectionBound, collectionText, collection}
+
+-- something is reached
+abbrev pub Reads : Reached → Type 0
+Reads (refused d at left) = ⊥
+Reads unknown = Unit {0}
+Reads (known f) = Unit {0}
+
+-- one of the details 1 to 5 of number 22
+pub record Listed (detail : ℕ) : Type 0 where
+  pub low : 1 ≤ detail
+  pub high : detail ≤ 5
+
+-- refused with such a detail at most
+abbrev pub Explained : Reached → Type 0
+Explained (refused d at left) = Listed d
+Explained unknown = Unit {0}
+Explained (known f) = Unit {0}
+
+abbrev ExplainedStep : Step → Type 0
+ExplainedStep (refuse d) = Listed d
+ExplainedStep (leaf d) = Listed d
+ExplainedStep free = Unit {0}
+ExplainedStep (into f) = Unit {0}
+
+explained-if : (b : Bool) (r q : Step) → ExplainedStep r → ExplainedStep q → ExplainedStep (cond b r q)
+explained-if true r q h k = h
+explained-if false r q h k = k
+
+member-explained : (o : Option Field) (isOpen : Bool) (d : ℕ) → Listed d → ExplainedStep (memberStep o isOpen d)
+unfolding memberStep
+member-explained (some f) isOpen d h = tt
+member-explained none true d h = tt
+member-explained none false d h = h
+
+item-explained : (items : Items) → ExplainedStep (itemStep items)
+unfolding itemStep
+item-explained absent = tt
+item-explained (element f) = tt
+
+step-explained : (f : Field) (s : Text) → ExplainedStep (fieldStep f s)
+unfolding fieldStep
+step-explained (field e kind isOpen tag items members) s =
+    explained-if (eqb kind 8 || eqb kind 11) free _ tt
+    (explained-if (eqb kind 7) (memberStep (lookup s members) isOpen 2) _ (member-explained (lookup s members) isOpen 2 (omega arith))
+    (explained-if (eqb kind 6 && isOrdinal s) (itemStep items) (refuse 3) (item-explained items) (omega arith)))
+
+last-explained : (path : List Text) (r : Reached) → Explained r → Explained (lastOr path r)
+unfolding lastOr
+last-explained [] r h = tt
+last-explained (s ∷ path) r h = h
+
+arrive-explained : (at : ℕ) (s : Text) (path : List Text) (onward : Field → Reached) (t : Step)
+    → ((g : Field) → Explained (onward g))
+    → ExplainedStep t
+    → Explained (arrive at s path onward t)
+unfolding arrive
+arrive-explained at s path onward (refuse d) h k = k
+arrive-explained at s path onward (leaf d) h k = last-explained path (refused d at (s ∷ path)) k
+arrive-explained at s path onward free h k = tt
+arrive-explained at s path onward (into g) h k = h g
+
+travel-explained : (path : List Text) (f : Field) → Explained (travel fieldStep path f)
+unfolding travel
+travel-explained [] f = tt
+travel-explained (s ∷ path) f =
+    arrive-explained (entryOf f) s path _ (fieldStep f s) (λ g. travel-explained path g) (step-explained f s)
+
+field-explained : (f : Field) → Explained (elementOfField f)
+unfolding elementOfField elementOr
+field-explained (field e kind isOpen tag items members) = go (eqb kind 6 || eqb kind 10) items
+  where
+    go : (b : Bool) (items : Items) → Explained (cond b (elementOr items) (refused 4 e []))
+    go true absent = tt
+    go true (element f) = tt
+    go false items = omega arith
+
+element-explained : (r : Reached) → Explained r → Explained (elementOf r)
+unfolding elementOf
+element-explained (refused d at left) h = h
+element-explained unknown h = tt
+element-explained (known f) h = field-explained f
+
+reads-then : (b : Bool) (r : Reached) (d at : ℕ) (left : List Text) → Reads (cond b r (refused d at left)) → Reads r
+reads-then true r d at left h = h
+reads-then false r d at left h = absurd h
+
+reads-else : (b : Bool) (r : Reached) (d at : ℕ) (left : List Text) → Reads (cond b (refused d at left) r) → Reads r
+reads-else true r d at left h = absurd h
+reads-else false r d at left h = h
+
+-- what the reference finds in the record or the arguments, the collection finds too
+member-found : (onward : Field → Reached) (o : Option Field) (isOpen : Bool) (at : ℕ) (s : Text) (path : List Text)
+    → Reads (arrive at s path onward (memberStep o isOpen 2))
+    → Explained (elementOf (arrive at s path (λ g. travel fieldStep path g) (memberStep o isOpen 7)))
+unfolding arrive memberStep elementOf
+member-found onward (some f) isOpen at s path h = element-explained (travel fieldStep path f) (travel-explained path f)
+member-found onward none true at s path h = tt
+member-found onward none false at s path h = absurd h
+
+root-explained : (setting : Setting) (n : Name) (r : Root) (s : Text) (path : List Text)
+    → Reads (fromRoot setting n r s path)
+    → Explained (collectionIn r s path)
+unfolding fromRoot rootWalk fromHolder collectionIn
+root-explained setting n noRoot s path h = absurd h
+root-explained setting n missing s path h = absurd h
+root-explained setting n (root at holder) s path h =
+    member-found _ (lookup s (holder .members)) (holder .isOpen) at s path
+    (reads-else (isEmpty s) _ 1 at (s ∷ path)
+    (reads-then (setting .mayRead n) _ 11 0 (s ∷ path) h))
+
+name-explained : (setting : Setting) (schema : Schema) (o : Option Name) (path : List Text)
+    → Reads (fromName setting schema o path)
+    → Explained (collectionNamed schema o path)
+unfolding fromName collectionNamed
+name-explained setting schema none path h = absurd h
+name-explained setting schema (some n) [] h = omega arith
+name-explained setting schema (some n) (s ∷ path) h = root-explained setting n (rootOf schema n) s path h
+
+binder-explained : (f : Option Field) (path : List Text) → Explained (collectionElement f path)
+unfolding collectionElement
+binder-explained none path = tt
+binder-explained (some f) [] = tt
+binder-explained (some f) (s ∷ path) = element-explained (travel fieldStep (s ∷ path) f) (travel-explained (s ∷ path) f)
+
+bound-explained : (schema : Schema) (isReference : Bool) (p : Segments) (o : Option (Option Field))
+    → (isReference ≡ true → o ≡ none → Explained (collectionNamed schema (nameOf (p .first)) (p .others)))
+    → Explained (collectionBound schema isReference p o)
+unfolding collectionBound
+bound-explained schema isReference p (some f) h = binder-explained f (p .others)
+bound-explained schema true p none h = h refl refl
+bound-explained schema false p none h = omega arith
+
+-- no name begins with `$`
+escaped-explained : (schema : Schema) (t : Text) → Explained (collectionNamed schema (nameOf (split (code "$" ∷ t) .first)) (split (code "$" ∷ t) .others))
+unfolding collectionNamed nameOf named spelling sameBytes ascii split extend cut
+escaped-explained schema t = omega arith
+
+named-explained : (setting : Setting) (schema : Schema) (env : Environment) (b : ℕ) (t : Text)
+    → bound (split (b ∷ t) .first) env ≡ none
+    → ((b ≡ code "$" → ⊥) → Reads (reference setting schema env (b ∷ t)))
+    → Explained (collectionNamed schema (nameOf (split (b ∷ t) .first)) (split (b ∷ t) .others))
+unfolding reference fromBound
+named-explained setting schema env b t e h = go (eqb b (code "$")) refl
+  where
+    go : (x : Bool)
+        → eqb b (code "$") ≡ x
+        → Explained (collectionNamed schema (nameOf (split (b ∷ t) .first)) (split (b ∷ t) .others))
+    go true p = rw (eqb-true b (code "$") p) (escaped-explained schema t)
+    go false p =
+        name-explained setting schema (nameOf (split (b ∷ t) .first)) (split (b ∷ t) .others)
+        (rw e at (h (eqb-false b (code "$") p)))
+
+-- and no name is empty
+empty-explained : (schema : Schema) → Explained (collectionNamed schema (nameOf (split [] .first)) (split [] .others))
+unfolding collectionNamed nameOf named spelling sameBytes ascii split
+empty-explained schema = omega arith
+
+-- a text whose reference, if it is one, can be read
+pub text-explained : (setting : Setting) (schema : Schema) (env : Environment) (t : Text)
+    → ((b : ℕ) (u : Text) → t ≡ code "$" ∷ b ∷ u → (b ≡ code "$" → ⊥) → Reads (reference setting schema env (b ∷ u)))
+    → Explained (collectionText schema env t)
+unfolding collectionText beginsWithDollar behindFirst
+text-explained setting schema env [] h =
+    bound-explained schema false (split []) (bound (split [] .first) env) (λ e u. empty-explained schema)
+text-explained setting schema env (a ∷ []) h =
+    bound-explained schema (eqb a (code "$")) (split (behindFirst (a ∷ []))) (bound (split (behindFirst (a ∷ [])) .first) env)
+    (λ e u. rw (eqb-true a (code "$") e) (empty-explained schema))
+text-explained setting schema env (a ∷ b ∷ t) h =
+    bound-explained schema (eqb a (code "$")) (split (behindFirst (a ∷ b ∷ t))) (bound (split (behindFirst (a ∷ b ∷ t)) .first) env)
+    (λ e u.
+    let same : a ≡ code "$" = eqb-true a (code "$") e in
+    rw same
+    (named-explained setting schema env b t (rw same at u)
+    (λ other. h b t (ap (λ (x : ℕ). x ∷ b ∷ t) same) other)))

@@ -1,0 +1,119 @@
+-- The index of a rule sheet in the scratch: a word for each entry, in order. The word of entry i + 1 stands at i: where the entry starts, times
+-- 4,096, and the word behind its subtree, so that a subtree can be skipped.
+use Prim.Native.Nat.{ℕ, _+_, _*_, _/_, _%_}
+use mathlib.Core.List.{List}
+use mathlib.Core.Option.{Option, none, some}
+use mathlib.Core.Path.{_≡_}
+use lib.ListN.{getD, drop}
+use Rattle.sheet.specs.Reader.{Reader}
+use Rattle.sheet.specs.Entries.{ConditionHead, literalHead, manyHead, negationHead, oneHead, twoHead, comparisonHead, quantifierHead, conditionHead, ValueHead, constantHead, numberHead, stringHead, arrayHead, objectHead, valueHead, keyHead, RuleHead, ruleHead}
+use Rattle.sheet.specs.Entries as Entries
+use Rattle.definition.specs.Tree.{Text, Value, constant, number, string, array, object, Values, noValues, value, Pairs, noPairs, pair, Condition, literal, many, negation, one, two, comparison, quantifier, Conditions, noConditions, condition, Rule, rule, template}
+
+abbrev pub startOf : List ℕ → ℕ → ℕ
+startOf words i = getD words i 0 / 4096
+
+abbrev pub endOf : List ℕ → ℕ → ℕ
+endOf words i = getD words i 0 % 4096
+
+-- the entries of a subtree, its own among them
+unfoldable mutual
+  pub sizeOfValue : Value → ℕ
+  sizeOfValue (constant e type) = 1
+  sizeOfValue (number e digits) = 1
+  sizeOfValue (string e t) = 1
+  sizeOfValue (array e values) = 1 + sizeOfValues values
+  sizeOfValue (object e pairs) = 1 + sizeOfPairs pairs
+
+  pub sizeOfValues : Values → ℕ
+  sizeOfValues noValues = 0
+  sizeOfValues (value v others) = sizeOfValue v + sizeOfValues others
+
+  -- a member's key is an entry of its own
+  pub sizeOfPairs : Pairs → ℕ
+  sizeOfPairs noPairs = 0
+  sizeOfPairs (pair key v others) = 1 + sizeOfValue v + sizeOfPairs others
+
+unfoldable mutual
+  pub sizeOfCondition : Condition → ℕ
+  sizeOfCondition (literal e truth) = 1
+  sizeOfCondition (many e op children) = 1 + sizeOfConditions children
+  sizeOfCondition (negation e child) = 1 + sizeOfCondition child
+  sizeOfCondition (one e op v) = 1 + sizeOfValue v
+  sizeOfCondition (two e op left right) = 1 + (sizeOfValue left + sizeOfValue right)
+  sizeOfCondition (comparison e which left right) = 1 + (sizeOfValue left + sizeOfValue right)
+  sizeOfCondition (quantifier e op bind over body) = 1 + (sizeOfValue over + sizeOfCondition body)
+
+  pub sizeOfConditions : Conditions → ℕ
+  sizeOfConditions noConditions = 0
+  sizeOfConditions (condition c others) = sizeOfCondition c + sizeOfConditions others
+
+-- word `i` is that of an entry with that number and that head, with a subtree of `size` entries
+pub record EntryAt {H : Type 0} (reader : Reader (List ℕ) H) (sheet words : List ℕ) (i size e : ℕ) (h : H) : Type 0 where
+  pub isEntry : e ≡ i + 1
+  pub ends : endOf words i ≡ i + size
+  pub rest : List ℕ
+  pub reads : reader (drop (startOf words i) sheet) ≡ some (h, rest)
+
+unfoldable pub countOfValues : Values → ℕ
+countOfValues noValues = 0
+countOfValues (value v others) = countOfValues others + 1
+
+unfoldable pub countOfPairs : Pairs → ℕ
+countOfPairs noPairs = 0
+countOfPairs (pair key v others) = countOfPairs others + 1
+
+unfoldable pub countOfConditions : Conditions → ℕ
+countOfConditions noConditions = 0
+countOfConditions (condition c others) = countOfConditions others + 1
+
+abbrev mutual
+  pub ValueAt : (sheet words : List ℕ) (i : ℕ) → Value → Type 0
+  ValueAt sheet words i (constant e type) = EntryAt valueHead sheet words i 1 e (constantHead type)
+  ValueAt sheet words i (number e digits) = EntryAt valueHead sheet words i 1 e (numberHead digits)
+  ValueAt sheet words i (string e t) = EntryAt valueHead sheet words i 1 e (stringHead t)
+  ValueAt sheet words i (array e values) =
+      EntryAt valueHead sheet words i (1 + sizeOfValues values) e (arrayHead (countOfValues values))
+      × ValuesAt sheet words (i + 1) values
+  ValueAt sheet words i (object e pairs) =
+      EntryAt valueHead sheet words i (1 + sizeOfPairs pairs) e (objectHead (countOfPairs pairs))
+      × PairsAt sheet words (i + 1) pairs
+
+  pub ValuesAt : (sheet words : List ℕ) (i : ℕ) → Values → Type 0
+  ValuesAt sheet words i noValues = Unit {0}
+  ValuesAt sheet words i (value v others) = ValueAt sheet words i v × ValuesAt sheet words (i + sizeOfValue v) others
+
+  pub PairsAt : (sheet words : List ℕ) (i : ℕ) → Pairs → Type 0
+  PairsAt sheet words i noPairs = Unit {0}
+  PairsAt sheet words i (pair key v others) =
+      EntryAt keyHead sheet words i (1 + sizeOfValue v) (i + 1) key
+      × ValueAt sheet words (i + 1) v
+      × PairsAt sheet words (i + (1 + sizeOfValue v)) others
+
+abbrev mutual
+  pub ConditionAt : (sheet words : List ℕ) (i : ℕ) → Condition → Type 0
+  ConditionAt sheet words i (literal e truth) = EntryAt conditionHead sheet words i 1 e (literalHead truth)
+  ConditionAt sheet words i (many e op children) =
+      EntryAt conditionHead sheet words i (1 + sizeOfConditions children) e (manyHead op (countOfConditions children))
+      × ConditionsAt sheet words (i + 1) children
+  ConditionAt sheet words i (negation e child) =
+      EntryAt conditionHead sheet words i (1 + sizeOfCondition child) e negationHead × ConditionAt sheet words (i + 1) child
+  ConditionAt sheet words i (one e op v) =
+      EntryAt conditionHead sheet words i (1 + sizeOfValue v) e (oneHead op) × ValueAt sheet words (i + 1) v
+  ConditionAt sheet words i (two e op left right) =
+      EntryAt conditionHead sheet words i (1 + (sizeOfValue left + sizeOfValue right)) e (twoHead op)
+      × ValueAt sheet words (i + 1) left
+      × ValueAt sheet words (i + 1 + sizeOfValue left) right
+  ConditionAt sheet words i (comparison e which left right) =
+      EntryAt conditionHead sheet words i (1 + (sizeOfValue left + sizeOfValue right)) e (comparisonHead which)
+      × ValueAt sheet words (i + 1) left
+      × ValueAt sheet words (i + 1 + sizeOfValue left) right
+  ConditionAt sheet words i (quantifier e op bind over body) =
+      EntryAt conditionHead sheet words i (1 + (sizeOfValue over + sizeOfCondition body)) e (quantifierHead op bind)
+      × ValueAt sheet words (i + 1) over
+      × ConditionAt sheet words (i + 1 + sizeOfValue over) body
+
+  pub ConditionsAt : (sheet words : List ℕ) (i : ℕ) → Conditions → Type 0
+  ConditionsAt sheet words i noConditions = Unit {0}
+  ConditionsAt sheet words i (condition c others) =
+      ConditionAt sheet words i c × ConditionsAt sheet words (i + sizeOfCondition c) others

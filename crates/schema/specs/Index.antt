@@ -1,0 +1,69 @@
+-- The index of a schema in the scratch: a slot of two words for each field. The children of a field stand in neighbouring slots, its
+-- element first, then its properties in the order of their names; they are followed by the slots of what lies below them, child by child.
+use Prim.Native.Nat.{ℕ, _+_, _*_, _/_, _%_, _≤_, _<_}
+use mathlib.Core.Bool.{Bool, true, false}
+use mathlib.Core.List.{List, []}
+use mathlib.Core.Option.{Option, none, some}
+use mathlib.Core.Path.{_≡_}
+use lib.ListN.{getD, drop}
+use Rattle.sheet.specs.Entries.{FieldHead, fieldHead}
+use Rattle.definition.specs.Tree.{Text, Field, field, Items, absent, element, Members, noMembers, member, Holder, Schema}
+
+-- the first word of slot `k`: where the field's entry starts, times 4,096, and its number
+abbrev pub placeWord : List ℕ → ℕ → ℕ
+placeWord words k = getD words (2048 + 2 * k) 0
+
+-- its second word: the slot of its first child
+abbrev pub childWord : List ℕ → ℕ → ℕ
+childWord words k = getD words (2048 + 2 * k + 1) 0
+
+unfoldable pub hasElement : Items → Bool
+hasElement absent = false
+hasElement (element f) = true
+
+unfoldable pub elements : Items → ℕ
+elements absent = 0
+elements (element f) = 1
+
+unfoldable pub countOf : Members → ℕ
+countOf noMembers = 0
+countOf (member name f others) = countOf others + 1
+
+-- how many fields lie below
+unfoldable mutual
+  pub below : Field → ℕ
+  below (field e kind o tag items members) = elements items + countOf members + (belowItems items + belowMembers members)
+
+  pub belowItems : Items → ℕ
+  belowItems absent = 0
+  belowItems (element f) = below f
+
+  pub belowMembers : Members → ℕ
+  belowMembers noMembers = 0
+  belowMembers (member name f others) = below f + belowMembers others
+
+-- the entry at byte `start` has that head
+pub record HeadAt (sheet : List ℕ) (start : ℕ) (h : FieldHead) : Type 0 where
+  pub rest : List ℕ
+  pub reads : fieldHead (drop start sheet) ≡ some (h, rest)
+
+-- slot `k` is that of a field with that name; the slots of what lies below it begin at `low`
+abbrev mutual
+  pub FieldAt : (sheet words : List ℕ) (k low : ℕ) → Text → Field → Type 0
+  FieldAt sheet words k low name (field e kind o tag items members) =
+      (placeWord words k % 4096 ≡ e)
+      × HeadAt sheet (placeWord words k / 4096)
+      (record { kind = kind; isOpen = o; hasItems = hasElement items; count = countOf members; name = name; tag = tag })
+      × (childWord words k ≡ low)
+      × ItemsAt sheet words low (low + (elements items + countOf members)) items
+      × MembersAt sheet words (low + elements items) (low + (elements items + countOf members) + belowItems items) members
+
+  pub ItemsAt : (sheet words : List ℕ) (k low : ℕ) → Items → Type 0
+  ItemsAt sheet words k low absent = Unit {0}
+  ItemsAt sheet words k low (element f) = FieldAt sheet words k low [] f
+
+  -- the slots from `k` on are those of the members, and what lies below them follows from `low` on
+  pub MembersAt : (sheet words : List ℕ) (k low : ℕ) → Members → Type 0
+  MembersAt sheet words k low noMembers = Unit {0}
+  MembersAt sheet words k low (member name f others) =
+      FieldAt sheet words k low name f × MembersAt sheet words (k + 1) (low + below f) others

@@ -1,0 +1,5 @@
+pub mod CollectionDetails
+pub mod Calls
+pub mod Edges
+pub mod Widened
+pub mod Slips
