@@ -4,7 +4,8 @@ use libc::STDIN_FILENO;
 use libc::STDOUT_FILENO;
 use rule::RuleRead;
 use schema::read::SchemaRead;
-ghost use Prim.Native.Nat.{_≤_};
+ghost use Prim.Native.Nat.{_+_, _≤_};
+ghost use lib.ListN.{length};
 
 const HEAD_BYTES: usize = 8;
 
@@ -31,7 +32,7 @@ fn digit(s: &[u8], at: usize) -> usize
 
 // Three digits.
 fn three(s: &[u8], at: usize) -> usize
-    requires { ⌜ at ≤ 1048576 ⌝ }
+    requires { ⌜ at ≤ length (now s) + 8 ⌝ }
     ensures { λ r. ⌜ r ≤ 999 ⌝ }
 {
     digit(s, at) * 100 + digit(s, at + 1) * 10 + digit(s, at + 2)
@@ -73,19 +74,17 @@ fn write_verdict(accepted: bool, count: u64) {
     }
 }
 
-fn main() {
-    let mut buffer = [0u8; 1048576];
-    let n = io::read_full(STDIN_FILENO, &mut buffer);
+fn run(s: &[u8]) {
     let mut at: usize = 0;
     let mut count: u64 = 0;
     let mut good: u64 = 0;
-    while at < n {
+    while at < s.len() {
         let start = at + HEAD_BYTES;
-        let end = start + three(&buffer, at + 1) * 1000 + three(&buffer, at + 4);
-        if n < end {
-            break;
+        let end = start + three(s, at + 1) * 1000 + three(s, at + 4);
+        if s.len() < end {
+            return;
         }
-        let accepted = accepts(buffer[at], &buffer[start..end]);
+        let accepted = accepts(s[at], &s[start..end]);
         write_verdict(accepted, count);
         if accepted {
             good += 1;
@@ -98,4 +97,10 @@ fn main() {
     io::write_all(STDOUT_FILENO, b" of ");
     io::print_decimal(STDOUT_FILENO, count);
     io::write_all(STDOUT_FILENO, b"\n");
+}
+
+fn main() {
+    let mut buffer = [0u8; 524288];
+    let n = io::read_full(STDIN_FILENO, &mut buffer);
+    run(&buffer[..n]);
 }

@@ -9,7 +9,7 @@ use std::{env, fs, path::Path, process::exit};
 
 const SCHEMA: &str = "H,0,3,1,1\nF,1,0,0,0,1,-,a\nF,7,1,0,2,1,0,b\nF,6,0,1,0,1,-,c\nF,2,0,0,0,0,-,\nF,11,0,0,0,1,3,dtag\nF,8,0,0,0,2,-,ce\nF,10,0,0,0,1,-,f\n";
 const RULE: &str = "R,4,-,name\nC,2,3,\nC,8,0,\nV,5,10,$fields.ab\nV,7,2,\nK,1,k\nV,4,4,-1.5\nK,1,l\nV,6,1,\nV,1,0,\nC,18,3,\nV,2,0,\nV,3,0,\nC,20,1,b\nV,5,4,$b.c\nC,4,0,\nC,1,1,\n";
-const OTHERS: &[u8] = b"029,\n-x\x80";
+const OTHERS: &[u8] = b"0,\n-\x80";
 
 /// The cases so far: each a letter (`S` or `R`) and a sheet.
 struct Cases(Vec<(u8, Vec<u8>)>);
