@@ -27,6 +27,11 @@ pub fn template(value: &Value, setting: &Setting<'_>) -> Result<(), DefinitionEr
     validate_template(value, setting.label, setting.scope())
 }
 
+/// Whether the instant reader takes the text; the reader itself may be private to its crate.
+pub fn is_instant(text: &str) -> bool {
+    crate::timestamp::parse(text).is_some()
+}
+
 /// The words with which a message says what a kind may read: its noun and the list.
 pub fn readable(kind: u64) -> (&'static str, &'static str) {
     let kind = scope_kind(kind);

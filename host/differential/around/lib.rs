@@ -8,10 +8,10 @@ pub mod error;
 pub mod identity;
 pub mod number;
 pub mod observed;
-pub mod timestamp;
 pub mod validation;
 
 mod runtime;
+mod timestamp;
 
 pub use definition::*;
 pub use error::*;

@@ -1,12 +1,13 @@
 //! Instants: the model's reading held against a second one, written apart from it.
 //!
-//! The reader of the Rust is not at hand. Where a checkout brings it, `entity_core::timestamp` is that reader, and it is asked too.
+//! The reader of the Rust is not at hand. Where the sources bring it, `is_instant` asks it; otherwise it asks the stand-in.
 
 #[path = "../../around/timestamp.rs"]
 mod second;
 
 use crate::generate::values::{INSTANTS, NO_INSTANTS};
 use differential::model::instant;
+use entity_core::validation::entry::is_instant;
 
 /// Characters that are inserted and put in place of others: every ASCII one, white space, and digits that are not ASCII.
 fn characters() -> impl Iterator<Item = char> + Clone {
@@ -65,7 +66,7 @@ fn same(text: &str) -> Result<(), String> {
     if model != other {
         return Err(format!("{text:?}: the model reads {model:?}, the second reading {other:?}"));
     }
-    if model.is_some() != entity_core::timestamp::parse(text).is_some() {
+    if model.is_some() != is_instant(text) {
         return Err(format!("{text:?}: the model reads {model:?}, the Rust otherwise"));
     }
     Ok(())

@@ -177,7 +177,8 @@ fn finite(random: &mut Random) -> String {
 /// A number whose first digit stands at the height of the bound's, or one place off.
 pub fn near_bound(random: &mut Random) -> String {
     let bound = bound();
-    let keep = random.between(1, bound.len());
+    // All digits often enough that the bound itself comes.
+    let keep = if random.chance(20) { bound.len() } else { random.between(1, bound.len()) };
     let tail = if random.chance(50) { 0 } else { random.between(0, 20) };
     let mantissa = format!("{}{}", &bound[..keep], digits(random, tail));
     let point = random.between(1, mantissa.len());
