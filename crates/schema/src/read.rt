@@ -4,6 +4,7 @@ use crate::field::MAX_FIELD_NESTING;
 use crate::field::ManyRead;
 use crate::index::Holder;
 use crate::index::MAX_SLOTS;
+use definition::MAX_SHEET_BYTES;
 use sheet::schema::HolderHead;
 ghost use mathlib.Core.Path.{_≡_};
 ghost use Prim.Native.Nat.{_≤_};
@@ -11,9 +12,6 @@ ghost use lib.ListN.{length};
 ghost use Rattle.schema.specs.Fields.{Ready};
 ghost use Rattle.sheet.specs.Places.{holderOf, argumentsOf};
 ghost use Rattle.schema.specs.Read.{HolderPost, ArgumentsPost, SchemaPost};
-
-// No sheet is longer.
-pub const MAX_SHEET_BYTES: usize = 30000;
 
 pub enum Arguments {
     Are(Holder),
