@@ -1,6 +1,5 @@
 -- Laws of a whole file: each way through the code that takes it apart.
 use Prim.Native.Nat.{ℕ, suc, _+_, _-_, _<_, _≤_, min}
-use mathlib.Core.Bool.{Bool, true, false}
 use mathlib.Core.List.{List, [], _∷_}
 use mathlib.Core.Option.{Option, none, some, Option·map, Option·none-ne-some}
 use mathlib.Core.Path.{_≡_, refl, sym, ap, _∙_}
@@ -9,13 +8,12 @@ use native.Mathlib.Numerals.{add-one}
 use lib.ListN.{length, take, drop, getD, length-drop, drop-of-length-le}
 use lib.Seq.{drop-cons, drop-drop, getD-drop}
 use lib.Dec.{leb, eqb}
-use borrow.Author.Tests.{le-leb, lt-leb, leb-true, eq-eqb, ne-eqb, eqb-true, eqb-false}
+use borrow.Author.Tests.{le-leb, lt-leb, leb-true, eq-eqb, eqb-true, eqb-false}
 use Rattle.sheet.specs.Reader.{Reader, _>>=_, _>>_, andThen, pure}
 use Rattle.sheet.specs.ReaderLaws.{by-test}
 use Rattle.sheet.specs.Entries.{byte, bytes}
 use Rattle.check_file.specs.File.{maxFile, Parts, field, end, texts, wholeFile, takenApart}
-use Rattle.check_file.specs.Places.{tooLarge, ReadsTo, partOf, partsAt, Lies, AllLie, TextsAre, answerable, TakenIs}
-use Rattle.check_file.specs.declared.file.Placed.{Placed}
+use Rattle.check_file.specs.Places.{tooLarge, ReadsTo, partOf, partsAt, TextsAre, answerable, TakenIs}
 use Rattle.check_file.specs.declared.file.Taken.{Taken}
 use Rattle.check_file.specs.declared.file.Taken.the-variants.{Apart, OtherForm}
 

@@ -1,8 +1,8 @@
 -- Laws of numerals at a place of the file: each way through the code's readers.
 use Prim.Native.Nat.{ℕ, _+_, _*_, _-_, _<_, _≤_, min}
 use mathlib.Core.Bool.{true, false}
-use mathlib.Core.List.{List, [], _∷_}
-use mathlib.Core.Option.{Option, none, some}
+use mathlib.Core.List.{List}
+use mathlib.Core.Option.{none, some}
 use mathlib.Core.Path.{_≡_, refl, sym, ap, _∙_}
 use native.Mathlib.Omega.{arith}
 use native.Mathlib.Numerals.{add-one}

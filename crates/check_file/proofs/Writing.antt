@@ -1,5 +1,5 @@
 -- Writes one behind the other.
-use Prim.Native.Nat.{ℕ, suc, _+_, _*_, _/_, _%_, _≤_, _<_, min}
+use Prim.Native.Nat.{ℕ, suc, _+_, _/_, _%_, _≤_, _<_, min}
 use native.Mathlib.Nat.{add-zero, add-suc, suc-add}
 use native.Mathlib.Numerals.{add-one}
 use native.Mathlib.Omega.{arith}
@@ -10,9 +10,10 @@ use lib.Seq.{sets, length-sets, set-out, take-suc, take-all}
 use lib.Dec.{leb}
 use borrow.Author.Tests.{leb-true, leb-false}
 use Rattle.sheet.specs.Numeral.{decimalOf}
-use Rattle.sheet.specs.NumeralLaws.{decimalOf-one, decimalOf-digit}
+use Rattle.sheet.specs.NumeralLaws.{decimalOf-one}
 use Rattle.sheet.specs.ReaderLaws.{by-test}
 use Rattle.check_file.specs.Line.{fieldOf, written, lineOf, numbers}
+use Rattle.check_file.specs.LineLaws.{decimalOf-last}
 use Rattle.check_file.specs.Wrote.{Wrote}
 
 sets-past : (bytes l : List ℕ) (i : ℕ) → length l ≤ i → sets l i bytes ≡ l
@@ -90,12 +91,7 @@ pub wrote-digits : (n : ℕ) {before middle after : List ℕ} {at m next : ℕ}
     → Wrote before middle at (decimalOf (n / 10)) m
     → Wrote middle after m ((48 + n % 10) ∷ []) next
     → Wrote before after at (decimalOf n) next
-wrote-digits n {before} {middle} {after} {at} {m} {next} more u w =
-    let whole : n / 10 * 10 + n % 10 ≡ n = omega arith in
-    let e : decimalOf n ≡ decimalOf (n / 10) ++ ((48 + n % 10) ∷ []) =
-    ap decimalOf (sym whole) ∙ decimalOf-digit (n / 10) (n % 10) (omega arith) (omega arith)
-    in
-    rw e (wrote-then u w)
+wrote-digits n more u w = rw (decimalOf-last n more) (wrote-then u w)
 
 pub wrote-field : (n : ℕ) {before middle after : List ℕ} {at m next : ℕ}
     → Wrote before middle at (decimalOf n) m

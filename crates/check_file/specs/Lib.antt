@@ -2,5 +2,6 @@ pub mod File
 pub mod Places
 pub mod Line
 pub mod Wrote
+pub mod LineLaws
 pub mod Output
 pub mod OutputLaws

@@ -1,18 +1,18 @@
 -- What is printed, by what the code answers: the parts of the file as it places them, and a call's run.
-use Prim.Native.Nat.{ℕ, _+_, _≤_, _<_, min}
-use mathlib.Core.Bool.{true, false, _&&_, and-false}
-use mathlib.Core.List.{List, [], _++_}
+use Prim.Native.Nat.{ℕ, _≤_, _<_, min}
+use mathlib.Core.Bool.{false, _&&_, and-false}
+use mathlib.Core.List.{List, []}
 use mathlib.Core.Option.{Option, none, some, Option·map}
 use mathlib.Core.Path.{_≡_, refl, sym, ap, _∙_}
 use native.Mathlib.Omega.{arith}
-use lib.ListN.{length, take, drop}
-use lib.Seq.{sets, sets-eq, take-at}
+use lib.ListN.{length, take}
 use lib.Dec.{leb}
 use borrow.Author.Tests.{leb-true, leb-false, lt-leb}
 use Rattle.sheet.specs.ReaderLaws.{by-test}
 use Rattle.validation.specs.Result.{Call, Answer, refused, accepted, defect, isWithin, refusals, firstRefusal, refusedOr, resultOf, numbersOf, pathAfter, Run, callOf, Meets}
 use Rattle.check_file.specs.File.{Parts, takenApart}
 use Rattle.check_file.specs.Line.{lineOf}
+use Rattle.check_file.specs.LineLaws.{sets-front}
 use Rattle.check_file.specs.Places.{tooLarge, partsAt, answerable}
 use Rattle.check_file.specs.Output.{callFor, pathIn, answered, printed, outputOf}
 use Rattle.check_file.specs.declared.file.Placed.{Placed}
@@ -75,9 +75,7 @@ path-kept : (a : Answer) (before : List ℕ) → length (pathIn a) ≤ length be
 unfolding numbersOf pathAfter pathIn
 path-kept (refused n) before fits = refl
 path-kept (accepted n) before fits = refl
-path-kept (defect d) before fits =
-    ap (λ (l : List ℕ). take (length (d .path)) l) (sets-eq (d .path) before 0 (omega arith))
-    ∙ take-at (d .path) (drop (0 + length (d .path)) before) (length (d .path)) refl
+path-kept (defect d) before fits = sets-front (d .path) before fits
 
 pub answered-run : (p : Parts) (r : Run) → callOf r ≡ callFor p → Meets r → length (pathIn (resultOf (callFor p))) ≤ length (r .pathBefore)
     → answered (resultOf (callFor p)) ≡ lineOf (r .result) (take (r .result .pathLength) (r .path))

@@ -1,42 +1,32 @@
+-- `check_file::file::texts` meets its contract: counts that do not add up, no line end behind the label, or the three texts.
 use Prim.Native.Nat.{_+_}
 use Rattle.check_file.proofs.Apart.{placed-length, placed-byte, placed-all}
 use native.Mathlib.Omega.{arith}
 use borrow.Author.Needs.{needs}
 use Rattle.check_file.proofs.file.texts.Statement.{statement}
 use Rattle.check_file.proofs.file.texts.Tie as tie
-use Rattle.check_file.proofs.file.texts.Reads as reads
-use Rattle.check_file.proofs.file.texts.Lts as lts
-use Rattle.check_file.proofs.file.wide.Reads as wide-reads
 
--- src/file.rt:38:21
 wide-requires : tie.Need-wide-requires
 wide-requires c κs = search needs
 
--- src/file.rt:38:16
 add-line : tie.Need-add-line
 add-line c = search needs
 
--- src/file.rt:39:18
 add-middle : tie.Need-add-middle
 add-middle c = search needs
 
--- src/file.rt:39:29
 wide-requires-2 : tie.Need-wide-requires-2
 wide-requires-2 c κs = search needs
 
--- src/file.rt:39:18
 add-middle-2 : tie.Need-add-middle-2
 add-middle-2 c = search needs
 
--- src/file.rt:40:24
 wide-requires-3 : tie.Need-wide-requires-3
 wide-requires-3 c κs = search needs
 
--- src/file.rt:40:15
 add-end : tie.Need-add-end
 add-end c = search needs
 
--- src/file.rt:42:9
 returns : tie.Need-returns
 returns c =
     let line = c .before .before .before .before .before .args .at + c .before .before .before .wide .result in
@@ -44,15 +34,12 @@ returns c =
     placed-length (c .before .before .before .before .before .args .file .now) (c .before .before .before .before .before .args .at) (c .before .before .before .before .before .args .kind) (c .before .before .before .before .before .args .semantics) (c .before .before .before .before .before .args .label) (c .before .before .before .before .before .args .schema) (c .before .before .before .before .before .args .rule) line middle (middle + c .before .wide3 .result) (c .before .before .before .before .before .pre)
     (omega (arith, c .before .before .before .wide .ensures)) (omega (arith, c .before .before .wide2 .ensures)) (omega (arith, c .before .wide3 .ensures)) (c .if1 .taken)
 
--- src/file.rt:44:8
 shared-slice-read-if2 : tie.Need-shared-slice-read-if2
 shared-slice-read-if2 c = search needs
 
--- src/file.rt:49:35
 add-t17 : tie.Need-add-t17
 add-t17 c = search needs
 
--- src/file.rt:45:9
 returns-2 : tie.Need-returns-2
 returns-2 c =
     let line = c .before .before .before .before .before .before .before .args .at + c .before .before .before .before .before .wide .result in
@@ -60,7 +47,6 @@ returns-2 c =
     placed-all (c .before .before .before .before .before .before .before .args .file .now) (c .before .before .before .before .before .before .before .args .at) (c .before .before .before .before .before .before .before .args .kind) (c .before .before .before .before .before .before .before .args .semantics) (c .before .before .before .before .before .before .before .args .label) (c .before .before .before .before .before .before .before .args .schema) (c .before .before .before .before .before .before .before .args .rule) line middle (middle + c .before .before .before .wide3 .result) (c .before .before .before .before .before .before .before .pre)
     (omega (arith, c .before .before .before .before .before .wide .ensures)) (omega (arith, c .before .before .before .before .wide2 .ensures)) (omega (arith, c .before .before .before .wide3 .ensures)) (c .before .before .if1 .left) (c .if2 .taken)
 
--- src/file.rt:34:1
 returns-3 : tie.Need-returns-3
 returns-3 c =
     let line = c .before .before .before .before .before .before .before .args .at + c .before .before .before .before .before .wide .result in

@@ -1,5 +1,5 @@
+-- `check_file::line::put_decimal` meets its contract: all digits but the last, and the last. The measure is the number.
 use Rattle.check_file.proofs.Writing.{wrote-digit, wrote-digits}
-use native.Mathlib.Omega.{arith}
 use borrow.Author.Needs.{needs}
 use Prim.Native.Nat.{ℕ, _<_}
 use borrow.Fn.Kinds.{In}
@@ -25,47 +25,36 @@ put-decimal-below t =
 abbrev cs-put-decimal : ℕ → put-decimal-lts.Claims
 cs-put-decimal t = (push-reads.Asked, push-reads.Learnt, put-decimal-below t, put-decimal.Post)
 
--- src/line.rt:40:35
 put-decimal-cast-push : (t : ℕ) → put-decimal-lts.Need-cast-push (cs-put-decimal t) (put-decimal-at t) put-decimal.Post
 put-decimal-cast-push t c = search needs
 
--- src/line.rt:40:30
 put-decimal-add-push : (t : ℕ) → put-decimal-lts.Need-add-push (cs-put-decimal t) (put-decimal-at t) put-decimal.Post
 put-decimal-add-push t c = search needs
 
--- src/line.rt:40:9
 put-decimal-push-requires : (t : ℕ) → put-decimal-lts.Need-push-requires (cs-put-decimal t) (put-decimal-at t) put-decimal.Post
 put-decimal-push-requires t c κs = search needs
 
--- src/line.rt:40:9
 put-decimal-same-length : (t : ℕ) → put-decimal-lts.Need-same-length (cs-put-decimal t) (put-decimal-at t) put-decimal.Post
 put-decimal-same-length t c = search needs
 
--- src/line.rt:40:9
 put-decimal-returns : (t : ℕ) → put-decimal-lts.Need-returns (cs-put-decimal t) (put-decimal-at t) put-decimal.Post
 put-decimal-returns t c = search (wrote-digit, needs)
 
--- src/line.rt:42:9
 put-decimal-put-decimal-requires : (t : ℕ) → put-decimal-lts.Need-put-decimal-requires (cs-put-decimal t) (put-decimal-at t) put-decimal.Post
 put-decimal-put-decimal-requires t c κs = search needs
 
--- src/line.rt:43:26
 put-decimal-cast-push-2 : (t : ℕ) → put-decimal-lts.Need-cast-push-2 (cs-put-decimal t) (put-decimal-at t) put-decimal.Post
 put-decimal-cast-push-2 t c = search needs
 
--- src/line.rt:43:21
 put-decimal-add-push-2 : (t : ℕ) → put-decimal-lts.Need-add-push-2 (cs-put-decimal t) (put-decimal-at t) put-decimal.Post
 put-decimal-add-push-2 t c = search needs
 
--- src/line.rt:43:5
 put-decimal-push-requires-2 : (t : ℕ) → put-decimal-lts.Need-push-requires-2 (cs-put-decimal t) (put-decimal-at t) put-decimal.Post
 put-decimal-push-requires-2 t c κs = search needs
 
--- src/line.rt:35:1
 put-decimal-same-length-2 : (t : ℕ) → put-decimal-lts.Need-same-length-2 (cs-put-decimal t) (put-decimal-at t) put-decimal.Post
 put-decimal-same-length-2 t c = search needs
 
--- src/line.rt:35:1
 put-decimal-returns-2 : (t : ℕ) → put-decimal-lts.Need-returns-2 (cs-put-decimal t) (put-decimal-at t) put-decimal.Post
 put-decimal-returns-2 t c = search (wrote-digits, needs)
 

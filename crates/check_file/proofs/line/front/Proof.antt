@@ -1,3 +1,4 @@
+-- `check_file::line::front` meets its contract.
 use Prim.Native.Nat.{ℕ, _-_}
 use mathlib.Core.Path.{_≡_, ap, sym}
 use lib.ListN.{take}
@@ -6,28 +7,21 @@ use native.Mathlib.Omega.{arith}
 use borrow.Author.Needs.{needs}
 use Rattle.check_file.proofs.line.front.Statement.{statement}
 use Rattle.check_file.proofs.line.front.Tie as tie
-use Rattle.check_file.proofs.line.front.Reads as reads
-use Rattle.check_file.proofs.line.front.Lts as lts
 
--- src/line.rt:61:16
 sub-result : tie.Need-sub-result
 sub-result c = search needs
 
--- src/line.rt:61:16
 part-result-start : tie.Need-part-result-start
 part-result-start c = search needs
 
--- src/line.rt:61:16
 part-result-end : tie.Need-part-result-end
 part-result-end c = search needs
 
--- src/line.rt:61:9
 returns : tie.Need-returns
 returns c =
     let whole : c .before .before .args .n - 0 ≡ c .before .before .args .n = omega arith in
     ap (λ (k : ℕ). take k (c .before .before .args .bytes .now)) whole
 
--- src/line.rt:56:1
 returns-2 : tie.Need-returns-2
 returns-2 c = sym (take-all (c .before .args .n) (c .before .args .bytes .now) (omega arith))
 

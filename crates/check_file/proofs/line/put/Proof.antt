@@ -1,3 +1,4 @@
+-- `check_file::line::put` meets its contract: after `i` turns the first `i` bytes are written. The measure is what is left of the bytes.
 use Prim.Native.Nat.{_≤_, _-_}
 use lib.ListN.{length, take}
 use Rattle.check_file.specs.Wrote.{Wrote}
@@ -6,9 +7,6 @@ use native.Mathlib.Omega.{arith}
 use borrow.Author.Needs.{needs}
 use Rattle.check_file.proofs.line.put.Statement.{statement}
 use Rattle.check_file.proofs.line.put.Tie as tie
-use Rattle.check_file.proofs.line.put.Reads as reads
-use Rattle.check_file.proofs.line.put.Lts as lts
-use Rattle.check_file.proofs.line.push.Reads as push-reads
 
 abbrev Inv-loop : tie.InvT-loop
 Inv-loop out₀ at bytes next₀ i₀ out next i = (i ≤ length bytes) × Wrote out₀ out at (take i bytes) next
@@ -16,35 +14,27 @@ Inv-loop out₀ at bytes next₀ i₀ out next i = (i ≤ length bytes) × Wrote
 abbrev μ-loop : tie.MeasureT-loop
 μ-loop out₀ at bytes next₀ i₀ out next i = length bytes - i
 
--- src/line.rt:28:5
 loop-holds : tie.Need-loop-holds Inv-loop μ-loop
 loop-holds c = (omega arith, search (wrote-nothing, needs))
 
--- src/line.rt:29:32
 shared-slice-read-push : tie.Need-shared-slice-read-push Inv-loop μ-loop
 shared-slice-read-push c = search needs
 
--- src/line.rt:29:9
 push-requires : tie.Need-push-requires Inv-loop μ-loop
 push-requires c κs = search needs
 
--- src/line.rt:30:9
 add-i : tie.Need-add-i Inv-loop μ-loop
 add-i c = search needs
 
--- src/line.rt:28:5
 loop-less : tie.Need-loop-less Inv-loop μ-loop
 loop-less c = search needs
 
--- src/line.rt:28:5
 loop-again : tie.Need-loop-again Inv-loop μ-loop
 loop-again c = (search needs, search (wrote-more, needs))
 
--- src/line.rt:22:1
 same-length : tie.Need-same-length Inv-loop μ-loop
 same-length c = wrote-kept (c .before .loop .inv .1)
 
--- src/line.rt:22:1
 returns : tie.Need-returns Inv-loop μ-loop
 returns c = search (wrote-all, needs)
 

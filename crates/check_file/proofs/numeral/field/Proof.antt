@@ -1,45 +1,33 @@
+-- `check_file::numeral::field` meets its contract: a numeral, and a comma or not.
 use Rattle.check_file.proofs.Reading.{field-none, field-end, field-other, field-some}
-use native.Mathlib.Omega.{arith}
 use borrow.Author.Needs.{needs}
 use Rattle.check_file.proofs.numeral.field.Statement.{statement}
 use Rattle.check_file.proofs.numeral.field.Tie as tie
-use Rattle.check_file.proofs.numeral.field.Reads as reads
-use Rattle.check_file.proofs.numeral.field.Lts as lts
-use Rattle.check_file.proofs.numeral.numeral.Reads as numeral-reads
 
--- src/numeral.rt:75:40
 numeral-requires : tie.Need-numeral-requires
 numeral-requires c κs = search needs
 
--- src/numeral.rt:75:25
 enum-known-value : tie.Need-enum-known-value
 enum-known-value c = search needs
 
--- src/numeral.rt:76:9
 enum-told : tie.Need-enum-told
 enum-told c = search needs
 
--- src/numeral.rt:76:9
 returns : tie.Need-returns
 returns c = field-none (c .before .before .before .before .args .s .now) (c .before .before .before .before .args .at) (rw (c .enum-told .given .1) at (c .before .before .numeral .ensures))
 
--- src/numeral.rt:79:9
 returns-2 : tie.Need-returns-2
 returns-2 c = let e = rw (c .before .before .value .given .1) at (c .before .before .before .before .numeral .ensures) in field-end e (c .if1 .taken)
 
--- src/numeral.rt:81:8
 shared-slice-read-if2 : tie.Need-shared-slice-read-if2
 shared-slice-read-if2 c = search needs
 
--- src/numeral.rt:82:39
 add-t10 : tie.Need-add-t10
 add-t10 c = search needs
 
--- src/numeral.rt:82:9
 returns-3 : tie.Need-returns-3
 returns-3 c = let e = rw (c .before .before .before .before .value .given .1) at (c .before .before .before .before .before .before .numeral .ensures) in field-some e (c .before .before .if1 .left) (c .if2 .taken)
 
--- src/numeral.rt:72:1
 returns-4 : tie.Need-returns-4
 returns-4 c = let e = rw (c .before .before .before .before .value .given .1) at (c .before .before .before .before .before .before .numeral .ensures) in field-other e (c .before .before .if1 .left) (c .if2 .left)
 
