@@ -1,14 +1,14 @@
 -- The index of a rule sheet in the scratch: a word for each entry, in order. The word of entry i + 1 stands at i: where the entry starts, times
 -- 4,096, and the word behind its subtree, so that a subtree can be skipped.
-use Prim.Native.Nat.{ℕ, _+_, _*_, _/_, _%_}
+use Prim.Native.Nat.{ℕ, _+_, _/_, _%_}
 use mathlib.Core.List.{List}
-use mathlib.Core.Option.{Option, none, some}
+use mathlib.Core.Option.{some}
 use mathlib.Core.Path.{_≡_}
 use lib.ListN.{getD, drop}
 use Rattle.sheet.specs.Reader.{Reader}
-use Rattle.sheet.specs.Entries.{ConditionHead, literalHead, manyHead, negationHead, oneHead, twoHead, comparisonHead, quantifierHead, conditionHead, ValueHead, constantHead, numberHead, stringHead, arrayHead, objectHead, valueHead, keyHead, RuleHead, ruleHead}
+use Rattle.sheet.specs.Entries.{literalHead, manyHead, negationHead, oneHead, twoHead, comparisonHead, quantifierHead, conditionHead, constantHead, numberHead, stringHead, arrayHead, objectHead, valueHead, keyHead, ruleHead}
 use Rattle.sheet.specs.Entries as Entries
-use Rattle.definition.specs.Tree.{Text, Value, constant, number, string, array, object, Values, noValues, value, Pairs, noPairs, pair, Condition, literal, many, negation, one, two, comparison, quantifier, Conditions, noConditions, condition, Rule, rule, template}
+use Rattle.definition.specs.Tree.{Value, constant, number, string, array, object, Values, noValues, value, Pairs, noPairs, pair, Condition, literal, many, negation, one, two, comparison, quantifier, Conditions, noConditions, condition, Rule, rule, template}
 
 abbrev pub startOf : List ℕ → ℕ → ℕ
 startOf words i = getD words i 0 / 4096
@@ -117,3 +117,14 @@ abbrev mutual
   ConditionsAt sheet words i noConditions = Unit {0}
   ConditionsAt sheet words i (condition c others) =
       ConditionAt sheet words i c × ConditionsAt sheet words (i + sizeOfCondition c) others
+
+-- the whole sheet: word 0 is that of its `R` or `T`
+abbrev pub RuleAt : (sheet words : List ℕ) → Rule → Type 0
+RuleAt sheet words (rule name message assert) =
+    EntryAt ruleHead sheet words 0 (1 + sizeOfCondition assert) 1 (Entries.rule name message) × ConditionAt sheet words 1 assert
+RuleAt sheet words (template v) =
+    EntryAt ruleHead sheet words 0 (1 + sizeOfValue v) 1 Entries.template × ValueAt sheet words 1 v
+
+unfoldable pub sizeOfRule : Rule → ℕ
+sizeOfRule (rule name message assert) = 1 + sizeOfCondition assert
+sizeOfRule (template v) = 1 + sizeOfValue v

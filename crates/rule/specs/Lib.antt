@@ -1,1 +1,5 @@
 pub mod Index
+pub mod IndexLaws
+pub mod Read
+pub mod Rule
+pub mod UniqueLaws

@@ -3,6 +3,10 @@ pub mod Reader
 pub mod Numeral
 pub mod Order
 pub mod Entries
+pub mod Parts
+pub mod Compares
+pub mod Pieces
+pub mod Places
 pub mod Write
 pub mod Within
 pub mod ReaderLaws

@@ -1,12 +1,12 @@
 -- A numeral is read back as it was written, and what is read as a numeral is one as it is written.
 use Prim.Native.Nat.{ℕ, zero, suc, _+_, _*_, _-_, _/_, _%_, _≤_, _<_}
-use mathlib.Core.Bool.{Bool, true, false, not, cond, _&&_, and-eq-true-iff}
+use mathlib.Core.Bool.{Bool, true, false, not, and-eq-true-iff}
 use mathlib.Core.List.{List, [], _∷_, _++_, append-assoc}
-use mathlib.Core.Option.{Option, none, some, Option·none-ne-some, Option·some-injective}
-use mathlib.Core.Path.{_≡_, refl, sym, ap, subst, _∙_}
+use mathlib.Core.Option.{some, Option·none-ne-some, Option·some-injective}
+use mathlib.Core.Path.{_≡_, refl, sym, ap, _∙_}
 use native.Mathlib.Omega.{arith}
 use lib.Dec.{leb, ltb, eqb}
-use borrow.Author.Tests.{ltb-true, ltb-false, leb-true, leb-false, eqb-true, eqb-false, lt-ltb, le-ltb, le-leb, lt-leb, eq-eqb, ne-eqb, not-true}
+use borrow.Author.Tests.{ltb-true, ltb-false, leb-true, eqb-true, eqb-false, lt-ltb, le-ltb, le-leb, ne-eqb, not-true}
 use Rattle.sheet.specs.Numeral.{isDigit, digits, decimal, decimalIn, decimalOf}
 use Rattle.sheet.specs.ReaderLaws.{Reads, by-test}
 
@@ -47,7 +47,7 @@ decimalIn-append (suc turns) n b t =
     by-test (ltb n 10) (λ e. rw e) (λ e. rw e (decimalIn-append turns (n / 10) ((48 + n % 10) ∷ b) t))
 
 -- a number's last digit stands last
-decimalOf-digit : (v d : ℕ) → 0 < v → d < 10 → decimalOf (v * 10 + d) ≡ decimalOf v ++ (48 + d) ∷ []
+pub decimalOf-digit : (v d : ℕ) → 0 < v → d < 10 → decimalOf (v * 10 + d) ≡ decimalOf v ++ (48 + d) ∷ []
 unfolding decimalOf
 decimalOf-digit v d h k =
     let q : (v * 10 + d) / 10 ≡ v = omega arith in
@@ -56,7 +56,7 @@ decimalOf-digit v d h k =
     ∙ rw (q, r) (decimalIn-turns (v * 10 + d) (suc v) v ((48 + d) ∷ []) (omega arith) (omega arith))
     ∙ decimalIn-append (suc v) v [] ((48 + d) ∷ [])
 
-decimalOf-one : (d : ℕ) → d < 10 → decimalOf d ≡ (48 + d) ∷ []
+pub decimalOf-one : (d : ℕ) → d < 10 → decimalOf d ≡ (48 + d) ∷ []
 unfolding decimalOf
 decimalOf-one d h = decimalIn-small d d [] (lt-ltb d 10 h)
 

@@ -3,3 +3,4 @@ pub mod Calls
 pub mod Edges
 pub mod Widened
 pub mod Slips
+pub mod ShutOut

@@ -6,7 +6,7 @@ use mathlib.Core.Path.{_≡_, refl}
 use Rattle.sheet.specs.Ascii.{ascii}
 use Rattle.definition.specs.Tree.{Text, Schema}
 use Rattle.definition.specs.Decode.{decodeSchema}
-use Rattle.widening.specs.Widening.{Level, marks, anything, kept, opened, closed, wider, neither, both, end, keep, more, WiderHolder, without, appear, stay, WiderSchema}
+use Rattle.widening.specs.Widening.{Level, marks, anything, kept, opened, closed, wider, neither, both, end, keep, more, without, appear, stay, WiderSchema}
 use Rattle.validation.specs.Result.{Call, Numbers, resultOf}
 use Rattle.validation.specs.Growth.{against, Widens, NotRefused}
 use Rattle.validation.specs.Demands.{Demand3, demand-3}

@@ -47,7 +47,7 @@ module _ (P : Check → Type 0) (bs : List Binder) (h : (n p : ℕ) (q : Questio
   every-reference : (e : ℕ) (o : Option Text) → Every P (referenceCheck bs e o)
   unfolding referenceCheck
   every-reference e none = tt
-  every-reference e (some t) = (h 18 e (readable t) (omega arith), tt)
+  every-reference e (some t) = (h 18 _ (readable t) (omega arith), tt)
 
   mutual
     unfolding references
@@ -110,7 +110,7 @@ module _ (P : Check → Type 0) (h : (n p : ℕ) (bs : List Binder) (q : Questio
         h 21 e bs _ (omega arith),
         every-append P (references bs over) _
             (every-references P bs (λ n p q d. h n p bs q (any-defect d)) over)
-            (h 22 e bs _ (omega arith), every-body (record { name = bind; over = over } ∷ bs) that),
+            (h 22 e bs _ (omega arith), every-body _ that),
       ),
     )
 
@@ -131,7 +131,7 @@ module _ (P : Check → Type 0) (h : (n p : ℕ) (bs : List Binder) (q : Questio
     (
       h 12 1 [] _ (omega arith),
       (
-        h 13 2 [] _ (omega arith),
+        h 13 _ [] _ (omega arith),
         every-append P (literalChecks setting assert) (body setting [] assert)
             (every-if P (setting .isService) (map literalCheck (literals assert)) [] (every-literal (literals assert)) tt)
             (every-body [] assert),
@@ -292,7 +292,7 @@ module _ (setting : Setting) (schema : Schema) where
         λ _. sure-append bs (references bs over) _ r (every-references (Under bs) bs (under bs) over)
             (λ ps. (
               record { resolved = r; explained = λ _. over-listed bs over r ps },
-              λ p. sure-body (record { name = bind; over = over } ∷ bs) (enter-resolved bind over (environment schema bs) p) that,
+              λ p. sure-body _ (enter-resolved bind over (environment schema bs) p) that,
             )),
       ),
     )
@@ -308,7 +308,7 @@ module _ (setting : Setting) (schema : Schema) where
     λ _. (
       fit-other 12 1 [] _ tt (λ n. omega arith),
       λ _. (
-        fit-other 13 2 [] _ tt (λ n. omega arith),
+        fit-other 13 _ [] _ tt (λ n. omega arith),
         λ _. sure-append [] (literalChecks setting assert) (body setting [] assert) tt
             (every-if (Under []) (setting .isService) (map literalCheck (literals assert)) [] (under-literals (literals assert)) tt)
             (λ _. sure-body [] tt assert),

@@ -1,0 +1,84 @@
+-- What a verdict shows of the check that fails: all that an answer is made of.
+use Prim.Native.Nat.{ℕ, _+_}
+use mathlib.Core.Bool.{cond}
+use mathlib.Core.List.{List, [], _∷_, _++_}
+use mathlib.Core.Option.{Option, none, some}
+use mathlib.Core.Path.{_≡_, refl, ap, _∙_}
+use lib.Dec.{eqb}
+use Rattle.definition.specs.Tree.{Text, Rule}
+use Rattle.reference.specs.Setting.{Setting}
+use Rattle.validation.specs.Check.{Binder, Check, entryOf}
+use Rattle.validation.specs.Judge.{Outcome, Verdict, allPass, failsAt, decide, judgeFrom}
+use Rattle.validation.specs.Location.{pathOf}
+use Rattle.validation.specs.Result.{Answer, accepted, defect, ownFamily, familyIn, overPlaceIn, answerOf}
+
+-- the `in` entry of the innermost quantifier whose body holds a check
+unfoldable pub overOf : List Binder → Option ℕ
+overOf [] = none
+overOf (b ∷ bs) = some (entryOf (b .over))
+
+pub data Shown : Type 0 where
+  passes : (passed : ℕ) → Shown
+  fails : (passed number place : ℕ) (over : Option ℕ) (detail : ℕ) → Shown
+
+unfoldable pub shownOf : Verdict → Shown
+shownOf (allPass n) = passes n
+shownOf (failsAt n c d) = fails n (c .number) (c .place) (overOf (c .binders)) d
+
+unfoldable pub familyOf : Option ℕ → ℕ → ℕ
+familyOf none family = family
+familyOf (some e) family = cond (eqb family 1) 8 family
+
+unfoldable pub overPlaceOf : Option ℕ → ℕ → ℕ
+overPlaceOf none family = 0
+overPlaceOf (some e) family = cond (eqb family 1) e 0
+
+unfoldable pub answerShown : Setting → (label : Text) → Rule → Shown → Answer
+answerShown setting label r (passes n) = accepted n
+answerShown setting label r (fails n number place over d) =
+    defect
+    (record {
+      number = number;
+      family = familyOf over (ownFamily setting number);
+      detail = d;
+      place = place;
+      overPlace = overPlaceOf over (ownFamily setting number);
+      passed = n;
+      path = pathOf label r number place;
+    })
+
+family-shown : (bs : List Binder) (f : ℕ) → familyIn bs f ≡ familyOf (overOf bs) f
+unfolding familyIn familyOf overOf
+family-shown [] f = refl
+family-shown (b ∷ bs) f = refl
+
+over-shown : (bs : List Binder) (f : ℕ) → overPlaceIn bs f ≡ overPlaceOf (overOf bs) f
+unfolding overPlaceIn overPlaceOf overOf
+over-shown [] f = refl
+over-shown (b ∷ bs) f = refl
+
+pub answer-shown : (setting : Setting) (label : Text) (r : Rule) (v : Verdict) → answerOf setting label r v ≡ answerShown setting label r (shownOf v)
+unfolding answerOf answerShown shownOf
+answer-shown setting label r (allPass n) = refl
+answer-shown setting label r (failsAt n c d) = rw (family-shown (c .binders) _, over-shown (c .binders) _)
+
+-- One list after another: the second is judged only if the first passes.
+
+unfoldable pub goOn : Shown → (ℕ → Shown) → Shown
+goOn (passes n) k = k n
+goOn (fails n number place over d) k = fails n number place over d
+
+decide-then : (ask : Check → Outcome) (o : Outcome) (n : ℕ) (c : Check) (v w : Verdict) (k : ℕ → Shown)
+    → shownOf w ≡ goOn (shownOf v) k
+    → shownOf (decide o n c w) ≡ goOn (shownOf (decide o n c v)) k
+unfolding decide shownOf goOn
+decide-then ask none n c v w k h = h
+decide-then ask (some d) n c v w k h = refl
+
+pub judge-append : (ask : Check → Outcome) (n : ℕ) (xs ys : List Check)
+    → shownOf (judgeFrom ask n (xs ++ ys)) ≡ goOn (shownOf (judgeFrom ask n xs)) (λ m. shownOf (judgeFrom ask m ys))
+unfolding judgeFrom shownOf goOn
+judge-append ask n [] ys = refl
+judge-append ask n (c ∷ xs) ys =
+    decide-then ask (ask c) n c (judgeFrom ask (n + 1) xs) (judgeFrom ask (n + 1) (xs ++ ys)) (λ m. shownOf (judgeFrom ask m ys))
+    (judge-append ask (n + 1) xs ys)

@@ -1,2 +1,0 @@
-mod Dots
-mod Digits

@@ -1,0 +1,49 @@
+-- `walk::path::first_dot` meets its contract.
+use Prim.Native.Nat.{_≤_, _-_}
+use lib.ListN.{length}
+use Rattle.walk.proofs.Dots.{Passed, passed-none, passed-more, passed-dot, passed-all}
+use native.Mathlib.Omega.{arith}
+use borrow.Author.Needs.{needs}
+use Rattle.walk.proofs.path.first_dot.Statement.{statement}
+use Rattle.walk.proofs.path.first_dot.Tie as tie
+
+abbrev Inv-loop : tie.InvT-loop
+Inv-loop path i₀ i = (i ≤ length path) × Passed path i
+
+abbrev μ-loop : tie.MeasureT-loop
+μ-loop path i₀ i = length path - i
+
+loop-holds : tie.Need-loop-holds Inv-loop μ-loop
+loop-holds c = (omega arith, passed-none _)
+
+shared-slice-read-if1 : tie.Need-shared-slice-read-if1 Inv-loop μ-loop
+shared-slice-read-if1 c = search needs
+
+returns : tie.Need-returns Inv-loop μ-loop
+returns c = search (passed-dot, needs)
+
+add-i : tie.Need-add-i Inv-loop μ-loop
+add-i c = search needs
+
+loop-less : tie.Need-loop-less Inv-loop μ-loop
+loop-less c = search needs
+
+loop-again : tie.Need-loop-again Inv-loop μ-loop
+loop-again c = search (passed-more, needs)
+
+returns-2 : tie.Need-returns-2 Inv-loop μ-loop
+returns-2 c = search (passed-all, needs)
+
+pub first-dot-spec : {M : Type 1} → statement M
+first-dot-spec =
+    tie.close
+    (tie.spec
+    Inv-loop
+    μ-loop
+    loop-holds
+    shared-slice-read-if1
+    returns
+    add-i
+    loop-less
+    loop-again
+    returns-2)

@@ -1,0 +1,14 @@
+-- What the first dot of a path parts.
+use Prim.Native.Nat.{ℕ, _+_, _<_}
+use mathlib.Core.List.{List, [], _∷_}
+use mathlib.Core.Path.{_≡_}
+use lib.ListN.{length, take, drop}
+use Rattle.reference.specs.Path.{split}
+use Rattle.walk.specs.declared.path.Dot.{Dot}
+use Rattle.walk.specs.declared.path.Dot.the-variants.{At, Nowhere}
+
+abbrev pub Cuts : List ℕ → Dot → Type 0
+Cuts path (At d) =
+    (d < length path)
+    × (split path ≡ record { first = take d path; others = split (drop (d + 1) path) .first ∷ split (drop (d + 1) path) .others })
+Cuts path Nowhere = split path ≡ record { first = path; others = [] }

@@ -1,0 +1,74 @@
+// Paths: segments parted by dots.
+use sheet::order::ByteOrder;
+use sheet::order::compare;
+ghost use mathlib.Core.Path.{_≡_};
+ghost use Rattle.reference.specs.Path.{isDigits, isOrdinal, isCount};
+ghost use Rattle.sheet.specs.Order.{sameBytes};
+ghost use Rattle.walk.specs.Dots.{Cuts};
+
+// Where a path is cut.
+pub enum Dot {
+    At(usize),
+    // The path is one segment.
+    Nowhere,
+}
+
+// The first dot of a path.
+pub fn first_dot(path: &[u8]) -> Dot
+    ensures { λ r. ⌜ Cuts (now (path .entry)) r ⌝ }
+{
+    let mut i = 0;
+    while i < path.len() {
+        if path[i] == b'.' {
+            return Dot::At(i);
+        }
+        i += 1;
+    }
+    Dot::Nowhere
+}
+
+fn is_digits(segment: &[u8]) -> bool
+    ensures { λ r. ⌜ r ≡ isDigits (now (segment .entry)) ⌝ }
+{
+    let mut i = 0;
+    while i < segment.len() {
+        let b = segment[i];
+        if b < b'0' {
+            return false;
+        }
+        if b'9' < b {
+            return false;
+        }
+        i += 1;
+    }
+    true
+}
+
+// `0`, or digits without a leading zero.
+pub fn is_ordinal(segment: &[u8]) -> bool
+    ensures { λ r. ⌜ r ≡ isOrdinal (now (segment .entry)) ⌝ }
+{
+    if segment.len() == 0 {
+        return false;
+    }
+    if segment[0] == b'0' {
+        return segment.len() == 1;
+    }
+    is_digits(segment)
+}
+
+pub fn same_bytes(a: &[u8], b: &[u8]) -> bool
+    ensures { λ r. ⌜ r ≡ sameBytes (now (a .entry)) (now (b .entry)) ⌝ }
+{
+    match compare(a, b) {
+        ByteOrder::Less => false,
+        ByteOrder::Same => true,
+        ByteOrder::Greater => false,
+    }
+}
+
+pub fn is_count(segment: &[u8]) -> bool
+    ensures { λ r. ⌜ r ≡ isCount (now (segment .entry)) ⌝ }
+{
+    same_bytes(segment, b"count")
+}
