@@ -1,4 +1,4 @@
-// Instants as text: a date, alone or with a time of day (docs/FORMAT.md, 'Text, numbers, instants').
+// Instants as text: a date, alone or with a time of day (docs/FORMAT.md, "Instants").
 ghost use mathlib.Core.Path.{_≡_};
 ghost use Prim.Native.Nat.{_<_, _≤_};
 ghost use lib.ListN.{getD};

@@ -17,7 +17,7 @@ ghost use Rattle.sheet.specs.Order.{sameBytes};
 ghost use Rattle.sheet.specs.Parts.{optionalOf};
 ghost use Rattle.walk.specs.Steps.{ItemSteps, ArraySteps, MapSteps, UnionSteps, MemberSteps, ScalarSteps, ServiceSteps, WalkSteps};
 
-// The kinds of fields that a walk tells apart; docs/FORMAT.md, "Schemas".
+// The kinds of fields that a walk tells apart; docs/FORMAT.md, "The schema sheet".
 pub const STRING: usize = 1;
 
 pub const ARRAY: usize = 6;
