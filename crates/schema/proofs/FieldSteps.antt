@@ -2,20 +2,19 @@
 use Prim.Native.Nat.{ℕ, zero, suc, _+_, _-_, _*_, _/_, _%_, _≤_, _<_}
 use mathlib.Core.Bool.{Bool, true, false}
 use mathlib.Core.List.{List}
-use mathlib.Core.Option.{Option, none, some}
-use mathlib.Core.Path.{_≡_, refl, sym, ap, subst, _∙_}
+use mathlib.Core.Option.{none, some}
+use mathlib.Core.Path.{_≡_, refl, sym, ap, _∙_}
 use native.Mathlib.Omega.{arith}
-use native.Mathlib.Nat.{add-assoc}
-use lib.ListN.{length, getD, drop}
+use lib.ListN.{length, drop}
 use borrow.Author.Tests.{lt-leb, le-leb}
 use Rattle.sheet.specs.Reader.{_>>=_, _>>_, andThen, pure, refuse}
 use Rattle.sheet.specs.Entries.{FieldHead, fieldHead}
-use Rattle.definition.specs.Tree.{Text, Field, field, Items, absent, element, Members}
+use Rattle.definition.specs.Tree.{field, Items, Members}
 use Rattle.definition.specs.Decode.{Ahead, entry, entered, announce, toCount, elementOf, membersOf, fieldIn}
-use Rattle.schema.specs.Index.{maxSlots, placeWord, childWord, hasElement, elements, countOf, below, belowItems, belowMembers, HeadAt, FieldAt, ItemsAt, MembersAt}
+use Rattle.schema.specs.Index.{maxSlots, placeWord, hasElement, elements, countOf, below, belowItems, HeadAt, FieldAt}
 use Rattle.schema.specs.IndexLaws.{ItemsAt-kept, elements-marked}
 use Rattle.schema.specs.Kept.{Kept, SlotKept, OthersKept}
-use Rattle.schema.specs.Fields.{ahead, SlotPut, Ready, Moved, FieldGood, ItemsGood, MembersGood}
+use Rattle.schema.specs.Fields.{ahead, SlotPut, Ready, FieldGood, ItemsGood, MembersGood}
 use Rattle.schema.specs.declared.field.Cursor.{Cursor}
 use Rattle.schema.proofs.Slots.{slotKept-more}
 

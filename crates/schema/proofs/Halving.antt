@@ -2,7 +2,7 @@
 use Prim.Native.Nat.{ℕ, zero, suc, _+_, _/_, _≤_, _<_}
 use mathlib.Core.Bool.{Bool, true, false}
 use mathlib.Core.List.{List}
-use mathlib.Core.Option.{Option, none, some, Option·none-ne-some, Option·some-injective}
+use mathlib.Core.Option.{Option, none, some, Option·none-ne-some}
 use mathlib.Core.Path.{_≡_, refl, sym, ap, _∙_}
 use mathlib.Core.Logic.{⊎-elim}
 use native.Mathlib.Omega.{arith}
@@ -20,6 +20,7 @@ use Rattle.definition.specs.Within.{FieldRises, MembersRise}
 use Rattle.definition.specs.RisingLaws.{AllBehind, rising-behind}
 use Rattle.reference.specs.Walk.{lookup}
 use Rattle.schema.specs.Index.{maxSlots, placeWord, countOf, below, belowMembers, FieldAt, MembersAt}
+use Rattle.schema.specs.IndexLaws.{head-unique}
 use Rattle.schema.specs.Slot.{HolderAt}
 use Rattle.schema.specs.Lookup.{FoundAt, LookedUp}
 use Rattle.schema.specs.declared.index.Holder.{Holder}
@@ -163,7 +164,7 @@ slot-headless s w k low name (field e kind o tag items members) at n = Option·n
 slot-named : (s w : List ℕ) (k low : ℕ) (name : Text) (f : Field) (h : FieldHead) (rest : List ℕ) → FieldAt s w k low name f
     → fieldHead (drop (placeWord w k / 4096) s) ≡ some (h, rest) → h .name ≡ name
 slot-named s w k low name (field e kind o tag items members) h rest at q =
-    ap (λ (r : FieldHead × List ℕ). r .0 .name) (Option·some-injective _ _ (sym q ∙ at .1 .reads))
+    ap (λ (h : FieldHead). h .name) (head-unique (record { rest = rest; reads = q }) (at .1))
 
 -- What is left of the `count` members in the slots from `first` on
 

@@ -1,23 +1,22 @@
 -- An element and siblings: how each way through their readers answers what the decoder does.
-use Prim.Native.Nat.{ℕ, zero, suc, _+_, _-_, _*_, _≤_, _<_}
+use Prim.Native.Nat.{ℕ, suc, _+_, _-_, _≤_, _<_}
 use mathlib.Core.Bool.{Bool, true, false}
 use mathlib.Core.List.{List, [], _∷_}
 use mathlib.Core.Option.{Option, none, some}
-use mathlib.Core.Path.{_≡_, refl, sym, ap, subst, _∙_}
+use mathlib.Core.Path.{_≡_, refl, ap, _∙_}
 use native.Mathlib.Omega.{arith}
-use native.Mathlib.Nat.{add-assoc, add-zero}
+use native.Mathlib.Nat.{add-zero}
 use native.Mathlib.Numerals.{add-one}
-use lib.ListN.{length, drop}
-use lib.Dec.{eqb}
+use lib.ListN.{length}
 use borrow.Author.Tests.{eq-eqb, ne-eqb}
 use Rattle.sheet.specs.Reader.{_>>=_, _>>_, andThen, pure, ensure}
 use Rattle.sheet.specs.Order.{follows}
-use Rattle.definition.specs.Tree.{Text, Field, Items, absent, element, Members, noMembers, member}
+use Rattle.definition.specs.Tree.{Text, Field, absent, element, Members, noMembers, member}
 use Rattle.definition.specs.Decode.{Ahead, toCount, elementOf, membersOf, fieldIn}
 use Rattle.schema.specs.Index.{maxSlots, hasElement, countOf, below, belowItems, belowMembers, FieldAt, MembersAt}
 use Rattle.schema.specs.IndexLaws.{MembersAt-kept}
-use Rattle.schema.specs.Kept.{Kept, SlotKept, OthersKept}
-use Rattle.schema.specs.Fields.{ahead, nameBefore, Ready, Moved, FieldGood, ItemsGood, MembersGood}
+use Rattle.schema.specs.Kept.{Kept, OthersKept}
+use Rattle.schema.specs.Fields.{ahead, nameBefore, Moved, FieldGood, ItemsGood, MembersGood}
 use Rattle.sheet.specs.Parts.{partOf}
 use Rattle.sheet.specs.declared.part.Part.{Part}
 use Rattle.schema.specs.declared.field.Cursor.{Cursor}

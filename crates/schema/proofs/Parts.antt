@@ -1,19 +1,18 @@
 -- The parts of the field that a slot holds.
 use Prim.Native.Nat.{ℕ, _+_, _/_, _%_, _≤_}
-use mathlib.Core.Bool.{Bool, true, false}
 use mathlib.Core.List.{List, []}
-use mathlib.Core.Option.{Option, none, some, Option·none-ne-some, Option·some-injective}
-use mathlib.Core.Path.{_≡_, refl, sym, ap, _∙_}
+use mathlib.Core.Option.{none, some, Option·none-ne-some}
+use mathlib.Core.Path.{_≡_, sym, ap, _∙_}
 use native.Mathlib.Omega.{arith}
 use lib.ListN.{drop}
 use Rattle.sheet.specs.Entries as Entries
 use Rattle.sheet.specs.Entries.{fieldHead}
-use Rattle.definition.specs.Tree.{Field, field, Items, absent, element, Members}
+use Rattle.definition.specs.Tree.{field, Items, absent, element}
 use Rattle.definition.specs.Within.{ItemsRise}
 use Rattle.definition.specs.Decode.{toCount}
-use Rattle.schema.specs.Index.{maxSlots, placeWord, childWord, hasElement, elements, countOf, below, belowItems, belowMembers, ItemsAt}
+use Rattle.schema.specs.Index.{maxSlots, placeWord, childWord, hasElement, elements, countOf, below, belowItems, ItemsAt}
 use Rattle.schema.specs.IndexLaws.{head-unique, elements-marked}
-use Rattle.schema.specs.Slot.{SlotHolds, ElementAt, elementFrom, IndexedIs}
+use Rattle.schema.specs.Slot.{ElementAt, elementFrom, IndexedIs}
 use Rattle.sheet.specs.Places.{fieldOf}
 use Rattle.sheet.specs.declared.schema.FieldHead.{FieldHead}
 use Rattle.schema.specs.declared.index.Element.{Element}
@@ -44,7 +43,7 @@ pub indexed-parts : (s w : List ℕ) (k : ℕ) (head : FieldHead) (rest : List �
 unfolding fieldOf below
 indexed-parts s w k head rest place child elems el reads p c n l (field e kind o tag items members) holds =
     let at = holds .indexed in
-    let q = ap (λ (r : Entries.FieldHead × List ℕ). r .0) (Option·some-injective _ _ (sym reads ∙ at .1 .reads)) in
+    let q = head-unique (record { rest = rest; reads = reads }) (at .1) in
     let has : head .items ≡ hasElement items = ap (λ (h : Entries.FieldHead). h .hasItems) q in
     let count : head .count ≡ countOf members = ap (λ (h : Entries.FieldHead). h .count) q in
     let low : child ≡ holds .low = c ∙ at .2 in

@@ -1,12 +1,10 @@
 -- A whole sheet: how each way through its readers answers what the decoder does.
-use Prim.Native.Nat.{ℕ, zero, suc, _+_, _-_, _≤_, _<_}
-use mathlib.Core.Bool.{Bool, true, false}
+use Prim.Native.Nat.{ℕ, _+_, _-_, _≤_, _<_}
 use mathlib.Core.List.{List}
 use mathlib.Core.Option.{Option, none, some, Option·map}
-use mathlib.Core.Path.{_≡_, refl, sym, ap, _∙_}
+use mathlib.Core.Path.{_≡_, refl, _∙_}
 use native.Mathlib.Omega.{arith}
 use lib.ListN.{length, drop, length-drop}
-use lib.Dec.{leb, eqb}
 use borrow.Author.Tests.{lt-leb, le-leb, eq-eqb, ne-eqb}
 use Rattle.sheet.specs.Reader.{_>>=_, _>>_, andThen, pure, ensure}
 use Rattle.sheet.specs.Entries.{HolderHead, SchemaHead, schemaHead}
@@ -14,10 +12,10 @@ use Rattle.definition.specs.Tree as Tree
 use Rattle.definition.specs.Limits.{maxSheetBytes, maxFieldNesting}
 use Rattle.definition.specs.Within.{MembersRise, ArgumentsRise}
 use Rattle.definition.specs.RoundTrip.{schema-rises}
-use Rattle.definition.specs.Decode.{Ahead, entry, entered, announce, atEnd, whole, membersOf, fieldIn, holderOf, argumentsOf, schema, decodeSchema}
-use Rattle.schema.specs.Index.{maxSlots, countOf, belowMembers}
+use Rattle.definition.specs.Decode.{entry, entered, announce, atEnd, whole, membersOf, fieldIn, holderOf, argumentsOf, schema, decodeSchema}
+use Rattle.schema.specs.Index.{indexEnd, maxSlots}
 use Rattle.schema.specs.IndexLaws.{MembersAt-kept}
-use Rattle.schema.specs.Kept.{Kept, OthersKept}
+use Rattle.schema.specs.Kept.{Kept}
 use Rattle.schema.specs.Fields.{ahead, Ready, MembersGood}
 use Rattle.schema.specs.Slot.{HolderAt}
 use Rattle.schema.specs.Read.{ArgumentsAt, SchemaGood, HolderPlaced, HolderGood, ArgumentsGood}
@@ -116,9 +114,6 @@ module _ (s : List ℕ) (short : length s ≤ maxSheetBytes) where
   schema-headless e = rw (le-leb (length s) maxSheetBytes short, e)
 
   module _ (h : SchemaHead) (end : ℕ) (head : schemaHead s ≡ some (h, drop end s)) where
-    abbrev start : Cursor
-    start = record { next = 2; used = 0; at = end }
-
     pub schema-fieldless : holderOf (h .fields) (ahead s (record { next = 2; used = 0; at = end })) ≡ none → decodeSchema s ≡ none
     unfolding decodeSchema whole schema _>>=_ _>>_ andThen ensure announce entry entered
     schema-fieldless e = rw (le-leb (length s) maxSheetBytes short, head, e)
@@ -128,7 +123,7 @@ module _ (s : List ℕ) (short : length s ≤ maxSheetBytes) where
       unfolding decodeSchema whole schema _>>=_ _>>_ andThen ensure announce entry entered
       schema-argumentless e = rw (le-leb (length s) maxSheetBytes short, head, one .reads, e)
 
-      pub behind-ready : 8192 ≤ length a → Kept a b → Ready s b behind 0 0
+      pub behind-ready : indexEnd ≤ length a → Kept a b → Ready s b behind 0 0
       behind-ready scratch kept =
           let size = kept .size in
           let moved = one .moved in

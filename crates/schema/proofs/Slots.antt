@@ -5,7 +5,7 @@ use mathlib.Core.Path.{_≡_, refl, _∙_}
 use native.Mathlib.Omega.{arith}
 use lib.ListN.{length, getD, set, length-set}
 use lib.Seq.{getD-set-same, getD-set-other}
-use Rattle.schema.specs.Index.{firstWord, maxSlots}
+use Rattle.schema.specs.Index.{firstWord}
 use Rattle.schema.specs.Kept.{Kept, SlotKept}
 use Rattle.schema.specs.Fields.{SlotFits, SlotPut}
 

@@ -8,7 +8,7 @@ use lib.ListN.{length, drop}
 use Rattle.definition.specs.Tree.{Text, Field, Items, Members}
 use Rattle.definition.specs.Decode.{Ahead, toCount, fieldIn, elementOf, membersOf}
 use Rattle.definition.specs.Limits.{maxSheetBytes}
-use Rattle.schema.specs.Index.{firstWord, maxSlots, placeWord, childWord, hasElement, countOf, below, belowItems, belowMembers, FieldAt, ItemsAt, MembersAt}
+use Rattle.schema.specs.Index.{indexEnd, maxSlots, placeWord, childWord, hasElement, countOf, below, belowItems, belowMembers, FieldAt, ItemsAt, MembersAt}
 use Rattle.schema.specs.Kept.{Kept, OthersKept}
 use Rattle.sheet.specs.Parts.{partOf}
 use Rattle.sheet.specs.declared.part.Part.{Part}
@@ -22,7 +22,7 @@ use Rattle.schema.specs.declared.field.ManyRead.the-variants as Many
 
 pub record SlotFits (words : List ℕ) (k start entry child : ℕ) : Type 0 where
   pub slot : k < maxSlots
-  pub scratch : firstWord + 2 * maxSlots ≤ length words
+  pub scratch : indexEnd ≤ length words
   pub place : start ≤ maxSheetBytes
   pub number : entry < 4096
   pub childAt : child ≤ maxSlots
@@ -40,7 +40,7 @@ ahead s c = record { next = c .next; left = maxSlots - c .used; rest = drop (c .
 -- a cursor in front of `n` entries, which were announced; their slots, from `first` on, are among those in use
 pub record Ready (s words : List ℕ) (from : Cursor) (first n : ℕ) : Type 0 where
   pub sheet : length s ≤ maxSheetBytes
-  pub scratch : firstWord + 2 * maxSlots ≤ length words
+  pub scratch : indexEnd ≤ length words
   pub at : from .at ≤ length s
   pub used : from .used ≤ maxSlots
   pub slots : first + n ≤ from .used

@@ -18,6 +18,10 @@ firstWord = 2048
 abbrev pub maxSlots : ℕ
 maxSlots = maxSchemaEntries - 1
 
+-- the words from this one on are no words of the index
+abbrev pub indexEnd : ℕ
+indexEnd = firstWord + 2 * maxSlots
+
 -- the first word of slot `k`: where the field's entry starts, times 4,096, and its number
 abbrev pub placeWord : List ℕ → ℕ → ℕ
 placeWord words k = getD words (firstWord + 2 * k) 0

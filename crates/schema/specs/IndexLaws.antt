@@ -1,5 +1,5 @@
 -- Laws of the index: what a change of other words leaves alone, and that it is the index of one tree only.
-use Prim.Native.Nat.{ℕ, _+_, _*_, _/_, _%_, _≤_, _<_}
+use Prim.Native.Nat.{ℕ, _+_}
 use mathlib.Core.Bool.{false≢true}
 use mathlib.Core.List.{List, []}
 use mathlib.Core.Option.{Option·some-injective}

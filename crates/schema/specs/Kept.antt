@@ -3,13 +3,13 @@ use Prim.Native.Nat.{ℕ, _+_, _*_, _≤_, _<_}
 use mathlib.Core.List.{List}
 use mathlib.Core.Path.{_≡_}
 use lib.ListN.{length, getD}
-use Rattle.schema.specs.Index.{firstWord, maxSlots, placeWord, childWord}
+use Rattle.schema.specs.Index.{indexEnd, firstWord, placeWord, childWord}
 
 -- only words of the index may differ
 pub record Kept (before after : List ℕ) : Type 0 where
   pub size : length after ≡ length before
   pub lower : (i : ℕ) → i < firstWord → getD after i 0 ≡ getD before i 0
-  pub upper : (i : ℕ) → firstWord + 2 * maxSlots ≤ i → getD after i 0 ≡ getD before i 0
+  pub upper : (i : ℕ) → indexEnd ≤ i → getD after i 0 ≡ getD before i 0
 
 pub record SlotKept (before after : List ℕ) (k : ℕ) : Type 0 where
   pub place : placeWord after k ≡ placeWord before k

@@ -5,3 +5,4 @@ pub mod Slot
 pub mod Lookup
 pub mod Fields
 pub mod Read
+pub mod SchemaLaws

@@ -5,7 +5,7 @@ use mathlib.Core.List.{List}
 use mathlib.Core.Option.{Option, none}
 use mathlib.Core.Path.{_≡_}
 use Rattle.definition.specs.Tree as Tree
-use Rattle.definition.specs.Tree.{Text, Field, field, Items, absent, element, Members}
+use Rattle.definition.specs.Tree.{Text, Field, field, Items, absent, element}
 use Rattle.definition.specs.Within.{FieldRises, MembersRise}
 use Rattle.schema.specs.Index.{maxSlots, countOf, below, belowMembers, FieldAt, MembersAt}
 use Rattle.sheet.specs.Parts.{optionalOf}

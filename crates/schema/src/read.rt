@@ -9,6 +9,7 @@ use sheet::schema::HolderHead;
 ghost use mathlib.Core.Path.{_≡_};
 ghost use Prim.Native.Nat.{_≤_};
 ghost use lib.ListN.{length};
+ghost use Rattle.schema.specs.Index.{indexEnd};
 ghost use Rattle.schema.specs.Fields.{Ready};
 ghost use Rattle.sheet.specs.Places.{holderOf, argumentsOf};
 ghost use Rattle.schema.specs.Read.{HolderPost, ArgumentsPost, SchemaPost};
@@ -96,7 +97,7 @@ fn read_arguments(
 // Whether a schema sheet is well formed, and what it holds, with an index of its fields in the scratch. What the scratch held before does not
 // matter, and of its words only those of the index change.
 pub fn read_schema(sheet: &[u8], scratch: &mut [u32]) -> SchemaRead
-    requires { ⌜ 8192 ≤ length (now scratch) ⌝ }
+    requires { ⌜ indexEnd ≤ length (now scratch) ⌝ }
     ensures { λ r. ⌜ SchemaPost (now (sheet .entry)) (now (scratch .entry)) (now (scratch .exit)) r ⌝ }
 {
     if MAX_SHEET_BYTES < sheet.len() {
