@@ -1,0 +1,7 @@
+pub mod Buffer
+pub mod Siblings
+pub mod Heads
+pub mod Descent
+pub mod Keys
+pub mod Next
+pub mod Stub

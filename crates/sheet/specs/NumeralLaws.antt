@@ -47,7 +47,7 @@ decimalIn-append (suc turns) n b t =
     by-test (ltb n 10) (λ e. rw e) (λ e. rw e (decimalIn-append turns (n / 10) ((48 + n % 10) ∷ b) t))
 
 -- a number's last digit stands last
-decimalOf-digit : (v d : ℕ) → 0 < v → d < 10 → decimalOf (v * 10 + d) ≡ decimalOf v ++ (48 + d) ∷ []
+pub decimalOf-digit : (v d : ℕ) → 0 < v → d < 10 → decimalOf (v * 10 + d) ≡ decimalOf v ++ (48 + d) ∷ []
 unfolding decimalOf
 decimalOf-digit v d h k =
     let q : (v * 10 + d) / 10 ≡ v = omega arith in
@@ -56,7 +56,7 @@ decimalOf-digit v d h k =
     ∙ rw (q, r) (decimalIn-turns (v * 10 + d) (suc v) v ((48 + d) ∷ []) (omega arith) (omega arith))
     ∙ decimalIn-append (suc v) v [] ((48 + d) ∷ [])
 
-decimalOf-one : (d : ℕ) → d < 10 → decimalOf d ≡ (48 + d) ∷ []
+pub decimalOf-one : (d : ℕ) → d < 10 → decimalOf d ≡ (48 + d) ∷ []
 unfolding decimalOf
 decimalOf-one d h = decimalIn-small d d [] (lt-ltb d 10 h)
 

@@ -1,0 +1,7 @@
+mod BufferLaws
+mod Words
+mod Names
+mod Ranges
+mod Reached
+mod ValueSteps
+mod ConditionSteps
