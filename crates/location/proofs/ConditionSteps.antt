@@ -173,7 +173,7 @@ module _ (sheet words : List ℕ) (defect target : ℕ) where
     condition-parts (comparison e which left right) p less whole at h = record {
       nodes = ofValue left ∷ ofValue right ∷ [];
       standing = ((at .1, refl), ((at .2, refl), tt));
-      first = rw or-none (rw (whole, whole) at (not-own e i target _ p (at .0 .isEntry) less h));
+      first = rw or-none (rw whole at (not-own e i target _ p (at .0 .isEntry) less h));
     }
     condition-parts (quantifier e op bind over body) p less whole at h = record {
       nodes = ofValue over ∷ ofCondition body ∷ [];

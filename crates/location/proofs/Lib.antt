@@ -5,3 +5,4 @@ mod Ranges
 mod Reached
 mod ValueSteps
 mod ConditionSteps
+mod RuleSteps

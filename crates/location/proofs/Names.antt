@@ -1,10 +1,23 @@
--- The operator that is none of the named ones.
-use Prim.Native.Nat.{ℕ, _≤_}
+-- Operators that are the last of their group.
+use Prim.Native.Nat.{ℕ, _+_, _≤_, _<_}
 use native.Mathlib.Omega.{arith}
 use mathlib.Core.Path.{_≡_, refl}
 use borrow.Author.Tests.{ne-eqb}
 use Rattle.sheet.specs.Ascii.{ascii}
 use Rattle.validation.specs.Location.{operatorName}
+
+above : (op k : ℕ) → k ≤ op → (op ≡ k → ⊥) → k + 1 ≤ op
+above op k low other = omega arith
+
+exactly : (op k : ℕ) → k ≤ op → op < k + 1 → op ≡ k
+exactly op k low high = omega arith
+
+pub op-after : (op : ℕ) → 2 ≤ op → op < 8 → (op ≡ 2 → ⊥) → (op ≡ 3 → ⊥) → (op ≡ 4 → ⊥) → (op ≡ 5 → ⊥) → (op ≡ 6 → ⊥) → op ≡ 7
+op-after op low high n2 n3 n4 n5 n6 = exactly op 7 (above op 6 (above op 5 (above op 4 (above op 3 (above op 2 low n2) n3) n4) n5) n6) high
+
+pub op-in : (op : ℕ) → 8 ≤ op → op < 15 → (op ≡ 8 → ⊥) → (op ≡ 9 → ⊥) → (op ≡ 10 → ⊥) → (op ≡ 11 → ⊥) → (op ≡ 12 → ⊥) → (op ≡ 13 → ⊥) → op ≡ 14
+op-in op low high n8 n9 n10 n11 n12 n13 =
+    exactly op 14 (above op 13 (above op 12 (above op 11 (above op 10 (above op 9 (above op 8 low n8) n9) n10) n11) n12) n13) high
 
 pub name-last : (op : ℕ)
     → (2 ≤ op → 15 ≤ op)

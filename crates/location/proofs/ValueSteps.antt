@@ -28,6 +28,7 @@ headOr h none = h
 headOr h (some r) = r .0
 
 pub same-head : {H : Type 0} {o : Option (H × List ℕ)} {h g : H} {r s : List ℕ} → o ≡ some (h, r) → o ≡ some (g, s) → h ≡ g
+unfolding headOr
 same-head {h = h} a b = ap (headOr h) (sym a ∙ b)
 
 pub refused-head : {H : Type 0} {R : Type 0} {o : Option (H × List ℕ)} {h : H} {r : List ℕ} → o ≡ none → o ≡ some (h, r) → R

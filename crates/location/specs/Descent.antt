@@ -1,11 +1,14 @@
 -- What the descent has written: for every tree that the index stands for, the way from one of its entries to the one at word `target`.
 use Prim.Native.Nat.{ℕ, _+_}
-use mathlib.Core.List.{List, _++_}
+use mathlib.Core.Bool.{cond}
+use mathlib.Core.List.{List, [], _++_}
 use mathlib.Core.Option.{some}
 use mathlib.Core.Path.{_≡_}
+use lib.Dec.{leb}
+use Rattle.sheet.specs.Ascii.{ascii}
 use Rattle.definition.specs.Tree.{Text, Value, Condition, Rule}
 use Rattle.rule.specs.Index.{ValueAt, ConditionAt, RuleAt}
-use Rattle.validation.specs.Location.{inValue, inCondition, behindLabel}
+use Rattle.validation.specs.Location.{through, inValue, inCondition, behindLabel}
 use Rattle.location.specs.Buffer.{Wrote}
 
 -- the way from the value at word `i`
@@ -17,6 +20,20 @@ pub record ConditionWritten (sheet words : List ℕ) (defect target i : ℕ) (be
   pub written : (c : Condition) (p : Text)
       → ConditionAt sheet words i c
       → inCondition defect (target + 1) c ≡ some p
+      → Wrote before after at p next
+
+-- the way from a rule's root; the defects up to 12 are the label's own
+pub record AssertWritten (sheet words : List ℕ) (defect target : ℕ) (before after : List ℕ) (at next : ℕ) : Type 0 where
+  pub written : (c : Condition) (p : Text)
+      → ConditionAt sheet words 1 c
+      → cond (leb defect 12) (some []) (through (ascii ".assert") (inCondition defect (target + 1) c)) ≡ some p
+      → Wrote before after at p next
+
+-- the way from the root of a rule or template
+pub record RuleWritten (sheet words : List ℕ) (defect place : ℕ) (before after : List ℕ) (at next : ℕ) : Type 0 where
+  pub written : (tree : Rule) (p : Text)
+      → RuleAt sheet words tree
+      → behindLabel defect place tree ≡ some p
       → Wrote before after at p next
 
 -- the whole path

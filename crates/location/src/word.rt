@@ -9,7 +9,7 @@ pub struct Sibling {
     pub index: usize,
 }
 
-fn wide(word: u32) -> usize
+pub fn wide(word: u32) -> usize
     ensures { λ r. ⌜ r ≡ word ⌝ }
 {
     word as usize

@@ -1,3 +1,4 @@
+use Rattle.location.proofs.Names.{op-in}
 use mathlib.Core.Path.{_≡_}
 use Rattle.sheet.specs.Ascii.{ascii}
 use Rattle.validation.specs.Location.{operatorName}
@@ -126,7 +127,7 @@ same-length-7 c = search needs
 -- src/operator.rt:28:1
 returns-7 : tie.Need-returns-7
 unfolding operatorName ascii
-returns-7 c = let e : c .before .before .before .before .before .before .before .args .op ≡ 14 = omega (arith, c .before .before .before .before .before .match .rest .1, c .before .before .before .before .before .match .rest .0 .1, c .before .before .before .before .before .match .rest .0 .0 .1, c .before .before .before .before .before .match .rest .0 .0 .0 .1, c .before .before .before .before .before .match .rest .0 .0 .0 .0 .1, c .before .before .before .before .before .match .rest .0 .0 .0 .0 .0 .1) in rw e (c .before .before .put7 .ensures)
+returns-7 c = rw (op-in _ (c .before .before .before .before .before .before .before .pre .0) (c .before .before .before .before .before .before .before .pre .1) (c .before .before .before .before .before .match .rest .0 .0 .0 .0 .0 .1) (c .before .before .before .before .before .match .rest .0 .0 .0 .0 .1) (c .before .before .before .before .before .match .rest .0 .0 .0 .1) (c .before .before .before .before .before .match .rest .0 .0 .1) (c .before .before .before .before .before .match .rest .0 .1) (c .before .before .before .before .before .match .rest .1)) (c .before .before .put7 .ensures)
 
 pub put-second-spec : {M : Type 1} → statement M
 put-second-spec =

@@ -1,4 +1,4 @@
-use Rattle.location.proofs.Words.{start-absent, end-absent}
+use Rattle.location.proofs.Words.{end-absent}
 use native.Mathlib.Omega.{arith}
 use borrow.Author.Needs.{needs}
 use Rattle.location.proofs.word.end_of.Statement.{statement}
@@ -25,7 +25,7 @@ returns c = search needs
 
 -- src/word.rt:27:1
 returns-2 : tie.Need-returns-2
-returns-2 c = search (start-absent, end-absent, needs)
+returns-2 c = search (end-absent, needs)
 
 pub end-of-spec : {M : Type 1} → statement M
 end-of-spec = tie.close (tie.spec mul-wide shared-slice-read-wide wide-requires returns returns-2)

@@ -1,4 +1,4 @@
-use Rattle.location.proofs.Words.{start-absent, end-absent}
+use Rattle.location.proofs.Words.{start-absent}
 use native.Mathlib.Omega.{arith}
 use borrow.Author.Needs.{needs}
 use Rattle.location.proofs.word.start_of.Statement.{statement}
@@ -25,7 +25,7 @@ returns c = search needs
 
 -- src/word.rt:18:1
 returns-2 : tie.Need-returns-2
-returns-2 c = search (start-absent, end-absent, needs)
+returns-2 c = search (start-absent, needs)
 
 pub start-of-spec : {M : Type 1} → statement M
 start-of-spec =
