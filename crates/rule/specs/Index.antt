@@ -1,14 +1,14 @@
 -- The index of a rule sheet in the scratch: a word for each entry, in order. The word of entry i + 1 stands at i: where the entry starts, times
 -- 4,096, and the word behind its subtree, so that a subtree can be skipped.
-use Prim.Native.Nat.{ℕ, _+_, _*_, _/_, _%_}
+use Prim.Native.Nat.{ℕ, _+_, _/_, _%_}
 use mathlib.Core.List.{List}
-use mathlib.Core.Option.{Option, none, some}
+use mathlib.Core.Option.{some}
 use mathlib.Core.Path.{_≡_}
 use lib.ListN.{getD, drop}
 use Rattle.sheet.specs.Reader.{Reader}
-use Rattle.sheet.specs.Entries.{ConditionHead, literalHead, manyHead, negationHead, oneHead, twoHead, comparisonHead, quantifierHead, conditionHead, ValueHead, constantHead, numberHead, stringHead, arrayHead, objectHead, valueHead, keyHead, RuleHead, ruleHead}
+use Rattle.sheet.specs.Entries.{literalHead, manyHead, negationHead, oneHead, twoHead, comparisonHead, quantifierHead, conditionHead, constantHead, numberHead, stringHead, arrayHead, objectHead, valueHead, keyHead, ruleHead}
 use Rattle.sheet.specs.Entries as Entries
-use Rattle.definition.specs.Tree.{Text, Value, constant, number, string, array, object, Values, noValues, value, Pairs, noPairs, pair, Condition, literal, many, negation, one, two, comparison, quantifier, Conditions, noConditions, condition, Rule, rule, template}
+use Rattle.definition.specs.Tree.{Value, constant, number, string, array, object, Values, noValues, value, Pairs, noPairs, pair, Condition, literal, many, negation, one, two, comparison, quantifier, Conditions, noConditions, condition, Rule, rule, template}
 
 abbrev pub startOf : List ℕ → ℕ → ℕ
 startOf words i = getD words i 0 / 4096

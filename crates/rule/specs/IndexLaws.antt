@@ -1,7 +1,7 @@
 -- Laws of a rule's index: the words of other subtrees may change, and the next sibling stands at the end of a subtree's first word.
 use Prim.Native.Nat.{ℕ, _+_, _%_, _≤_, _<_}
 use mathlib.Core.List.{List}
-use mathlib.Core.Path.{_≡_, ap, _∙_}
+use mathlib.Core.Path.{_≡_, refl, ap, _∙_}
 use native.Mathlib.Omega.{arith}
 use lib.ListN.{getD}
 use Rattle.sheet.specs.Reader.{Reader}
@@ -14,6 +14,12 @@ pub record Agree (words later : List ℕ) (a b : ℕ) : Type 0 where
 
 pub agree-within : {words later : List ℕ} {a b c d : ℕ} → Agree words later a b → a ≤ c → d ≤ b → Agree words later c d
 agree-within agree p q = record { same = λ j l r. agree .same j (omega arith) (omega arith) }
+
+pub agree-same : {words : List ℕ} {a b : ℕ} → Agree words words a b
+agree-same = record { same = λ j l r. refl }
+
+pub agree-then : {words later last : List ℕ} {a b : ℕ} → Agree words later a b → Agree later last a b → Agree words last a b
+agree-then p q = record { same = λ j l r. q .same j l r ∙ p .same j l r }
 
 pub entry-frame : {H : Type 0} {reader : Reader (List ℕ) H} {sheet words later : List ℕ} {a b i size e : ℕ} {h : H}
     → EntryAt reader sheet words i size e h

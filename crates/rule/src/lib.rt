@@ -1,1 +1,88 @@
 // A rule sheet, read once: whether it is well formed, and an index of its entries in the lent scratch.
+pub mod index; // index.rt: the words of the index
+mod cursor; // cursor.rt: where reading stands
+mod value; // value.rt: values, with all that they hold
+mod condition; // condition.rt: conditions, with all that they hold
+
+use condition::MAX_CONDITION_NESTING;
+use condition::read_condition;
+use cursor::Cursor;
+use cursor::TreeRead;
+use cursor::word_of;
+use definition::MAX_SHEET_BYTES;
+use index::MAX_RULE_ENTRIES;
+use sheet::rule::RuleHead;
+use sheet::rule::rule_head;
+use value::MAX_VALUE_NESTING;
+use value::read_value;
+ghost use mathlib.Core.Path.{_≡_};
+ghost use Prim.Native.Nat.{_≤_};
+ghost use lib.ListN.{length};
+ghost use Rattle.definition.specs.Limits.{maxRuleEntries};
+ghost use Rattle.rule.specs.Read.{Ready};
+ghost use Rattle.rule.specs.Rule.{isTemplateHead, TreeAnswer, RuleAnswer};
+
+// A well-formed sheet: `R` or `T`, and how many entries it has.
+pub struct RuleSheet {
+    pub is_template: bool,
+    pub entries: usize,
+}
+
+pub enum RuleRead {
+    Good(RuleSheet),
+    // The sheet is not well formed.
+    Bad,
+}
+
+fn is_template(h: RuleHead) -> bool
+    ensures { λ r. ⌜ r ≡ isTemplateHead h ⌝ }
+{
+    match h {
+        RuleHead::Rule(_, _) => false,
+        RuleHead::Template => true,
+    }
+}
+
+// What follows the first entry: a value under `T`, a condition under `R`.
+fn read_tree(s: &[u8], scratch: &mut [u32], is_template: bool, c: Cursor) -> TreeRead
+    requires { ⌜ Ready (now s) (now scratch) 1 c ⌝ }
+    ensures { λ r. ⌜ TreeAnswer (now (s .entry)) (now (scratch .entry)) (now (scratch .exit)) «is_template» c r ⌝ }
+{
+    if is_template {
+        return read_value(s, scratch, MAX_VALUE_NESTING, c);
+    }
+    read_condition(s, scratch, MAX_CONDITION_NESTING, c)
+}
+
+// The words of the index are written, and no others.
+pub fn read_rule(s: &[u8], scratch: &mut [u32]) -> RuleRead
+    requires { ⌜ maxRuleEntries ≤ length (now scratch) ⌝ }
+    ensures { λ r. ⌜ RuleAnswer (now (s .entry)) (now (scratch .entry)) (now (scratch .exit)) r ⌝ }
+{
+    if MAX_SHEET_BYTES < s.len() {
+        return RuleRead::Bad;
+    }
+    let sheet::rule::RuleRead::Is(head, behind) = rule_head(s, 0) else {
+        return RuleRead::Bad;
+    };
+    let template = is_template(head);
+    // The first entry announces itself and its tree.
+    let inner = Cursor {
+        at: behind,
+        word: 1,
+        left: MAX_RULE_ENTRIES - 2,
+    };
+    let TreeRead::Good(next) = read_tree(s, scratch, template, inner) else {
+        return RuleRead::Bad;
+    };
+    let end = next.at;
+    let entries = next.word;
+    if end < s.len() {
+        return RuleRead::Bad;
+    }
+    scratch[0] = word_of(0, entries);
+    RuleRead::Good(RuleSheet {
+        is_template: template,
+        entries,
+    })
+}
