@@ -33,10 +33,10 @@ pub wrote-then : {before middle after : List ℕ} {at m next : ℕ} {xs ys : Lis
 wrote-then {before} {middle} {after} {at} {m} {next} {xs} {ys} u w =
     record {
       stands = λ fit.
-        w .stands (room fit)
-        ∙ ap (λ (l : List ℕ). sets l m ys) (u .stands (first fit))
-        ∙ ap (λ (k : ℕ). sets (sets before at xs) k ys) (u .ends (first fit))
-        ∙ sets-append xs ys before at;
+          w .stands (room fit)
+          ∙ ap (λ (l : List ℕ). sets l m ys) (u .stands (first fit))
+          ∙ ap (λ (k : ℕ). sets (sets before at xs) k ys) (u .ends (first fit))
+          ∙ sets-append xs ys before at;
       ends = λ fit. let a = w .ends (room fit) in let b = u .ends (first fit) in omega (arith, length-append xs ys);
     }
   where
@@ -76,6 +76,6 @@ pub wrote-digits : (n : ℕ) {before middle after : List ℕ} {at m next : ℕ}
 wrote-digits n {before} {middle} {after} {at} {m} {next} more u w =
     let whole : n / 10 * 10 + n % 10 ≡ n = omega arith in
     let e : decimalOf n ≡ decimalOf (n / 10) ++ ((48 + n % 10) ∷ []) =
-      ap decimalOf (sym whole) ∙ decimalOf-digit (n / 10) (n % 10) (omega arith) (omega arith)
+    ap decimalOf (sym whole) ∙ decimalOf-digit (n / 10) (n % 10) (omega arith) (omega arith)
     in
     rw e (wrote-then u w)

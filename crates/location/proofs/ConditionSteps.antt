@@ -238,8 +238,8 @@ module _ (sheet words : List ℕ) (defect target : ℕ) where
     condition-leads reads less whole r w kind = record {
       leads = λ after next later. record {
         written = λ c p stands found.
-          let f = part-found i h rest word k c p reads less whole r stands found in
-          on-condition before now after at here next word (partAt h k) (f .rest) p (f .item) (f .stands .0) (f .stands .1 ∙ kind) (f .found) (f .path) w later;
+            let f = part-found i h rest word k c p reads less whole r stands found in
+            on-condition before now after at here next word (partAt h k) (f .rest) p (f .item) (f .stands .0) (f .stands .1 ∙ kind) (f .found) (f .path) w later;
       };
     }
 
@@ -253,8 +253,8 @@ module _ (sheet words : List ℕ) (defect target : ℕ) where
     operand-leads reads less whole r w kind = record {
       leads = λ after next later. record {
         written = λ c p stands found.
-          let f = part-found i h rest word k c p reads less whole r stands found in
-          on-value before now after at here next word (partAt h k) (f .rest) p (f .item) (f .stands .0) (f .stands .1 ∙ kind) (f .found) (f .path) w later;
+            let f = part-found i h rest word k c p reads less whole r stands found in
+            on-value before now after at here next word (partAt h k) (f .rest) p (f .item) (f .stands .0) (f .stands .1 ∙ kind) (f .found) (f .path) w later;
       };
     }
 
@@ -296,8 +296,8 @@ module _ (sheet words : List ℕ) (defect target : ℕ) where
       → ConditionWritten sheet words defect target i before before at at
   whole-written i before at h rest reads less whole = record {
     written = λ c p stands found.
-      let e = condition-reads i c h rest stands reads in
-      rw (whole-empty c i p less (rw e whole) stands found) (wrote-nothing before at);
+        let e = condition-reads i c h rest stands reads in
+        rw (whole-empty c i p less (rw e whole) stands found) (wrote-nothing before at);
   }
 
   pub refused-written : (i : ℕ) (before after : List ℕ) (at next : ℕ)
@@ -324,8 +324,8 @@ module _ (sheet words : List ℕ) (defect target : ℕ) where
       → ConditionWritten sheet words defect target target before after at next
   own-written before after at next h rest reads w = record {
     written = λ c p stands found.
-      let e = condition-reads target c h rest stands reads in
-      rw (own-condition c p stands found, e) w;
+        let e = condition-reads target c h rest stands reads in
+        rw (own-condition c p stands found, e) w;
   }
 
   -- behind the last step the descent stands at the target
@@ -335,9 +335,9 @@ module _ (sheet words : List ℕ) (defect target : ℕ) where
       → ConditionWritten sheet words defect target word before after at next
   end-reached word before after at next end w = record {
     written = λ c p stands found.
-      let r = condition-among sheet words (target + 1) defect c word p stands found in
-      let e : target ≡ word = omega arith in
-      w .written c p stands (rw e at found);
+        let r = condition-among sheet words (target + 1) defect c word p stands found in
+        let e : target ≡ word = omega arith in
+        w .written c p stands (rw e at found);
   }
 
 pub condition-led : {sheet words : List ℕ} {defect target i : ℕ} {before : List ℕ} {at : ℕ} → ConditionLeads sheet words defect target i before at i before at

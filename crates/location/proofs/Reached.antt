@@ -58,11 +58,11 @@ module _ {A : Type 0} (At : (k i : ℕ) → A → Type 0) (size : A → ℕ) (pa
       (through-found (part k a) (way a) p
       (λ q z e. rw (at-word, at-index) (record { item = a; rest = q; stands = st .0; found = z; path = e })))
       (λ z.
-        let low = standing-low xs (k + 1) (i + size a) p (st .1) z in
-        let e = ends k i a (st .0) in
-        let n = some-of a in
-        let less = stop (omega arith) in
-        absurd (omega arith))
+      let low = standing-low xs (k + 1) (i + size a) p (st .1) z in
+      let e = ends k i a (st .0) in
+      let n = some-of a in
+      let less = stop (omega arith) in
+      absurd (omega arith))
       h
   reached (a ∷ xs) k i p word j st h (past le more) =
       either-found (through (part k a) (way a)) (firstOf part way (k + 1) xs) p

@@ -41,9 +41,9 @@ module _ {sheet words : List ℕ} {defect target at : ℕ} {before : List ℕ} w
       → AssertWritten sheet words defect target before after at next
   assert-inside high w later = record {
     written = λ c p stands found.
-      through-found (ascii ".assert") (inCondition defect (target + 1) c) p
-      (λ q z e. rw e (wrote-then w (later .written c q stands z)))
-      (rw (lt-leb defect 12 high) at found);
+        through-found (ascii ".assert") (inCondition defect (target + 1) c) p
+        (λ q z e. rw e (wrote-then w (later .written c q stands z)))
+        (rw (lt-leb defect 12 high) at found);
   }
 
 module _ {sheet words : List ℕ} {defect place at : ℕ} {before : List ℕ} where

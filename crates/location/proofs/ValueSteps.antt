@@ -167,9 +167,9 @@ module _ (sheet words : List ℕ) (target : ℕ) where
       array-leads count rest reads r w = record {
         leads = λ after next later. record {
           written = λ v p stands found.
-            let inner = holds v p (arrayHead count) rest less stands found reads in
-            let f = element-found (inner .0) p (inner .1) (inner .2) r in
-            rw (f .path) (wrote-then w (later .written (f .item) (f .rest) (f .stands) (f .found)));
+              let inner = holds v p (arrayHead count) rest less stands found reads in
+              let f = element-found (inner .0) p (inner .1) (inner .2) r in
+              rw (f .path) (wrote-then w (later .written (f .item) (f .rest) (f .stands) (f .found)));
         };
       }
 
@@ -181,11 +181,11 @@ module _ (sheet words : List ℕ) (target : ℕ) where
       object-leads count rest reads r w = record {
         leads = λ after next later. record {
           written = λ v p stands found.
-            let inner = holds v p (objectHead count) rest less stands found reads in
-            let f = member-found (inner .0) p (inner .1) (inner .2) r in
-            rw (f .path)
-            (wrote-then (w .written (f .item .0) (f .stands .0 .rest) (f .stands .0 .reads))
-            (later .written (f .item .1) (f .rest) (f .stands .1) (f .found)));
+              let inner = holds v p (objectHead count) rest less stands found reads in
+              let f = member-found (inner .0) p (inner .1) (inner .2) r in
+              rw (f .path)
+              (wrote-then (w .written (f .item .0) (f .stands .0 .rest) (f .stands .0 .reads))
+              (later .written (f .item .1) (f .rest) (f .stands .1) (f .found)));
         };
       }
 
@@ -228,9 +228,9 @@ module _ (sheet words : List ℕ) (target : ℕ) where
   pub value-ended : (word : ℕ) (now : List ℕ) (here : ℕ) → target ≤ word → ValueWritten sheet words target word now now here here
   value-ended word now here end = record {
     written = λ v p stands found.
-      let r = value-among sheet words (target + 1) v word p stands found in
-      let e : word ≡ target = omega arith in
-      rw (own-value v p (rw e at stands) found) (wrote-nothing now here);
+        let r = value-among sheet words (target + 1) v word p stands found in
+        let e : word ≡ target = omega arith in
+        rw (own-value v p (rw e at stands) found) (wrote-nothing now here);
   }
 
 pub value-led : {sheet words : List ℕ} {target i : ℕ} {before : List ℕ} {at : ℕ} → ValueLeads sheet words target i before at i before at

@@ -4,4 +4,3 @@ pub mod Heads
 pub mod Descent
 pub mod Keys
 pub mod Next
-pub mod Stub

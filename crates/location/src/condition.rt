@@ -1,9 +1,13 @@
 // Down through conditions.
-use crate::buffer::{put, put_index};
-use crate::heads::{condition_head, ConditionHead, ConditionRead};
+use crate::buffer::put;
+use crate::buffer::put_index;
 use crate::operator::put_operator;
 use crate::value::put_value;
-use crate::word::{find_sibling, start_of};
+use crate::word::find_sibling;
+use crate::word::start_of;
+use sheet::rule::ConditionHead;
+use sheet::rule::ConditionRead;
+use sheet::rule::condition_head;
 ghost use mathlib.Core.Path.{_≡_};
 ghost use mathlib.Core.List.{List, _++_};
 ghost use mathlib.Core.Bool.{cond};
@@ -15,7 +19,7 @@ ghost use Rattle.location.specs.Buffer.{Wrote};
 ghost use Rattle.location.specs.Heads.{partAt, isValueAt, isWhole, ownPart};
 ghost use Rattle.location.specs.Descent.{ConditionWritten};
 ghost use Rattle.location.specs.Next.{NextLeads};
-ghost use Rattle.location.specs.Stub.{conditionOf};
+ghost use Rattle.sheet.specs.Places.{conditionOf};
 
 // How the descent goes on.
 pub enum Next {
@@ -117,7 +121,15 @@ fn put_own(path: &mut [u8], at: usize, number: u32, head: ConditionHead) -> usiz
 }
 
 // From the condition at word `i` to its part in whose subtree word `target` lies.
-fn condition_step(rule: &[u8], words: &[u32], number: u32, target: usize, i: usize, at: usize, path: &mut [u8]) -> Next
+fn condition_step(
+    rule: &[u8],
+    words: &[u32],
+    number: u32,
+    target: usize,
+    i: usize,
+    at: usize,
+    path: &mut [u8],
+) -> Next
     requires { ⌜ (i < target) × (target < 4294967296) ⌝ }
     ensures { λ r. ⌜ NextLeads (now (rule .entry)) (now (words .entry)) number target i (now (path .entry)) at (now (path .exit)) r ⌝ }
 {
@@ -146,7 +158,15 @@ fn put_end(rule: &[u8], words: &[u32], number: u32, i: usize, at: usize, path: &
 }
 
 // Writes the way from the condition at word `i` to the entry at word `target`.
-pub fn put_condition(rule: &[u8], words: &[u32], number: u32, target: usize, i: usize, at: usize, path: &mut [u8]) -> usize
+pub fn put_condition(
+    rule: &[u8],
+    words: &[u32],
+    number: u32,
+    target: usize,
+    i: usize,
+    at: usize,
+    path: &mut [u8],
+) -> usize
     requires { ⌜ target < 4294967296 ⌝ }
     ensures { λ r. ⌜ ConditionWritten (now (rule .entry)) (now (words .entry)) number target i (now (path .entry)) (now (path .exit)) at r ⌝ }
 {

@@ -4,18 +4,27 @@ mod operator; // operator.rt: the operators' names
 mod word; // word.rt: the words of the index
 mod value; // value.rt: down through values
 mod condition; // condition.rt: down through conditions
-mod heads;
 
 use crate::buffer::put;
 use crate::condition::put_condition;
-use crate::heads::{rule_head, RuleHead, RuleRead};
 use crate::value::put_value;
-use crate::word::{start_of, wide};
+use crate::word::start_of;
+use crate::word::wide;
+use sheet::rule::RuleHead;
+use sheet::rule::RuleRead;
+use sheet::rule::rule_head;
 ghost use Prim.Native.Nat.{_<_};
 ghost use Rattle.location.specs.Descent.{AssertWritten, RuleWritten, PathWritten};
 
 // Writes the way from a rule's root: none for the defects that have the label's own path.
-fn put_assert(rule: &[u8], words: &[u32], number: u32, target: usize, at: usize, path: &mut [u8]) -> usize
+fn put_assert(
+    rule: &[u8],
+    words: &[u32],
+    number: u32,
+    target: usize,
+    at: usize,
+    path: &mut [u8],
+) -> usize
     requires { ⌜ target < 4294967296 ⌝ }
     ensures { λ r. ⌜ AssertWritten (now (rule .entry)) (now (words .entry)) number target (now (path .entry)) (now (path .exit)) at r ⌝ }
 {
@@ -27,7 +36,14 @@ fn put_assert(rule: &[u8], words: &[u32], number: u32, target: usize, at: usize,
 }
 
 // Writes the way from the root of a rule or template to the entry `place`.
-fn put_rule(rule: &[u8], words: &[u32], number: u32, place: u32, at: usize, path: &mut [u8]) -> usize
+fn put_rule(
+    rule: &[u8],
+    words: &[u32],
+    number: u32,
+    place: u32,
+    at: usize,
+    path: &mut [u8],
+) -> usize
     ensures { λ r. ⌜ RuleWritten (now (rule .entry)) (now (words .entry)) number place (now (path .entry)) (now (path .exit)) at r ⌝ }
 {
     let RuleRead::Is(head, _) = rule_head(rule, start_of(words, 0)) else {
@@ -44,7 +60,14 @@ fn put_rule(rule: &[u8], words: &[u32], number: u32, place: u32, at: usize, path
 }
 
 // Writes the path of defect `number` at entry `place`; its length is returned. `words` is the index of the sheet `rule`.
-pub fn write_path(label: &[u8], rule: &[u8], words: &[u32], number: u32, place: u32, path: &mut [u8]) -> usize
+pub fn write_path(
+    label: &[u8],
+    rule: &[u8],
+    words: &[u32],
+    number: u32,
+    place: u32,
+    path: &mut [u8],
+) -> usize
     ensures { λ r. ⌜ PathWritten (now (label .entry)) (now (rule .entry)) (now (words .entry)) number place (now (path .entry)) (now (path .exit)) r ⌝ }
 {
     let at = put(path, 0, label);

@@ -1,5 +1,6 @@
 // Operators by number, as they stand in a path.
-use crate::buffer::{push, put};
+use crate::buffer::push;
+use crate::buffer::put;
 ghost use Prim.Native.Nat.{_≤_, _<_};
 ghost use Rattle.validation.specs.Location.{operatorName, dotted};
 ghost use Rattle.location.specs.Buffer.{Wrote};

@@ -1,7 +1,15 @@
 // Down through values.
-use crate::buffer::{push, put, put_index};
-use crate::heads::{bytes_of, key_head, value_head, KeyRead, ValueHead, ValueRead};
-use crate::word::{find_sibling, start_of};
+use crate::buffer::push;
+use crate::buffer::put;
+use crate::buffer::put_index;
+use crate::word::find_sibling;
+use crate::word::start_of;
+use sheet::part::bytes_of;
+use sheet::rule::KeyRead;
+use sheet::rule::ValueHead;
+use sheet::rule::ValueRead;
+use sheet::rule::key_head;
+use sheet::rule::value_head;
 ghost use mathlib.Core.Path.{_≡_};
 ghost use Prim.Native.Nat.{_≤_, _<_};
 ghost use Rattle.location.specs.Descent.{ValueWritten, ValueLeads};
@@ -25,7 +33,14 @@ fn put_key(rule: &[u8], words: &[u32], i: usize, at: usize, path: &mut [u8]) -> 
 }
 
 // From the value at word `i` to the one among those it holds in whose subtree word `target` lies.
-fn value_step(rule: &[u8], words: &[u32], target: usize, i: usize, at: usize, path: &mut [u8]) -> Step
+fn value_step(
+    rule: &[u8],
+    words: &[u32],
+    target: usize,
+    i: usize,
+    at: usize,
+    path: &mut [u8],
+) -> Step
     requires { ⌜ (i < target) × (target < 4294967296) ⌝ }
     ensures { λ r. ⌜ ValueLeads (now (rule .entry)) (now (words .entry)) target i (now (path .entry)) at (r .word) (now (path .exit)) (r .at) × (i < r .word) ⌝ }
 {
@@ -39,17 +54,30 @@ fn value_step(rule: &[u8], words: &[u32], target: usize, i: usize, at: usize, pa
         ValueHead::Text(_) => Step { word: target, at },
         ValueHead::Array(_) => {
             let next = put_index(path, at, inner.index);
-            Step { word: inner.word, at: next }
+            Step {
+                word: inner.word,
+                at: next,
+            }
         }
         ValueHead::Object(_) => {
             let next = put_key(rule, words, inner.word, at, path);
-            Step { word: inner.word + 1, at: next }
+            Step {
+                word: inner.word + 1,
+                at: next,
+            }
         }
     }
 }
 
 // Writes the way from the value at word `i` to the one at word `target`.
-pub fn put_value(rule: &[u8], words: &[u32], target: usize, i: usize, at: usize, path: &mut [u8]) -> usize
+pub fn put_value(
+    rule: &[u8],
+    words: &[u32],
+    target: usize,
+    i: usize,
+    at: usize,
+    path: &mut [u8],
+) -> usize
     requires { ⌜ target < 4294967296 ⌝ }
     ensures { λ r. ⌜ ValueWritten (now (rule .entry)) (now (words .entry)) target i (now (path .entry)) (now (path .exit)) at r ⌝ }
 {

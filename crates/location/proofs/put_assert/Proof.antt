@@ -1,35 +1,24 @@
 use Rattle.location.proofs.RuleSteps.{assert-label, assert-inside}
 use Rattle.sheet.specs.Ascii.{ascii}
-use native.Mathlib.Omega.{arith}
 use borrow.Author.Needs.{needs}
 use Rattle.location.proofs.put_assert.Statement.{statement}
 use Rattle.location.proofs.put_assert.Tie as tie
-use Rattle.location.proofs.put_assert.Reads as reads
-use Rattle.location.proofs.put_assert.Lts as lts
-use Rattle.location.proofs.buffer.put.Reads as put-reads
-use Rattle.location.proofs.condition.put_condition.Reads as put-condition-reads
 
--- src/lib.rt:23:9
 returns : tie.Need-returns
 returns c = assert-label (c .if1 .taken)
 
--- src/lib.rt:25:30
 slice-aggregate-put : tie.Need-slice-aggregate-put
 slice-aggregate-put c = search needs
 
--- src/lib.rt:25:9
 put-requires : tie.Need-put-requires
 put-requires c κs = search needs
 
--- src/lib.rt:26:5
 put-condition-requires : tie.Need-put-condition-requires
 put-condition-requires c κs = search needs
 
--- src/lib.rt:18:1
 same-length : tie.Need-same-length
 same-length c = search needs
 
--- src/lib.rt:18:1
 returns-2 : tie.Need-returns-2
 unfolding ascii
 returns-2 c = assert-inside (c .before .before .before .before .before .before .before .before .before .if1 .left) (c .before .before .before .before .before .before .put .ensures) (c .before .before .put-condition .ensures)

@@ -7,9 +7,6 @@ use native.Mathlib.Omega.{arith}
 use borrow.Author.Needs.{needs}
 use Rattle.location.proofs.buffer.put.Statement.{statement}
 use Rattle.location.proofs.buffer.put.Tie as tie
-use Rattle.location.proofs.buffer.put.Reads as reads
-use Rattle.location.proofs.buffer.put.Lts as lts
-use Rattle.location.proofs.buffer.push.Reads as push-reads
 
 abbrev Inv-loop : tie.InvT-loop
 Inv-loop path₀ at bytes next₀ i₀ path next i = (i ≤ length bytes) × (length path ≡ length path₀) × Wrote path₀ path at (take i bytes) next
@@ -17,35 +14,27 @@ Inv-loop path₀ at bytes next₀ i₀ path next i = (i ≤ length bytes) × (le
 abbrev μ-loop : tie.MeasureT-loop
 μ-loop path₀ at bytes next₀ i₀ path next i = length bytes - i
 
--- src/buffer.rt:23:5
 loop-holds : tie.Need-loop-holds Inv-loop μ-loop
 loop-holds c = (omega arith, refl, wrote-nothing _ _)
 
--- src/buffer.rt:24:33
 shared-slice-read-push : tie.Need-shared-slice-read-push Inv-loop μ-loop
 shared-slice-read-push c = search needs
 
--- src/buffer.rt:24:9
 push-requires : tie.Need-push-requires Inv-loop μ-loop
 push-requires c κs = search needs
 
--- src/buffer.rt:25:9
 add-i : tie.Need-add-i Inv-loop μ-loop
 add-i c = search needs
 
--- src/buffer.rt:23:5
 loop-less : tie.Need-loop-less Inv-loop μ-loop
 loop-less c = search needs
 
--- src/buffer.rt:23:5
 loop-again : tie.Need-loop-again Inv-loop μ-loop
 loop-again c = (search needs, search needs, search (wrote-more, needs))
 
--- src/buffer.rt:18:1
 same-length : tie.Need-same-length Inv-loop μ-loop
 same-length c = search needs
 
--- src/buffer.rt:18:1
 returns : tie.Need-returns Inv-loop μ-loop
 returns c = search (wrote-all, needs)
 

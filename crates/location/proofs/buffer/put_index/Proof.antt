@@ -1,32 +1,22 @@
 use Rattle.sheet.specs.Ascii.{ascii}
 use Rattle.validation.specs.Location.{index}
 use Rattle.location.proofs.BufferLaws.{wrote-then}
-use native.Mathlib.Omega.{arith}
 use borrow.Author.Needs.{needs}
 use Rattle.location.proofs.buffer.put_index.Statement.{statement}
 use Rattle.location.proofs.buffer.put_index.Tie as tie
-use Rattle.location.proofs.buffer.put_index.Reads as reads
-use Rattle.location.proofs.buffer.put_index.Lts as lts
-use Rattle.location.proofs.buffer.push.Reads as push-reads
-use Rattle.location.proofs.buffer.put_decimal.Reads as put-decimal-reads
 
--- src/buffer.rt:44:9
 push-requires : tie.Need-push-requires
 push-requires c κs = search needs
 
--- src/buffer.rt:45:9
 put-decimal-requires : tie.Need-put-decimal-requires
 put-decimal-requires c κs = search needs
 
--- src/buffer.rt:46:5
 push-requires-2 : tie.Need-push-requires-2
 push-requires-2 c κs = search needs
 
--- src/buffer.rt:41:1
 same-length : tie.Need-same-length
 same-length c = search needs
 
--- src/buffer.rt:41:1
 returns : tie.Need-returns
 unfolding index ascii
 returns c = wrote-then (c .before .before .before .before .before .before .before .before .before .before .push .ensures) (wrote-then (c .before .before .before .before .before .before .put-decimal .ensures) (c .before .before .push2 .ensures))

@@ -3,72 +3,49 @@ use native.Mathlib.Omega.{arith}
 use borrow.Author.Needs.{needs}
 use Rattle.location.proofs.condition.condition_step.Statement.{statement}
 use Rattle.location.proofs.condition.condition_step.Tie as tie
-use Rattle.location.proofs.condition.condition_step.Reads as reads
-use Rattle.location.proofs.condition.condition_step.Lts as lts
-use Rattle.location.proofs.condition.is_value_at.Reads as is-value-at-reads
-use Rattle.location.proofs.condition.is_whole.Reads as is-whole-reads
-use Rattle.location.proofs.condition.put_part.Reads as put-part-reads
-use Rattle.location.proofs.heads.condition_head.Reads as condition-head-reads
-use Rattle.location.proofs.word.find_sibling.Reads as find-sibling-reads
-use Rattle.location.proofs.word.start_of.Reads as start-of-reads
 
--- src/condition.rt:124:59
 start-of-requires : tie.Need-start-of-requires
 start-of-requires c κs = search needs
 
--- src/condition.rt:124:38
 condition-head-requires : tie.Need-condition-head-requires
 condition-head-requires c κs = search needs
 
--- src/condition.rt:124:27
 enum-known-head : tie.Need-enum-known-head
 enum-known-head c = search needs
 
--- src/condition.rt:125:9
 enum-told : tie.Need-enum-told
 enum-told c = search needs
 
--- src/condition.rt:125:9
 returns : tie.Need-returns
 returns c = step-refused (c .before .before .before .start-of .ensures) (rw (c .enum-told .given .1) at (c .before .before .condition-head .ensures))
 
--- src/condition.rt:127:8
 is-whole-requires : tie.Need-is-whole-requires
 is-whole-requires c κs = search needs
 
--- src/condition.rt:128:9
 returns-2 : tie.Need-returns-2
 returns-2 c = step-whole (c .before .before .before .before .before .before .start-of .ensures) ((rw (c .before .before .before .head .given .1) at (c .before .before .before .before .before .condition-head .ensures)) .0 .reads) (c .before .before .before .before .before .before .before .before .before .before .pre .0) (c .before .is-whole .ensures _) (c .if1 .taken)
 
--- src/condition.rt:130:45
 add-find-sibling : tie.Need-add-find-sibling
 add-find-sibling c = search needs
 
--- src/condition.rt:130:9
 find-sibling-requires : tie.Need-find-sibling-requires
 find-sibling-requires c κs = search needs
 
--- src/condition.rt:131:9
 put-part-requires : tie.Need-put-part-requires
 put-part-requires c κs = search needs
 
--- src/condition.rt:132:8
 is-value-at-requires : tie.Need-is-value-at-requires
 is-value-at-requires c κs = search needs
 
--- src/condition.rt:133:9
 same-length : tie.Need-same-length
 same-length c = search needs
 
--- src/condition.rt:133:9
 returns-3 : tie.Need-returns-3
 returns-3 c = step-to-value (c .before .before .before .before .before .before .before .before .before .before .before .before .before .start-of .ensures) ((rw (c .before .before .before .before .before .before .before .before .before .before .head .given .1) at (c .before .before .before .before .before .before .before .before .before .before .before .before .condition-head .ensures)) .0 .reads) (c .before .before .before .before .before .before .before .before .before .before .before .before .before .before .before .before .before .pre .0) (c .before .before .before .before .before .before .before .before .is-whole .ensures _) (c .before .before .before .before .before .before .before .if1 .left) (c .before .before .before .before .before .before .find-sibling .ensures .0) (c .before .before .before .before .put-part .ensures _) (c .before .is-value-at .ensures _) (c .if2 .taken)
 
--- src/condition.rt:120:1
 same-length-2 : tie.Need-same-length-2
 same-length-2 c = search needs
 
--- src/condition.rt:120:1
 returns-4 : tie.Need-returns-4
 returns-4 c = (step-to-condition (c .before .before .before .before .before .before .before .before .before .before .before .before .before .start-of .ensures) ((rw (c .before .before .before .before .before .before .before .before .before .before .head .given .1) at (c .before .before .before .before .before .before .before .before .before .before .before .before .condition-head .ensures)) .0 .reads) (c .before .before .before .before .before .before .before .before .before .before .before .before .before .before .before .before .before .pre .0) (c .before .before .before .before .before .before .before .before .is-whole .ensures _) (c .before .before .before .before .before .before .before .if1 .left) (c .before .before .before .before .before .before .find-sibling .ensures .0) (c .before .before .before .before .put-part .ensures _) (c .before .is-value-at .ensures _) (c .if2 .left), omega (arith, c .before .before .before .before .before .before .find-sibling .ensures .1))
 

@@ -7,11 +7,6 @@ use native.Mathlib.Omega.{arith}
 use borrow.Author.Needs.{needs}
 use Rattle.location.proofs.condition.put_condition.Statement.{statement}
 use Rattle.location.proofs.condition.put_condition.Tie as tie
-use Rattle.location.proofs.condition.put_condition.Reads as reads
-use Rattle.location.proofs.condition.put_condition.Lts as lts
-use Rattle.location.proofs.condition.condition_step.Reads as condition-step-reads
-use Rattle.location.proofs.condition.put_end.Reads as put-end-reads
-use Rattle.location.proofs.value.put_value.Reads as put-value-reads
 
 abbrev Inv-loop : tie.InvT-loop
 Inv-loop rule words number target i at path₀ word₀ next₀ path word next = ConditionLeads rule words number target i path₀ at word path next × (length path ≡ length path₀)
@@ -19,63 +14,48 @@ Inv-loop rule words number target i at path₀ word₀ next₀ path word next = 
 abbrev μ-loop : tie.MeasureT-loop
 μ-loop rule words number target i at path₀ word₀ next₀ path word next = target - word
 
--- src/condition.rt:155:5
 loop-holds : tie.Need-loop-holds Inv-loop μ-loop
 loop-holds c = (condition-led, refl)
 
--- src/condition.rt:156:15
 condition-step-requires : tie.Need-condition-step-requires Inv-loop μ-loop
 condition-step-requires c κs = search needs
 
--- src/condition.rt:157:29
 enum-known-inner : tie.Need-enum-known-inner Inv-loop μ-loop
 enum-known-inner c = search needs
 
--- src/condition.rt:155:5
 loop-less : tie.Need-loop-less Inv-loop μ-loop
 loop-less c = let r = (rw (c .before .inner .given .1) at (c .before .before .before .before .before .condition-step .ensures)) .1 in omega arith
 
--- src/condition.rt:155:5
 loop-again : tie.Need-loop-again Inv-loop μ-loop
 loop-again c = (condition-led-on (c .before .before .before .before .before .before .before .before .loop .inv .0) ((rw (c .before .inner .given .1) at (c .before .before .before .before .before .condition-step .ensures)) .0), search needs)
 
--- src/condition.rt:161:25
 enum-known-inner-2 : tie.Need-enum-known-inner-2 Inv-loop μ-loop
 enum-known-inner-2 c = search needs
 
--- src/condition.rt:162:17
 put-value-requires : tie.Need-put-value-requires Inv-loop μ-loop
 put-value-requires c κs = search needs
 
--- src/condition.rt:162:17
 same-length : tie.Need-same-length Inv-loop μ-loop
 same-length c = search needs
 
--- src/condition.rt:162:17
 returns : tie.Need-returns Inv-loop μ-loop
 returns c = operand-led-to (c .before .before .before .before .before .before .before .before .before .before .before .before .loop .inv .0) (rw (c .before .before .before .before .before .inner2 .given .1) at (c .before .before .before .before .before .before .before .before .before .condition-step .ensures)) (c .before .before .put-value .ensures)
 
--- src/condition.rt:164:24
 enum-known-behind : tie.Need-enum-known-behind Inv-loop μ-loop
 enum-known-behind c = search needs
 
--- src/condition.rt:165:17
 same-length-2 : tie.Need-same-length-2 Inv-loop μ-loop
 same-length-2 c = search needs
 
--- src/condition.rt:165:17
 returns-2 : tie.Need-returns-2 Inv-loop μ-loop
 returns-2 c = done-led-to (c .before .before .before .before .before .before .before .before .loop .inv .0) (rw (c .before .behind .given .1) at (c .before .before .before .before .before .condition-step .ensures))
 
--- src/condition.rt:169:5
 put-end-requires : tie.Need-put-end-requires Inv-loop μ-loop
 put-end-requires c κs = search needs
 
--- src/condition.rt:149:1
 same-length-3 : tie.Need-same-length-3 Inv-loop μ-loop
 same-length-3 c = search needs
 
--- src/condition.rt:149:1
 returns-3 : tie.Need-returns-3 Inv-loop μ-loop
 returns-3 c = condition-led-to (c .before .before .before .before .before .loop .inv .0) (c .before .before .before .before .loop-test .left) (c .before .before .put-end .ensures)
 

@@ -1,88 +1,67 @@
 use Rattle.location.proofs.BufferLaws.{wrote-then, wrote-nothing}
 use Rattle.location.specs.Heads.{partAt, isValueAt, isWhole, ownPart}
-use Rattle.location.specs.Stub.{conditionOf}
+use Rattle.sheet.specs.Places.{conditionOf}
 use borrow.Author.Tests.{eq-eqb, ne-eqb, le-leb, lt-leb}
 use Rattle.validation.specs.Location.{atQuantifier}
-use native.Mathlib.Omega.{arith}
 use borrow.Author.Needs.{needs}
 use Rattle.location.proofs.condition.put_own.Statement.{statement}
 use Rattle.location.proofs.condition.put_own.Tie as tie
-use Rattle.location.proofs.condition.put_own.Reads as reads
-use Rattle.location.proofs.condition.put_own.Lts as lts
-use Rattle.location.proofs.operator.put_operator.Reads as put-operator-reads
 
--- src/condition.rt:104:38
 enum-told : tie.Need-enum-told
 enum-told c = search needs
 
--- src/condition.rt:105:38
 enum-told-2 : tie.Need-enum-told-2
 enum-told-2 c = search needs
 
--- src/condition.rt:106:36
 enum-told-3 : tie.Need-enum-told-3
 enum-told-3 c = search needs
 
--- src/condition.rt:107:34
 enum-told-4 : tie.Need-enum-told-4
 enum-told-4 c = search needs
 
--- src/condition.rt:108:34
 enum-told-5 : tie.Need-enum-told-5
 enum-told-5 c = search needs
 
--- src/condition.rt:109:41
 enum-told-6 : tie.Need-enum-told-6
 enum-told-6 c = search needs
 
--- src/condition.rt:110:35
 enum-known-head : tie.Need-enum-known-head
 enum-known-head c = search needs
 
--- src/condition.rt:112:17
 put-operator-requires : tie.Need-put-operator-requires
 put-operator-requires c κs = search needs
 
--- src/condition.rt:112:17
 same-length : tie.Need-same-length
 same-length c = search needs
 
--- src/condition.rt:112:17
 returns : tie.Need-returns
 unfolding ownPart conditionOf atQuantifier
 returns c = λ s. rw (c .before .before .before .before .before .before .head .given .1, le-leb 21 _ (c .before .before .before .before .if1 .taken)) (c .before .before .put-operator .ensures)
 
--- src/condition.rt:100:1
 returns-2 : tie.Need-returns-2
 unfolding ownPart conditionOf
 returns-2 c = λ s. rw (c .enum-told .given .1) (wrote-nothing _ _)
 
--- src/condition.rt:100:1
 returns-3 : tie.Need-returns-3
 unfolding ownPart conditionOf
 returns-3 c = λ s. rw (c .enum-told2 .given .1) (wrote-nothing _ _)
 
--- src/condition.rt:100:1
 returns-4 : tie.Need-returns-4
 unfolding ownPart conditionOf
 returns-4 c = λ s. rw (c .enum-told3 .given .1) (wrote-nothing _ _)
 
--- src/condition.rt:100:1
 returns-5 : tie.Need-returns-5
 unfolding ownPart conditionOf
 returns-5 c = λ s. rw (c .enum-told4 .given .1) (wrote-nothing _ _)
 
--- src/condition.rt:100:1
 returns-6 : tie.Need-returns-6
 unfolding ownPart conditionOf
 returns-6 c = λ s. rw (c .enum-told5 .given .1) (wrote-nothing _ _)
 
--- src/condition.rt:100:1
 returns-7 : tie.Need-returns-7
 unfolding ownPart conditionOf
 returns-7 c = λ s. rw (c .enum-told6 .given .1) (wrote-nothing _ _)
 
--- src/condition.rt:100:1
 returns-8 : tie.Need-returns-8
 unfolding ownPart conditionOf atQuantifier
 returns-8 c = λ s. rw (c .before .before .head .given .1, lt-leb 21 _ (c .if1 .left)) (wrote-nothing _ _)

@@ -1,130 +1,95 @@
 use Rattle.location.proofs.BufferLaws.{wrote-then, wrote-nothing}
 use Rattle.location.specs.Heads.{partAt, isValueAt, isWhole, ownPart}
-use Rattle.location.specs.Stub.{conditionOf}
+use Rattle.sheet.specs.Places.{conditionOf}
 use Rattle.sheet.specs.Ascii.{ascii}
-use native.Mathlib.Omega.{arith}
 use borrow.Author.Needs.{needs}
 use Rattle.location.proofs.condition.put_part.Statement.{statement}
 use Rattle.location.proofs.condition.put_part.Tie as tie
-use Rattle.location.proofs.condition.put_part.Reads as reads
-use Rattle.location.proofs.condition.put_part.Lts as lts
-use Rattle.location.proofs.buffer.put.Reads as put-reads
-use Rattle.location.proofs.condition.put_child.Reads as put-child-reads
-use Rattle.location.proofs.condition.put_scope.Reads as put-scope-reads
-use Rattle.location.proofs.condition.put_side.Reads as put-side-reads
-use Rattle.location.proofs.operator.put_operator.Reads as put-operator-reads
 
--- src/condition.rt:61:38
 enum-told : tie.Need-enum-told
 enum-told c = search needs
 
--- src/condition.rt:62:29
 enum-known-head : tie.Need-enum-known-head
 enum-known-head c = search needs
 
--- src/condition.rt:62:39
 put-child-requires : tie.Need-put-child-requires
 put-child-requires c κs = search needs
 
--- src/condition.rt:63:40
 enum-told-2 : tie.Need-enum-told-2
 enum-told-2 c = search needs
 
--- src/condition.rt:63:50
 slice-aggregate-put : tie.Need-slice-aggregate-put
 slice-aggregate-put c = search needs
 
--- src/condition.rt:63:36
 put-requires : tie.Need-put-requires
 put-requires c κs = search needs
 
--- src/condition.rt:64:28
 enum-known-head-2 : tie.Need-enum-known-head-2
 enum-known-head-2 c = search needs
 
--- src/condition.rt:64:35
 put-operator-requires : tie.Need-put-operator-requires
 put-operator-requires c κs = search needs
 
--- src/condition.rt:65:28
 enum-known-head-3 : tie.Need-enum-known-head-3
 enum-known-head-3 c = search needs
 
--- src/condition.rt:65:35
 put-child-requires-2 : tie.Need-put-child-requires-2
 put-child-requires-2 c κs = search needs
 
--- src/condition.rt:66:50
 enum-told-3 : tie.Need-enum-told-3
 enum-told-3 c = search needs
 
--- src/condition.rt:66:41
 put-side-requires : tie.Need-put-side-requires
 put-side-requires c κs = search needs
 
--- src/condition.rt:67:35
 enum-known-head-4 : tie.Need-enum-known-head-4
 enum-known-head-4 c = search needs
 
--- src/condition.rt:67:45
 put-scope-requires : tie.Need-put-scope-requires
 put-scope-requires c κs = search needs
 
--- src/condition.rt:57:1
 returns : tie.Need-returns
 unfolding partAt conditionOf
 returns c = λ s. rw (c .enum-told .given .1) (wrote-nothing _ _)
 
--- src/condition.rt:57:1
 same-length : tie.Need-same-length
 same-length c = search needs
 
--- src/condition.rt:57:1
 returns-2 : tie.Need-returns-2
 unfolding partAt conditionOf
 returns-2 c = λ s. rw (c .before .before .before .before .before .head .given .1) (c .before .before .put-child .ensures)
 
--- src/condition.rt:57:1
 same-length-2 : tie.Need-same-length-2
 same-length-2 c = search needs
 
--- src/condition.rt:57:1
 returns-3 : tie.Need-returns-3
 unfolding partAt conditionOf ascii
 returns-3 c = λ s. rw (c .before .before .before .before .before .enum-told2 .given .1) (c .before .before .put .ensures)
 
--- src/condition.rt:57:1
 same-length-3 : tie.Need-same-length-3
 same-length-3 c = search needs
 
--- src/condition.rt:57:1
 returns-4 : tie.Need-returns-4
 unfolding partAt conditionOf
 returns-4 c = λ s. rw (c .before .before .before .before .before .head2 .given .1) (c .before .before .put-operator .ensures)
 
--- src/condition.rt:57:1
 same-length-4 : tie.Need-same-length-4
 same-length-4 c = search needs
 
--- src/condition.rt:57:1
 returns-5 : tie.Need-returns-5
 unfolding partAt conditionOf
 returns-5 c = λ s. rw (c .before .before .before .before .before .head3 .given .1) (c .before .before .put-child2 .ensures)
 
--- src/condition.rt:57:1
 same-length-5 : tie.Need-same-length-5
 same-length-5 c = search needs
 
--- src/condition.rt:57:1
 returns-6 : tie.Need-returns-6
 unfolding partAt conditionOf
 returns-6 c = λ s. rw (c .before .before .before .before .enum-told3 .given .1) (c .before .before .put-side .ensures)
 
--- src/condition.rt:57:1
 same-length-6 : tie.Need-same-length-6
 same-length-6 c = search needs
 
--- src/condition.rt:57:1
 returns-7 : tie.Need-returns-7
 unfolding partAt conditionOf
 returns-7 c = λ s. rw (c .before .before .before .before .before .head4 .given .1) (c .before .before .put-scope .ensures)

@@ -1,49 +1,35 @@
 use Rattle.sheet.specs.Ascii.{ascii}
 use borrow.Author.Tests.{eq-eqb, ne-eqb, le-leb, lt-leb}
 use Rattle.location.proofs.BufferLaws.{wrote-then, wrote-nothing}
-use native.Mathlib.Omega.{arith}
 use borrow.Author.Needs.{needs}
 use Rattle.location.proofs.condition.put_scope.Statement.{statement}
 use Rattle.location.proofs.condition.put_scope.Tie as tie
-use Rattle.location.proofs.condition.put_scope.Reads as reads
-use Rattle.location.proofs.condition.put_scope.Lts as lts
-use Rattle.location.proofs.buffer.put.Reads as put-reads
-use Rattle.location.proofs.operator.put_operator.Reads as put-operator-reads
 
--- src/condition.rt:49:9
 put-operator-requires : tie.Need-put-operator-requires
 put-operator-requires c κs = search needs
 
--- src/condition.rt:51:32
 slice-aggregate-put : tie.Need-slice-aggregate-put
 slice-aggregate-put c = search needs
 
--- src/condition.rt:51:9
 put-requires : tie.Need-put-requires
 put-requires c κs = search needs
 
--- src/condition.rt:51:9
 same-length : tie.Need-same-length
 same-length c = search needs
 
--- src/condition.rt:51:9
 returns : tie.Need-returns
 unfolding ascii
 returns c = rw (eq-eqb _ 0 (c .before .before .before .before .before .if1 .taken)) (wrote-then (c .before .before .before .before .before .before .before .before .put-operator .ensures) (c .before .before .put .ensures))
 
--- src/condition.rt:53:21
 slice-aggregate-put-2 : tie.Need-slice-aggregate-put-2
 slice-aggregate-put-2 c = search needs
 
--- src/condition.rt:53:5
 put-requires-2 : tie.Need-put-requires-2
 put-requires-2 c κs = search needs
 
--- src/condition.rt:46:1
 same-length-2 : tie.Need-same-length-2
 same-length-2 c = search needs
 
--- src/condition.rt:46:1
 returns-2 : tie.Need-returns-2
 unfolding ascii
 returns-2 c = rw (ne-eqb _ 0 (c .before .before .before .before .before .if1 .left)) (wrote-then (c .before .before .before .before .before .before .before .before .put-operator .ensures) (c .before .before .put2 .ensures))

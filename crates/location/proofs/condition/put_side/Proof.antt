@@ -1,43 +1,31 @@
 use Rattle.sheet.specs.Ascii.{ascii}
 use borrow.Author.Tests.{eq-eqb, ne-eqb, le-leb, lt-leb}
-use native.Mathlib.Omega.{arith}
 use borrow.Author.Needs.{needs}
 use Rattle.location.proofs.condition.put_side.Statement.{statement}
 use Rattle.location.proofs.condition.put_side.Tie as tie
-use Rattle.location.proofs.condition.put_side.Reads as reads
-use Rattle.location.proofs.condition.put_side.Lts as lts
-use Rattle.location.proofs.buffer.put.Reads as put-reads
 
--- src/condition.rt:41:30
 slice-aggregate-put : tie.Need-slice-aggregate-put
 slice-aggregate-put c = search needs
 
--- src/condition.rt:41:9
 put-requires : tie.Need-put-requires
 put-requires c κs = search needs
 
--- src/condition.rt:41:9
 same-length : tie.Need-same-length
 same-length c = search needs
 
--- src/condition.rt:41:9
 returns : tie.Need-returns
 unfolding ascii
 returns c = rw (eq-eqb _ 0 (c .before .before .before .before .before .if1 .taken)) (c .before .before .put .ensures)
 
--- src/condition.rt:43:19
 slice-aggregate-put-2 : tie.Need-slice-aggregate-put-2
 slice-aggregate-put-2 c = search needs
 
--- src/condition.rt:43:5
 put-requires-2 : tie.Need-put-requires-2
 put-requires-2 c κs = search needs
 
--- src/condition.rt:37:1
 same-length-2 : tie.Need-same-length-2
 same-length-2 c = search needs
 
--- src/condition.rt:37:1
 returns-2 : tie.Need-returns-2
 unfolding ascii
 returns-2 c = rw (ne-eqb _ 0 (c .before .before .before .before .before .if1 .left)) (c .before .before .put2 .ensures)

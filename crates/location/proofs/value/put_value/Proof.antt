@@ -3,13 +3,9 @@ use mathlib.Core.Path.{_≡_, refl}
 use lib.ListN.{length}
 use Rattle.location.specs.Descent.{ValueLeads}
 use Rattle.location.proofs.ValueSteps.{value-led, value-led-on, value-led-to}
-use native.Mathlib.Omega.{arith}
 use borrow.Author.Needs.{needs}
 use Rattle.location.proofs.value.put_value.Statement.{statement}
 use Rattle.location.proofs.value.put_value.Tie as tie
-use Rattle.location.proofs.value.put_value.Reads as reads
-use Rattle.location.proofs.value.put_value.Lts as lts
-use Rattle.location.proofs.value.value_step.Reads as value-step-reads
 
 abbrev Inv-loop : tie.InvT-loop
 Inv-loop rule words target i at path₀ word₀ next₀ path word next = ValueLeads rule words target i path₀ at word path next × (length path ≡ length path₀)
@@ -17,27 +13,21 @@ Inv-loop rule words target i at path₀ word₀ next₀ path word next = ValueLe
 abbrev μ-loop : tie.MeasureT-loop
 μ-loop rule words target i at path₀ word₀ next₀ path word next = target - word
 
--- src/value.rt:58:5
 loop-holds : tie.Need-loop-holds Inv-loop μ-loop
 loop-holds c = (value-led, refl)
 
--- src/value.rt:59:13
 value-step-requires : tie.Need-value-step-requires Inv-loop μ-loop
 value-step-requires c κs = search needs
 
--- src/value.rt:58:5
 loop-less : tie.Need-loop-less Inv-loop μ-loop
 loop-less c = search needs
 
--- src/value.rt:58:5
 loop-again : tie.Need-loop-again Inv-loop μ-loop
 loop-again c = (search (value-led-on, needs), search needs)
 
--- src/value.rt:52:1
 same-length : tie.Need-same-length Inv-loop μ-loop
 same-length c = search needs
 
--- src/value.rt:52:1
 returns : tie.Need-returns Inv-loop μ-loop
 returns c = search (value-led-to, needs)
 

@@ -1,106 +1,77 @@
 use Rattle.location.proofs.ValueSteps.{value-refused-step, constant-step, number-step, string-step, array-step, object-step}
-use Rattle.location.specs.Stub.{valueOf}
+use Rattle.sheet.specs.Places.{valueOf}
 use native.Mathlib.Omega.{arith}
 use borrow.Author.Needs.{needs}
 use Rattle.location.proofs.value.value_step.Statement.{statement}
 use Rattle.location.proofs.value.value_step.Tie as tie
-use Rattle.location.proofs.value.value_step.Reads as reads
-use Rattle.location.proofs.value.value_step.Lts as lts
-use Rattle.location.proofs.buffer.put_index.Reads as put-index-reads
-use Rattle.location.proofs.heads.value_head.Reads as value-head-reads
-use Rattle.location.proofs.value.put_key.Reads as put-key-reads
-use Rattle.location.proofs.word.find_sibling.Reads as find-sibling-reads
-use Rattle.location.proofs.word.start_of.Reads as start-of-reads
 
--- src/value.rt:32:51
 start-of-requires : tie.Need-start-of-requires
 start-of-requires c κs = search needs
 
--- src/value.rt:32:34
 value-head-requires : tie.Need-value-head-requires
 value-head-requires c κs = search needs
 
--- src/value.rt:32:23
 enum-known-head : tie.Need-enum-known-head
 enum-known-head c = search needs
 
--- src/value.rt:33:9
 enum-told : tie.Need-enum-told
 enum-told c = search needs
 
--- src/value.rt:33:9
 returns : tie.Need-returns
 returns c = (value-refused-step (c .before .before .before .start-of .ensures) (rw (c .enum-told .given .1) at (c .before .before .value-head .ensures)), omega arith)
 
--- src/value.rt:35:45
 add-find-sibling : tie.Need-add-find-sibling
 add-find-sibling c = search needs
 
--- src/value.rt:35:9
 find-sibling-requires : tie.Need-find-sibling-requires
 find-sibling-requires c κs = search needs
 
--- src/value.rt:37:35
 enum-told-2 : tie.Need-enum-told-2
 enum-told-2 c = search needs
 
--- src/value.rt:38:33
 enum-told-3 : tie.Need-enum-told-3
 enum-told-3 c = search needs
 
--- src/value.rt:39:31
 enum-told-4 : tie.Need-enum-told-4
 enum-told-4 c = search needs
 
--- src/value.rt:41:34
 enum-told-5 : tie.Need-enum-told-5
 enum-told-5 c = search needs
 
--- src/value.rt:41:17
 put-index-requires : tie.Need-put-index-requires
 put-index-requires c κs = search needs
 
--- src/value.rt:45:61
 enum-told-6 : tie.Need-enum-told-6
 enum-told-6 c = search needs
 
--- src/value.rt:45:17
 put-key-requires : tie.Need-put-key-requires
 put-key-requires c κs = search needs
 
--- src/value.rt:46:26
 add-t18 : tie.Need-add-t18
 add-t18 c = search needs
 
--- src/value.rt:28:1
 returns-2 : tie.Need-returns-2
 unfolding valueOf
 returns-2 c = (constant-step (c .before .before .before .before .before .before .before .start-of .ensures) ((rw (c .enum-told2 .given .1) at (rw (c .before .before .before .before .head .given .1) at (c .before .before .before .before .before .before .value-head .ensures))) .0 .reads) (c .before .before .before .before .before .before .before .before .before .before .before .pre .0), omega arith)
 
--- src/value.rt:28:1
 returns-3 : tie.Need-returns-3
 unfolding valueOf
 returns-3 c = (number-step (c .before .before .before .before .before .before .before .start-of .ensures) ((rw (c .enum-told3 .given .1) at (rw (c .before .before .before .before .head .given .1) at (c .before .before .before .before .before .before .value-head .ensures))) .0 .reads) (c .before .before .before .before .before .before .before .before .before .before .before .pre .0), omega arith)
 
--- src/value.rt:28:1
 returns-4 : tie.Need-returns-4
 unfolding valueOf
 returns-4 c = (string-step (c .before .before .before .before .before .before .before .start-of .ensures) ((rw (c .enum-told4 .given .1) at (rw (c .before .before .before .before .head .given .1) at (c .before .before .before .before .before .before .value-head .ensures))) .0 .reads) (c .before .before .before .before .before .before .before .before .before .before .before .pre .0), omega arith)
 
--- src/value.rt:28:1
 same-length : tie.Need-same-length
 same-length c = search needs
 
--- src/value.rt:28:1
 returns-5 : tie.Need-returns-5
 unfolding valueOf
 returns-5 c = (array-step (c .before .before .before .before .before .before .before .before .before .before .before .start-of .ensures) ((rw (c .before .before .before .before .enum-told5 .given .1) at (rw (c .before .before .before .before .before .before .before .before .head .given .1) at (c .before .before .before .before .before .before .before .before .before .before .value-head .ensures))) .0 .reads) (c .before .before .before .before .before .before .before .before .before .before .before .before .before .before .before .pre .0) (c .before .before .before .before .before .before .find-sibling .ensures .0) (c .before .before .put-index .ensures), omega (arith, c .before .before .before .before .before .before .find-sibling .ensures .1))
 
--- src/value.rt:28:1
 same-length-2 : tie.Need-same-length-2
 same-length-2 c = search needs
 
--- src/value.rt:28:1
 returns-6 : tie.Need-returns-6
 unfolding valueOf
 returns-6 c = (object-step (c .before .before .before .before .before .before .before .before .before .before .before .before .start-of .ensures) ((rw (c .before .before .before .before .before .enum-told6 .given .1) at (rw (c .before .before .before .before .before .before .before .before .before .head .given .1) at (c .before .before .before .before .before .before .before .before .before .before .before .value-head .ensures))) .0 .reads) (c .before .before .before .before .before .before .before .before .before .before .before .before .before .before .before .before .pre .0) (c .before .before .before .before .before .before .before .find-sibling .ensures .0) (c .before .before .before .put-key .ensures), omega (arith, c .before .before .before .before .before .before .before .find-sibling .ensures .1))

@@ -1,29 +1,20 @@
 use Rattle.location.proofs.Words.{start-absent}
-use native.Mathlib.Omega.{arith}
 use borrow.Author.Needs.{needs}
 use Rattle.location.proofs.word.start_of.Statement.{statement}
 use Rattle.location.proofs.word.start_of.Tie as tie
-use Rattle.location.proofs.word.start_of.Reads as reads
-use Rattle.location.proofs.word.start_of.Lts as lts
-use Rattle.location.proofs.word.wide.Reads as wide-reads
 
--- src/word.rt:22:21
 mul-wide : tie.Need-mul-wide
 mul-wide c = search needs
 
--- src/word.rt:22:21
 shared-slice-read-wide : tie.Need-shared-slice-read-wide
 shared-slice-read-wide c = search needs
 
--- src/word.rt:22:16
 wide-requires : tie.Need-wide-requires
 wide-requires c κs = search needs
 
--- src/word.rt:22:9
 returns : tie.Need-returns
 returns c = search needs
 
--- src/word.rt:18:1
 returns-2 : tie.Need-returns-2
 returns-2 c = search (start-absent, needs)
 
