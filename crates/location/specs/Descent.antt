@@ -1,7 +1,7 @@
 -- What the descent has written: for every tree that the index stands for, the way from one of its entries to the one at word `target`.
 use Prim.Native.Nat.{ℕ, _+_}
 use mathlib.Core.Bool.{cond}
-use mathlib.Core.List.{List, [], _++_}
+use mathlib.Core.List.{List, []}
 use mathlib.Core.Option.{some}
 use mathlib.Core.Path.{_≡_}
 use lib.Dec.{leb}
@@ -35,13 +35,6 @@ pub record RuleWritten (sheet words : List ℕ) (defect place : ℕ) (before aft
       → RuleAt sheet words tree
       → behindLabel defect place tree ≡ some p
       → Wrote before after at p next
-
--- the whole path
-pub record PathWritten (label sheet words : List ℕ) (defect place : ℕ) (before after : List ℕ) (next : ℕ) : Type 0 where
-  pub written : (tree : Rule) (p : Text)
-      → RuleAt sheet words tree
-      → behindLabel defect place tree ≡ some p
-      → Wrote before after 0 (label ++ p) next
 
 -- with the way from word `j` on, written behind `here`, the way from the value at word `i` stands behind `at`
 pub record ValueLeads (sheet words : List ℕ) (target i : ℕ) (before : List ℕ) (at j : ℕ) (now : List ℕ) (here : ℕ) : Type 0 where

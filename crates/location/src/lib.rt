@@ -14,7 +14,8 @@ use sheet::rule::RuleHead;
 use sheet::rule::RuleRead;
 use sheet::rule::rule_head;
 ghost use Prim.Native.Nat.{_<_};
-ghost use Rattle.location.specs.Descent.{AssertWritten, RuleWritten, PathWritten};
+ghost use Rattle.location.specs.Descent.{AssertWritten, RuleWritten};
+ghost use Rattle.location.specs.Path.{PathWritten};
 
 // Writes the way from a rule's root: none for the defects that have the label's own path.
 fn put_assert(
