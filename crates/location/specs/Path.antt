@@ -8,6 +8,10 @@ use Rattle.rule.specs.Index.{RuleAt}
 use Rattle.validation.specs.Location.{behindLabel}
 use Rattle.location.specs.Buffer.{Wrote}
 
+-- places are numbers of 32 bits
+abbrev pub placeBound : ℕ
+placeBound = 4294967296
+
 -- for every tree of which the words are the index, the label and the way to the entry `place` stand in the buffer from its beginning
 pub record PathWritten (label sheet words : List ℕ) (defect place : ℕ) (before after : List ℕ) (next : ℕ) : Type 0 where
   pub written : (tree : Rule) (p : Text)

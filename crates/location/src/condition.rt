@@ -19,6 +19,7 @@ ghost use Rattle.location.specs.Buffer.{Wrote};
 ghost use Rattle.location.specs.Heads.{partAt, isValueAt, isWhole, ownPart};
 ghost use Rattle.location.specs.Descent.{ConditionWritten};
 ghost use Rattle.location.specs.Next.{NextLeads};
+ghost use Rattle.location.specs.Path.{placeBound};
 ghost use Rattle.sheet.specs.Places.{conditionOf};
 
 // How the descent goes on.
@@ -130,7 +131,7 @@ fn condition_step(
     at: usize,
     path: &mut [u8],
 ) -> Next
-    requires { ⌜ (i < target) × (target < 4294967296) ⌝ }
+    requires { ⌜ (i < target) × (target < placeBound) ⌝ }
     ensures { λ r. ⌜ NextLeads (now (rule .entry)) (now (words .entry)) number target i (now (path .entry)) at (now (path .exit)) r ⌝ }
 {
     let ConditionRead::Is(head, _) = condition_head(rule, start_of(words, i)) else {
@@ -167,7 +168,7 @@ pub fn put_condition(
     at: usize,
     path: &mut [u8],
 ) -> usize
-    requires { ⌜ target < 4294967296 ⌝ }
+    requires { ⌜ target < placeBound ⌝ }
     ensures { λ r. ⌜ ConditionWritten (now (rule .entry)) (now (words .entry)) number target i (now (path .entry)) (now (path .exit)) at r ⌝ }
 {
     let mut word = i;

@@ -15,7 +15,7 @@ use sheet::rule::RuleRead;
 use sheet::rule::rule_head;
 ghost use Prim.Native.Nat.{_<_};
 ghost use Rattle.location.specs.Descent.{AssertWritten, RuleWritten};
-ghost use Rattle.location.specs.Path.{PathWritten};
+ghost use Rattle.location.specs.Path.{placeBound, PathWritten};
 
 // Writes the way from a rule's root: none for the defects that have the label's own path.
 fn put_assert(
@@ -26,7 +26,7 @@ fn put_assert(
     at: usize,
     path: &mut [u8],
 ) -> usize
-    requires { ⌜ target < 4294967296 ⌝ }
+    requires { ⌜ target < placeBound ⌝ }
     ensures { λ r. ⌜ AssertWritten (now (rule .entry)) (now (words .entry)) number target (now (path .entry)) (now (path .exit)) at r ⌝ }
 {
     if number <= 12 {

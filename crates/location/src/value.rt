@@ -10,10 +10,10 @@ use sheet::rule::ValueHead;
 use sheet::rule::ValueRead;
 use sheet::rule::key_head;
 use sheet::rule::value_head;
-ghost use mathlib.Core.Path.{_≡_};
-ghost use Prim.Native.Nat.{_≤_, _<_};
+ghost use Prim.Native.Nat.{_<_};
 ghost use Rattle.location.specs.Descent.{ValueWritten, ValueLeads};
 ghost use Rattle.location.specs.Keys.{KeyWritten};
+ghost use Rattle.location.specs.Path.{placeBound};
 
 // A word further down, and the place behind what stands in the path for the way to it.
 pub struct Step {
@@ -41,7 +41,7 @@ fn value_step(
     at: usize,
     path: &mut [u8],
 ) -> Step
-    requires { ⌜ (i < target) × (target < 4294967296) ⌝ }
+    requires { ⌜ (i < target) × (target < placeBound) ⌝ }
     ensures { λ r. ⌜ ValueLeads (now (rule .entry)) (now (words .entry)) target i (now (path .entry)) at (r .word) (now (path .exit)) (r .at) × (i < r .word) ⌝ }
 {
     let ValueRead::Is(head, _) = value_head(rule, start_of(words, i)) else {
@@ -78,7 +78,7 @@ pub fn put_value(
     at: usize,
     path: &mut [u8],
 ) -> usize
-    requires { ⌜ target < 4294967296 ⌝ }
+    requires { ⌜ target < placeBound ⌝ }
     ensures { λ r. ⌜ ValueWritten (now (rule .entry)) (now (words .entry)) target i (now (path .entry)) (now (path .exit)) at r ⌝ }
 {
     let mut word = i;
