@@ -1,21 +1,20 @@
 -- A condition is read back as it was written, and what is read as a condition is one as it is written.
-use Prim.Native.Nat.{ℕ, zero, suc, _+_, _≤_, max}
-use mathlib.Core.List.{List, [], _∷_, _++_, append-assoc}
-use mathlib.Core.Path.{_≡_, refl, sym, ap, _∙_}
+use Prim.Native.Nat.{ℕ, zero, suc, _≤_}
+use mathlib.Core.List.{_++_, append-assoc}
+use mathlib.Core.Path.{_≡_, refl}
 use native.Mathlib.Omega.{arith}
-use Rattle.sheet.specs.Reader.{Reader, _>>=_, _>>_, pure, refuse}
-use Rattle.sheet.specs.ReaderLaws.{Reads, bind-inv, then-inv, bind-reads, then-reads, pure-inv, refuse-inv}
+use Rattle.sheet.specs.Reader.{Reader, _>>=_, pure}
+use Rattle.sheet.specs.ReaderLaws.{Reads, bind-inv, bind-reads, pure-inv, refuse-inv}
 use Rattle.sheet.specs.Entries.{maxCount, ConditionHead, literalHead, manyHead, negationHead, oneHead, twoHead, comparisonHead, quantifierHead, conditionHead}
-use Rattle.sheet.specs.Within.{TextWithin}
 use Rattle.sheet.specs.Write.{writeConditionHead}
 use Rattle.sheet.specs.RuleHeadLaws.{ConditionHeadFits, conditionHead-exact}
-use Rattle.definition.specs.Tree.{Text, Value, Condition, literal, many, negation, one, two, comparison, quantifier, Conditions, noConditions, condition}
+use Rattle.definition.specs.Tree.{Value, Condition, literal, many, negation, one, two, comparison, quantifier, Conditions, noConditions, condition}
 use Rattle.definition.specs.Limits.{maxValueNesting}
-use Rattle.definition.specs.Decode.{Ahead, entry, announce, anyValue, valueIn, conditionsOf, conditionOf, conditionIn}
+use Rattle.definition.specs.Decode.{Ahead, entry, anyValue, conditionsOf, conditionOf, conditionIn}
 use Rattle.definition.specs.Write.{writeValue, conditionCount, writeCondition, writeConditions}
-use Rattle.definition.specs.Within.{valueEntries, valueNesting, OperandFits, ValueFrom, conditionEntries, conditionsEntries, conditionNesting, conditionsNesting, ConditionFits, ConditionsFit, ConditionFrom, ConditionsFrom}
-use Rattle.definition.specs.TreeLaws.{Moves, TreeLaw, moves-none, moves-split, Enters, entering, entry-reads, Announces, announcing, announce-reads, enters-alone, enters-first, enters-announcing}
-use Rattle.definition.specs.ValueLaws.{ValueGood, ValueLaw, value-law, value-takes}
+use Rattle.definition.specs.Within.{valueEntries, OperandFits, ValueFrom, conditionEntries, conditionsEntries, conditionNesting, conditionsNesting, ConditionFits, ConditionsFit, ConditionFrom, ConditionsFrom}
+use Rattle.definition.specs.TreeLaws.{Moves, TreeLaw, moves-none, moves-split, Enters, entering, entry-reads, announced-inv, announced-reads, announced-both-inv, announced-both-reads, enters-alone, enters-moves, enters-first}
+use Rattle.definition.specs.ValueLaws.{value-law, value-takes}
 
 pub record ConditionGood (depth next : ℕ) (c : Condition) : Type 0 where
   pub nesting : conditionNesting c ≤ depth
@@ -91,6 +90,9 @@ module _ (depth : ℕ) (p : Reader Ahead Condition) (law : ConditionLaw depth p)
       (record { count = omega arith; nesting = omega arith; fits = g .fits .1; numbers = rw (m₁ .next) (g .numbers .1) }))
       refl)
 
+  conditions-law : (n : ℕ) → TreeLaw (conditionsOf n p) writeConditions conditionsEntries conditionCount (ConditionsGood depth n)
+  conditions-law n = record { sound = conditions-sound n; complete = conditions-complete n; announced-first = conditions-take }
+
   -- a condition of each kind, whose parts are read by `p`
   conditionOf-sound : (h : ConditionHead) (a a₁ : Ahead) (c : Condition) (b : Ahead) → Enters writeConditionHead ConditionHeadFits a h a₁
       → Reads (conditionOf (a .next) h p) a₁ c b → Moves (writeCondition c) (conditionEntries c) 1 a b × ConditionGood (suc depth) (a .next) c
@@ -99,75 +101,43 @@ module _ (depth : ℕ) (p : Reader Ahead Condition) (law : ConditionLaw depth p)
       let q = pure-inv _ _ e in
       rw (← (q .0), ← (q .1)) (record { rest = m .rest; next = m .next; left = omega arith }, record { nesting = omega arith; fits = tt; numbers = refl })
   conditionOf-sound (manyHead op n) a a₁ c b m e =
-      announcing _ _ _ e λ a₂ m₂ e.
-      bind-inv _ _ _ e λ children a₃ e₃ e.
+      announced-inv (conditions-law n) _ (λ next x g. g .count) _ _ e λ children a₂ m₂ g e.
       let q = pure-inv _ _ e in
-      let m₃ = conditions-sound n a₂ children a₃ e₃ in
-      rw (← (q .0), ← (q .1), m₃ .1 .count) (
-        record { rest = rw (m .rest, m₂ .rest, m₃ .0 .rest) (simp append-assoc); next = omega arith; left = omega arith },
-        record { nesting = omega arith; fits = (m .fits .0, m₃ .1 .fits); numbers = (refl, rw (m₂ .next, m .next) at (m₃ .1 .numbers)) },
-      )
+      rw (← (q .0), ← (q .1), g .count)
+      (enters-moves m m₂, record { nesting = omega arith; fits = (m .fits .0, g .fits); numbers = (refl, rw (m .next) at (g .numbers)) })
   conditionOf-sound negationHead a a₁ c b m e =
-      announcing _ _ _ e λ a₂ m₂ e.
-      bind-inv _ _ _ e λ child a₃ e₃ e.
+      announced-inv law _ (λ next x g. refl) _ _ e λ child a₂ m₂ g e.
       let q = pure-inv _ _ e in
-      let m₃ = law .sound a₂ child a₃ e₃ in
-      rw (← (q .0), ← (q .1)) (
-        record { rest = rw (m .rest, m₂ .rest, m₃ .0 .rest) (simp append-assoc); next = omega arith; left = omega arith },
-        record { nesting = omega arith; fits = m₃ .1 .fits; numbers = (refl, rw (m₂ .next, m .next) at (m₃ .1 .numbers)) },
-      )
+      rw (← (q .0), ← (q .1))
+      (enters-moves m m₂, record { nesting = omega arith; fits = g .fits; numbers = (refl, rw (m .next) at (g .numbers)) })
   conditionOf-sound (oneHead op) a a₁ c b m e =
-      announcing _ _ _ e λ a₂ m₂ e.
-      bind-inv _ _ _ e λ v a₃ e₃ e.
+      announced-inv operand-law _ (λ next x g. refl) _ _ e λ v a₂ m₂ g e.
       let q = pure-inv _ _ e in
-      let m₃ = operand-law .sound a₂ v a₃ e₃ in
-      rw (← (q .0), ← (q .1)) (
-        record { rest = rw (m .rest, m₂ .rest, m₃ .0 .rest) (simp append-assoc); next = omega arith; left = omega arith },
-        record { nesting = omega arith; fits = (m .fits, m₃ .1 .0); numbers = (refl, rw (m₂ .next, m .next) at (m₃ .1 .1)) },
-      )
+      rw (← (q .0), ← (q .1))
+      (enters-moves m m₂, record { nesting = omega arith; fits = (m .fits, g .0); numbers = (refl, rw (m .next) at (g .1)) })
   conditionOf-sound (twoHead op) a a₁ c b m e =
-      announcing _ _ _ e λ a₂ m₂ e.
-      bind-inv _ _ _ e λ v a₃ e₃ e.
-      bind-inv _ _ _ e λ w a₄ e₄ e.
+      announced-both-inv operand-law operand-law 1 1 (λ next x g. refl) (λ next x g. refl) _ _ e λ left right a₂ m₂ g₁ g₂ e.
       let q = pure-inv _ _ e in
-      let m₃ = operand-law .sound a₂ v a₃ e₃ in
-      let m₄ = operand-law .sound a₃ w a₄ e₄ in
       rw (← (q .0), ← (q .1)) (
-        record { rest = rw (m .rest, m₂ .rest, m₃ .0 .rest, m₄ .0 .rest) (simp append-assoc); next = omega arith; left = omega arith },
-        record {
-          nesting = omega arith;
-          fits = (m .fits, m₃ .1 .0, m₄ .1 .0);
-          numbers = (refl, rw (m₂ .next, m .next) at (m₃ .1 .1), rw (m₃ .0 .next, m₂ .next, m .next) at (m₄ .1 .1));
-        },
+        enters-moves m m₂,
+        record { nesting = omega arith; fits = (m .fits, g₁ .0, g₂ .0); numbers = (refl, rw (m .next) at (g₁ .1), rw (m .next) at (g₂ .1)) },
       )
   conditionOf-sound (comparisonHead which) a a₁ c b m e =
-      announcing _ _ _ e λ a₂ m₂ e.
-      bind-inv _ _ _ e λ v a₃ e₃ e.
-      bind-inv _ _ _ e λ w a₄ e₄ e.
+      announced-both-inv operand-law operand-law 1 1 (λ next x g. refl) (λ next x g. refl) _ _ e λ left right a₂ m₂ g₁ g₂ e.
       let q = pure-inv _ _ e in
-      let m₃ = operand-law .sound a₂ v a₃ e₃ in
-      let m₄ = operand-law .sound a₃ w a₄ e₄ in
       rw (← (q .0), ← (q .1)) (
-        record { rest = rw (m .rest, m₂ .rest, m₃ .0 .rest, m₄ .0 .rest) (simp append-assoc); next = omega arith; left = omega arith },
-        record {
-          nesting = omega arith;
-          fits = (m .fits, m₃ .1 .0, m₄ .1 .0);
-          numbers = (refl, rw (m₂ .next, m .next) at (m₃ .1 .1), rw (m₃ .0 .next, m₂ .next, m .next) at (m₄ .1 .1));
-        },
+        enters-moves m m₂,
+        record { nesting = omega arith; fits = (m .fits, g₁ .0, g₂ .0); numbers = (refl, rw (m .next) at (g₁ .1), rw (m .next) at (g₂ .1)) },
       )
   conditionOf-sound (quantifierHead op bind) a a₁ c b m e =
-      announcing _ _ _ e λ a₂ m₂ e.
-      bind-inv _ _ _ e λ over a₃ e₃ e.
-      bind-inv _ _ _ e λ body a₄ e₄ e.
+      announced-both-inv operand-law law 1 1 (λ next x g. refl) (λ next x g. refl) _ _ e λ over body a₂ m₂ g₁ g₂ e.
       let q = pure-inv _ _ e in
-      let m₃ = operand-law .sound a₂ over a₃ e₃ in
-      let m₄ = law .sound a₃ body a₄ e₄ in
       rw (← (q .0), ← (q .1)) (
-        record { rest = rw (m .rest, m₂ .rest, m₃ .0 .rest, m₄ .0 .rest) (simp append-assoc); next = omega arith; left = omega arith },
+        enters-moves m m₂,
         record {
           nesting = omega arith;
-          fits = (m .fits .0, m .fits .1, m₃ .1 .0, m₄ .1 .fits);
-          numbers = (refl, rw (m₂ .next, m .next) at (m₃ .1 .1), rw (m₃ .0 .next, m₂ .next, m .next) at (m₄ .1 .numbers));
+          fits = (m .fits .0, m .fits .1, g₁ .0, g₂ .fits);
+          numbers = (refl, rw (m .next) at (g₁ .1), rw (m .next) at (g₂ .numbers));
         },
       )
 
@@ -178,54 +148,40 @@ module _ (depth : ℕ) (p : Reader Ahead Condition) (law : ConditionLaw depth p)
       bind-reads _ _ (entry-reads conditionHead-exact a (literalHead truth) b (enters-alone _ tt a b m)) (rw (g .numbers))
   conditionOf-complete a (many e op children) b l m g =
       let k = conditions-take children in
-      enters-announcing (manyHead op (conditionCount children)) (g .fits .0, omega arith) _ _ _ a b m k λ a₁ a₂ m₁ m₂ m₃.
+      enters-first (manyHead op (conditionCount children)) (g .fits .0, omega arith) (writeConditions children) _ 0 a b m λ a₁ m₁ m₂.
       bind-reads _ _ (entry-reads conditionHead-exact a (manyHead op (conditionCount children)) a₁ m₁)
-      (then-reads _ _ (announce-reads (conditionCount children) a₁ a₂ m₂)
-      (bind-reads _ _
-      (conditions-complete (conditionCount children) a₂ children b (omega arith) m₃
-      (record { count = refl; nesting = omega arith; fits = g .fits .1; numbers = rw (m₂ .next, m₁ .next) (g .numbers .1) }))
-      (rw (g .numbers .0))))
+      (announced-reads (conditions-law (conditionCount children)) _ children a₁ b (omega arith) m₂
+      (record { count = refl; nesting = omega arith; fits = g .fits .1; numbers = rw (m₁ .next) (g .numbers .1) })
+      (rw (g .numbers .0)))
   conditionOf-complete a (negation e child) b l m g =
-      enters-announcing negationHead tt _ _ 1 a b m (condition-takes child) λ a₁ a₂ m₁ m₂ m₃.
+      enters-first negationHead tt (writeCondition child) _ 0 a b m λ a₁ m₁ m₂.
       bind-reads _ _ (entry-reads conditionHead-exact a negationHead a₁ m₁)
-      (then-reads _ _ (announce-reads 1 a₁ a₂ m₂)
-      (bind-reads _ _
-      (law .complete a₂ child b (omega arith) m₃
-      (record { nesting = omega arith; fits = g .fits; numbers = rw (m₂ .next, m₁ .next) (g .numbers .1) }))
-      (rw (g .numbers .0))))
+      (announced-reads law _ child a₁ b (omega arith) m₂
+      (record { nesting = omega arith; fits = g .fits; numbers = rw (m₁ .next) (g .numbers .1) })
+      (rw (g .numbers .0)))
   conditionOf-complete a (one e op v) b l m g =
-      enters-announcing (oneHead op) (g .fits .0) _ _ 1 a b m (value-takes v) λ a₁ a₂ m₁ m₂ m₃.
+      enters-first (oneHead op) (g .fits .0) (writeValue v) _ 0 a b m λ a₁ m₁ m₂.
       bind-reads _ _ (entry-reads conditionHead-exact a (oneHead op) a₁ m₁)
-      (then-reads _ _ (announce-reads 1 a₁ a₂ m₂)
-      (bind-reads _ _ (operand-law .complete a₂ v b (omega arith) m₃ (g .fits .1, rw (m₂ .next, m₁ .next) (g .numbers .1))) (rw (g .numbers .0))))
+      (announced-reads operand-law _ v a₁ b (omega arith) m₂ (g .fits .1, rw (m₁ .next) (g .numbers .1)) (rw (g .numbers .0)))
   conditionOf-complete a (two e op left right) b l m g =
-      enters-announcing (twoHead op) (g .fits .0) _ _ 2 a b m (omega (arith, value-takes left, value-takes right)) λ a₁ a₂ m₁ m₂ m₃.
-      moves-split (writeValue left) (writeValue right) _ _ 1 1 a₂ b m₃ (value-takes right) λ a₃ m₄ m₅.
+      enters-first (twoHead op) (g .fits .0) (writeValue left ++ writeValue right) _ 0 a b m λ a₁ m₁ m₂.
       bind-reads _ _ (entry-reads conditionHead-exact a (twoHead op) a₁ m₁)
-      (then-reads _ _ (announce-reads 2 a₁ a₂ m₂)
-      (bind-reads _ _ (operand-law .complete a₂ left a₃ (omega arith) m₄ (g .fits .1, rw (m₂ .next, m₁ .next) (g .numbers .1)))
-      (bind-reads _ _
-      (operand-law .complete a₃ right b (omega (arith, value-takes left)) m₅ (g .fits .2, rw (m₄ .next, m₂ .next, m₁ .next) (g .numbers .2)))
-      (rw (g .numbers .0)))))
+      (announced-both-reads operand-law operand-law _ left right a₁ b (omega arith) m₂
+      (g .fits .1, rw (m₁ .next) (g .numbers .1)) (g .fits .2, rw (m₁ .next) (g .numbers .2))
+      (rw (g .numbers .0)))
   conditionOf-complete a (comparison e which left right) b l m g =
-      enters-announcing (comparisonHead which) (g .fits .0) _ _ 2 a b m (omega (arith, value-takes left, value-takes right)) λ a₁ a₂ m₁ m₂ m₃.
-      moves-split (writeValue left) (writeValue right) _ _ 1 1 a₂ b m₃ (value-takes right) λ a₃ m₄ m₅.
+      enters-first (comparisonHead which) (g .fits .0) (writeValue left ++ writeValue right) _ 0 a b m λ a₁ m₁ m₂.
       bind-reads _ _ (entry-reads conditionHead-exact a (comparisonHead which) a₁ m₁)
-      (then-reads _ _ (announce-reads 2 a₁ a₂ m₂)
-      (bind-reads _ _ (operand-law .complete a₂ left a₃ (omega arith) m₄ (g .fits .1, rw (m₂ .next, m₁ .next) (g .numbers .1)))
-      (bind-reads _ _
-      (operand-law .complete a₃ right b (omega (arith, value-takes left)) m₅ (g .fits .2, rw (m₄ .next, m₂ .next, m₁ .next) (g .numbers .2)))
-      (rw (g .numbers .0)))))
+      (announced-both-reads operand-law operand-law _ left right a₁ b (omega arith) m₂
+      (g .fits .1, rw (m₁ .next) (g .numbers .1)) (g .fits .2, rw (m₁ .next) (g .numbers .2))
+      (rw (g .numbers .0)))
   conditionOf-complete a (quantifier e op bind over body) b l m g =
-      enters-announcing (quantifierHead op bind) (g .fits .0, g .fits .1) _ _ 2 a b m (omega (arith, value-takes over, condition-takes body)) λ a₁ a₂ m₁ m₂ m₃.
-      moves-split (writeValue over) (writeCondition body) _ _ 1 1 a₂ b m₃ (condition-takes body) λ a₃ m₄ m₅.
+      enters-first (quantifierHead op bind) (g .fits .0, g .fits .1) (writeValue over ++ writeCondition body) _ 0 a b m λ a₁ m₁ m₂.
       bind-reads _ _ (entry-reads conditionHead-exact a (quantifierHead op bind) a₁ m₁)
-      (then-reads _ _ (announce-reads 2 a₁ a₂ m₂)
-      (bind-reads _ _ (operand-law .complete a₂ over a₃ (omega arith) m₄ (g .fits .2, rw (m₂ .next, m₁ .next) (g .numbers .1)))
-      (bind-reads _ _
-      (law .complete a₃ body b (omega (arith, value-takes over)) m₅
-      (record { nesting = omega arith; fits = g .fits .3; numbers = rw (m₄ .next, m₂ .next, m₁ .next) (g .numbers .2) }))
-      (rw (g .numbers .0)))))
+      (announced-both-reads operand-law law _ over body a₁ b (omega arith) m₂
+      (g .fits .2, rw (m₁ .next) (g .numbers .1))
+      (record { nesting = omega arith; fits = g .fits .3; numbers = rw (m₁ .next) (g .numbers .2) })
+      (rw (g .numbers .0)))
 
 condition-nests : (c : Condition) → 1 ≤ conditionNesting c
 unfolding conditionNesting

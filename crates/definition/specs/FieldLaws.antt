@@ -1,26 +1,25 @@
 -- A field is read back as it was written, and what is read as a field is one as it is written.
-use Prim.Native.Nat.{ℕ, zero, suc, _+_, _≤_, max}
+use Prim.Native.Nat.{ℕ, zero, suc, _+_, _≤_}
 use mathlib.Core.Bool.{Bool, true, false}
 use mathlib.Core.List.{List, [], _∷_, _++_, append-assoc}
 use mathlib.Core.Option.{Option, none, some}
-use mathlib.Core.Path.{_≡_, refl, sym, ap, _∙_}
+use mathlib.Core.Path.{_≡_, refl, ap}
 use native.Mathlib.Omega.{arith}
-use lib.Dec.{eqb}
 use lib.ListN.{length}
 use borrow.Author.Tests.{eqb-true}
 use Rattle.text.specs.Utf8.{isUtf8, isSome, codePoints, codePointsIn}
-use Rattle.sheet.specs.Reader.{Reader, _>>=_, _>>_, ensure, pure, refuse}
+use Rattle.sheet.specs.Reader.{Reader, _>>=_, _>>_, pure}
 use Rattle.sheet.specs.ReaderLaws.{Reads, bind-inv, then-inv, bind-reads, then-reads, pure-inv, ensure-inv, ensure-reads, refuse-inv}
-use Rattle.sheet.specs.Order.{follows}
 use Rattle.sheet.specs.Entries.{maxCount, FieldHead, fieldHead}
-use Rattle.sheet.specs.Within.{TextWithin, OptionWithin}
+use Rattle.sheet.specs.Within.{TextWithin}
 use Rattle.sheet.specs.Write.{writeFieldHead}
 use Rattle.sheet.specs.HeadLaws.{FieldHeadFits, fieldHead-exact}
 use Rattle.definition.specs.Tree.{Text, Field, field, Items, absent, element, Members, noMembers, member}
 use Rattle.definition.specs.Decode.{Ahead, entry, announce, toCount, elementOf, membersOf, fieldIn}
 use Rattle.definition.specs.Write.{hasItems, memberCount, writeField, writeItems, writeMembers}
 use Rattle.definition.specs.Within.{fieldEntries, itemsEntries, membersEntries, fieldNesting, itemsNesting, membersNesting, FieldFits, ItemsFit, MembersFit, FieldRises, ItemsRise, MembersRise, FieldFrom, ItemsFrom, MembersFrom}
-use Rattle.definition.specs.TreeLaws.{Moves, TreeLaw, moves-none, moves-split, Enters, entering, entry-reads, Announces, announcing, announce-reads, enters-alone, enters-first, enters-announcing}
+use Rattle.definition.specs.RisingLaws.{follows-behind, behind-follows}
+use Rattle.definition.specs.TreeLaws.{Moves, TreeLaw, moves-none, moves-split, Enters, entering, entry-reads, announced-both-inv, announced-both-reads, enters-moves, enters-first}
 
 -- a field with its name
 pub record FieldGood (depth next : ℕ) (x : Text × Field) : Type 0 where
@@ -122,7 +121,7 @@ module _ (depth : ℕ) (p : Reader Ahead (Text × Field)) (law : FieldLaw depth 
         record {
           count = omega arith;
           nesting = omega arith;
-          rises = (h .0, m₁ .1 .rises, m₃ .1 .rises);
+          rises = (follows-behind before (f .0) (h .0), m₁ .1 .rises, m₃ .1 .rises);
           fits = (m₁ .1 .name, m₁ .1 .fits, m₃ .1 .fits);
           numbers = (m₁ .1 .numbers, rw (m₁ .0 .next) at (m₃ .1 .numbers));
         },
@@ -139,7 +138,7 @@ module _ (depth : ℕ) (p : Reader Ahead (Text × Field)) (law : FieldLaw depth 
       bind-reads _ _
       (law .complete a (name, f) a₁ l m₁
       (record { name = g .fits .0; nesting = omega arith; rises = g .rises .1; fits = g .fits .1; numbers = g .numbers .0 }))
-      (then-reads _ _ (ensure-reads _ _ (g .rises .0))
+      (then-reads _ _ (ensure-reads _ _ (behind-follows before name (g .rises .0)))
       (bind-reads _ _
       (members-complete n (some name) a₁ others b (omega (arith, field-takes f)) m₂
       (record { count = omega arith; nesting = omega arith; rises = g .rises .2; fits = g .fits .2; numbers = rw (m₁ .next) (g .numbers .1) }))
@@ -160,25 +159,17 @@ module _ (depth : ℕ) (p : Reader Ahead (Text × Field)) (law : FieldLaw depth 
       → Moves (writeField (x .0) (x .1)) (fieldEntries (x .1)) 1 a b × FieldGood (suc depth) (a .next) x
   unfolding writeField fieldEntries fieldNesting
   behindHead-sound h a a₁ x b m e =
-      announcing _ _ _ e λ a₂ m₂ e.
-      bind-inv _ _ _ e λ items a₃ e₃ e.
-      bind-inv _ _ _ e λ members a₄ e₄ e.
+      announced-both-inv (items-law (h .hasItems)) (members-law (h .count) none) (toCount (h .hasItems)) (h .count)
+      (λ next x g. ap toCount (g .mark)) (λ next x g. g .count) _ _ e λ items members a₂ m₂ g₁ g₂ e.
       let q = pure-inv _ _ e in
-      let m₃ = items-sound (h .hasItems) a₂ items a₃ e₃ in
-      let m₄ = members-sound (h .count) none a₃ members a₄ e₄ in
-      let c : toCount (hasItems items) ≡ toCount (h .hasItems) = ap toCount (m₃ .1 .mark) in
-      rw (← (q .0), ← (q .1)) (
-        record {
-          rest = rw (m₃ .1 .mark, m₄ .1 .count, m .rest, m₂ .rest, m₃ .0 .rest, m₄ .0 .rest) (simp append-assoc);
-          next = omega arith;
-          left = omega arith;
-        },
+      rw (← (q .0), ← (q .1), g₁ .mark, g₂ .count) (
+        enters-moves m m₂,
         record {
           name = m .fits .name;
           nesting = omega arith;
-          rises = (m₃ .1 .rises, m₄ .1 .rises);
-          fits = (m .fits .kind, m .fits .tag, m₃ .1 .fits, m₄ .1 .fits);
-          numbers = (refl, rw (m₂ .next, m .next) at (m₃ .1 .numbers), rw (m₃ .0 .next, m₂ .next, m .next) at (m₄ .1 .numbers));
+          rises = (g₁ .rises, g₂ .rises);
+          fits = (m .fits .kind, m .fits .tag, g₁ .fits, g₂ .fits);
+          numbers = (refl, rw (m .next) at (g₁ .numbers), rw (m .next) at (g₂ .numbers));
         },
       )
 
@@ -187,26 +178,15 @@ module _ (depth : ℕ) (p : Reader Ahead (Text × Field)) (law : FieldLaw depth 
   unfolding writeField fieldEntries fieldNesting pure
   field-complete a name (field e kind isOpen tag items members) b l m g =
       let k = members-take members in
-      enters-announcing
+      enters-first
       (record { kind = kind; isOpen = isOpen; hasItems = hasItems items; count = memberCount members; name = name; tag = tag })
       (record { kind = g .fits .0; count = omega arith; name = g .name; tag = g .fits .1 })
-      _ _ (toCount (hasItems items) + memberCount members) a b m (omega (arith, items-take items)) λ a₁ a₂ m₁ m₂ m₃.
-      moves-split (writeItems items) (writeMembers members) _ _ _ _ a₂ b m₃ (members-take members) λ a₃ m₄ m₅.
+      (writeItems items ++ writeMembers members) _ 0 a b m λ a₁ m₁ m₂.
       bind-reads _ _ (entry-reads fieldHead-exact a _ a₁ m₁)
-      (then-reads _ _ (announce-reads (toCount (hasItems items) + memberCount members) a₁ a₂ m₂)
-      (bind-reads _ _
-      (items-complete (hasItems items) a₂ items a₃ (omega arith) m₄
-      (record { mark = refl; nesting = omega arith; rises = g .rises .0; fits = g .fits .2; numbers = rw (m₂ .next, m₁ .next) (g .numbers .1) }))
-      (bind-reads _ _
-      (members-complete (memberCount members) none a₃ members b (omega (arith, items-take items)) m₅
-      (record {
-        count = refl;
-        nesting = omega arith;
-        rises = g .rises .1;
-        fits = g .fits .3;
-        numbers = rw (m₄ .next, m₂ .next, m₁ .next) (g .numbers .2);
-      }))
-      (rw (g .numbers .0)))))
+      (announced-both-reads (items-law (hasItems items)) (members-law (memberCount members) none) _ items members a₁ b (omega arith) m₂
+      (record { mark = refl; nesting = omega arith; rises = g .rises .0; fits = g .fits .2; numbers = rw (m₁ .next) (g .numbers .1) })
+      (record { count = refl; nesting = omega arith; rises = g .rises .1; fits = g .fits .3; numbers = rw (m₁ .next) (g .numbers .2) })
+      (rw (g .numbers .0)))
 
 field-nests : (f : Field) → 1 ≤ fieldNesting f
 unfolding fieldNesting

@@ -3,10 +3,11 @@ pub mod Limits
 pub mod Decode
 pub mod Write
 pub mod Within
+pub mod RoundTrip
+pub mod RisingLaws
 pub mod TreeLaws
 pub mod ValueLaws
 pub mod ConditionLaws
 pub mod FieldLaws
 pub mod SheetLaws
-pub mod RoundTrip
 pub mod Computing

@@ -9,7 +9,7 @@ use Rattle.definition.specs.Tree.{Schema, Rule}
 use Rattle.definition.specs.Limits.{maxSchemaEntries, maxRuleEntries}
 use Rattle.definition.specs.Decode.{decodeSchema, decodeRule}
 use Rattle.definition.specs.Write.{writeSchema, writeRule}
-use Rattle.definition.specs.Within.{SchemaWithin, RuleWithin}
+use Rattle.definition.specs.Within.{SchemaRises, SchemaWithin, RuleWithin}
 use Rattle.definition.specs.SheetLaws.{schema-law, rule-law, whole-sound, whole-complete}
 
 pub schema-round-trip : (s : List ℕ) (t : Schema) → (decodeSchema s ≡ some t) ↔ ((s ≡ writeSchema t) × SchemaWithin t)
@@ -35,3 +35,7 @@ rule-round-trip s t = (
       let g = h .1 in
       whole-complete maxRuleEntries rule-law (omega arith) s t (h .0, g .entries, rw (h .0) (g .bytes), (g .fits, g .numbers)),
 )
+
+-- sibling names in the tree of a well formed sheet rise
+pub schema-rises : (s : List ℕ) (t : Schema) → decodeSchema s ≡ some t → SchemaRises t
+schema-rises s t e = schema-round-trip s t .0 e .1 .rises

@@ -1,31 +1,27 @@
 -- A schema and a rule are read back as they were written, and what a sheet holds is the writing of its tree.
-use Prim.Native.Nat.{ℕ, zero, suc, _+_, _-_, _≤_, max}
-use mathlib.Core.Bool.{Bool, true, false}
-use mathlib.Core.List.{List, [], _∷_, _++_, append-assoc, append-nil}
+use Prim.Native.Nat.{ℕ, _+_, _-_, _≤_}
+use mathlib.Core.List.{List, [], append-assoc, append-nil}
 use mathlib.Core.Option.{Option, none, some, Option·map, map-eq-some-iff}
-use mathlib.Core.Logic.{_↔_}
 use mathlib.Core.Path.{_≡_, refl, sym, ap, _∙_}
 use native.Mathlib.Omega.{arith}
-use lib.Dec.{leb, eqb}
+use lib.Dec.{leb}
 use lib.ListN.{length}
-use borrow.Author.Tests.{eqb-true, eq-eqb, leb-true, le-leb}
-use Rattle.sheet.specs.Reader.{Reader, _>>=_, _>>_, ensure, pure}
+use borrow.Author.Tests.{eqb-true, leb-true, le-leb}
+use Rattle.sheet.specs.Reader.{Reader, ensure, pure, _>>=_, _>>_}
 use Rattle.sheet.specs.ReaderLaws.{Reads, bind-inv, then-inv, bind-reads, then-reads, pure-inv, ensure-inv, ensure-reads}
-use Rattle.sheet.specs.Entries.{maxCount, HolderHead, SchemaHead, schemaHead, RuleHead, ruleHead}
+use Rattle.sheet.specs.Entries.{maxCount, HolderHead, RuleHead}
 use Rattle.sheet.specs.Entries as Entries
-use Rattle.sheet.specs.Within.{TextWithin, OptionWithin}
-use Rattle.sheet.specs.Write.{writeSchemaHead, writeRuleHead}
-use Rattle.sheet.specs.HeadLaws.{SchemaHeadFits, schemaHead-exact}
+use Rattle.sheet.specs.Write.{writeRuleHead}
+use Rattle.sheet.specs.HeadLaws.{schemaHead-exact}
 use Rattle.sheet.specs.HeadLaws as HeadLaws
 use Rattle.sheet.specs.RuleHeadLaws.{RuleHeadFits, ruleHead-exact}
-use Rattle.definition.specs.Tree.{Text, Members, Holder, Schema, Rule, rule, template}
+use Rattle.definition.specs.Tree.{Holder, Schema, Rule, rule, template}
 use Rattle.definition.specs.Limits.{maxSheetBytes, maxFieldNesting, maxConditionNesting}
-use Rattle.definition.specs.Decode.{Ahead, entry, announce, atEnd, whole, membersOf, fieldIn, holderOf, argumentsOf, schema, anyValue, conditionIn, ruleOf, anyRule}
+use Rattle.definition.specs.Decode.{Ahead, announce, atEnd, whole, membersOf, fieldIn, holderOf, argumentsOf, schema, ruleOf, anyRule}
 use Rattle.definition.specs.Write.{memberCount, writeMembers, headOf, headOfArguments, writeArguments, writeSchema, writeValue, writeCondition, writeRule}
-use Rattle.definition.specs.Within.{membersEntries, argumentsEntries, schemaEntries, ruleEntries, valueEntries, conditionEntries, membersNesting, argumentsNesting, schemaNesting, SchemaRises, MembersFit, ArgumentsFit, MembersRise, ArgumentsRise, MembersFrom, ArgumentsFrom, RuleFits, RuleFrom}
-use Rattle.definition.specs.TreeLaws.{Moves, TreeLaw, moves-none, moves-split, Enters, entering, entry-reads, Announces, announcing, announce-reads, enters-first, enters-announcing}
-use Rattle.definition.specs.ValueLaws.{value-takes}
-use Rattle.definition.specs.ConditionLaws.{condition-law, condition-takes, operand-law}
+use Rattle.definition.specs.Within.{membersEntries, argumentsEntries, schemaEntries, ruleEntries, membersNesting, argumentsNesting, schemaNesting, SchemaRises, MembersFit, ArgumentsFit, MembersRise, ArgumentsRise, MembersFrom, ArgumentsFrom, RuleFits, RuleFrom}
+use Rattle.definition.specs.TreeLaws.{Moves, TreeLaw, moves-none, moves-split, Enters, entering, entry-reads, announcing, announce-reads, announced-inv, announced-reads, enters-moves, enters-first}
+use Rattle.definition.specs.ConditionLaws.{condition-law, operand-law}
 use Rattle.definition.specs.FieldLaws.{length-zero, MembersGood, field-law, members-law, members-take}
 
 -- The record, or the arguments. Their fields are announced by the reader itself.
@@ -37,36 +33,26 @@ pub record HolderGood (h : HolderHead) (next : ℕ) (x : Holder) : Type 0 where
   pub fits : MembersFit (x .members)
   pub numbers : MembersFrom next (x .members)
 
-anyMembers-law : (n : ℕ) → TreeLaw (membersOf n none (fieldIn maxFieldNesting)) writeMembers membersEntries memberCount (MembersGood maxFieldNesting n none)
-anyMembers-law n = members-law maxFieldNesting (fieldIn maxFieldNesting) (field-law maxFieldNesting) n none
+fields-law : (depth n : ℕ) → TreeLaw (membersOf n none (fieldIn depth)) writeMembers membersEntries memberCount (MembersGood depth n none)
+fields-law depth n = members-law depth (fieldIn depth) (field-law depth) n none
 
 holder-sound : (h : HolderHead) (a : Ahead) (x : Holder) (b : Ahead) → Reads (holderOf h) a x b
     → Moves (writeMembers (x .members)) (membersEntries (x .members)) 0 a b × HolderGood h (a .next) x
 unfolding holderOf headOf
 holder-sound h a x b e =
-    announcing _ _ _ e λ a₁ m₁ e.
-    bind-inv _ _ _ e λ members a₂ e₂ e.
+    announced-inv (fields-law _ (h .count)) _ (λ next x g. g .count) _ _ e λ members a₁ m g e.
     let q = pure-inv _ _ e in
-    let m₂ = anyMembers-law (h .count) .sound a₁ members a₂ e₂ in
-    let g = m₂ .1 in
-    rw (← (q .0), ← (q .1)) (
-      record { rest = rw (m₁ .rest) (m₂ .0 .rest); next = omega arith; left = omega arith },
-      record { head = rw (g .count); nesting = g .nesting; rises = g .rises; fits = g .fits; numbers = rw (m₁ .next) at (g .numbers) },
-    )
+    rw (← (q .0), ← (q .1))
+    (m, record { head = rw (g .count); nesting = g .nesting; rises = g .rises; fits = g .fits; numbers = g .numbers })
 
 holder-complete : (h : HolderHead) (a : Ahead) (x : Holder) (b : Ahead) → a .left ≤ maxCount
     → Moves (writeMembers (x .members)) (membersEntries (x .members)) 0 a b → HolderGood h (a .next) x → Reads (holderOf h) a x b
 unfolding holderOf headOf pure
 holder-complete h a x b l m g =
-    let k = members-take (x .members) in
-    let n = memberCount (x .members) in
-    let a₁ : Ahead = record { next = a .next; left = a .left - n; rest = a .rest } in
     rw (← (g .head))
-    (then-reads _ _ (announce-reads n a a₁ (record { rest = refl; next = refl; left = omega arith }))
-    (bind-reads _ _
-    (anyMembers-law n .complete a₁ (x .members) b (omega arith) (record { rest = m .rest; next = m .next; left = omega arith })
-    (record { count = refl; nesting = g .nesting; rises = g .rises; fits = g .fits; numbers = g .numbers }))
-    refl))
+    (announced-reads (fields-law _ (memberCount (x .members))) _ (x .members) a b l m
+    (record { count = refl; nesting = g .nesting; rises = g .rises; fits = g .fits; numbers = g .numbers })
+    refl)
 
 abbrev pub ArgumentsGood : Option HolderHead → ℕ → Option Holder → Type 0
 ArgumentsGood none next none = Unit {0}
@@ -193,40 +179,26 @@ ruleOf-sound : (h : RuleHead) (a a₁ : Ahead) (t : Rule) (b : Ahead) → Enters
     → Moves (writeRule t) (ruleEntries t) 1 a b × RuleGood (a .next) t
 unfolding ruleOf writeRule ruleEntries
 ruleOf-sound (Entries.rule name message) a a₁ t b m e =
-    announcing _ _ _ e λ a₂ m₂ e.
-    bind-inv _ _ _ e λ assert a₃ e₃ e.
+    announced-inv (condition-law _) _ (λ next x g. refl) _ _ e λ assert a₂ m₂ g e.
     let q = pure-inv _ _ e in
-    let m₃ = condition-law maxConditionNesting .sound a₂ assert a₃ e₃ in
-    let g = m₃ .1 in
-    rw (← (q .0), ← (q .1)) (
-      record { rest = rw (m .rest, m₂ .rest, m₃ .0 .rest) (simp append-assoc); next = omega arith; left = omega arith },
-      ((m .fits .0, m .fits .1, g .nesting, g .fits), rw (m₂ .next, m .next) at (g .numbers)),
-    )
+    rw (← (q .0), ← (q .1)) (enters-moves m m₂, ((m .fits .0, m .fits .1, g .nesting, g .fits), rw (m .next) at (g .numbers)))
 ruleOf-sound Entries.template a a₁ t b m e =
-    announcing _ _ _ e λ a₂ m₂ e.
-    bind-inv _ _ _ e λ v a₃ e₃ e.
+    announced-inv operand-law _ (λ next x g. refl) _ _ e λ v a₂ m₂ g e.
     let q = pure-inv _ _ e in
-    let m₃ = operand-law .sound a₂ v a₃ e₃ in
-    rw (← (q .0), ← (q .1)) (
-      record { rest = rw (m .rest, m₂ .rest, m₃ .0 .rest) (simp append-assoc); next = omega arith; left = omega arith },
-      (m₃ .1 .0, rw (m₂ .next, m .next) at (m₃ .1 .1)),
-    )
+    rw (← (q .0), ← (q .1)) (enters-moves m m₂, (g .0, rw (m .next) at (g .1)))
 
 rule-complete : (a : Ahead) (t : Rule) (b : Ahead) → a .left ≤ maxCount → Moves (writeRule t) (ruleEntries t) 1 a b → RuleGood (a .next) t → Reads anyRule a t b
 unfolding anyRule ruleOf writeRule ruleEntries pure
 rule-complete a (rule name message assert) b l m g =
-    enters-announcing (Entries.rule name message) (g .0 .0, g .0 .1) _ _ 1 a b m (condition-takes assert) λ a₁ a₂ m₁ m₂ m₃.
+    enters-first (Entries.rule name message) (g .0 .0, g .0 .1) (writeCondition assert) _ 0 a b m λ a₁ m₁ m₂.
     bind-reads _ _ (entry-reads ruleHead-exact a (Entries.rule name message) a₁ m₁)
-    (then-reads _ _ (announce-reads 1 a₁ a₂ m₂)
-    (bind-reads _ _
-    (condition-law maxConditionNesting .complete a₂ assert b (omega arith) m₃
-    (record { nesting = g .0 .2; fits = g .0 .3; numbers = rw (m₂ .next, m₁ .next) (g .1) }))
-    refl))
+    (announced-reads (condition-law _) _ assert a₁ b (omega arith) m₂
+    (record { nesting = g .0 .2; fits = g .0 .3; numbers = rw (m₁ .next) (g .1) })
+    refl)
 rule-complete a (template v) b l m g =
-    enters-announcing Entries.template tt _ _ 1 a b m (value-takes v) λ a₁ a₂ m₁ m₂ m₃.
+    enters-first Entries.template tt (writeValue v) _ 0 a b m λ a₁ m₁ m₂.
     bind-reads _ _ (entry-reads ruleHead-exact a Entries.template a₁ m₁)
-    (then-reads _ _ (announce-reads 1 a₁ a₂ m₂)
-    (bind-reads _ _ (operand-law .complete a₂ v b (omega arith) m₃ (g .0, rw (m₂ .next, m₁ .next) (g .1))) refl))
+    (announced-reads operand-law _ v a₁ b (omega arith) m₂ (g .0, rw (m₁ .next) (g .1)) refl)
 
 rule-takes : (t : Rule) → 1 ≤ ruleEntries t
 unfolding ruleEntries
@@ -274,9 +246,8 @@ module _ {A : Type 0} {p : Reader Ahead A} {w : A → List ℕ} {entries : A →
   pub whole-sound : (s : List ℕ) (t : A) → whole limit p s ≡ some t → (s ≡ w t) × (entries t ≤ limit) × (length s ≤ maxSheetBytes) × Good 1 t
   unfolding whole
   whole-sound s t e =
-      let start : Ahead = record { next = 1; left = limit; rest = s } in
-      map-inv (λ (r : A × Ahead). r .0) (chain (length s) p start) e λ r e q.
-      rw q at (chain-sound (length s) start (r .0) (r .1) e)
+      map-inv (λ (r : A × Ahead). r .0) (chain (length s) p _) e λ r e q.
+      rw q at (chain-sound (length s) _ (r .0) (r .1) e)
 
   pub whole-complete : limit ≤ maxCount → (s : List ℕ) (t : A) → (s ≡ w t) × (entries t ≤ limit) × (length s ≤ maxSheetBytes) × Good 1 t → whole limit p s ≡ some t
   unfolding whole atEnd pure

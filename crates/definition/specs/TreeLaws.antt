@@ -1,9 +1,8 @@
 -- What every reader of a tree does with what lies ahead, and how such readers are put together.
-use Prim.Native.Nat.{ℕ, zero, suc, _+_, _*_, _-_, _≤_}
-use mathlib.Core.Bool.{Bool, true, false, cond}
-use mathlib.Core.List.{List, [], _∷_, _++_, append-assoc}
+use Prim.Native.Nat.{ℕ, _+_, _-_, _≤_}
+use mathlib.Core.List.{List, [], _++_, append-assoc}
 use mathlib.Core.Option.{Option, none, some, Option·none-ne-some, Option·some-injective}
-use mathlib.Core.Path.{_≡_, refl, sym, ap, subst, _∙_}
+use mathlib.Core.Path.{_≡_, refl, ap, subst, _∙_}
 use native.Mathlib.Omega.{arith}
 use lib.Dec.{leb}
 use borrow.Author.Tests.{leb-true, le-leb}
@@ -103,25 +102,71 @@ module _ {B C : Type 0} where
       → ((b : Ahead) → Announces n a b → Reads k b x c → C) → C
   announcing n k a e f = then-inv (announce n) k a e λ y b e₁ e₂. f b (announce-inv n a y b e₁) e₂
 
--- An entry by itself, or with what it announces.
+-- Trees that are announced just before they are read: one, or one behind the other.
 
-pub enters-alone : {A : Type 0} {w : A → List ℕ} {Fits : A → Type 0} (h : A) → Fits h → (a b : Ahead) → Moves (w h) 1 1 a b → Enters w Fits a h b
-enters-alone h f a b m = record { rest = m .rest; next = m .next; left = omega arith; fits = f }
+module _ {A B : Type 0} {p : Reader Ahead A} {w : A → List ℕ} {entries announced : A → ℕ} {Good : ℕ → A → Type 0} (law : TreeLaw p w entries announced Good) where
+  module _ {C : Type 0} where
+    pub announced-inv : (n : ℕ) → ((next : ℕ) (x : A) → Good next x → announced x ≡ n)
+        → (k : A → Reader Ahead B) (a : Ahead) {z : B} {c : Ahead} → Reads (announce n >> (p >>= k)) a z c
+        → ((x : A) (b : Ahead) → Moves (w x) (entries x) 0 a b → Good (a .next) x → Reads (k x) b z c → C) → C
+    announced-inv n agree k a e f =
+        announcing n (p >>= k) a e λ a₁ m₁ e.
+        bind-inv p k a₁ e λ x b e₂ e.
+        let m₂ = law .sound a₁ x b e₂ in
+        let h = agree (a₁ .next) x (m₂ .1) in
+        f x b (record { rest = m₁ .rest ∙ m₂ .0 .rest; next = omega arith; left = omega arith }) (rw (m₁ .next) at (m₂ .1)) e
 
-module _ {A C : Type 0} {w : A → List ℕ} {Fits : A → Type 0} where
-  pub enters-first : (h : A) → Fits h → (bytes : List ℕ) (entries announced : ℕ) (a c : Ahead)
-      → Moves (w h ++ bytes) (1 + entries) (1 + announced) a c → ((b : Ahead) → Enters w Fits a h b → Moves bytes entries announced b c → C) → C
-  enters-first h f bytes n k a c m g =
-      g (record { next = a .next + 1; left = a .left; rest = bytes ++ c .rest })
-      (record { rest = m .rest ∙ append-assoc (w h) bytes (c .rest); next = refl; left = refl; fits = f })
-      (record { rest = refl; next = omega arith; left = omega arith })
+  pub announced-reads : (k : A → Reader Ahead B) (x : A) (a b : Ahead) {z : B} {c : Ahead} → a .left ≤ maxCount
+      → Moves (w x) (entries x) 0 a b → Good (a .next) x → Reads (k x) b z c → Reads (announce (announced x) >> (p >>= k)) a z c
+  announced-reads k x a b l m g e =
+      let h = law .announced-first x in
+      let a₁ : Ahead = record { next = a .next; left = a .left - announced x; rest = a .rest } in
+      then-reads _ _ (announce-reads (announced x) a a₁ (record { rest = refl; next = refl; left = omega arith }))
+      (bind-reads p k (law .complete a₁ x b (omega arith) (record { rest = m .rest; next = m .next; left = omega arith }) g) e)
 
-  pub enters-announcing : (h : A) → Fits h → (bytes : List ℕ) (entries announced : ℕ) (a c : Ahead)
-      → Moves (w h ++ bytes) (1 + entries) 1 a c → announced ≤ entries
-      → ((b₁ b₂ : Ahead) → Enters w Fits a h b₁ → Announces announced b₁ b₂ → Moves bytes entries announced b₂ c → C) → C
-  enters-announcing h f bytes n k a c m l g =
-      g (record { next = a .next + 1; left = a .left; rest = bytes ++ c .rest })
-      (record { next = a .next + 1; left = a .left - k; rest = bytes ++ c .rest })
-      (record { rest = m .rest ∙ append-assoc (w h) bytes (c .rest); next = refl; left = refl; fits = f })
-      (record { rest = refl; next = refl; left = omega arith })
-      (record { rest = refl; next = omega arith; left = omega arith })
+module _ {A A′ B : Type 0} {p : Reader Ahead A} {w : A → List ℕ} {entries announced : A → ℕ} {Good : ℕ → A → Type 0} (law : TreeLaw p w entries announced Good)
+    {p′ : Reader Ahead A′} {w′ : A′ → List ℕ} {entries′ announced′ : A′ → ℕ} {Good′ : ℕ → A′ → Type 0} (law′ : TreeLaw p′ w′ entries′ announced′ Good′) where
+  module _ {C : Type 0} where
+    pub announced-both-inv : (n n′ : ℕ) → ((next : ℕ) (x : A) → Good next x → announced x ≡ n) → ((next : ℕ) (y : A′) → Good′ next y → announced′ y ≡ n′)
+        → (k : A → A′ → Reader Ahead B) (a : Ahead) {z : B} {c : Ahead} → Reads (announce (n + n′) >> (p >>= λ x. p′ >>= λ y. k x y)) a z c
+        → ((x : A) (y : A′) (b : Ahead) → Moves (w x ++ w′ y) (entries x + entries′ y) 0 a b → Good (a .next) x → Good′ (a .next + entries x) y → Reads (k x y) b z c → C) → C
+    announced-both-inv n n′ agree agree′ k a e f =
+        announcing (n + n′) (p >>= λ x. p′ >>= λ y. k x y) a e λ a₁ m₁ e.
+        bind-inv _ _ _ e λ x a₂ e₂ e.
+        bind-inv _ _ _ e λ y b e₃ e.
+        let m₂ = law .sound a₁ x a₂ e₂ in
+        let m₃ = law′ .sound a₂ y b e₃ in
+        let h = agree (a₁ .next) x (m₂ .1) in
+        let h′ = agree′ (a₂ .next) y (m₃ .1) in
+        f x y b
+        (record { rest = m₁ .rest ∙ rw (m₂ .0 .rest, m₃ .0 .rest) (simp append-assoc); next = omega arith; left = omega arith })
+        (rw (m₁ .next) at (m₂ .1)) (rw (m₂ .0 .next, m₁ .next) at (m₃ .1)) e
+
+  pub announced-both-reads : (k : A → A′ → Reader Ahead B) (x : A) (y : A′) (a b : Ahead) {z : B} {c : Ahead} → a .left ≤ maxCount
+      → Moves (w x ++ w′ y) (entries x + entries′ y) 0 a b → Good (a .next) x → Good′ (a .next + entries x) y → Reads (k x y) b z c
+      → Reads (announce (announced x + announced′ y) >> (p >>= λ x. p′ >>= λ y. k x y)) a z c
+  announced-both-reads k x y a b l m g g′ e =
+      let h = law .announced-first x in
+      let h′ = law′ .announced-first y in
+      let a₁ : Ahead = record { next = a .next; left = a .left - (announced x + announced′ y); rest = a .rest } in
+      moves-split (w x) (w′ y) _ _ _ _ a₁ b (record { rest = m .rest; next = m .next; left = omega arith }) h′ λ a₂ m₁ m₂.
+      then-reads _ _ (announce-reads (announced x + announced′ y) a a₁ (record { rest = refl; next = refl; left = omega arith }))
+      (bind-reads _ _ (law .complete a₁ x a₂ (omega arith) m₁ g) (bind-reads _ _ (law′ .complete a₂ y b (omega arith) m₂ (rw (m₁ .next) g′)) e))
+
+-- An entry by itself, or before others.
+
+module _ {A : Type 0} {w : A → List ℕ} {Fits : A → Type 0} where
+  pub enters-alone : (h : A) → Fits h → (a b : Ahead) → Moves (w h) 1 1 a b → Enters w Fits a h b
+  enters-alone h f a b m = record { rest = m .rest; next = m .next; left = omega arith; fits = f }
+
+  pub enters-moves : {h : A} {bytes : List ℕ} {entries announced : ℕ} {a b c : Ahead} → Enters w Fits a h b → Moves bytes entries announced b c
+      → Moves (w h ++ bytes) (1 + entries) (1 + announced) a c
+  enters-moves m n = record { rest = rw (m .rest, n .rest) (simp append-assoc); next = omega arith; left = omega arith }
+
+  module _ {C : Type 0} where
+    pub enters-first : (h : A) → Fits h → (bytes : List ℕ) (entries announced : ℕ) (a c : Ahead)
+        → Moves (w h ++ bytes) (1 + entries) (1 + announced) a c → ((b : Ahead) → Enters w Fits a h b → Moves bytes entries announced b c → C) → C
+    enters-first h f bytes n k a c m g =
+        g (record { next = a .next + 1; left = a .left; rest = bytes ++ c .rest })
+        (record { rest = m .rest ∙ append-assoc (w h) bytes (c .rest); next = refl; left = refl; fits = f })
+        (record { rest = refl; next = omega arith; left = omega arith })

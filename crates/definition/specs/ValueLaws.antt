@@ -1,22 +1,20 @@
 -- A value is read back as it was written, and what is read as a value is one as it is written.
-use Prim.Native.Nat.{ℕ, zero, suc, _+_, _*_, _-_, _≤_, max}
-use mathlib.Core.Bool.{Bool, true, false, cond}
-use mathlib.Core.List.{List, [], _∷_, _++_, append-assoc}
+use Prim.Native.Nat.{ℕ, zero, suc, _+_, _*_, _≤_}
+use mathlib.Core.List.{_++_, append-assoc}
 use mathlib.Core.Option.{Option, none, some}
-use mathlib.Core.Path.{_≡_, refl, sym, ap, subst, _∙_}
+use mathlib.Core.Path.{_≡_, refl, ap}
 use native.Mathlib.Omega.{arith}
-use Rattle.sheet.specs.Reader.{Reader, _>>=_, _>>_, ensure, pure, refuse}
+use Rattle.sheet.specs.Reader.{Reader, _>>=_, pure}
 use Rattle.sheet.specs.ReaderLaws.{Reads, bind-inv, then-inv, bind-reads, then-reads, pure-inv, ensure-inv, ensure-reads, refuse-inv}
-use Rattle.sheet.specs.Order.{follows}
-use Rattle.sheet.specs.Entries.{maxCount, ValueHead, constantHead, numberHead, stringHead, arrayHead, objectHead, valueHead, keyHead}
-use Rattle.sheet.specs.Within.{TextWithin}
-use Rattle.sheet.specs.Write.{writeValueHead, writeKeyHead}
+use Rattle.sheet.specs.Entries.{maxCount, ValueHead, constantHead, numberHead, stringHead, arrayHead, objectHead, valueHead}
+use Rattle.sheet.specs.Write.{writeValueHead}
 use Rattle.sheet.specs.RuleHeadLaws.{ValueHeadFits, valueHead-exact, keyHead-exact}
 use Rattle.definition.specs.Tree.{Text, Value, constant, number, string, array, object, Values, noValues, value, Pairs, noPairs, pair}
-use Rattle.definition.specs.Decode.{Ahead, entry, announce, valuesOf, pairsOf, valueOf, valueIn}
+use Rattle.definition.specs.Decode.{Ahead, entry, valuesOf, pairsOf, valueOf, valueIn}
 use Rattle.definition.specs.Write.{valueCount, pairCount, writeValue, writeValues, writePairs}
 use Rattle.definition.specs.Within.{valueEntries, valuesEntries, pairsEntries, valueNesting, valuesNesting, pairsNesting, ValueFits, ValuesFit, PairsFit, ValueFrom, ValuesFrom, PairsFrom}
-use Rattle.definition.specs.TreeLaws.{Moves, TreeLaw, moves-none, moves-split, Enters, entering, entry-reads, Announces, announcing, announce-reads, enters-alone, enters-first, enters-announcing}
+use Rattle.definition.specs.RisingLaws.{follows-behind, behind-follows}
+use Rattle.definition.specs.TreeLaws.{Moves, TreeLaw, moves-none, moves-split, Enters, entering, entry-reads, announced-inv, announced-reads, enters-alone, enters-moves, enters-first}
 
 pub record ValueGood (depth next : ℕ) (v : Value) : Type 0 where
   pub nesting : valueNesting v ≤ depth
@@ -111,7 +109,7 @@ module _ (depth : ℕ) (p : Reader Ahead Value) (law : ValueLaw depth p) where
         record {
           count = omega arith;
           nesting = omega arith;
-          fits = (m₁ .fits, h .0, m₃ .1 .fits, m₄ .1 .fits);
+          fits = (m₁ .fits, follows-behind before key (h .0), m₃ .1 .fits, m₄ .1 .fits);
           numbers = (rw (m₁ .next) at (m₃ .1 .numbers), rw (m₃ .0 .next, m₁ .next) at (m₄ .1 .numbers));
         },
       )
@@ -128,7 +126,7 @@ module _ (depth : ℕ) (p : Reader Ahead Value) (law : ValueLaw depth p) where
       (record { rest = m .rest; next = m .next; left = omega arith }) λ a₁ m₁ m₂.
       moves-split (writeValue v) (writePairs others) _ _ _ _ a₁ b m₂ (pairs-take others) λ a₂ m₃ m₄.
       bind-reads _ _ (entry-reads keyHead-exact a key a₁ m₁)
-      (then-reads _ _ (ensure-reads _ _ (f .1))
+      (then-reads _ _ (ensure-reads _ _ (behind-follows before key (f .1)))
       (bind-reads _ _
       (law .complete a₁ v a₂ (omega arith) m₃ (record { nesting = omega arith; fits = f .2; numbers = rw (m₁ .next) (g .numbers .0) }))
       (bind-reads _ _
@@ -153,23 +151,15 @@ module _ (depth : ℕ) (p : Reader Ahead Value) (law : ValueLaw depth p) where
       let q = pure-inv _ _ e in
       rw (← (q .0), ← (q .1)) (record { rest = m .rest; next = m .next; left = omega arith }, record { nesting = omega arith; fits = m .fits; numbers = refl })
   valueOf-sound (arrayHead n) a a₁ v b m e =
-      announcing _ _ _ e λ a₂ m₂ e.
-      bind-inv _ _ _ e λ values a₃ e₃ e.
+      announced-inv (values-law n) _ (λ next x g. g .count) _ _ e λ values a₂ m₂ g e.
       let q = pure-inv _ _ e in
-      let m₃ = values-sound n a₂ values a₃ e₃ in
-      rw (← (q .0), ← (q .1), m₃ .1 .count) (
-        record { rest = rw (m .rest, m₂ .rest, m₃ .0 .rest) (simp append-assoc); next = omega arith; left = omega arith },
-        record { nesting = omega arith; fits = m₃ .1 .fits; numbers = (refl, rw (m₂ .next, m .next) at (m₃ .1 .numbers)) },
-      )
+      rw (← (q .0), ← (q .1), g .count)
+      (enters-moves m m₂, record { nesting = omega arith; fits = g .fits; numbers = (refl, rw (m .next) at (g .numbers)) })
   valueOf-sound (objectHead n) a a₁ v b m e =
-      announcing _ _ _ e λ a₂ m₂ e.
-      bind-inv _ _ _ e λ pairs a₃ e₃ e.
+      announced-inv (pairs-law n none) _ (λ next x g. ap (λ (k : ℕ). 2 * k) (g .count)) _ _ e λ pairs a₂ m₂ g e.
       let q = pure-inv _ _ e in
-      let m₃ = pairs-sound n none a₂ pairs a₃ e₃ in
-      rw (← (q .0), ← (q .1), m₃ .1 .count) (
-        record { rest = rw (m .rest, m₂ .rest, m₃ .0 .rest) (simp append-assoc); next = omega arith; left = omega arith },
-        record { nesting = omega arith; fits = m₃ .1 .fits; numbers = (refl, rw (m₂ .next, m .next) at (m₃ .1 .numbers)) },
-      )
+      rw (← (q .0), ← (q .1), g .count)
+      (enters-moves m m₂, record { nesting = omega arith; fits = g .fits; numbers = (refl, rw (m .next) at (g .numbers)) })
 
   valueOf-complete : (a : Ahead) (v : Value) (b : Ahead) → a .left ≤ maxCount → Moves (writeValue v) (valueEntries v) 1 a b → ValueGood (suc depth) (a .next) v
       → Reads (entry valueHead >>= λ h. valueOf (h .0) (h .1) p) a v b
@@ -182,22 +172,18 @@ module _ (depth : ℕ) (p : Reader Ahead Value) (law : ValueLaw depth p) where
       bind-reads _ _ (entry-reads valueHead-exact a (stringHead text) b (enters-alone _ (g .fits) a b m)) (rw (g .numbers))
   valueOf-complete a (array e values) b l m g =
       let k = values-take values in
-      enters-announcing (arrayHead (valueCount values)) (omega arith) _ _ _ a b m k λ a₁ a₂ m₁ m₂ m₃.
+      enters-first (arrayHead (valueCount values)) (omega arith) (writeValues values) _ 0 a b m λ a₁ m₁ m₂.
       bind-reads _ _ (entry-reads valueHead-exact a (arrayHead (valueCount values)) a₁ m₁)
-      (then-reads _ _ (announce-reads (valueCount values) a₁ a₂ m₂)
-      (bind-reads _ _
-      (values-complete (valueCount values) a₂ values b (omega arith) m₃
-      (record { count = refl; nesting = omega arith; fits = g .fits; numbers = rw (m₂ .next, m₁ .next) (g .numbers .1) }))
-      (rw (g .numbers .0))))
+      (announced-reads (values-law (valueCount values)) _ values a₁ b (omega arith) m₂
+      (record { count = refl; nesting = omega arith; fits = g .fits; numbers = rw (m₁ .next) (g .numbers .1) })
+      (rw (g .numbers .0)))
   valueOf-complete a (object e pairs) b l m g =
       let k = pairs-take pairs in
-      enters-announcing (objectHead (pairCount pairs)) (omega arith) _ _ _ a b m k λ a₁ a₂ m₁ m₂ m₃.
+      enters-first (objectHead (pairCount pairs)) (omega arith) (writePairs pairs) _ 0 a b m λ a₁ m₁ m₂.
       bind-reads _ _ (entry-reads valueHead-exact a (objectHead (pairCount pairs)) a₁ m₁)
-      (then-reads _ _ (announce-reads (2 * pairCount pairs) a₁ a₂ m₂)
-      (bind-reads _ _
-      (pairs-complete (pairCount pairs) none a₂ pairs b (omega arith) m₃
-      (record { count = refl; nesting = omega arith; fits = g .fits; numbers = rw (m₂ .next, m₁ .next) (g .numbers .1) }))
-      (rw (g .numbers .0))))
+      (announced-reads (pairs-law (pairCount pairs) none) _ pairs a₁ b (omega arith) m₂
+      (record { count = refl; nesting = omega arith; fits = g .fits; numbers = rw (m₁ .next) (g .numbers .1) })
+      (rw (g .numbers .0)))
 
 value-nests : (v : Value) → 1 ≤ valueNesting v
 unfolding valueNesting

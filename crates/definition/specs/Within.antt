@@ -1,14 +1,13 @@
 -- When a tree is within the limits (docs/FORMAT.md, "Sheets"): a second reading of what a well formed sheet is, beside the decoder's.
 -- Entries and nesting are counted on the tree, bytes on its writing.
 use Prim.Native.Nat.{ℕ, _+_, _≤_, max}
-use mathlib.Core.Bool.{Bool, true}
-use mathlib.Core.List.{List}
+use mathlib.Core.Bool.{true}
 use mathlib.Core.Option.{Option, none, some}
 use mathlib.Core.Logic.{_⊎_}
 use mathlib.Core.Path.{_≡_}
 use lib.ListN.{length}
 use Rattle.number.specs.Grammar.{isNumber}
-use Rattle.sheet.specs.Order.{follows}
+use Rattle.sheet.specs.Order.{precedes}
 use Rattle.sheet.specs.Within.{TextWithin, OptionWithin}
 use Rattle.definition.specs.Tree.{Text, Field, field, Items, absent, element, Members, noMembers, member, Holder, Schema, Value, constant, number, string, array, object, Values, noValues, value, Pairs, noPairs, pair, Condition, literal, many, negation, one, two, comparison, quantifier, Conditions, noConditions, condition, Rule, rule, template}
 use Rattle.definition.specs.Limits.{maxSheetBytes, maxSchemaEntries, maxRuleEntries, maxFieldNesting, maxConditionNesting, maxValueNesting}
@@ -121,7 +120,11 @@ unfoldable mutual
   conditionsNesting noConditions = 0
   conditionsNesting (condition c others) = max (conditionNesting c) (conditionsNesting others)
 
--- Sibling names rise, none twice: each stands behind the one before it, if there is one. The record's and the arguments' fields are no siblings.
+-- Sibling names rise, none twice: each stands behind the one before it, if there is one. An element is no sibling of the properties beside it.
+
+abbrev pub Behind : Option Text → Text → Type 0
+Behind none name = Unit {0}
+Behind (some before) name = precedes before name ≡ true
 
 abbrev mutual
   pub FieldRises : Field → Type 0
@@ -133,7 +136,7 @@ abbrev mutual
 
   pub MembersRise : Option Text → Members → Type 0
   MembersRise before noMembers = Unit {0}
-  MembersRise before (member name f others) = (follows before name ≡ true) × FieldRises f × MembersRise (some name) others
+  MembersRise before (member name f others) = Behind before name × FieldRises f × MembersRise (some name) others
 
 abbrev pub ArgumentsRise : Option Holder → Type 0
 ArgumentsRise none = Unit {0}
@@ -175,7 +178,7 @@ abbrev mutual
 
   pub PairsFit : Option Text → Pairs → Type 0
   PairsFit before noPairs = Unit {0}
-  PairsFit before (pair key v others) = TextWithin key × (follows before key ≡ true) × ValueFits v × PairsFit (some key) others
+  PairsFit before (pair key v others) = TextWithin key × Behind before key × ValueFits v × PairsFit (some key) others
 
 -- an operand, an `in` value or a template
 pub record OperandFits (v : Value) : Type 0 where

@@ -1,9 +1,9 @@
 -- A tree as its sheet: each entry's head, then what it announces, in order. The entry numbers are not written.
 use Prim.Native.Nat.{ℕ, _+_}
 use mathlib.Core.Bool.{Bool, true, false}
-use mathlib.Core.List.{List, [], _∷_, _++_}
+use mathlib.Core.List.{List, [], _++_}
 use mathlib.Core.Option.{Option, none, some}
-use Rattle.sheet.specs.Entries.{HolderHead, SchemaHead, FieldHead, RuleHead, literalHead, manyHead, negationHead, oneHead, twoHead, comparisonHead, quantifierHead, constantHead, numberHead, stringHead, arrayHead, objectHead}
+use Rattle.sheet.specs.Entries.{HolderHead, literalHead, manyHead, negationHead, oneHead, twoHead, comparisonHead, quantifierHead, constantHead, numberHead, stringHead, arrayHead, objectHead}
 use Rattle.sheet.specs.Entries as Entries
 use Rattle.sheet.specs.Write.{writeSchemaHead, writeFieldHead, writeRuleHead, writeConditionHead, writeValueHead, writeKeyHead}
 use Rattle.definition.specs.Tree.{Text, Field, field, Items, absent, element, Members, noMembers, member, Holder, Schema, Value, constant, number, string, array, object, Values, noValues, value, Pairs, noPairs, pair, Condition, literal, many, negation, one, two, comparison, quantifier, Conditions, noConditions, condition, Rule, rule, template}

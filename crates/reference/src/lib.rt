@@ -1,1 +1,1 @@
-// What a reference reads: names, paths through a schema, collections (docs/FORMAT.md, "Names and paths").
+// What a reference reads: names, paths through a schema, collections (docs/FORMAT.md, "References").

@@ -95,6 +95,7 @@ pub record Indexed {T : Type 0} (reader : Reader Ahead T) (At : List ℕ → ℕ
   pub inside : next .at ≤ length s
   pub budget : next .word + next .left ≡ c .word + n + c .left
 
+-- the decoder's answer: a tree with its index, or none, and then no word outside the rule's own has changed
 abbrev pub Answers : {T : Type 0} (reader : Reader Ahead T) (At : List ℕ → ℕ → T → Type 0) (sizeOf : T → ℕ)
     (s before after : List ℕ) (n : ℕ) (c : Cursor) → TreeRead → Type 0
 Answers reader At sizeOf s before after n c (Good next) = Indexed reader At sizeOf s before after n c next

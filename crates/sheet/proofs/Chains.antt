@@ -1,7 +1,7 @@
 -- Laws of what entries are made of, at a place of the bytes: each way through the code's readers.
-use Prim.Native.Nat.{ℕ, zero, suc, _+_, _-_, _<_, _≤_}
-use mathlib.Core.Path.{_≡_, refl, sym, ap, _∙_}
-use mathlib.Core.Bool.{Bool, true, false, cond}
+use Prim.Native.Nat.{ℕ, _+_, _-_, _<_, _≤_}
+use mathlib.Core.Path.{_≡_, refl, sym, _∙_}
+use mathlib.Core.Bool.{Bool, true, false}
 use mathlib.Core.List.{List, [], _∷_}
 use mathlib.Core.Option.{Option, none, some, Option·none-ne-some}
 use native.Mathlib.Omega.{arith}
@@ -9,9 +9,10 @@ use native.Mathlib.Numerals.{add-one}
 use lib.ListN.{length, take, drop, getD, length-drop, drop-of-length-le}
 use lib.Seq.{drop-cons, drop-drop, drop-length, take-nil, take-all}
 use lib.Dec.{leb, eqb}
-use borrow.Author.Tests.{le-leb, lt-leb, eqb-true, eqb-false, eq-eqb, ne-eqb}
+use borrow.Author.Tests.{le-leb, lt-leb, eqb-true, ne-eqb}
 use Rattle.text.specs.Utf8.{isUtf8}
 use Rattle.sheet.specs.Reader.{Reader, _>>=_, _>>_, andThen, ensure, pure, either, orElse}
+use Rattle.sheet.specs.ReaderLaws.{by-test}
 use Rattle.sheet.specs.Numeral.{decimal, numeral, isDigit}
 use Rattle.sheet.specs.Entries.{maxText, byte, comma, dash, item, mark, textLength, bytes, text, optionalText}
 use Rattle.sheet.specs.Parts.{partOf, optionalOf}
@@ -23,11 +24,6 @@ use Rattle.sheet.specs.declared.entry.Length.{Length}
 use Rattle.sheet.specs.declared.entry.Length.the-variants.{Of, Absent}
 use Rattle.sheet.specs.declared.entry.OptionalRead.the-variants as optional
 use Rattle.sheet.specs.declared.part.OptionalPart.the-variants.{Is as Present, Absent as Missing}
-
--- by what a test says
-by-test : {C : Type 0} (b : Bool) → (b ≡ true → C) → (b ≡ false → C) → C
-by-test true f g = f refl
-by-test false f g = g refl
 
 -- One reader behind another.
 
@@ -237,7 +233,7 @@ optional-refused l n s at e t = rw (e, t)
 
 module _ (s : List ℕ) (start len : ℕ) where
   pub part-out : length s ≤ start → take (length s - length s) (drop (length s) s) ≡ take len (drop start s)
-  part-out h = rw (drop-of-length-le s h, drop-length s, take-nil, take-nil)
+  part-out h = rw (drop-of-length-le s h, drop-length s, take-nil (length s - length s), take-nil len)
 
   pub part-rest : length s - start ≤ len → take (length s - start) (drop start s) ≡ take len (drop start s)
   part-rest h =

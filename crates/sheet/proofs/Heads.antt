@@ -1,8 +1,8 @@
 -- Laws of the heads at a place of the bytes: each way through the code's readers. A head is made of the pieces that the code reads.
-use Prim.Native.Nat.{ℕ, zero, suc, _+_, _<_, _≤_}
-use mathlib.Core.Path.{_≡_, refl, sym, ap, _∙_}
+use Prim.Native.Nat.{ℕ, _+_, _≤_}
+use mathlib.Core.Path.{_≡_, refl, ap, _∙_}
 use mathlib.Core.Bool.{Bool, true, false, cond}
-use mathlib.Core.List.{List, [], _∷_}
+use mathlib.Core.List.{List, []}
 use mathlib.Core.Option.{Option, none, some}
 use native.Mathlib.Omega.{arith}
 use lib.ListN.{length, take, drop}
@@ -15,13 +15,10 @@ use Rattle.sheet.specs.Entries as entries
 use Rattle.sheet.specs.Entries.{maxText, maxCount, byte, comma, dash, lineEnd, item, mark, textLength, bytes, text, optionalText, holderHead, argumentsHead, schemaHead, fieldHead, ruleHead, Shape, shapeOf, literal, many, negation, one, two, comparison, quantifier, behindOperator, conditionHead, constantRest, numberRest, stringRest, arrayRest, objectRest, behindType, valueHead, keyHead}
 use Rattle.sheet.specs.Parts.{partOf, optionalOf}
 use Rattle.sheet.specs.Pieces.{first, dashed, lastText, fieldMarks, fieldTexts, ruleTexts, leastOf, mostOf, bindLength, conditionBy, conditionFrom, kindOf, mostOfKind, textLengthOf, isRight, valueBy, valueFrom}
-use Rattle.sheet.specs.Places.{ReadsTo, Refuses, StartsWith, TextIs, LastTextIs, lengthOf, OptionalIs, holderOf, argumentsOf, schemaOf, fieldOf, ruleOf, RuleTextsAre, RuleIs, conditionOf, conditionCount, valueOf, valueCount}
+use Rattle.sheet.specs.Places.{ReadsTo, Refuses, TextIs, LastTextIs, holderOf, fieldOf, RuleTextsAre, RuleIs, conditionOf, conditionCount, valueOf, valueCount}
 use Rattle.sheet.specs.declared.part.Part.{Part}
 use Rattle.sheet.specs.declared.part.OptionalPart.{OptionalPart}
-use Rattle.sheet.specs.declared.entry.Length.{Length}
-use Rattle.sheet.specs.declared.entry.OptionalRead.the-variants as optional
 use Rattle.sheet.specs.declared.schema.FieldMarks.{FieldMarks}
-use Rattle.sheet.specs.declared.rule.RuleHead.the-variants as rule-head
 use Rattle.sheet.specs.declared.rule.RuleRead.{RuleRead}
 use Rattle.sheet.specs.declared.rule.RuleRead.the-variants as rule
 use Rattle.sheet.specs.declared.rule.ValueKind.{ValueKind}

@@ -1,26 +1,19 @@
 -- Laws of numerals at a place of the bytes: each way through the code's reader, as an equation of the definition.
-use Prim.Native.Nat.{ℕ, zero, suc, _+_, _*_, _-_, _<_, _≤_}
-use mathlib.Core.Path.{_≡_, refl, sym, ap, _∙_}
-use mathlib.Core.Bool.{Bool, true, false, cond, _&&_, and-false, and-eq-true-iff}
+use Prim.Native.Nat.{ℕ, _+_, _*_, _-_, _<_, _≤_}
+use mathlib.Core.Path.{_≡_, ap, _∙_}
+use mathlib.Core.Bool.{Bool, true, false, cond, and-false}
 use mathlib.Core.List.{List, [], _∷_}
-use mathlib.Core.Option.{Option, none, some}
+use mathlib.Core.Option.{none, some}
 use native.Mathlib.Omega.{arith}
 use native.Mathlib.Numerals.{add-one}
 use lib.ListN.{length, drop, getD, drop-of-length-le}
 use lib.Seq.{drop-cons}
-use lib.Dec.{leb, eqb}
-use borrow.Author.Tests.{le-leb, lt-leb, eq-eqb, ne-eqb, leb-true}
+use borrow.Author.Tests.{le-leb, lt-leb, eq-eqb, ne-eqb}
 use Rattle.sheet.specs.Reader.{_>>=_, _>>_, andThen, ensure, pure}
 use Rattle.sheet.specs.Numeral.{isDigit, digits, decimal, numeral}
 use Rattle.sheet.specs.Places.{ReadsTo, Refuses, DigitsAre, AtMostIs}
 use Rattle.sheet.specs.declared.numeral.NumeralRead.{NumeralRead}
 use Rattle.sheet.specs.declared.numeral.NumeralRead.the-variants.{Is, Bad}
-
-pub isDigit-range : (b : ℕ) → isDigit b ≡ true → (48 ≤ b) × (b ≤ 57)
-unfolding isDigit
-isDigit-range b e =
-    let h = and-eq-true-iff (leb 48 b) (leb b 57) .0 e in
-    (leb-true 48 b (h .0), leb-true b 57 (h .1))
 
 -- a value only grows
 digits-grow : (value : ℕ) (s : List ℕ) → value ≤ digits value s .0

@@ -1,24 +1,21 @@
 -- Each head is read back as it was written, and what is read as a head is one as it is written.
-use Prim.Native.Nat.{ℕ, zero, suc, _+_, _≤_, _<_}
-use mathlib.Core.Bool.{Bool, true, false, cond, _&&_, and-eq-true-iff, false≢true}
+use Prim.Native.Nat.{ℕ, _≤_}
+use mathlib.Core.Bool.{true}
 use mathlib.Core.List.{List, [], _∷_, _++_, append-assoc}
-use mathlib.Core.Option.{Option, none, some, Option·none-ne-some, Option·some-injective, Option·map}
-use mathlib.Core.Logic.{⊎-elim, _⊎_, inl, inr}
-use mathlib.Core.Path.{_≡_, refl, sym, ap, subst, _∙_}
+use mathlib.Core.Option.{Option, none, some}
+use mathlib.Core.Logic.{⊎-elim}
+use mathlib.Core.Path.{_≡_, refl}
 use native.Mathlib.Omega.{arith}
-use lib.Dec.{leb, ltb, eqb}
 use lib.ListN.{length}
-use borrow.Author.Tests.{leb-true, leb-false, le-leb, lt-leb}
-use Rattle.number.specs.Grammar.{isNumber}
 use Rattle.sheet.specs.Ascii.{ascii}
-use Rattle.sheet.specs.Reader.{Reader, _>>=_, _>>_, andThen, ensure, pure, either, orElse}
-use Rattle.sheet.specs.ReaderLaws.{Reads, by-test, bind-inv, then-inv, bind-reads, then-reads, pure-inv, ensure-inv, ensure-reads, either-inv, either-first, either-second}
+use Rattle.sheet.specs.Reader.{Reader, _>>_, pure}
+use Rattle.sheet.specs.ReaderLaws.{Reads, bind-inv, then-inv, bind-reads, then-reads, pure-inv, either-inv, either-first, either-second}
 use Rattle.sheet.specs.Numeral.{isDigit, decimalOf, decimalIn}
 use Rattle.sheet.specs.NumeralLaws.{beginsWithoutDigit}
 use Rattle.sheet.specs.Entries.{maxText, maxCount, comma, dash, HolderHead, holderHead, argumentsHead, SchemaHead, schemaHead, FieldHead, fieldHead}
-use Rattle.sheet.specs.Write.{writeItem, writeMark, markOf, writeLength, writeText, writeEnd, writeHolderHead, writeArgumentsHead, writeSchemaHead, writeFieldHead}
+use Rattle.sheet.specs.Write.{writeItem, writeMark, writeLength, writeText, writeEnd, writeHolderHead, writeArgumentsHead, writeSchemaHead, writeFieldHead}
 use Rattle.sheet.specs.Within.{TextWithin, OptionWithin}
-use Rattle.sheet.specs.ItemLaws.{Exact, anything, past, step, item-exact, item-complete, mark-exact, mark-complete, byte-complete, dash-none, text-sound, text-complete, textLength-sound, textLength-complete, optionalText-sound, optionalText-complete, item-begins, mark-begins, length-begins, last-begins, comma-begins, end-begins}
+use Rattle.sheet.specs.ItemLaws.{Exact, anything, past, step, item-exact, item-complete, mark-exact, mark-complete, byte-complete, dash-none, text-sound, text-complete, textLength-sound, textLength-complete, optionalText-sound, optionalText-complete, item-begins, mark-begins, length-begins, comma-begins, end-begins}
 
 writeItem-zero : writeItem 0 ≡ 44 ∷ 48 ∷ []
 unfolding writeItem ascii decimalOf decimalIn
@@ -32,7 +29,7 @@ holderHead-sound : (s : List ℕ) (h : HolderHead) (t : List ℕ) → Reads hold
 unfolding holderHead writeHolderHead
 holderHead-sound s h t e =
     step mark-exact _ _ e λ isOpen s₁ e₁ _ e.
-    step (item-exact 0 maxCount) _ _ e λ count s₂ e₂ h₂ e.
+    step (item-exact _ _) _ _ e λ count s₂ e₂ h₂ e.
     let q = pure-inv _ _ e in
     rw (← (q .0), ← (q .1)) (rw (e₁, e₂) (simp append-assoc), h₂ .1)
 
@@ -66,7 +63,7 @@ argumentsHead-sound s o t e =
     past _ _ _ e λ s₂ e₂ e.
     then-inv _ _ _ e λ n s₃ e₃ e.
     let q = pure-inv _ _ e in
-    let r = item-exact 0 0 .sound _ _ _ e₃ in
+    let r = item-exact _ _ .sound _ _ _ e₃ in
     let z : n ≡ 0 = omega arith in
     rw (← (q .0), ← (q .1)) (rw (e₁, e₂, r .0, z, writeItem-zero), tt))
     (λ e.
@@ -138,11 +135,11 @@ fieldHead-sound : (s : List ℕ) (h : FieldHead) (t : List ℕ) → Reads fieldH
 unfolding fieldHead writeEnd ascii
 fieldHead-sound s h t e =
     past _ _ _ e λ s₁ e₁ e.
-    step (item-exact 1 12) _ _ e λ kind s₂ e₂ h₂ e.
+    step (item-exact _ _) _ _ e λ kind s₂ e₂ h₂ e.
     step mark-exact _ _ e λ isOpen s₃ e₃ _ e.
     step mark-exact _ _ e λ hasItems s₄ e₄ _ e.
-    step (item-exact 0 maxCount) _ _ e λ count s₅ e₅ h₅ e.
-    step (item-exact 0 maxText) _ _ e λ a s₆ e₆ h₆ e.
+    step (item-exact _ _) _ _ e λ count s₅ e₅ h₅ e.
+    step (item-exact _ _) _ _ e λ a s₆ e₆ h₆ e.
     bind-inv _ _ _ e λ o s₇ e₇ e.
     past _ _ _ e λ s₈ e₈ e.
     bind-inv _ _ _ e λ name s₉ e₉ e.

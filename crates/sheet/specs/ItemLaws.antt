@@ -1,26 +1,24 @@
 -- Each head is read back as it was written, and what is read as a head is one as it is written.
-use Prim.Native.Nat.{ℕ, zero, suc, _+_, _≤_, _<_}
-use Prim.Native.Char.{Char, code}
-use mathlib.Core.Bool.{Bool, true, false, cond, _&&_, and-eq-true-iff, false≢true}
-use mathlib.Core.List.{List, [], _∷_, _++_, append-assoc}
+use Prim.Native.Nat.{ℕ, _≤_}
+use mathlib.Core.Bool.{Bool, true, false, and-eq-true-iff}
+use mathlib.Core.List.{List, [], _∷_, _++_}
 use mathlib.Core.Option.{Option, none, some, Option·none-ne-some, Option·some-injective, Option·map}
 use mathlib.Core.Logic.{⊎-elim}
-use mathlib.Core.Path.{_≡_, refl, sym, ap, subst, _∙_}
+use mathlib.Core.Path.{_≡_, refl, sym, ap, _∙_}
 use native.Mathlib.Omega.{arith}
-use lib.Dec.{leb, ltb, eqb}
+use lib.Dec.{leb, eqb}
 use lib.ListN.{length, take, drop, take-append-drop, length-append}
 use lib.Seq.{length-take-le, take-append-seam, drop-append-seam}
-use borrow.Author.Tests.{leb-true, leb-false, eqb-true, eqb-false, le-leb, eq-eqb, ne-eqb}
+use borrow.Author.Tests.{leb-true, eqb-true, eqb-false, le-leb, eq-eqb, ne-eqb}
 use Rattle.text.specs.Utf8.{isUtf8}
-use Rattle.number.specs.Grammar.{isNumber}
 use Rattle.sheet.specs.Ascii.{ascii}
-use Rattle.sheet.specs.Reader.{Reader, _>>=_, _>>_, andThen, ensure, pure, either, orElse}
+use Rattle.sheet.specs.Reader.{Reader, _>>=_, _>>_, andThen, pure}
 use Rattle.sheet.specs.ReaderLaws.{Reads, by-test, bind-inv, then-inv, bind-reads, then-reads, pure-inv, ensure-inv, ensure-reads, either-inv, either-first, either-second}
-use Rattle.sheet.specs.Numeral.{isDigit, numeral, decimal, decimalOf}
+use Rattle.sheet.specs.Numeral.{isDigit, numeral}
 use Rattle.sheet.specs.NumeralLaws.{beginsWithoutDigit, decimal-sound, decimal-complete, decimalOf-begins, isDigit-range}
 use Rattle.sheet.specs.Entries.{maxText, byte, comma, dash, item, mark, textLength, bytes, text, optionalText}
-use Rattle.sheet.specs.Write.{writeItem, writeMark, markOf, writeLength, writeText, writeLast}
-use Rattle.sheet.specs.Within.{TextWithin, OptionWithin}
+use Rattle.sheet.specs.Write.{writeItem, writeMark, markOf, writeLength, writeText}
+use Rattle.sheet.specs.Within.{OptionWithin}
 
 -- A reader of what `w` writes: what it reads is written so and fits, and whatever fits is read back, where `End` holds of what stands behind it.
 pub record Exact {A : Type 0} (p : Reader (List ℕ) A) (w : A → List ℕ) (Fits : A → Type 0) (end : List ℕ → Bool) : Type 0 where
@@ -87,7 +85,7 @@ markOf-test n h =
 mark-sound : (s : List ℕ) (b : Bool) (t : List ℕ) → Reads mark s b t → (s ≡ writeMark b ++ t) × Unit {0}
 unfolding mark writeMark
 mark-sound s b t e =
-    step (item-exact 0 1) _ _ e λ n s₁ e₁ h e.
+    step (item-exact _ _) _ _ e λ n s₁ e₁ h e.
     let q = pure-inv _ _ e in
     rw (← (q .0), ← (q .1), markOf-test n (h .1)) (e₁, tt)
 
@@ -160,7 +158,7 @@ textLength-sound s o t e =
     let q = pure-inv _ _ e in
     rw (← (q .0), ← (q .1)) (rw (e₁, e₂), tt))
     (λ e.
-    step (item-exact 0 maxText) _ _ e λ n s₁ e₁ h e.
+    step (item-exact _ _) _ _ e λ n s₁ e₁ h e.
     let q = pure-inv _ _ e in
     rw (← (q .0), ← (q .1)) (e₁, h .1))
     (either-inv _ _ _ e)
@@ -201,10 +199,6 @@ pub length-begins : (x : Option (List ℕ)) (t : List ℕ) → beginsWithoutDigi
 unfolding beginsWithoutDigit isDigit writeLength ascii
 length-begins none t = refl
 length-begins (some x) t = item-begins (length x) t
-
-pub last-begins : (x t : List ℕ) → beginsWithoutDigit (writeLast x ++ t) ≡ true
-unfolding beginsWithoutDigit isDigit writeLast ascii
-last-begins x t = refl
 
 pub comma-begins : (t : List ℕ) → beginsWithoutDigit (44 ∷ t) ≡ true
 unfolding beginsWithoutDigit isDigit

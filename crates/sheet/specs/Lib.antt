@@ -3,6 +3,10 @@ pub mod Reader
 pub mod Numeral
 pub mod Order
 pub mod Entries
+pub mod Parts
+pub mod Compares
+pub mod Pieces
+pub mod Places
 pub mod Write
 pub mod Within
 pub mod ReaderLaws
@@ -12,7 +16,3 @@ pub mod ItemLaws
 pub mod HeadLaws
 pub mod RuleHeadLaws
 pub mod Computing
-pub mod Parts
-pub mod Compares
-pub mod Pieces
-pub mod Places

@@ -1,6 +1,6 @@
 -- The order of texts is strict and transitive, and the test for the same bytes says what it seems to say.
 use Prim.Native.Nat.{ℕ, _<_}
-use mathlib.Core.Bool.{Bool, true, false, _&&_, _||_, and-eq-true-iff, false≢true}
+use mathlib.Core.Bool.{true, false, and-eq-true-iff, false≢true}
 use mathlib.Core.List.{List, [], _∷_}
 use mathlib.Core.Logic.{_⊎_, inl, inr}
 use mathlib.Core.Path.{_≡_, refl, sym, ap₂, _∙_}
@@ -26,6 +26,11 @@ sameBytes-refl (a ∷ s) = rw (eq-eqb a a refl) (sameBytes-refl s)
 
 pub equal-sameBytes : (a b : List ℕ) → a ≡ b → sameBytes a b ≡ true
 equal-sameBytes a b e = rw e (sameBytes-refl b)
+
+pub sameBytes-symmetric : (a b : List ℕ) → sameBytes a b ≡ sameBytes b a
+sameBytes-symmetric a b =
+    by-test (sameBytes a b) (λ e. e ∙ sym (equal-sameBytes b a (sym (sameBytes-equal a b e))))
+    (λ e. by-test (sameBytes b a) (λ q. equal-sameBytes a b (sym (sameBytes-equal b a q)) ∙ sym q) (λ q. e ∙ sym q))
 
 pub precedes-irreflexive : (a : List ℕ) → precedes a a ≡ false
 unfolding precedes

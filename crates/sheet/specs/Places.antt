@@ -10,7 +10,6 @@ use Rattle.sheet.specs.Numeral.{digits, decimal, numeral as numeralOf}
 use Rattle.sheet.specs.Entries as entries
 use Rattle.sheet.specs.Parts.{partOf, optionalOf}
 use Rattle.sheet.specs.Pieces.{dashed, lastText, fieldMarks, fieldTexts, ruleTexts}
-use Rattle.sheet.specs.declared.part.Part.{Part}
 use Rattle.sheet.specs.declared.numeral.NumeralRead.{NumeralRead}
 use Rattle.sheet.specs.declared.numeral.NumeralRead.the-variants as numeral
 use Rattle.sheet.specs.declared.entry.MarkRead.{MarkRead}
@@ -33,7 +32,6 @@ use Rattle.sheet.specs.declared.schema.SchemaRead.{SchemaRead}
 use Rattle.sheet.specs.declared.schema.SchemaRead.the-variants as schema
 use Rattle.sheet.specs.declared.schema.FieldMarksRead.{FieldMarksRead}
 use Rattle.sheet.specs.declared.schema.FieldMarksRead.the-variants as field-marks
-use Rattle.sheet.specs.declared.schema.FieldTexts.{FieldTexts}
 use Rattle.sheet.specs.declared.schema.FieldTextsRead.{FieldTextsRead}
 use Rattle.sheet.specs.declared.schema.FieldTextsRead.the-variants as field-texts
 use Rattle.sheet.specs.declared.schema.FieldHead.{FieldHead}

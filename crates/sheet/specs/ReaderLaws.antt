@@ -1,8 +1,8 @@
 -- What a chain of readers reads is what its parts read, one behind the other.
-use mathlib.Core.Bool.{Bool, true, false, false≢true}
+use mathlib.Core.Bool.{Bool, true, false}
 use mathlib.Core.Option.{Option, none, some, Option·none-ne-some, Option·some-injective}
 use mathlib.Core.Logic.{_⊎_, inl, inr}
-use mathlib.Core.Path.{_≡_, refl, sym, ap, subst, _∙_}
+use mathlib.Core.Path.{_≡_, refl, ap}
 use Rattle.sheet.specs.Reader.{Reader, _>>=_, _>>_, ensure, pure, either, andThen, orElse, refuse}
 
 -- `p` reads `a` from `s` and stops at `t`

@@ -1,22 +1,22 @@
 -- The heads of a rule sheet are read back as they were written, and what is read as such a head is one as it is written.
-use Prim.Native.Nat.{ℕ, _≤_, _<_}
-use mathlib.Core.Bool.{Bool, true, false, cond}
+use Prim.Native.Nat.{ℕ, _≤_}
+use mathlib.Core.Bool.{true}
 use mathlib.Core.List.{List, [], _∷_, _++_, append-assoc}
-use mathlib.Core.Option.{Option, none, some, Option·map}
+use mathlib.Core.Option.{Option}
 use mathlib.Core.Logic.{⊎-elim, _⊎_, inl, inr}
-use mathlib.Core.Path.{_≡_, refl, sym, ap, subst, _∙_}
+use mathlib.Core.Path.{_≡_, refl, sym}
 use native.Mathlib.Omega.{arith}
 use lib.Dec.{leb}
 use lib.ListN.{length}
 use borrow.Author.Tests.{leb-true, leb-false, le-leb, lt-leb}
 use Rattle.number.specs.Grammar.{isNumber}
 use Rattle.sheet.specs.Ascii.{ascii}
-use Rattle.sheet.specs.Reader.{Reader, _>>=_, _>>_, andThen, ensure, pure, either, orElse}
-use Rattle.sheet.specs.ReaderLaws.{Reads, by-test, bind-inv, then-inv, bind-reads, then-reads, pure-inv, ensure-inv, ensure-reads, either-inv, either-first, either-second}
-use Rattle.sheet.specs.Entries.{maxText, maxCount, byte, comma, item, mark, text, RuleHead, rule, template, ruleHead, Shape, literal, many, negation, one, two, comparison, quantifier, shapeOf, ConditionHead, literalHead, manyHead, negationHead, oneHead, twoHead, comparisonHead, quantifierHead, behindOperator, conditionHead, ValueHead, constantHead, numberHead, stringHead, arrayHead, objectHead, constantRest, numberRest, stringRest, arrayRest, objectRest, behindType, valueHead, keyHead}
+use Rattle.sheet.specs.Reader.{Reader, _>>=_, _>>_, andThen, pure, either, orElse}
+use Rattle.sheet.specs.ReaderLaws.{Reads, by-test, bind-inv, then-inv, bind-reads, then-reads, pure-inv, ensure-inv, ensure-reads, either-inv, either-first}
+use Rattle.sheet.specs.Entries.{maxText, maxCount, byte, comma, item, text, RuleHead, rule, template, ruleHead, Shape, literal, many, negation, one, two, comparison, quantifier, shapeOf, ConditionHead, literalHead, manyHead, negationHead, oneHead, twoHead, comparisonHead, quantifierHead, behindOperator, conditionHead, ValueHead, constantHead, numberHead, stringHead, arrayHead, objectHead, constantRest, numberRest, stringRest, arrayRest, objectRest, behindType, valueHead, keyHead}
 use Rattle.sheet.specs.Write.{writeItem, writeMark, markOf, writeLength, writeText, writeEnd, writeLast, writeRuleHead, writeOperator, writeConditionHead, writeType, writeValueHead, writeKeyHead}
 use Rattle.sheet.specs.Within.{TextWithin, OptionWithin}
-use Rattle.sheet.specs.ItemLaws.{Exact, anything, past, step, item-exact, item-complete, mark-exact, mark-complete, byte-complete, text-sound, text-complete, textLength-sound, textLength-complete, optionalText-sound, optionalText-complete, item-begins, mark-begins, length-begins, last-begins, comma-begins, end-begins}
+use Rattle.sheet.specs.ItemLaws.{Exact, anything, past, step, item-exact, item-complete, mark-exact, mark-complete, byte-complete, text-sound, text-complete, textLength-sound, textLength-complete, optionalText-sound, optionalText-complete, item-begins, length-begins, comma-begins}
 
 -- R,a,b,text or T
 abbrev pub RuleHeadFits : RuleHead → Type 0
@@ -319,7 +319,7 @@ conditionHead-sound : (s : List ℕ) (h : ConditionHead) (t : List ℕ) → Read
 unfolding conditionHead writeEnd ascii
 conditionHead-sound s h t e =
     past _ _ _ e λ s₁ e₁ e.
-    step (item-exact 1 21) _ _ e λ op s₂ e₂ h₂ e.
+    step (item-exact _ _) _ _ e λ op s₂ e₂ h₂ e.
     bind-inv _ _ _ e λ g s₃ e₃ e.
     past _ _ _ e λ s₄ e₄ e.
     let q = pure-inv _ _ e in
@@ -454,7 +454,7 @@ valueHead-sound : (s : List ℕ) (h : ValueHead) (t : List ℕ) → Reads valueH
 unfolding valueHead writeEnd ascii
 valueHead-sound s h t e =
     past _ _ _ e λ s₁ e₁ e.
-    step (item-exact 1 7) _ _ e λ type s₂ e₂ h₂ e.
+    step (item-exact _ _) _ _ e λ type s₂ e₂ h₂ e.
     bind-inv _ _ _ e λ g s₃ e₃ e.
     past _ _ _ e λ s₄ e₄ e.
     let q = pure-inv _ _ e in

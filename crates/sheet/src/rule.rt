@@ -68,7 +68,7 @@ pub enum KeyRead {
     Bad,
 }
 
-// What follows an operator (docs/FORMAT.md, "Conditions").
+// What follows an operator (docs/FORMAT.md, "The rule sheet").
 enum Shape {
     Literal,
     Many,

@@ -34,18 +34,42 @@ second3-others a b l h n = go (leb a 0xEC) refl
     go : (t : Bool) → leb a 0xEC ≡ t → isSecondOf3 a b ≡ isTail b
     go true e =
         let k = leb-true a 0xEC e in
-        simp (between-above 0xE0 0xE0 a (omega arith), between-inside 0xE1 0xEC a l k, between-below 0xED 0xED a (omega arith), between-below 0xEE 0xEF a (omega arith), or-false)
+        simp (
+          between-above 0xE0 0xE0 a (omega arith),
+          between-inside 0xE1 0xEC a l k,
+          between-below 0xED 0xED a (omega arith),
+          between-below 0xEE 0xEF a (omega arith),
+          or-false,
+        )
     go false e =
         let k = leb-false a 0xEC e in
-        simp (between-above 0xE0 0xE0 a (omega arith), between-above 0xE1 0xEC a k, between-above 0xED 0xED a (omega arith), between-inside 0xEE 0xEF a (omega arith) h)
+        simp (
+          between-above 0xE0 0xE0 a (omega arith),
+          between-above 0xE1 0xEC a k,
+          between-above 0xED 0xED a (omega arith),
+          between-inside 0xEE 0xEF a (omega arith) h,
+        )
 
 pub second3-below : (a b : ℕ) → a < 0xE0 → isSecondOf3 a b ≡ false
 unfolding isSecondOf3
-second3-below a b h = simp (between-below 0xE0 0xE0 a h, between-below 0xE1 0xEC a (omega arith), between-below 0xED 0xED a (omega arith), between-below 0xEE 0xEF a (omega arith))
+second3-below a b h =
+    simp (
+      between-below 0xE0 0xE0 a h,
+      between-below 0xE1 0xEC a (omega arith),
+      between-below 0xED 0xED a (omega arith),
+      between-below 0xEE 0xEF a (omega arith),
+    )
 
 pub second3-above : (a b : ℕ) → 0xEF < a → isSecondOf3 a b ≡ false
 unfolding isSecondOf3
-second3-above a b h = simp (between-above 0xE0 0xE0 a (omega arith), between-above 0xE1 0xEC a (omega arith), between-above 0xED 0xED a (omega arith), between-above 0xEE 0xEF a h)
+second3-above a b h =
+    simp (
+      between-above 0xE0 0xE0 a (omega arith),
+      between-above 0xE1 0xEC a (omega arith),
+      between-above 0xED 0xED a
+          (omega arith),
+      between-above 0xEE 0xEF a h,
+    )
 
 pub second4-f0 : (a b : ℕ) → a ≡ 0xF0 → isSecondOf4 a b ≡ between 0x90 0xBF b
 unfolding isSecondOf4 between
@@ -57,12 +81,16 @@ second4-f4 a b e = rw e
 
 pub second4-others : (a b : ℕ) → 0xF1 ≤ a → a ≤ 0xF3 → isSecondOf4 a b ≡ isTail b
 unfolding isSecondOf4
-second4-others a b l h = simp (between-above 0xF0 0xF0 a (omega arith), between-inside 0xF1 0xF3 a l h, between-below 0xF4 0xF4 a (omega arith), or-false)
+second4-others a b l h =
+    simp
+    (between-above 0xF0 0xF0 a (omega arith), between-inside 0xF1 0xF3 a l h, between-below 0xF4 0xF4 a (omega arith), or-false)
 
 pub second4-below : (a b : ℕ) → a < 0xF0 → isSecondOf4 a b ≡ false
 unfolding isSecondOf4
-second4-below a b h = simp (between-below 0xF0 0xF0 a h, between-below 0xF1 0xF3 a (omega arith), between-below 0xF4 0xF4 a (omega arith))
+second4-below a b h =
+    simp (between-below 0xF0 0xF0 a h, between-below 0xF1 0xF3 a (omega arith), between-below 0xF4 0xF4 a (omega arith))
 
 pub second4-above : (a b : ℕ) → 0xF4 < a → isSecondOf4 a b ≡ false
 unfolding isSecondOf4
-second4-above a b h = simp (between-above 0xF0 0xF0 a (omega arith), between-above 0xF1 0xF3 a (omega arith), between-above 0xF4 0xF4 a h)
+second4-above a b h =
+    simp (between-above 0xF0 0xF0 a (omega arith), between-above 0xF1 0xF3 a (omega arith), between-above 0xF4 0xF4 a h)

@@ -163,7 +163,12 @@ module _ (s : List ℕ) (at : ℕ) where
         }
 
 -- what is solid stays
-kept : (n : ℕ) (s : List ℕ) → n ≤ length s → ((k : ℕ) → k < n → isBlank (drop k s) ≡ false) → isBlank (drop n s) ≡ true → take n s ≡ trimEnd s
+kept
+    : (n : ℕ) (s : List ℕ)
+    → n ≤ length s
+    → ((k : ℕ) → k < n → isBlank (drop k s) ≡ false)
+    → isBlank (drop n s) ≡ true
+    → take n s ≡ trimEnd s
 unfolding trimEnd
 kept zero [] h f b = refl
 kept zero (a ∷ t) h f b = rw b

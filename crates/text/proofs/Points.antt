@@ -45,7 +45,10 @@ pub points-none : (s : List ℕ) → 0 < length s → decodeOne s ≡ none → c
 unfolding pointsFrom
 points-none s h e = points-next s h ∙ rw e
 
-pub points-some : (s : List ℕ) {c : ℕ} {t : List ℕ} → decodeOne s ≡ some (c, t) → codePoints s ≡ Option·map (λ (l : List ℕ). c ∷ l) (codePoints t)
+pub points-some
+    : (s : List ℕ) {c : ℕ} {t : List ℕ}
+    → decodeOne s ≡ some (c, t)
+    → codePoints s ≡ Option·map (λ (l : List ℕ). c ∷ l) (codePoints t)
 unfolding pointsFrom
 points-some s {c} {t} e =
     let k = shape-shorter (decoded-shape s (c, t) e) in
@@ -81,7 +84,10 @@ pub blank-some : (s : List ℕ) {c : ℕ} {t : List ℕ} → decodeOne s ≡ som
 unfolding isBlank blankPoints allWhiteSpace
 blank-some s {c} {t} e = rw (points-some s e) (go (codePoints t) (isWhiteSpace c) refl)
   where
-    go : (o : Option (List ℕ)) (w : Bool) → isWhiteSpace c ≡ w → blankPoints (Option·map (λ (l : List ℕ). c ∷ l) o) ≡ (isWhiteSpace c && blankPoints o)
+    go
+        : (o : Option (List ℕ)) (w : Bool)
+        → isWhiteSpace c ≡ w
+        → blankPoints (Option·map (λ (l : List ℕ). c ∷ l) o) ≡ (isWhiteSpace c && blankPoints o)
     go none true h = rw h
     go none false h = rw h
     go (some l) w h = refl
@@ -125,7 +131,11 @@ pub start-none : (s : List ℕ) → decodeOne s ≡ none → trimStart s ≡ s
 unfolding startFrom
 start-none s e = start-next s ∙ rw e
 
-pub start-white : (s : List ℕ) {c : ℕ} {t : List ℕ} → decodeOne s ≡ some (c, t) → isWhiteSpace c ≡ true → trimStart s ≡ trimStart t
+pub start-white
+    : (s : List ℕ) {c : ℕ} {t : List ℕ}
+    → decodeOne s ≡ some (c, t)
+    → isWhiteSpace c ≡ true
+    → trimStart s ≡ trimStart t
 unfolding startFrom
 start-white s e h = start-next s ∙ rw (e, h)
 

@@ -81,7 +81,8 @@ shape-2 (a ∷ []) r n e = absurd (Option·none-ne-some r e)
 shape-2 (a ∷ b ∷ t) r n e =
     let p = cond-some (isUtf8-2 a b) e in
     moved (a ∷ b ∷ t) r
-    (two {a = a} {b = b} {w = codeOf2 a b} (λ u. rw (cond-none (leb a 0x7F) (a, b ∷ t) n, p .0)) (and-true-1 (between 0xC2 0xDF a) (isTail b) (p .0)))
+    (two {a = a} {b = b} {w = codeOf2 a b} (λ u. rw (cond-none (leb a 0x7F) (a, b ∷ t) n, p .0))
+    (and-true-1 (between 0xC2 0xDF a) (isTail b) (p .0)))
     (p .1)
 
 shape-3 : (s : List ℕ) (r : ℕ × List ℕ) → utf8-1 s ≡ none → utf8-2 s ≡ none → utf8-3 s ≡ some r → Shape s (r .0) (r .1)
@@ -92,7 +93,8 @@ shape-3 (a ∷ b ∷ []) r n m e = absurd (Option·none-ne-some r e)
 shape-3 (a ∷ b ∷ c ∷ t) r n m e =
     let p = cond-some (isUtf8-3 a b c) e in
     moved (a ∷ b ∷ c ∷ t) r
-    (three {a = a} {b = b} {c = c} {w = codeOf3 a b c} (λ u. rw (cond-none (leb a 0x7F) (a, b ∷ c ∷ t) n, cond-none (isUtf8-2 a b) (codeOf2 a b, c ∷ t) m, p .0))
+    (three {a = a} {b = b} {c = c} {w = codeOf3 a b c}
+    (λ u. rw (cond-none (leb a 0x7F) (a, b ∷ c ∷ t) n, cond-none (isUtf8-2 a b) (codeOf2 a b, c ∷ t) m, p .0))
     (second3-tail a b (and-true-0 _ _ (p .0)))
     (and-true-1 (isSecondOf3 a b) _ (p .0)))
     (p .1)
@@ -114,7 +116,13 @@ shape-4 (a ∷ b ∷ c ∷ d ∷ t) r n m l e =
     let q = and-true-1 (isSecondOf4 a b) (isTail c && isTail d) (p .0) in
     moved (a ∷ b ∷ c ∷ d ∷ t) r
     (four {a = a} {b = b} {c = c} {d = d} {w = codeOf4 a b c d}
-    (λ u. rw (cond-none (leb a 0x7F) (a, b ∷ c ∷ d ∷ t) n, cond-none (isUtf8-2 a b) (codeOf2 a b, c ∷ d ∷ t) m, cond-none (isUtf8-3 a b c) (codeOf3 a b c, d ∷ t) l, p .0))
+    (λ u. rw (
+      cond-none (leb a 0x7F) (a, b ∷ c ∷ d ∷ t) n,
+      cond-none (isUtf8-2 a b) (codeOf2 a b, c ∷ d ∷ t) m,
+      cond-none
+          (isUtf8-3 a b c) (codeOf3 a b c, d ∷ t) l,
+      p .0,
+    ))
     (second4-tail a b (and-true-0 _ _ (p .0)))
     (and-true-0 _ _ q)
     (and-true-1 (isTail c) _ q))

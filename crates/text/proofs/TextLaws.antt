@@ -1,7 +1,7 @@
 -- What crates above may want to know of trimmed text: it is empty exactly where the text is blank, and it is UTF-8 where the text is.
 use Prim.Native.Nat.{ℕ, zero, suc, _≤_}
 use mathlib.Core.Path.{_≡_, refl, sym, _∙_}
-use mathlib.Core.Bool.{Bool, true, false, cond, _&&_, false≢true}
+use mathlib.Core.Bool.{Bool, true, false, cond, false≢true}
 use mathlib.Core.List.{List, [], _∷_}
 use mathlib.Core.Option.{Option, none, some}
 use native.Mathlib.Omega.{arith}
@@ -14,19 +14,31 @@ use Rattle.text.proofs.Points.{utf8-empty, utf8-none, utf8-some, blank-
 use Rattle.text.proofs.End.{tail-solid}
 
 -- a property that holds of the rest behind White_Space exactly if it holds of the text is kept by trimming the start
-module _ (f : List ℕ → Bool) (passed : (s : List ℕ) (r : ℕ × List ℕ) → decodeOne s ≡ some r → isWhiteSpace (r .0) ≡ true → f s ≡ f (r .1)) where
-  start-keeps : (n : ℕ) (s : List ℕ) → f (trimStartIn n s) ≡ f s
-  unfolding trimStartIn startFrom
-  start-keeps zero s = refl
-  start-keeps (suc n) s = go (decodeOne s) refl (λ t. start-keeps n t)
-    where
-      white : (r : ℕ × List ℕ) (w : Bool) → decodeOne s ≡ some r → isWhiteSpace (r .0) ≡ w → f (trimStartIn n (r .1)) ≡ f (r .1) → f (cond w (trimStartIn n (r .1)) s) ≡ f s
-      white r true e h k = k ∙ sym (passed s r e h)
-      white r false e h k = refl
+module _
+    (f : List ℕ → Bool)
+    (passed : (s : List ℕ) (r : ℕ × List ℕ) → decodeOne s ≡ some r → isWhiteSpace (r .0) ≡ true → f s ≡ f (r .1))
+  where
+    start-keeps : (n : ℕ) (s : List ℕ) → f (trimStartIn n s) ≡ f s
+    unfolding trimStartIn startFrom
+    start-keeps zero s = refl
+    start-keeps (suc n) s = go (decodeOne s) refl (λ t. start-keeps n t)
+      where
+        white
+            : (r : ℕ × List ℕ) (w : Bool)
+            → decodeOne s ≡ some r
+            → isWhiteSpace (r .0) ≡ w
+            → f (trimStartIn n (r .1)) ≡ f (r .1)
+            → f (cond w (trimStartIn n (r .1)) s) ≡ f s
+        white r true e h k = k ∙ sym (passed s r e h)
+        white r false e h k = refl
 
-      go : (o : Option (ℕ × List ℕ)) → decodeOne s ≡ o → ((t : List ℕ) → f (trimStartIn n t) ≡ f t) → f (startFrom (λ t. trimStartIn n t) s o) ≡ f s
-      go none e k = refl
-      go (some r) e k = white r (isWhiteSpace (r .0)) e refl (k (r .1))
+        go
+            : (o : Option (ℕ × List ℕ))
+            → decodeOne s ≡ o
+            → ((t : List ℕ) → f (trimStartIn n t) ≡ f t)
+            → f (startFrom (λ t. trimStartIn n t) s o) ≡ f s
+        go none e k = refl
+        go (some r) e k = white r (isWhiteSpace (r .0)) e refl (k (r .1))
 
 start-blank : (s : List ℕ) → isBlank (trimStart s) ≡ isBlank s
 unfolding trimStart

@@ -1,4 +1,4 @@
--- White_Space: the code points of docs/FORMAT.md, 'Text, numbers, instants', which are those with that property in Unicode.
+-- White_Space: the code points of docs/FORMAT.md, "Text", which are those with that property in Unicode.
 use Prim.Native.Nat.{ℕ}
 use mathlib.Core.Bool.{Bool, _||_}
 use lib.Dec.{eqb}

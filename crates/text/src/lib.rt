@@ -1,7 +1,7 @@
 // Text as bytes: UTF-8, White_Space, blank text, and text trimmed at both ends. Every function takes any bytes.
 ghost use mathlib.Core.Path.{_≡_};
-ghost use Prim.Native.Nat.{ℕ};
-ghost use Rattle.text.specs.Utf8.{between, isTail, isUtf8-2, codeOf2, isSecondOf3, isUtf8-3, codeOf3, isSecondOf4, isUtf8-4, codeOf4, isUtf8};
+ghost use Rattle.text.specs.Utf8.{between, isTail, isUtf8-2, isSecondOf3, isUtf8-3, isSecondOf4, isUtf8-4, isUtf8};
+ghost use Rattle.text.specs.Utf8.{codeOf2, codeOf3, codeOf4};
 ghost use Rattle.text.specs.WhiteSpace.{isWhiteSpace};
 ghost use Rattle.text.specs.Blank.{isBlank, trim};
 ghost use Rattle.text.specs.Decodes.{Decodes, StartsAt, EndsAt};
@@ -132,6 +132,7 @@ pub fn decode_one(s: &[u8], at: usize) -> Decoded
     Decoded::Malformed
 }
 
+// Whether a code point is White_Space.
 pub fn is_white_space(c: u32) -> bool
     ensures { λ r. ⌜ r ≡ isWhiteSpace c ⌝ }
 {
@@ -150,6 +151,7 @@ pub fn is_white_space(c: u32) -> bool
     }
 }
 
+// Whether a text is UTF-8.
 pub fn is_utf8(s: &[u8]) -> bool
     ensures { λ r. ⌜ r ≡ isUtf8 (now (s .entry)) ⌝ }
 {

@@ -1,4 +1,4 @@
--- Instants as docs/FORMAT.md, 'Text, numbers, instants' has them, by the places of their characters:
+-- Instants as docs/FORMAT.md, "Instants" has them, by the places of their characters:
 --
 --     0    5  8  11 14 17 20
 --     YYYY-MM-DDTHH:MM:SS.nnnnnnnnnZ

@@ -1,9 +1,10 @@
-// Instants as text: a date, alone or with a time of day (docs/FORMAT.md, 'Text, numbers, instants').
+// Instants as text: a date, alone or with a time of day (docs/FORMAT.md, "Instants").
 ghost use mathlib.Core.Path.{_≡_};
 ghost use Prim.Native.Nat.{_<_, _≤_};
 ghost use lib.ListN.{getD};
 ghost use Rattle.text.specs.Utf8.{between};
-ghost use Rattle.timestamp.specs.Instant.{isDigit, digitValue, isTwo, two, three, isMarkedTwo, fieldsOf, isLeap, daysIn, isDate, isDay, isSeparator, isTime, isClock, isZone, isEnd, skipDigits, isFraction, isTimeEnd, isTimed, isInstant};
+ghost use Rattle.timestamp.specs.Instant.{isDigit, digitValue, isTwo, two, three, isMarkedTwo, fieldsOf};
+ghost use Rattle.timestamp.specs.Instant.{isLeap, daysIn, isDate, isDay, isSeparator, isTime, isClock, isZone, isEnd, skipDigits, isFraction, isTimeEnd, isTimed, isInstant};
 ghost use Rattle.timestamp.specs.Parses.{Parses};
 
 // What an instant says; what its text leaves out is 0.
@@ -17,8 +18,10 @@ pub struct Fields {
     pub nanoseconds: u32,
 }
 
+// What a text was read as.
 pub enum Parsed {
     Instant(Fields),
+    // No instant.
     Unreadable,
 }
 

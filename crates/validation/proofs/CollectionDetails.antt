@@ -1,5 +1,5 @@
 -- The two further sentences of `collection_element` never occur: whenever a call finds that an `in` value is no collection, the detail is 1 to 5.
-use Prim.Native.Nat.{ℕ, _+_}
+use Prim.Native.Nat.{ℕ}
 use mathlib.Core.List.{List, [], _∷_}
 use mathlib.Core.Option.{Option, none, some}
 use mathlib.Core.Path.{_≡_, refl}
@@ -35,8 +35,8 @@ judge-explained : (setting : Setting) (schema : Schema) (n : ℕ) (cs : List Che
 unfolding judgeFrom
 judge-explained setting schema n [] s = tt
 judge-explained setting schema n (c ∷ cs) s =
-    decide-explained (outcome setting schema c) n c (judgeFrom (outcome setting schema) (n + 1) cs) (s .0 .explained)
-    (λ e. judge-explained setting schema (n + 1) cs (s .1 e))
+    decide-explained (outcome setting schema c) n c _ (s .0 .explained)
+    (λ e. judge-explained setting schema _ cs (s .1 e))
 
 answer-explained : (setting : Setting) (label : Text) (r : Rule) (v : Verdict) → ExplainedVerdict v → ExplainedAnswer (answerOf setting label r v)
 unfolding answerOf

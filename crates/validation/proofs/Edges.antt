@@ -21,6 +21,10 @@ barsGiven = ascii "H,0,0,0,1\nF,6,0,1,0,4,-,bars\nF,2,0,0,0,0,-,\n"
 unfoldable pub tagged : List ℕ
 tagged = ascii "H,0,1,-,0\nF,11,0,0,0,1,5,uvalue\n"
 
+-- the same with the tag `kind`
+unfoldable pub taggedKind : List ℕ
+taggedKind = ascii "H,0,1,-,0\nF,11,0,0,0,1,4,ukind\n"
+
 -- so many times, then the rest
 unfoldable pub times : ℕ → List ℕ → List ℕ → List ℕ
 times zero part rest = rest
@@ -56,6 +60,7 @@ pub record Edges : Type 0 where
       ≡ finds 22 7 3 2 0 6 16 (ascii "r.assert.for_all")
   -- 29 February
   pub leap-day : heard (ask 1 2 empty (ascii "R,-,-,\nC,6,0,\nV,5,10,2024-02-29\nV,5,10,2024-03-01\n")) ≡ accepts 6
+  pub leap-day-after : heard (ask 1 2 empty (ascii "R,-,-,\nC,7,0,\nV,5,10,2024-03-01\nV,5,10,2024-02-29\n")) ≡ accepts 6
   pub no-leap-day : heard (ask 1 2 empty (ascii "R,-,-,\nC,6,0,\nV,5,10,2024-02-29\nV,5,10,2023-02-29\n"))
       ≡ finds 20 1 2 4 0 5 18 (ascii "r.assert.before[1]")
   pub no-leap-day-after : heard (ask 1 2 empty (ascii "R,-,-,\nC,7,0,\nV,5,10,2023-02-29\nV,5,10,2024-02-29\n"))
@@ -65,12 +70,16 @@ pub record Edges : Type 0 where
       ≡ finds 20 1 1 3 0 4 18 (ascii "r.assert.before[0]")
   -- 01 is no ordinal, 0 and 10 are
   pub leading-zero : heard (ask 1 2 bars (ascii "R,-,-,\nC,5,0,\nV,5,15,$fields.bars.01\n")) ≡ finds 18 1 4 3 0 4 15 (ascii "r.assert.exists")
-  pub zero : heard (ask 1 2 bars (ascii "R,-,-,\nC,5,0,\nV,5,14,$fields.bars.0\n")) ≡ accepts 5
-  pub ten : heard (ask 1 2 bars (ascii "R,-,-,\nC,5,0,\nV,5,15,$fields.bars.10\n")) ≡ accepts 5
+  pub ordinal-0 : heard (ask 1 2 bars (ascii "R,-,-,\nC,5,0,\nV,5,14,$fields.bars.0\n")) ≡ accepts 5
+  pub ordinal-10 : heard (ask 1 2 bars (ascii "R,-,-,\nC,5,0,\nV,5,15,$fields.bars.10\n")) ≡ accepts 5
   -- where the tag is `value`, the content is `content`
   pub tag-value : heard (ask 1 2 tagged (ascii "R,-,-,\nC,5,0,\nV,5,15,$fields.u.value\n")) ≡ accepts 5
   pub tag-value-x : heard (ask 1 2 tagged (ascii "R,-,-,\nC,5,0,\nV,5,17,$fields.u.value.x\n")) ≡ finds 18 1 7 3 0 4 15 (ascii "r.assert.exists")
   pub tag-content-x : heard (ask 1 2 tagged (ascii "R,-,-,\nC,5,0,\nV,5,19,$fields.u.content.x\n")) ≡ accepts 5
+  -- where it is another, the content is `value`
+  pub other-tag-value-x : heard (ask 1 2 taggedKind (ascii "R,-,-,\nC,5,0,\nV,5,17,$fields.u.value.x\n")) ≡ accepts 5
+  pub other-tag-content : heard (ask 1 2 taggedKind (ascii "R,-,-,\nC,5,0,\nV,5,17,$fields.u.content\n"))
+      ≡ finds 18 1 8 3 0 4 15 (ascii "r.assert.exists")
   -- a number that is not finite is named as such in a quantifier's body too
   pub literal-in-body : heard (ask 1 2 bars (ascii "R,-,-,\nC,20,1,b\nV,5,12,$fields.bars\nC,8,0,\nV,5,2,$b\nV,4,5,1e309\n"))
       ≡ finds 14 1 0 6 0 3 27 (ascii "r.assert.for_all.that.eq[1]")
@@ -79,7 +88,7 @@ pub record Edges : Type 0 where
       ≡ finds 18 8 9 5 3 9 27 (ascii "r.assert.for_all.that.lt[0]")
 
 pub edges : Edges
-unfolding heard empty bars barsGiven tagged times negated
+unfolding heard empty bars barsGiven tagged taggedKind times negated
 edges =
     record {
       depth-32 = refl;
@@ -95,15 +104,18 @@ edges =
       binder-known = refl;
       over-count = refl;
       leap-day = refl;
+      leap-day-after = refl;
       no-leap-day = refl;
       no-leap-day-after = refl;
       escaped-instant = refl;
       leading-zero = refl;
-      zero = refl;
-      ten = refl;
+      ordinal-0 = refl;
+      ordinal-10 = refl;
       tag-value = refl;
       tag-value-x = refl;
       tag-content-x = refl;
+      other-tag-value-x = refl;
+      other-tag-content = refl;
       literal-in-body = refl;
       worked = refl;
     }

@@ -1,4 +1,4 @@
--- Programs that the promise of a whole call shuts out. A program is known here by the seven numbers with which it answers a call.
+-- Programs that the promise of a whole call shuts out (docs/FORMAT.md, "Promises"). A program is known here by the seven numbers with which it answers.
 use Prim.Native.Nat.{ℕ, _≤_}
 use native.Mathlib.Omega.{arith}
 use mathlib.Core.Bool.{Bool, true, false, cond, not}

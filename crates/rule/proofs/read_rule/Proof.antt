@@ -1,7 +1,6 @@
 -- `rule::read_rule` meets its contract: each answer is what the decoder answers on the same bytes.
 use native.Mathlib.Omega.{arith}
 use borrow.Author.Needs.{needs}
-use mathlib.Core.Path.{_∙_}
 use lib.ListN.{length-set}
 use denote.Ref.{now}
 use Rattle.rule.proofs.RuleLaws.{rule-long-answer, rule-headless-answer, rule-ready, rule-treeless-answer, rule-unended-answer, tree-limit, rule-answer}
@@ -65,7 +64,7 @@ slice-write-scratch : tie.Need-slice-write-scratch
 slice-write-scratch c = omega (arith, c .before .before .before .before .before .before .before .read-tree .kept .1 .0, c .before .before .before .before .before .before .before .before .before .before .before .before .before .before .before .before .before .pre)
 
 same-length-3 : tie.Need-same-length-3
-same-length-3 c = length-set (c .before .before .before .before .before .before .before .read-tree .last .1 .0) 0 (c .word-of .result) ∙ c .before .before .before .before .before .before .before .read-tree .kept .1 .0
+same-length-3 c = simp length-set (c .before .before .before .before .before .before .before .read-tree .kept .1 .0)
 
 returns-5 : tie.Need-returns-5
 returns-5 c =

@@ -33,7 +33,11 @@ loop-less c =
 loop-again : tie.Need-loop-again Inv-loop μ-loop
 loop-again c =
     let e = rw (c .before .before .before .c .given .1) at (c .before .before .before .before .before .decode-one .ensures) in
-    passed-white (c .before .before .before .before .before .before .before .before .before .args .s .now) (c .before .before .before .before .before .before .before .loop .at) (c .before .before .before .before .before .before .before .loop .end) (c .before .before .before .before .before .before .before .loop .inv) (c .before .before .before .c .given .0 .1 .0) (e .0) (e .1) (e .2) (c .before .is-white-space .ensures) (c .if1 .taken)
+    passed-white (c .before .before .before .before .before .before .before .before .before .args .s .now)
+    (c .before .before .before .before .before .before .before .loop .at)
+    (c .before .before .before .before .before .before .before .loop .end)
+    (c .before .before .before .before .before .before .before .loop .inv) (c .before .before .before .c .given .0 .1 .0) (e .0)
+    (e .1) (e .2) (c .before .is-white-space .ensures) (c .if1 .taken)
 
 enum-told : tie.Need-enum-told Inv-loop μ-loop
 enum-told c = search needs
@@ -49,7 +53,11 @@ loop-less-2 c =
 loop-again-2 : tie.Need-loop-again-2 Inv-loop μ-loop
 loop-again-2 c =
     let e = rw (c .before .before .before .c .given .1) at (c .before .before .before .before .before .decode-one .ensures) in
-    passed-other (c .before .before .before .before .before .before .before .before .before .args .s .now) (c .before .before .before .before .before .before .before .loop .at) (c .before .before .before .before .before .before .before .loop .end) (c .before .before .before .before .before .before .before .loop .inv) (c .before .before .before .c .given .0 .1 .0) (e .0) (e .2) (c .before .is-white-space .ensures) (c .if1 .left)
+    passed-other (c .before .before .before .before .before .before .before .before .before .args .s .now)
+    (c .before .before .before .before .before .before .before .loop .at)
+    (c .before .before .before .before .before .before .before .loop .end)
+    (c .before .before .before .before .before .before .before .loop .inv) (c .before .before .before .c .given .0 .1 .0) (e .0)
+    (e .2) (c .before .is-white-space .ensures) (c .if1 .left)
 
 loop-less-3 : tie.Need-loop-less-3 Inv-loop μ-loop
 loop-less-3 c = search needs
@@ -57,10 +65,17 @@ loop-less-3 c = search needs
 loop-again-3 : tie.Need-loop-again-3 Inv-loop μ-loop
 loop-again-3 c =
     let e = rw (c .enum-told .given .1) at (c .before .before .decode-one .ensures) in
-    passed-refused (c .before .before .before .before .before .before .args .s .now) (c .before .before .before .before .loop .at) (c .before .before .before .before .loop .end) (c .before .before .before .before .loop .inv) (c .before .before .before .loop-test .taken) e
+    passed-refused (c .before .before .before .before .before .before .args .s .now) (c .before .before .before .before .loop .at)
+    (c .before .before .before .before .loop .end) (c .before .before .before .before .loop .inv)
+    (c .before .before .before .loop-test .taken) e
 
 returns : tie.Need-returns Inv-loop μ-loop
-returns c = record { within = omega arith; front = passed-all (c .before .before .before .args .s .now) (c .before .loop .at) (c .before .loop .end) (c .before .loop .inv) (c .loop-test .left) }
+returns c =
+    record {
+      within = omega arith;
+      front = passed-all (c .before .before .before .args .s .now) (c .before .loop .at)
+          (c .before .loop .end) (c .before .loop .inv) (c .loop-test .left);
+    }
 
 pub end-of-spec : {M : Type 1} → statement M
 end-of-spec =

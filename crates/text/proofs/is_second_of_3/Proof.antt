@@ -20,7 +20,9 @@ returns-2 : tie.Need-returns-2
 returns-2 c = rw (second3-ed _ _ (c .before .match .keys2)) (c .is-between2 .ensures)
 
 returns-3 : tie.Need-returns-3
-returns-3 c = rw (second3-others (c .before .before .before .before .args .a) (c .before .before .before .before .args .b) (omega arith) (omega arith) (c .before .before .before .match .rest .1)) (c .is-tail .ensures)
+returns-3 c =
+    rw (second3-others (c .before .before .before .before .args .a) (c .before .before .before .before .args .b) (omega arith)
+    (omega arith) (c .before .before .before .match .rest .1)) (c .is-tail .ensures)
 
 returns-4 : tie.Need-returns-4
 returns-4 c = rw (second3-below (c .before .before .args .a) (c .before .before .args .b) (omega arith))

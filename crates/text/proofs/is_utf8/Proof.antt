@@ -28,7 +28,11 @@ loop-less : tie.Need-loop-less Inv-loop μ-loop
 loop-less c = search needs
 
 loop-again : tie.Need-loop-again Inv-loop μ-loop
-loop-again c = (omega arith, utf8-ascii (c .before .before .before .before .before .args .s .now) (c .before .before .before .loop .at) (c .before .before .before .loop .inv .1) (c .before .before .loop-test .taken) (c .if1 .taken))
+loop-again c = (
+  omega arith,
+  utf8-ascii (c .before .before .before .before .before .args .s .now) (c .before .before .before .loop .at)
+      (c .before .before .before .loop .inv .1) (c .before .before .loop-test .taken) (c .if1 .taken),
+)
 
 decode-one-requires : tie.Need-decode-one-requires Inv-loop μ-loop
 decode-one-requires c κs = tt
@@ -42,7 +46,10 @@ enum-told c = search needs
 returns : tie.Need-returns Inv-loop μ-loop
 returns c =
     let e = rw (c .enum-told .given .1) at (c .before .before .decode-one .ensures) in
-    utf8-refused (c .before .before .before .before .before .before .before .before .args .s .now) (c .before .before .before .before .before .before .loop .at) (c .before .before .before .before .before .before .loop .inv .1) (c .before .before .before .before .before .loop-test .taken) e
+    utf8-refused (c .before .before .before .before .before .before .before .before .args .s .now)
+    (c .before .before .before .before .before .before .loop .at)
+    (c .before .before .before .before .before .before .loop .inv .1)
+    (c .before .before .before .before .before .loop-test .taken) e
 
 loop-less-2 : tie.Need-loop-less-2 Inv-loop μ-loop
 loop-less-2 c =
@@ -51,11 +58,16 @@ loop-less-2 c =
 
 loop-again-2 : tie.Need-loop-again-2 Inv-loop μ-loop
 loop-again-2 c =
-    let e = rw (c .before .next .given .1) at (c .before .before .before .decode-one .ensures) in
-    (e .2, utf8-again (c .before .before .before .before .before .before .before .before .before .args .s .now) (c .before .before .before .before .before .before .before .loop .at) (c .before .before .before .before .before .before .before .loop .inv .1) (c .before .next .given .0 .1 .0) (e .0))
+    let e = rw (c .before .next .given .1) at (c .before .before .before .decode-one .ensures) in (
+      e .2,
+      utf8-again (c .before .before .before .before .before .before .before .before .before .args .s .now)
+          (c .before .before .before .before .before .before .before .loop .at)
+          (c .before .before .before .before .before .before .before .loop .inv .1) (c .before .next .given .0 .1 .0) (e .0),
+    )
 
 returns-2 : tie.Need-returns-2 Inv-loop μ-loop
-returns-2 c = utf8-passed (c .before .before .before .args .s .now) (c .before .loop .at) (c .before .loop .inv .1) (c .loop-test .left)
+returns-2 c =
+    utf8-passed (c .before .before .before .args .s .now) (c .before .loop .at) (c .before .loop .inv .1) (c .loop-test .left)
 
 pub is-utf8-spec : {M : Type 1} → statement M
 is-utf8-spec =

@@ -25,7 +25,9 @@ slice-aggregate-result : tie.Need-slice-aggregate-result
 slice-aggregate-result c = sym (length-take-le _ _ (c .before .end-of .ensures .within))
 
 returns : tie.Need-returns
-returns c = part-trimmed (c .before .before .before .before .before .args .s .now) (c .before .before .before .start-of .result) (c .before .end-of .result) (c .before .before .before .start-of .ensures) (c .before .end-of .ensures)
+returns c =
+    part-trimmed (c .before .before .before .before .before .args .s .now) (c .before .before .before .start-of .result)
+    (c .before .end-of .result) (c .before .before .before .start-of .ensures) (c .before .end-of .ensures)
 
 pub trim-spec : {M : Type 1} → statement M
 trim-spec =

@@ -33,13 +33,31 @@ loop-less : tie.Need-loop-less Inv-loop μ-loop
 loop-less c = search needs
 
 loop-again : tie.Need-loop-again Inv-loop μ-loop
-loop-again c = (omega arith, sym (skip-digit (c .before .before .before .before .before .before .args .s .now) (c .before .before .before .before .loop .at) (c .before .before .before .before .loop .left) (c .before .before .before .loop-test .taken) (c .before .is-digit .ensures ∙ ap isDigit (c .before .before .byte-at .ensures)) (c .if1 .taken)) ∙ c .before .before .before .before .loop .inv .1)
+loop-again c = (
+  omega arith,
+  sym (skip-digit (c .before .before .before .before .before .before .args .s .now)
+      (c .before .before .before .before .loop .at) (c .before .before .before .before .loop .left)
+      (c .before .before .before .loop-test .taken)
+      (c .before .is-digit .ensures ∙ ap isDigit (c .before .before .byte-at .ensures)) (c .if1 .taken))
+      ∙ c .before .before .before .before .loop .inv .1,
+)
 
 returns : tie.Need-returns Inv-loop μ-loop
-returns c = (sym (skip-stop (c .before .before .before .before .before .before .args .s .now) (c .before .before .before .before .loop .at) (c .before .before .before .before .loop .left) (c .before .before .before .loop-test .taken) (c .before .is-digit .ensures ∙ ap isDigit (c .before .before .byte-at .ensures)) (c .if1 .left)) ∙ c .before .before .before .before .loop .inv .1, omega arith)
+returns c = (
+  sym (skip-stop (c .before .before .before .before .before .before .args .s .now)
+      (c .before .before .before .before .loop .at) (c .before .before .before .before .loop .left)
+      (c .before .before .before .loop-test .taken)
+      (c .before .is-digit .ensures ∙ ap isDigit (c .before .before .byte-at .ensures)) (c .if1 .left))
+      ∙ c .before .before .before .before .loop .inv .1,
+  omega arith,
+)
 
 returns-2 : tie.Need-returns-2 Inv-loop μ-loop
-returns-2 c = (sym (skip-none (c .before .before .before .args .s .now) (c .before .loop .at) (c .before .loop .left) (c .loop-test .left)) ∙ c .before .loop .inv .1, omega arith)
+returns-2 c = (
+  sym (skip-none (c .before .before .before .args .s .now) (c .before .loop .at) (c .before .loop .left) (c .loop-test .left))
+      ∙ c .before .loop .inv .1,
+  omega arith,
+)
 
 pub fraction-end-spec : {M : Type 1} → statement M
 fraction-end-spec =

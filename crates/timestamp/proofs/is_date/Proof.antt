@@ -20,7 +20,8 @@ is-marked-two-requires-2 c κs = search needs
 returns : tie.Need-returns
 unfolding isDate
 returns c =
-    and-taken _ _ (c .before .before .before .before .before .before .is-two .ensures) (c .before .before .before .before .before .if1 .taken)
+    and-taken _ _ (c .before .before .before .before .before .before .is-two .ensures)
+    (c .before .before .before .before .before .if1 .taken)
     (and-taken _ _ (c .before .before .before .before .is-two2 .ensures) (c .before .before .before .if2 .taken)
     (and-taken _ _ (c .before .before .is-marked-two .ensures) (c .before .if3 .taken) (c .is-marked-two2 .ensures)))
 
@@ -28,12 +29,14 @@ returns-2 : tie.Need-returns-2
 unfolding isDate
 returns-2 c =
     and-taken _ _ (c .before .before .before .before .before .is-two .ensures) (c .before .before .before .before .if1 .taken)
-    (and-taken _ _ (c .before .before .before .is-two2 .ensures) (c .before .before .if2 .taken) (and-none _ _ (c .before .is-marked-two .ensures) (c .if3 .left)))
+    (and-taken _ _ (c .before .before .before .is-two2 .ensures) (c .before .before .if2 .taken)
+    (and-none _ _ (c .before .is-marked-two .ensures) (c .if3 .left)))
 
 returns-3 : tie.Need-returns-3
 unfolding isDate
 returns-3 c =
-    and-taken _ _ (c .before .before .before .is-two .ensures) (c .before .before .if1 .taken) (and-none _ _ (c .before .is-two2 .ensures) (c .if2 .left))
+    and-taken _ _ (c .before .before .before .is-two .ensures) (c .before .before .if1 .taken)
+    (and-none _ _ (c .before .is-two2 .ensures) (c .if2 .left))
 
 returns-4 : tie.Need-returns-4
 unfolding isDate

@@ -18,7 +18,9 @@ is-between-requires-2 c κs = search needs
 
 returns : tie.Need-returns
 unfolding isDay
-returns c = and-taken _ _ (c .before .before .before .is-between .ensures) (c .before .before .if1 .taken) (c .is-between2 .ensures ∙ ap (λ n. between 1 n (c .before .before .before .before .args .day)) (c .before .days-in-month .ensures))
+returns c =
+    and-taken _ _ (c .before .before .before .is-between .ensures) (c .before .before .if1 .taken) (c .is-between2 .ensures ∙ ap
+    (λ n. between 1 n (c .before .before .before .before .args .day)) (c .before .days-in-month .ensures))
 
 returns-2 : tie.Need-returns-2
 unfolding isDay

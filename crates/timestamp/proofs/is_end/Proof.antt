@@ -22,11 +22,15 @@ returns c = rw (eq-eqb _ _ (c .if1 .taken))
 
 returns-2 : tie.Need-returns-2
 unfolding isEnd
-returns-2 c = rw (ne-eqb _ _ (c .before .before .before .if1 .left)) (and-taken _ _ (c .before .is-zone .ensures ∙ ap isZone (c .before .before .byte-at .ensures)) (c .if2 .taken) refl)
+returns-2 c =
+    rw (ne-eqb _ _ (c .before .before .before .if1 .left))
+    (and-taken _ _ (c .before .is-zone .ensures ∙ ap isZone (c .before .before .byte-at .ensures)) (c .if2 .taken) refl)
 
 returns-3 : tie.Need-returns-3
 unfolding isEnd
-returns-3 c = rw (ne-eqb _ _ (c .before .before .before .if1 .left)) (and-left _ _ (c .before .is-zone .ensures ∙ ap isZone (c .before .before .byte-at .ensures)) (c .if2 .left))
+returns-3 c =
+    rw (ne-eqb _ _ (c .before .before .before .if1 .left))
+    (and-left _ _ (c .before .is-zone .ensures ∙ ap isZone (c .before .before .byte-at .ensures)) (c .if2 .left))
 
 pub is-end-spec : {M : Type 1} → statement M
 is-end-spec =

@@ -26,14 +26,19 @@ is-end-requires c κs = search needs
 returns : tie.Need-returns
 unfolding isFraction
 returns c =
-    and-taken _ _ (ap (λ x. eqb x 0x2E) (c .before .before .before .before .before .before .byte-at .ensures)) (eq-eqb _ _ (c .before .before .before .before .before .if1 .taken))
-    (and-taken _ _ (c .before .before .before .is-digit .ensures ∙ ap isDigit (c .before .before .before .before .byte-at2 .ensures)) (c .before .before .if2 .taken)
-    (c .is-end .ensures ∙ ap (λ n. isEnd (c .before .before .before .before .before .before .before .before .args .s .now) n) (c .before .fraction-end .ensures .0)))
+    and-taken _ _ (ap (λ x. eqb x 0x2E) (c .before .before .before .before .before .before .byte-at .ensures))
+    (eq-eqb _ _ (c .before .before .before .before .before .if1 .taken))
+    (and-taken _ _
+    (c .before .before .before .is-digit .ensures ∙ ap isDigit (c .before .before .before .before .byte-at2 .ensures))
+    (c .before .before .if2 .taken)
+    (c .is-end .ensures ∙ ap (λ n. isEnd (c .before .before .before .before .before .before .before .before .args .s .now) n)
+    (c .before .fraction-end .ensures .0)))
 
 returns-2 : tie.Need-returns-2
 unfolding isFraction
 returns-2 c =
-    and-taken _ _ (ap (λ x. eqb x 0x2E) (c .before .before .before .before .byte-at .ensures)) (eq-eqb _ _ (c .before .before .before .if1 .taken))
+    and-taken _ _ (ap (λ x. eqb x 0x2E) (c .before .before .before .before .byte-at .ensures))
+    (eq-eqb _ _ (c .before .before .before .if1 .taken))
     (and-none _ _ (c .before .is-digit .ensures ∙ ap isDigit (c .before .before .byte-at2 .ensures)) (c .if2 .left))
 
 returns-3 : tie.Need-returns-3

@@ -25,11 +25,14 @@ returns-2 : tie.Need-returns-2
 unfolding isInstant
 returns-2 c =
     and-taken _ _ (c .before .before .before .before .before .is-date .ensures) (c .before .before .before .before .if1 .taken)
-    (and-taken _ _ (c .before .before .before .is-day .ensures) (c .before .before .if2 .taken) (rw (ne-eqb _ _ (c .before .if3 .left)) (c .is-timed .ensures)))
+    (and-taken _ _ (c .before .before .before .is-day .ensures) (c .before .before .if2 .taken)
+    (rw (ne-eqb _ _ (c .before .if3 .left)) (c .is-timed .ensures)))
 
 returns-3 : tie.Need-returns-3
 unfolding isInstant
-returns-3 c = and-taken _ _ (c .before .before .before .is-date .ensures) (c .before .before .if1 .taken) (and-none _ _ (c .before .is-day .ensures) (c .if2 .left))
+returns-3 c =
+    and-taken _ _ (c .before .before .before .is-date .ensures) (c .before .before .if1 .taken)
+    (and-none _ _ (c .before .is-day .ensures) (c .if2 .left))
 
 returns-4 : tie.Need-returns-4
 unfolding isInstant

@@ -19,11 +19,15 @@ is-two-requires c κs = search needs
 
 returns : tie.Need-returns
 unfolding isMarkedTwo
-returns c = and-taken _ _ (ap (λ x. eqb x (c .before .before .before .before .args .mark)) (c .before .before .byte-at .ensures)) (eq-eqb _ _ (c .before .if1 .taken)) (c .is-two .ensures)
+returns c =
+    and-taken _ _ (ap (λ x. eqb x (c .before .before .before .before .args .mark)) (c .before .before .byte-at .ensures))
+    (eq-eqb _ _ (c .before .if1 .taken)) (c .is-two .ensures)
 
 returns-2 : tie.Need-returns-2
 unfolding isMarkedTwo
-returns-2 c = and-none _ _ (ap (λ x. eqb x (c .before .before .before .args .mark)) (c .before .byte-at .ensures)) (ne-eqb _ _ (c .if1 .left))
+returns-2 c =
+    and-none _ _ (ap (λ x. eqb x (c .before .before .before .args .mark)) (c .before .byte-at .ensures))
+    (ne-eqb _ _ (c .if1 .left))
 
 pub is-marked-two-spec : {M : Type 1} → statement M
 is-marked-two-spec =

@@ -22,7 +22,9 @@ returns c =
 
 returns-2 : tie.Need-returns-2
 unfolding isTimed
-returns-2 c = and-taken _ _ (c .before .before .before .is-time .ensures) (c .before .before .if1 .taken) (and-none _ _ (c .before .is-clock .ensures) (c .if2 .left))
+returns-2 c =
+    and-taken _ _ (c .before .before .before .is-time .ensures) (c .before .before .if1 .taken)
+    (and-none _ _ (c .before .is-clock .ensures) (c .if2 .left))
 
 returns-3 : tie.Need-returns-3
 unfolding isTimed

@@ -23,7 +23,10 @@ is-digit-requires-2 c κs = search needs
 
 returns : tie.Need-returns
 unfolding isTwo
-returns c = and-taken _ _ (c .before .before .before .is-digit .ensures ∙ ap isDigit (c .before .before .before .before .byte-at .ensures)) (c .before .before .if1 .taken) (c .is-digit2 .ensures ∙ ap isDigit (c .before .byte-at2 .ensures))
+returns c =
+    and-taken _ _
+    (c .before .before .before .is-digit .ensures ∙ ap isDigit (c .before .before .before .before .byte-at .ensures))
+    (c .before .before .if1 .taken) (c .is-digit2 .ensures ∙ ap isDigit (c .before .byte-at2 .ensures))
 
 returns-2 : tie.Need-returns-2
 unfolding isTwo

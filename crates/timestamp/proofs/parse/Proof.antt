@@ -14,10 +14,16 @@ is-instant-requires : tie.Need-is-instant-requires
 is-instant-requires c κs = search needs
 
 returns : tie.Need-returns
-returns c = instant-some (c .before .before .before .before .before .args .s .now) (c .before .before .before .trim .result .now) (c .before .before .fields-of .result) (c .before .before .before .trim .ensures) (c .before .before .fields-of .ensures) (c .before .is-instant .ensures) (c .if1 .taken)
+returns c =
+    instant-some (c .before .before .before .before .before .args .s .now) (c .before .before .before .trim .result .now)
+    (c .before .before .fields-of .result) (c .before .before .before .trim .ensures) (c .before .before .fields-of .ensures)
+    (c .before .is-instant .ensures) (c .if1 .taken)
 
 returns-2 : tie.Need-returns-2
-returns-2 c = instant-none (c .before .before .before .before .before .args .s .now) (c .before .before .before .trim .result .now) (c .before .before .fields-of .result) (c .before .before .before .trim .ensures) (c .before .before .fields-of .ensures) (c .before .is-instant .ensures) (c .if1 .left)
+returns-2 c =
+    instant-none (c .before .before .before .before .before .args .s .now) (c .before .before .before .trim .result .now)
+    (c .before .before .fields-of .result) (c .before .before .before .trim .ensures) (c .before .before .fields-of .ensures)
+    (c .before .is-instant .ensures) (c .if1 .left)
 
 pub parse-spec : {M : Type 1} → statement M
 parse-spec =

@@ -6,7 +6,8 @@ use native.Mathlib.Omega.{arith}
 use borrow.Author.Needs.{needs}
 use lib.ListN.{length, drop, getD}
 use Rattle.sheet.specs.Numeral.{digits}
-use Rattle.sheet.proofs.Numerals.{isDigit-range, digits-end, digits-stop, digits-more, digits-above}
+use Rattle.sheet.specs.NumeralLaws.{isDigit-range}
+use Rattle.sheet.proofs.Numerals.{digits-end, digits-stop, digits-more, digits-above}
 use Rattle.sheet.proofs.numeral.digits.Statement.{statement}
 use Rattle.sheet.proofs.numeral.digits.Tie as tie
 

@@ -1,0 +1,4 @@
+mod Examples
+mod Reading
+mod Apart
+mod Writing

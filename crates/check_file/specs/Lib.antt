@@ -1,0 +1,7 @@
+pub mod File
+pub mod Places
+pub mod Line
+pub mod Wrote
+pub mod LineLaws
+pub mod Output
+pub mod OutputLaws

@@ -1,0 +1,77 @@
+-- What the code's readers answer, by cases: numbers, and places in the file.
+use Prim.Native.Nat.{ℕ, _-_, _≤_, min}
+use mathlib.Core.List.{List, []}
+use mathlib.Core.Option.{none, some, Option·map}
+use mathlib.Core.Path.{_≡_}
+use lib.ListN.{length, take, drop}
+use Rattle.sheet.specs.Reader.{Reader}
+use Rattle.sheet.specs.Numeral as Numeral
+use Rattle.check_file.specs.File as File
+use Rattle.check_file.specs.File.{Parts, takenApart}
+use Rattle.check_file.specs.declared.numeral.NumeralRead.{NumeralRead}
+use Rattle.check_file.specs.declared.numeral.NumeralRead.the-variants as numeral
+use Rattle.check_file.specs.declared.file.Span.{Span}
+use Rattle.check_file.specs.declared.file.Placed.{Placed}
+use Rattle.check_file.specs.declared.file.Taken.{Taken}
+use Rattle.check_file.specs.declared.file.Taken.the-variants as taken
+
+-- what every larger number is answered as: too large for a count, since the file is shorter, and for a setting
+abbrev pub tooLarge : ℕ
+tooLarge = 65537
+
+-- `p` reads a number from place `at` on, which is answered as `value`, and stops at `next`
+pub record ReadsTo (p : Reader (List ℕ) ℕ) (s : List ℕ) (at value next : ℕ) : Type 0 where
+  pub number : ℕ
+  pub reads : p (drop at s) ≡ some (number, drop next s)
+  pub answered : value ≡ min number tooLarge
+  pub within : next ≤ length s
+
+abbrev pub NumeralIs : Reader (List ℕ) ℕ → List ℕ → ℕ → NumeralRead → Type 0
+NumeralIs p s at (numeral.Is value next) = ReadsTo p s at value next
+NumeralIs p s at numeral.Missing = p (drop at s) ≡ none
+
+-- the digits behind those whose value is `first`
+unfoldable pub digitsBehind : ℕ → Reader (List ℕ) ℕ
+digitsBehind first s = some (Numeral.digits first s)
+
+unfoldable pub partOf : List ℕ → Span → List ℕ
+partOf file p = take (p .end - p .start) (drop (p .start) file)
+
+unfoldable pub partsAt : List ℕ → Placed → Parts
+partsAt file p =
+    record {
+      kind = p .kind;
+      semantics = p .semantics;
+      label = partOf file (p .label);
+      schema = partOf file (p .schema);
+      rule = partOf file (p .rule);
+    }
+
+pub record Lies (file : List ℕ) (p : Span) : Type 0 where
+  pub rising : p .start ≤ p .end
+  pub within : p .end ≤ length file
+
+pub record AllLie (file : List ℕ) (p : Placed) : Type 0 where
+  pub label : Lies file (p .label)
+  pub schema : Lies file (p .schema)
+  pub rule : Lies file (p .rule)
+
+abbrev pub TextsAre : List ℕ → (at kind semantics label schema rule : ℕ) → Taken → Type 0
+TextsAre file at kind semantics label schema rule (taken.Apart p) =
+    (File.texts kind semantics label schema rule (drop at file) ≡ some (partsAt file p, [])) × AllLie file p
+TextsAre file at kind semantics label schema rule taken.OtherForm = File.texts kind semantics label schema rule (drop at file) ≡ none
+
+-- parts as the code answers them
+unfoldable pub answerable : Parts → Parts
+answerable p =
+    record {
+      kind = min (p .kind) tooLarge;
+      semantics = min (p .semantics) tooLarge;
+      label = p .label;
+      schema = p .schema;
+      rule = p .rule;
+    }
+
+abbrev pub TakenIs : List ℕ → Taken → Type 0
+TakenIs file (taken.Apart p) = (Option·map answerable (takenApart file) ≡ some (partsAt file p)) × AllLie file p
+TakenIs file taken.OtherForm = takenApart file ≡ none

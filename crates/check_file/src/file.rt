@@ -1,0 +1,94 @@
+// A file taken apart.
+use crate::numeral::NumeralRead;
+use crate::numeral::{self};
+ghost use mathlib.Core.Path.{_≡_};
+ghost use Prim.Native.Nat.{_≤_};
+ghost use lib.ListN.{length};
+ghost use Rattle.check_file.specs.Places.{TextsAre, TakenIs};
+
+// A part of the file.
+pub struct Span {
+    pub start: usize,
+    pub end: usize,
+}
+
+pub struct Placed {
+    pub kind: u32,
+    pub semantics: u32,
+    pub label: Span,
+    pub schema: Span,
+    pub rule: Span,
+}
+
+pub enum Taken {
+    Apart(Placed),
+    OtherForm,
+}
+
+fn wide(n: u32) -> usize
+    ensures { λ r. ⌜ r ≡ n ⌝ }
+{
+    n as usize
+}
+
+// The texts behind the numbers, from `at` on. No sum here wraps: a slice is shorter than half the address space.
+fn texts(
+    file: &[u8],
+    at: usize,
+    kind: u32,
+    semantics: u32,
+    label: u32,
+    schema: u32,
+    rule: u32,
+) -> Taken
+    requires { ⌜ at ≤ length (now file) ⌝ }
+    ensures { λ r. ⌜ TextsAre (now (file .entry)) at kind semantics label schema rule r ⌝ }
+{
+    let line = at + wide(label);
+    let middle = line + 1 + wide(schema);
+    let end = middle + wide(rule);
+    if end != file.len() {
+        return Taken::OtherForm;
+    }
+    if file[line] == b'\n' {
+        return Taken::Apart(Placed {
+            kind,
+            semantics,
+            label: Span {
+                start: at,
+                end: line,
+            },
+            schema: Span {
+                start: line + 1,
+                end: middle,
+            },
+            rule: Span { start: middle, end },
+        });
+    }
+    Taken::OtherForm
+}
+
+// Where the parts of a file lie in it. Settings above 65,537 are answered as 65,537.
+pub fn take_apart(file: &[u8]) -> Taken
+    ensures { λ r. ⌜ TakenIs (now (file .entry)) r ⌝ }
+{
+    if 65536 < file.len() {
+        return Taken::OtherForm;
+    }
+    let NumeralRead::Is(kind, second) = numeral::field(file, 0) else {
+        return Taken::OtherForm;
+    };
+    let NumeralRead::Is(semantics, third) = numeral::field(file, second) else {
+        return Taken::OtherForm;
+    };
+    let NumeralRead::Is(label, fourth) = numeral::field(file, third) else {
+        return Taken::OtherForm;
+    };
+    let NumeralRead::Is(schema, fifth) = numeral::field(file, fourth) else {
+        return Taken::OtherForm;
+    };
+    let NumeralRead::Is(rule, behind) = numeral::field(file, fifth) else {
+        return Taken::OtherForm;
+    };
+    texts(file, behind, kind, semantics, label, schema, rule)
+}

@@ -1,0 +1,85 @@
+// Numerals of any length: decimal, without leading zeros. A number above the longest file's length is read as `TOO_LARGE`, so that nothing wraps.
+ghost use mathlib.Core.Path.{_≡_};
+ghost use Prim.Native.Nat.{min, _≤_};
+ghost use lib.ListN.{length};
+ghost use Rattle.sheet.specs.Numeral.{isDigit, decimal};
+ghost use Rattle.check_file.specs.File.{field};
+ghost use Rattle.check_file.specs.Places.{tooLarge, digitsBehind, NumeralIs};
+
+const TOO_LARGE: u32 = 65537;
+
+pub enum NumeralRead {
+    // The number, and the place behind it.
+    Is(u32, usize),
+    Missing,
+}
+
+fn is_digit(b: u8) -> bool
+    ensures { λ r. ⌜ r ≡ isDigit b ⌝ }
+{
+    b'0' <= b && b <= b'9'
+}
+
+fn wide(b: u8) -> u32
+    ensures { λ r. ⌜ r ≡ b ⌝ }
+{
+    b as u32
+}
+
+fn capped(n: u32) -> u32
+    ensures { λ r. ⌜ r ≡ min n tooLarge ⌝ }
+{
+    if n < TOO_LARGE { n } else { TOO_LARGE }
+}
+
+// The digits from `at` on, behind the one whose value is `first`.
+fn digits(s: &[u8], at: usize, first: u32) -> NumeralRead
+    requires { ⌜ (at ≤ length (now s)) × (first ≤ 9) ⌝ }
+    ensures { λ r. ⌜ NumeralIs (digitsBehind first) (now (s .entry)) at r ⌝ }
+{
+    let mut value = first;
+    let mut i = at;
+    while i < s.len() {
+        let b = s[i];
+        if is_digit(b) {
+            value = capped(value * 10 + (wide(b) - 48));
+            i += 1;
+        } else {
+            return NumeralRead::Is(value, i);
+        }
+    }
+    NumeralRead::Is(value, i)
+}
+
+// A numeral of which the first digit stands at `at`.
+fn numeral(s: &[u8], at: usize) -> NumeralRead
+    ensures { λ r. ⌜ NumeralIs decimal (now (s .entry)) at r ⌝ }
+{
+    if s.len() <= at {
+        return NumeralRead::Missing;
+    }
+    let b = s[at];
+    if b == b'0' {
+        return NumeralRead::Is(0, at + 1);
+    }
+    if is_digit(b) {
+        return digits(s, at + 1, wide(b) - 48);
+    }
+    NumeralRead::Missing
+}
+
+// A numeral and the comma behind it.
+pub fn field(s: &[u8], at: usize) -> NumeralRead
+    ensures { λ r. ⌜ NumeralIs field (now (s .entry)) at r ⌝ }
+{
+    let NumeralRead::Is(value, next) = numeral(s, at) else {
+        return NumeralRead::Missing;
+    };
+    if s.len() <= next {
+        return NumeralRead::Missing;
+    }
+    if s[next] == b',' {
+        return NumeralRead::Is(value, next + 1);
+    }
+    NumeralRead::Missing
+}

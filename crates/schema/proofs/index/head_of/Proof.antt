@@ -1,0 +1,19 @@
+-- `schema::index::head_of` meets its contract: the head is read where the slot's word says.
+use borrow.Author.Needs.{needs}
+use Rattle.schema.proofs.index.head_of.Statement.{statement}
+use Rattle.schema.proofs.index.head_of.Tie as tie
+
+place-word-requires : tie.Need-place-word-requires
+place-word-requires c κs = search needs
+
+cast-start : tie.Need-cast-start
+cast-start c = search needs
+
+field-head-requires : tie.Need-field-head-requires
+field-head-requires c κs = search needs
+
+returns : tie.Need-returns
+returns c = rw (c .before .place-word .ensures) at (c .field-head .ensures)
+
+pub head-of-spec : {M : Type 1} → statement M
+head-of-spec = tie.close (tie.spec place-word-requires cast-start field-head-requires returns)

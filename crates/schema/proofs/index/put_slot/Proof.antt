@@ -1,0 +1,64 @@
+-- `schema::index::put_slot` meets its contract: two words are set, and every other keeps its value.
+use native.Mathlib.Omega.{arith}
+use lib.ListN.{length-set}
+use borrow.Author.Needs.{needs}
+use Rattle.schema.proofs.Slots.{slot-put}
+use Rattle.schema.proofs.index.put_slot.Statement.{statement}
+use Rattle.schema.proofs.index.put_slot.Tie as tie
+
+mul-i : tie.Need-mul-i
+mul-i c = search needs
+
+add-i : tie.Need-add-i
+add-i c = search needs
+
+mul-words : tie.Need-mul-words
+mul-words c = search needs
+
+add-words : tie.Need-add-words
+add-words c = search needs
+
+cast-words : tie.Need-cast-words
+cast-words c = search needs
+
+mul-words-2 : tie.Need-mul-words-2
+mul-words-2 c = search needs
+
+slice-write-words : tie.Need-slice-write-words
+slice-write-words c = search needs
+
+cast-words-2 : tie.Need-cast-words-2
+cast-words-2 c = search needs
+
+add-words-2 : tie.Need-add-words-2
+add-words-2 c = search needs
+
+mul-words-3 : tie.Need-mul-words-3
+mul-words-3 c = search needs
+
+slice-write-words-2 : tie.Need-slice-write-words-2
+slice-write-words-2 c = simp length-set (omega arith)
+
+same-length : tie.Need-same-length
+same-length c = simp length-set
+
+returns : tie.Need-returns
+returns c = slot-put (c .args .words .now) (c .args .k) (c .args .start) (c .args .entry) (c .args .child) (c .pre)
+
+pub put-slot-spec : {M : Type 1} → statement M
+put-slot-spec =
+    tie.close
+    (tie.spec
+    mul-i
+    add-i
+    mul-words
+    add-words
+    cast-words
+    mul-words-2
+    slice-write-words
+    cast-words-2
+    add-words-2
+    mul-words-3
+    slice-write-words-2
+    same-length
+    returns)

@@ -1,0 +1,63 @@
+//! The two entries of the comparison. As a child of `validation` this module sees the private functions that are called.
+
+use super::{validate_rule_definition, validate_template, Scope, ScopeKind};
+use crate::{DefinitionError, ObjectSchema, RuleDefinition, Semantics};
+use serde_json::Value;
+
+/// What a call fixes besides the rule: kind 1 to 8, semantics 1 to 4, the schemas, and the label.
+pub struct Setting<'a> {
+    pub kind: u64,
+    pub semantics: u64,
+    pub fields: &'a ObjectSchema,
+    pub args: Option<&'a ObjectSchema>,
+    pub label: &'a str,
+}
+
+impl Setting<'_> {
+    fn scope(&self) -> Scope<'_> {
+        Scope { kind: scope_kind(self.kind), fields: self.fields, args: self.args, binders: None, semantics: semantics(self.semantics) }
+    }
+}
+
+pub fn rule(rule: &RuleDefinition, setting: &Setting<'_>) -> Result<(), DefinitionError> {
+    validate_rule_definition(rule, setting.label, setting.scope())
+}
+
+pub fn template(value: &Value, setting: &Setting<'_>) -> Result<(), DefinitionError> {
+    validate_template(value, setting.label, setting.scope())
+}
+
+/// Whether the instant reader takes the text; the reader itself may be private to its crate.
+pub fn is_instant(text: &str) -> bool {
+    crate::timestamp::parse(text).is_some()
+}
+
+/// The words with which a message says what a kind may read: its noun and the list.
+pub fn readable(kind: u64) -> (&'static str, &'static str) {
+    let kind = scope_kind(kind);
+    (kind.what(), kind.allowed())
+}
+
+fn scope_kind(number: u64) -> ScopeKind {
+    match number {
+        1 => ScopeKind::Invariant,
+        2 => ScopeKind::Precondition,
+        3 => ScopeKind::CreateTemplate,
+        4 => ScopeKind::OperationTemplate,
+        5 => ScopeKind::OutcomeSelector,
+        6 => ScopeKind::CreateSelector,
+        7 => ScopeKind::CreateSet,
+        8 => ScopeKind::CreateOutcomeTemplate,
+        _ => unreachable!("refusal 1 comes before the Rust is asked"),
+    }
+}
+
+fn semantics(number: u64) -> Semantics {
+    match number {
+        1 => Semantics::Kernel1,
+        2 => Semantics::Service1,
+        3 => Semantics::Service2,
+        4 => Semantics::Service3,
+        _ => unreachable!("refusal 1 comes before the Rust is asked"),
+    }
+}

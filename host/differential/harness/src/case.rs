@@ -1,0 +1,76 @@
+//! One case of the comparison: what a caller hands over, and what is known of the answer beforehand.
+
+use crate::refusals::{MIN_PATH_BYTES, MIN_SCRATCH_WORDS};
+use differential::model::Call;
+
+#[derive(Clone, Debug, PartialEq, Eq)]
+pub struct Case {
+    pub kind: u64,
+    pub semantics: u64,
+    pub label: Vec<u8>,
+    pub schema: Vec<u8>,
+    pub rule: Vec<u8>,
+    pub path_len: usize,
+    pub scratch_len: usize,
+    pub expect: Expect,
+}
+
+/// What the way a case was made tells of its answer.
+#[derive(Clone, Copy, Debug, PartialEq, Eq)]
+pub enum Expect {
+    Anything,
+    /// None of the refusals 1 to 5.
+    Read,
+    Number(u32),
+    Detail(u32, u32),
+}
+
+impl Expect {
+    pub fn allows(self, number: u32, detail: u32) -> bool {
+        match self {
+            Self::Anything => true,
+            Self::Read => !(1..=5).contains(&number),
+            Self::Number(expected) => number == expected,
+            Self::Detail(expected, fault) => (number, detail) == (expected, fault),
+        }
+    }
+}
+
+impl Case {
+    /// A case with buffers that are wide enough.
+    pub fn new(kind: u64, semantics: u64, label: &[u8], schema: Vec<u8>, rule: Vec<u8>) -> Self {
+        Self {
+            kind,
+            semantics,
+            label: label.to_vec(),
+            schema,
+            rule,
+            path_len: MIN_PATH_BYTES,
+            scratch_len: MIN_SCRATCH_WORDS,
+            expect: Expect::Anything,
+        }
+    }
+
+    pub fn expecting(self, expect: Expect) -> Self {
+        Self { expect, ..self }
+    }
+
+    pub fn call(&self) -> Call<'_> {
+        Call {
+            kind: self.kind,
+            semantics: self.semantics,
+            label: &self.label,
+            schema: &self.schema,
+            rule: &self.rule,
+            path_len: self.path_len,
+            scratch_len: self.scratch_len,
+        }
+    }
+
+    /// The case as the file `check.in` of the program `rulecheck`.
+    pub fn check_in(&self) -> Vec<u8> {
+        let counts = [self.label.len(), self.schema.len(), self.rule.len()].map(|count| count.to_string());
+        let head = format!("{},{},{},", self.kind, self.semantics, counts.join(","));
+        [head.as_bytes(), &self.label, b"\n", &self.schema, &self.rule].concat()
+    }
+}

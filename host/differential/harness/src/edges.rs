@@ -1,0 +1,255 @@
+//! Cases that are easy to get wrong, each with the number and detail that docs/FORMAT.md gives it.
+
+use crate::bound::bound;
+use crate::case::{Case, Expect};
+use crate::generate::build::{
+    all, array, compare, condition, element, exists, field, holder, literal, not, number, object, pair, quantifier, rule,
+};
+use crate::generate::build::{schema, text, value, ARRAY, INTEGER, JSON, MAP, OBJECT, STRING, UNION};
+use differential::model::{write_rule, write_schema};
+use differential::trees::{Condition, Data, Field, Operator, Rule, Schema, Sheet};
+
+const ACCEPTED: (u32, u32) = (0, 0);
+
+/// A rule under a kind and semantics, and the number and detail that answer it.
+struct Edge {
+    kind: u64,
+    semantics: u64,
+    sheet: Sheet,
+    answer: (u32, u32),
+}
+
+pub fn edges() -> Vec<Case> {
+    let of_format = [depths(), binders(), instants(), paths(), unions(), roots(), literals(), families(), blanks()];
+    let schema = edge_schema();
+    let cases = of_format.into_iter().flatten().map(|edge| {
+        let (answer, detail) = edge.answer;
+        Case::new(edge.kind, edge.semantics, b"r", write_schema(&schema), write_rule(&edge.sheet)).expecting(Expect::Detail(answer, detail))
+    });
+    cases.chain(without_arguments()).chain([example()]).collect()
+}
+
+/// The example of docs/FORMAT.md.
+fn example() -> Case {
+    let bars = Field { items: element(field("", INTEGER)), ..field("bars", ARRAY) };
+    let body = pair(12, text("$b.count"), number("9"));
+    let sheet = rule(quantifier(20, "b", text("$fields.bars"), body));
+    Case::new(2, 2, b"r", write_schema(&schema(holder(false, vec![bars]), None)), write_rule(&sheet)).expecting(Expect::Detail(18, 9))
+}
+
+/// Record and arguments: an array `a` of objects, `n` without an element, a map `m`, an object `o`, a json `j`, a string `s`, unions `u` and `v`.
+fn edge_schema() -> Schema {
+    let inner = Field { properties: vec![field("", ARRAY), field("c", INTEGER)], ..field("", OBJECT) };
+    let counted = Field { properties: vec![field("count", STRING), field("k", INTEGER)], ..field("o", OBJECT) };
+    let fields = vec![
+        Field { items: element(inner), ..field("a", ARRAY) },
+        field("n", ARRAY),
+        Field { items: element(field("", STRING)), ..field("m", MAP) },
+        counted,
+        field("j", JSON),
+        field("s", STRING),
+        Field { tag: Some("value".to_owned()), ..field("u", UNION) },
+        Field { tag: Some("count".to_owned()), ..field("v", UNION) },
+        field("i", INTEGER),
+    ];
+    schema(holder(false, fields.clone()), Some(holder(true, fields)))
+}
+
+/// A rule under kind 2 and service/1.
+fn usual(condition: Condition, answer: (u32, u32)) -> Edge {
+    Edge { kind: 2, semantics: 2, sheet: rule(condition), answer }
+}
+
+/// `$`-texts in `exists` under kind 2 and service/1.
+fn read(reference: &str, answer: (u32, u32)) -> Edge {
+    usual(exists(text(reference)), answer)
+}
+
+/// The body under a binder `b` of the array `a`.
+fn bound_b(body: Condition) -> Condition {
+    quantifier(20, "b", text("$fields.a"), body)
+}
+
+fn over(over: &str, answer: (u32, u32)) -> Edge {
+    usual(quantifier(21, "q", text(over), literal(true)), answer)
+}
+
+fn over_in_b(over: &str, answer: (u32, u32)) -> Edge {
+    usual(bound_b(quantifier(21, "q", text(over), literal(true))), answer)
+}
+
+fn nested(depth: usize, core: Condition) -> Condition {
+    (1..depth).fold(core, |inner, _| not(inner))
+}
+
+fn depths() -> Vec<Edge> {
+    vec![
+        usual(nested(32, literal(true)), ACCEPTED),
+        usual(nested(33, literal(true)), (13, 0)),
+        usual(all(Vec::new()), (16, 0)),
+        usual(nested(32, all(Vec::new())), (16, 0)),
+        usual(nested(33, all(Vec::new())), (13, 0)),
+        usual(condition(Operator::Any(Vec::new())), (16, 0)),
+    ]
+}
+
+fn binders() -> Vec<Edge> {
+    let hides_root = quantifier(20, "fields", text("$args.a"), exists(array(vec![text("$fields"), text("$fields.c")])));
+    let own_dollar = quantifier(20, "$b", text("$fields.a"), quantifier(20, "q", text("$$b"), literal(true)));
+    let unknown = bound_b(quantifier(20, "q", text("$b"), exists(array(vec![text("$q."), text("$q.x..y")]))));
+    let hidden = bound_b(quantifier(20, "b", text("$fields.m"), exists(text("$b.count"))));
+    vec![
+        Edge { kind: 6, ..usual(hides_root, ACCEPTED) },
+        usual(own_dollar, ACCEPTED),
+        usual(unknown, ACCEPTED),
+        usual(hidden, ACCEPTED),
+        over_in_b("xb", ACCEPTED),
+        over_in_b("bb", ACCEPTED),
+        over_in_b("éb", (22, 5)),
+        over_in_b("xb.", ACCEPTED),
+        over_in_b("$b.", (18, 1)),
+        over_in_b("xb.q", (22, 2)),
+        over_in_b("xb.c.q", (22, 3)),
+        over_in_b("$b.c", (22, 4)),
+        over_in_b("$b.q", (18, 3)),
+        usual(quantifier(20, " b ", text("$fields.a"), exists(text("$ b .c"))), ACCEPTED),
+        usual(quantifier(20, "\u{3000}", text("$fields.a"), literal(true)), (21, 0)),
+        usual(quantifier(20, "b.c", text("$fields.a"), literal(true)), (21, 0)),
+    ]
+}
+
+fn instants() -> Vec<Edge> {
+    let before = |operand: &str, answer| usual(pair(6, text(operand), text("2024-01-01")), answer);
+    let good = ["2024-02-29", "0000-02-29", " 2024-01-01 ", "2024-01-01T23:59:60.123456789z", "2024-01-01 00:00:00"];
+    let bad = ["2023-02-29", "2024-01-01Z", "2024-01-01T00:00:00+00:00", "2024-01-01T00:00:00.1234567890", " $id", "\u{feff}2024-01-01"];
+    let good = good.into_iter().map(|operand| before(operand, ACCEPTED));
+    let bad = bad.into_iter().map(|operand| before(operand, (20, 2)));
+    let others = [
+        before("$$2024-01-01", (20, 1)),
+        before("$id", ACCEPTED),
+        usual(pair(7, text("2024-01-01"), array(vec![text("$nope")])), (18, 12)),
+        usual(pair(7, value(Data::Null), text("2024-01-01")), (20, 2)),
+    ];
+    good.chain(bad).chain(others).collect()
+}
+
+fn paths() -> Vec<Edge> {
+    vec![
+        read("$fields.a.0", ACCEPTED),
+        read("$fields.a.10", ACCEPTED),
+        read("$fields.a.99999999999999999999", ACCEPTED),
+        read("$fields.a.01", (18, 4)),
+        read("$fields.a.0.c.count", (18, 9)),
+        read("$fields.a.count.x", (18, 6)),
+        read("$fields.n.0.x.y", ACCEPTED),
+        read("$fields.m.count", ACCEPTED),
+        read("$fields.m.x", (18, 5)),
+        read("$fields.s.count", ACCEPTED),
+        read("$fields.s.count.", (18, 6)),
+        read("$fields.s.x", (18, 10)),
+        read("$fields.o.count", ACCEPTED),
+        read("$fields.o.count.count", ACCEPTED),
+        read("$fields.o.x", (18, 3)),
+        read("$fields.j.", (18, 1)),
+        read("$fields.j.x.", ACCEPTED),
+        over("$fields.a.count", (22, 3)),
+        over("$fields.j", (22, 4)),
+        over("$fields.j.x", ACCEPTED),
+        over("$fields.u.value", ACCEPTED),
+        over("$id", (22, 5)),
+        Edge { semantics: 1, ..read("$fields.a.0", (18, 10)) },
+        Edge { semantics: 1, ..read("$fields.u.value", (18, 10)) },
+    ]
+}
+
+fn unions() -> Vec<Edge> {
+    vec![
+        read("$fields.u.value", ACCEPTED),
+        read("$fields.u.value.x", (18, 7)),
+        read("$fields.u.content.x.y", ACCEPTED),
+        read("$fields.u.count", (18, 8)),
+        read("$fields.v.count", ACCEPTED),
+        read("$fields.v.value", ACCEPTED),
+        read("$fields.v.content", (18, 8)),
+    ]
+}
+
+fn roots() -> Vec<Edge> {
+    vec![
+        read("$fields.", (18, 1)),
+        read("$fields.zz", (18, 2)),
+        read("$args.zz.y", ACCEPTED),
+        read("$args.", (18, 1)),
+        read("$", (18, 12)),
+        read("$.x", (18, 12)),
+        read("$state", (18, 12)),
+        read("$state.x", (18, 12)),
+        read("$old_fields.a", ACCEPTED),
+        Edge { kind: 1, ..read("$old_fields.a", (18, 11)) },
+        Edge { kind: 1, ..read("$args.", (18, 11)) },
+        Edge { kind: 6, ..read("$fields", (18, 12)) },
+        usual(exists(object(vec![("$nope".to_owned(), text("$$nope"))])), ACCEPTED),
+    ]
+}
+
+/// Bare `$args` is fine without arguments, a path below it is not.
+fn without_arguments() -> Vec<Case> {
+    let bare = write_schema(&schema(holder(false, Vec::new()), None));
+    let case = |reference: &str, answer: (u32, u32)| {
+        let sheet = write_rule(&Sheet::Template(text(reference)));
+        Case::new(4, 2, b"t", bare.clone(), sheet).expecting(Expect::Detail(answer.0, answer.1))
+    };
+    vec![case("$args", ACCEPTED), case("$args.x", (18, 11)), case("$args.", (18, 11))]
+}
+
+fn literals() -> Vec<Edge> {
+    let equals = |digits: &str, answer| usual(pair(8, number(digits), text("$nope")), answer);
+    let below = format!("{}1", &bound()[..bound().len() - 1]);
+    vec![
+        equals(bound(), (14, 0)),
+        equals(&below, (18, 12)),
+        equals("1e309", (14, 0)),
+        equals("-1e309", (14, 0)),
+        equals("0e99999", (18, 12)),
+        equals(&format!("1e{}", "9".repeat(500)), (14, 0)),
+        equals(&format!("1e-{}", "9".repeat(500)), (18, 12)),
+        usual(bound_b(pair(8, number("1e309"), text("x"))), (14, 0)),
+        usual(quantifier(20, "b", number("1e309"), literal(true)), (22, 1)),
+        usual(exists(number("1e309")), ACCEPTED),
+        usual(pair(16, number("1e309"), text("x")), (19, 0)),
+        Edge { semantics: 1, ..equals("1e309", (18, 12)) },
+    ]
+}
+
+/// Where the family changes: bodies, template kinds, sides of `compare`.
+fn families() -> Vec<Edge> {
+    let unread = || exists(text("$nope"));
+    let inner_in = bound_b(quantifier(20, "q", text("$nope"), literal(true)));
+    vec![
+        usual(bound_b(unread()), (18, 12)),
+        usual(inner_in, (18, 12)),
+        usual(bound_b(bound_b(all(Vec::new()))), (16, 0)),
+        usual(bound_b(pair(17, text("x"), value(Data::Bool(true)))), (19, 0)),
+        Edge { kind: 3, ..usual(bound_b(unread()), (18, 12)) },
+        Edge { kind: 3, ..usual(bound_b(all(Vec::new())), (16, 0)) },
+        Edge { kind: 1, semantics: 2, sheet: Sheet::Template(text("$nope")), answer: (18, 12) },
+        usual(compare(1, array(vec![text("$nope")]), text("$nope")), (17, 1)),
+        usual(compare(1, text("$id"), object(Vec::new())), (17, 2)),
+        Edge { semantics: 1, ..usual(compare(1, array(Vec::new()), text("$nope")), (15, 0)) },
+        Edge { semantics: 1, ..usual(quantifier(20, "", value(Data::Null), literal(true)), (15, 0)) },
+    ]
+}
+
+fn blanks() -> Vec<Edge> {
+    let named = |name: Option<&str>, message: Option<&str>, answer| {
+        let texts = [name, message].map(|text| text.map(str::to_owned));
+        let [name, message] = texts;
+        Edge { kind: 2, semantics: 2, sheet: Sheet::Rule(Rule { name, message, condition: literal(true) }), answer }
+    };
+    vec![
+        named(Some("\u{85}"), None, (11, 0)),
+        named(Some(""), Some(""), (11, 0)),
+        named(Some("n"), Some("\t \u{2003}"), (12, 0)),
+        named(Some("\u{200b}"), Some("\u{1c}"), ACCEPTED),
+    ]
+}

@@ -1,0 +1,106 @@
+//! Cases by chance: each profile makes another kind of trouble.
+
+pub mod build;
+pub mod damage;
+pub mod deep;
+pub mod limits;
+pub mod planted;
+pub mod rules;
+pub mod schemas;
+pub mod scope;
+pub mod values;
+pub mod widen;
+
+use crate::case::{Case, Expect};
+use crate::random::Random;
+use differential::model::{write_rule, write_schema};
+use differential::trees::{Schema, Sheet};
+use scope::Scope;
+
+const LABELS: [&str; 8] = ["r", "", "invariants[0]", "a.b", "é", "x,y", "l\nl", "operations.release.preconditions[12]"];
+
+/// A name, how often in a thousand cases it comes, and what makes it.
+type Profile = (&'static str, usize, fn(&mut Random) -> Case);
+
+/// The kinds of cases.
+pub const PROFILES: [Profile; 9] = [
+    ("right", 200, right),
+    ("slips", 330, slips),
+    ("planted", 250, planted::case),
+    ("damaged", 110, damage::case),
+    ("widened", 60, widen::case),
+    ("settings", 20, limits::settings),
+    ("deep", 15, deep::case),
+    ("limits", 10, limits::case),
+    ("wide", 5, limits::wide),
+];
+
+/// A case of any profile, and the profile's index.
+pub fn case(random: &mut Random) -> (usize, Case) {
+    let mut ticket = random.below(1_000);
+    for (index, (_, share, make)) in PROFILES.iter().enumerate() {
+        if ticket < *share {
+            return (index, make(random));
+        }
+        ticket -= share;
+    }
+    unreachable!("the shares add up to a thousand")
+}
+
+/// Kind, semantics and label of a generated case.
+pub struct Setting {
+    pub kind: u64,
+    pub semantics: u64,
+    pub label: &'static str,
+}
+
+impl Setting {
+    pub fn new(random: &mut Random) -> Self {
+        let kind = random.between(1, 8) as u64;
+        // The service semantics have more to check, so kernel/1 comes in a fifth of the cases only.
+        let semantics = if random.chance(20) { 1 } else { random.between(2, 4) as u64 };
+        Self { kind, semantics, label: random.pick(&LABELS) }
+    }
+
+    pub fn scope<'s>(&self, schema: &'s Schema, slip: usize) -> Scope<'s> {
+        Scope { kind: self.kind, service: self.semantics > 1, schema, binders: Vec::new(), slip }
+    }
+
+    pub fn case(&self, schema: &Schema, sheet: &Sheet) -> Case {
+        Case::new(self.kind, self.semantics, self.label.as_bytes(), write_schema(schema), write_rule(sheet))
+    }
+}
+
+/// A schema and a rule or template for it.
+pub struct Pair {
+    pub setting: Setting,
+    pub schema: Schema,
+    pub sheet: Sheet,
+}
+
+impl Pair {
+    pub fn new(random: &mut Random, slip: usize) -> Self {
+        let setting = Setting::new(random);
+        let fields = random.between(1, 4);
+        let schema = schemas::schema(random, fields);
+        let scope = setting.scope(&schema, slip);
+        let depth = random.between(1, 5);
+        let sheet = if random.chance(15) { scope.template(random) } else { scope.rule(random, depth) };
+        Self { setting, schema, sheet }
+    }
+
+    pub fn case(&self) -> Case {
+        self.setting.case(&self.schema, &self.sheet)
+    }
+}
+
+/// Small cases rich in references where everything is right, so that they must be accepted.
+pub fn right(random: &mut Random) -> Case {
+    Pair::new(random, 0).case().expecting(Expect::Number(0))
+}
+
+/// Small cases in which something slips now and then.
+pub fn slips(random: &mut Random) -> Case {
+    let slip = random.between(3, 25);
+    Pair::new(random, slip).case().expecting(Expect::Read)
+}

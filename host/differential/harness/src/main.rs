@@ -1,0 +1,108 @@
+//! Holds a plain model of docs/FORMAT.md against the Rust that it describes. See README.md beside the script `run`.
+
+mod agreement;
+mod bound;
+mod case;
+mod compare;
+mod edges;
+mod exhaustive;
+mod generate;
+mod instants;
+mod leaves;
+mod nodes;
+mod oracle;
+mod plan;
+mod random;
+mod refusals;
+mod shrink;
+mod tally;
+mod vectors;
+mod widened;
+
+use std::collections::BTreeMap;
+use std::process::ExitCode;
+
+const USAGE: &str = "usage: differential COMMAND [OPTION..]
+  compare [--cases N] [--seed S]   known edges, then N generated cases: the model against the Rust
+  widened [--cases N] [--seed S]   N rules, each under a schema and a widening of it
+  exhaustive [--tokens N]          every reference of up to N tokens (2 to 7, else 6), every instant near a good one
+  leaves                           text and numbers of the model against Rust's own
+  vectors --out FILE [--seed S]    writes the fixed list of answers";
+
+fn main() -> ExitCode {
+    let arguments: Vec<String> = std::env::args().skip(1).collect();
+    match run(&arguments) {
+        Ok(()) => ExitCode::SUCCESS,
+        Err(Trouble::Usage(problem)) => {
+            eprintln!("differential: {problem}\n{USAGE}");
+            ExitCode::from(2)
+        }
+        Err(Trouble::Failed(problem)) => {
+            eprintln!("differential: {problem}");
+            ExitCode::FAILURE
+        }
+    }
+}
+
+enum Trouble {
+    /// The arguments are wrong; nothing was done.
+    Usage(String),
+    Failed(String),
+}
+
+fn run(arguments: &[String]) -> Result<(), Trouble> {
+    let (command, rest) = arguments.split_first().ok_or_else(|| Trouble::Usage("no command".to_owned()))?;
+    match command.as_str() {
+        "compare" => {
+            let options = options(rest, &["cases", "seed"])?;
+            compare::compare(numeral(&options, "cases", 1_000_000)?, numeral(&options, "seed", 1)?).map_err(Trouble::Failed)
+        }
+        "widened" => {
+            let options = options(rest, &["cases", "seed"])?;
+            widened::widened(numeral(&options, "cases", 200_000)?, numeral(&options, "seed", 1)?).map_err(Trouble::Failed)
+        }
+        "exhaustive" => {
+            let options = options(rest, &["tokens"])?;
+            exhaustive::exhaustive(tokens(&options)?).map_err(Trouble::Failed)
+        }
+        "vectors" => {
+            let options = options(rest, &["out", "seed"])?;
+            let file = options.get("out").ok_or_else(|| Trouble::Usage("vectors needs --out FILE".to_owned()))?;
+            vectors::vectors(file, numeral(&options, "seed", 1)?).map_err(Trouble::Failed)
+        }
+        "leaves" => {
+            options(rest, &[])?;
+            leaves::leaves().map_err(Trouble::Failed)
+        }
+        other => Err(Trouble::Usage(format!("there is no command {other}"))),
+    }
+}
+
+/// The options by name, each given at most once and each with a value.
+fn options<'a>(arguments: &'a [String], known: &[&str]) -> Result<BTreeMap<&'a str, &'a str>, Trouble> {
+    let mut options = BTreeMap::new();
+    for pair in arguments.chunks(2) {
+        let name = pair[0].strip_prefix("--").filter(|name| known.contains(name));
+        let name = name.ok_or_else(|| Trouble::Usage(format!("{} is no option of this command", pair[0])))?;
+        let value = pair.get(1).ok_or_else(|| Trouble::Usage(format!("--{name} has no value")))?;
+        if options.insert(name, value.as_str()).is_some() {
+            return Err(Trouble::Usage(format!("--{name} is given twice")));
+        }
+    }
+    Ok(options)
+}
+
+/// Two tokens are a binder's reference; past seven a run takes hours.
+fn tokens(options: &BTreeMap<&str, &str>) -> Result<u32, Trouble> {
+    match numeral(options, "tokens", 6)? {
+        tokens @ 2..=7 => Ok(tokens as u32),
+        other => Err(Trouble::Usage(format!("--tokens takes a number from 2 to 7, not {other}"))),
+    }
+}
+
+fn numeral(options: &BTreeMap<&str, &str>, name: &str, default: u64) -> Result<u64, Trouble> {
+    match options.get(name) {
+        None => Ok(default),
+        Some(text) => text.parse().map_err(|_| Trouble::Usage(format!("--{name} takes a number, not {text}"))),
+    }
+}

@@ -1,0 +1,134 @@
+//! The oracle: the Rust, called on the trees of two sheets. It sees neither sheets nor places nor the passed count.
+
+mod convert;
+mod kept_out;
+mod sentences;
+
+pub use kept_out::is_kept_out;
+
+use differential::trees::{Schema, Sheet, Value};
+use entity_core::validation::entry::{self, Setting};
+use entity_core::DefinitionError;
+use std::panic::{catch_unwind, AssertUnwindSafe};
+
+/// What the Rust answers, in the numbers of docs/FORMAT.md.
+#[derive(Clone, Debug, PartialEq, Eq)]
+pub enum Verdict {
+    Accepted,
+    Defect(Defect),
+}
+
+#[derive(Clone, Debug, PartialEq, Eq)]
+pub struct Defect {
+    pub number: u32,
+    pub family: u32,
+    pub detail: u32,
+    pub path: String,
+    /// What the Rust quotes of the entry at fault, to be held against the entry at the place.
+    pub quoted: Quoted,
+    /// Family 8: the text of the quantifier's `in`, to be held against the entry at the over place.
+    pub over: Option<String>,
+}
+
+/// The part of the rule that a message quotes, which tells where the defect was found.
+#[derive(Clone, Debug, PartialEq, Eq)]
+pub enum Quoted {
+    Nothing,
+    /// A string as it stands in the rule.
+    Text(String),
+    /// A value as compact JSON.
+    Json(String),
+    /// The operator's spelling.
+    Operator(String),
+    /// The depth of the whole condition.
+    Depth(usize),
+    /// A quantifier's bind.
+    Bind(String),
+    /// A quantifier's `in`: the text, or compact JSON of what is no string.
+    Over(String),
+    /// A side of `compare`, by the detail alone.
+    Side,
+}
+
+/// Kind, semantics and label of a call that none of the refusals 1 to 5 answers.
+#[derive(Clone, Copy)]
+pub struct Frame<'a> {
+    pub kind: u64,
+    pub semantics: u64,
+    pub label: &'a str,
+}
+
+/// The schemas in the Rust's types, for many rules under one schema.
+pub struct Schemas(convert::Schemas);
+
+impl Schemas {
+    pub fn new(schema: &Schema) -> Self {
+        Self(convert::schemas(schema))
+    }
+}
+
+/// Asks the Rust. An error is a finding: a panic, or a message that no sentence of the table matches.
+pub fn ask(frame: Frame<'_>, schemas: &Schemas, sheet: &Sheet) -> Result<Verdict, String> {
+    let setting = Setting {
+        kind: frame.kind,
+        semantics: frame.semantics,
+        fields: &schemas.0.fields,
+        args: schemas.0.args.as_ref(),
+        label: frame.label,
+    };
+    let answer = catch_unwind(AssertUnwindSafe(|| call(sheet, &setting)));
+    match answer {
+        Err(_) => Err("the Rust panics".to_owned()),
+        Ok(Ok(())) => Ok(Verdict::Accepted),
+        Ok(Err(error)) => read_error(error, frame, sheet).map(Verdict::Defect),
+    }
+}
+
+/// A value as the Rust prints it: compact JSON.
+pub fn json(value: &Value) -> String {
+    convert::value(value).to_string()
+}
+
+fn call(sheet: &Sheet, setting: &Setting<'_>) -> Result<(), DefinitionError> {
+    match sheet {
+        Sheet::Rule(rule) => entry::rule(&convert::rule(rule), setting),
+        Sheet::Template(value) => entry::template(&convert::value(value), setting),
+    }
+}
+
+/// Family from the variant; number and detail from the message, or from the variant where it has none.
+fn read_error(error: DefinitionError, frame: Frame<'_>, sheet: &Sheet) -> Result<Defect, String> {
+    let table = sentences::Table::new(frame.kind, sheet);
+    let plain = |number, family, detail, path, quoted| Defect { number, family, detail, path, quoted, over: None };
+    Ok(match error {
+        DefinitionError::InvalidRule { path, message } => {
+            let found = table.of_rule(&message)?;
+            plain(found.number, 1, found.detail, path, found.quoted)
+        }
+        DefinitionError::InvalidTemplate { path, message } => {
+            let found = table.of_reference(&message)?;
+            plain(found.number, 2, found.detail, path, found.quoted)
+        }
+        DefinitionError::SemanticsKeyNotAvailable { path, key } => plain(15, 3, 0, path, Quoted::Operator(key)),
+        DefinitionError::ConditionTooDeep { path, depth, limit: 32 } => plain(13, 4, 0, path, Quoted::Depth(depth)),
+        DefinitionError::CompareOperandNotAddressable { path, side } => plain(17, 5, side_of(side)?, path, Quoted::Side),
+        DefinitionError::QuantifierBindInvalid { path, bind } => plain(21, 6, 0, path, Quoted::Bind(bind)),
+        DefinitionError::QuantifierOverNotCollection { path, over, detail } => {
+            let detail = sentences::of_collection(&over, &detail)?;
+            plain(22, 7, detail, path, Quoted::Over(over))
+        }
+        DefinitionError::QuantifierBodyScope { path, expression, detail } => {
+            let found = table.of_rule(&detail)?;
+            Defect { over: Some(expression), ..plain(found.number, 8, found.detail, path, found.quoted) }
+        }
+        other => return Err(format!("the Rust answers with a variant that has no family: {other:?}")),
+    })
+}
+
+fn side_of(side: &str) -> Result<u32, String> {
+    match side {
+        "left" => Ok(1),
+        "right" => Ok(2),
+        _ => Err(format!("the Rust names a side of compare that there is not: {side}")),
+    }
+}

@@ -1,0 +1,223 @@
+//! A second reading of the refusals 1 to 5, which the Rust does not know: a list of what is still to come instead of recursion, the text and
+//! number rules of `str` and serde_json.
+
+use crate::case::Case;
+
+pub const MAX_SHEET_BYTES: usize = 30_000;
+pub const MAX_ENTRIES: usize = 2_048;
+pub const MAX_TEXT_BYTES: usize = 512;
+pub const MAX_LABEL_BYTES: usize = 256;
+pub const MIN_PATH_BYTES: usize = 32_768;
+pub const MIN_SCRATCH_WORDS: usize = 8_192;
+pub const MAX_FIELD_NESTING: usize = 64;
+pub const MAX_VALUE_NESTING: usize = 64;
+pub const MAX_CONDITION_NESTING: usize = 256;
+
+/// The refusal that answers a call, or 0.
+pub fn refusal(case: &Case) -> u32 {
+    let is_known = (1..=8).contains(&case.kind) && (1..=4).contains(&case.semantics);
+    let is_label = case.label.len() <= MAX_LABEL_BYTES && std::str::from_utf8(&case.label).is_ok();
+    let is_wide = case.path_len >= MIN_PATH_BYTES && case.scratch_len >= MIN_SCRATCH_WORDS;
+    let tests = [is_known, is_label, is_wide, is_sheet(&case.schema, b"H"), is_sheet(&case.rule, b"RT")];
+    tests.iter().zip(1..).find(|(passes, _)| !**passes).map_or(0, |(_, refusal)| refusal)
+}
+
+/// serde_json reads white space around a number, which is no part of its text.
+pub fn is_number(text: &str) -> bool {
+    let is_bare = !text.bytes().any(|byte| byte.is_ascii_whitespace());
+    is_bare && serde_json::from_str::<serde_json::Value>(text).is_ok_and(|value| value.is_number())
+}
+
+/// What has to come next. Siblings share a group, which remembers the last name.
+#[derive(Clone, Copy)]
+enum Due {
+    Field { nesting: usize, group: usize },
+    Element { nesting: usize },
+    Condition { nesting: usize },
+    Value { nesting: usize },
+    Key { nesting: usize, group: usize },
+}
+
+struct Reading<'a> {
+    rest: &'a [u8],
+    entries: usize,
+    /// The next one is last.
+    due: Vec<Due>,
+    groups: Vec<Option<Vec<u8>>>,
+}
+
+/// Whether a sheet that begins with one of the letters is well formed.
+pub fn is_sheet(sheet: &[u8], letters: &[u8]) -> bool {
+    let mut reading = Reading { rest: sheet, entries: 0, due: Vec::new(), groups: Vec::new() };
+    let begins = sheet.len() <= MAX_SHEET_BYTES && sheet.first().is_some_and(|letter| letters.contains(letter));
+    begins && reading.all().is_some() && reading.rest.is_empty() && reading.entries <= MAX_ENTRIES
+}
+
+impl<'a> Reading<'a> {
+    fn all(&mut self) -> Option<()> {
+        match self.rest[0] {
+            b'H' => self.schema_head()?,
+            b'R' => self.rule_head()?,
+            _ => self.template_head()?,
+        }
+        while let Some(due) = self.due.pop() {
+            match due {
+                Due::Field { nesting, group } => self.field(nesting, Some(group))?,
+                Due::Element { nesting } => self.field(nesting, None)?,
+                Due::Condition { nesting } => self.condition(nesting)?,
+                Due::Value { nesting } => self.value(nesting)?,
+                Due::Key { nesting, group } => self.key(nesting, group)?,
+            }
+        }
+        Some(())
+    }
+
+    /// The fields of an entry's head: as many as there are, each ended by the byte.
+    fn head<const N: usize>(&mut self, letter: u8, ends: [u8; N]) -> Option<[&'a [u8]; N]> {
+        self.entries += 1;
+        let mut fields = [[].as_slice(); N];
+        for (field, end) in fields.iter_mut().zip(ends) {
+            let length = self.rest.iter().position(|byte| matches!(byte, b',' | b'\n'))?;
+            *field = &self.rest[..length];
+            (self.rest[length] == end).then_some(())?;
+            self.rest = &self.rest[length + 1..];
+        }
+        (fields[0] == [letter]).then_some(fields)
+    }
+
+    fn text(&mut self, length: usize) -> Option<&'a str> {
+        (length <= MAX_TEXT_BYTES && length <= self.rest.len()).then_some(())?;
+        let (text, rest) = self.rest.split_at(length);
+        self.rest = rest;
+        std::str::from_utf8(text).ok()
+    }
+
+    fn end(&mut self) -> Option<()> {
+        self.rest = self.rest.strip_prefix(b"\n")?;
+        Some(())
+    }
+
+    fn siblings(&mut self, count: usize, due: impl Fn(usize) -> Due) -> Option<()> {
+        // More than the bytes that are left can never come.
+        (count <= self.rest.len()).then_some(())?;
+        let group = self.groups.len();
+        self.groups.push(None);
+        self.due.extend((0..count).map(|_| due(group)));
+        Some(())
+    }
+
+    /// Whether the name comes after the last one of its group, which it then is.
+    fn rises(&mut self, group: usize, name: &str) -> Option<()> {
+        let last = self.groups[group].replace(name.as_bytes().to_vec());
+        last.is_none_or(|last| last.as_slice() < name.as_bytes()).then_some(())
+    }
+
+    fn schema_head(&mut self) -> Option<()> {
+        let [_, open, count, arguments_open, arguments_count] = self.head(b'H', *b",,,,\n")?;
+        mark(open)?;
+        let count = numeral(count)?;
+        let arguments = numeral(arguments_count)?;
+        match arguments_open {
+            b"-" => (arguments == 0).then_some(())?,
+            open => drop(mark(open)?),
+        }
+        self.siblings(arguments, |group| Due::Field { nesting: 1, group })?;
+        self.siblings(count, |group| Due::Field { nesting: 1, group })
+    }
+
+    fn field(&mut self, nesting: usize, group: Option<usize>) -> Option<()> {
+        let [_, kind, open, items, count, name, tag] = self.head(b'F', *b",,,,,,,")?;
+        ((1..=12).contains(&numeral(kind)?) && nesting <= MAX_FIELD_NESTING).then_some(())?;
+        mark(open)?;
+        let has_items = mark(items)?;
+        let count = numeral(count)?;
+        let name = self.text(numeral(name)?)?;
+        if tag != b"-" {
+            self.text(numeral(tag)?)?;
+        }
+        self.end()?;
+        match group {
+            Some(group) => self.rises(group, name)?,
+            None => name.is_empty().then_some(())?,
+        }
+        self.siblings(count, |group| Due::Field { nesting: nesting + 1, group })?;
+        self.due.extend(has_items.then_some(Due::Element { nesting: nesting + 1 }));
+        Some(())
+    }
+
+    fn rule_head(&mut self) -> Option<()> {
+        let [_, name, message] = self.head(b'R', *b",,,")?;
+        for length in [name, message] {
+            if length != b"-" {
+                self.text(numeral(length)?)?;
+            }
+        }
+        self.due.push(Due::Condition { nesting: 1 });
+        self.end()
+    }
+
+    fn template_head(&mut self) -> Option<()> {
+        self.head(b'T', *b"\n")?;
+        self.due.push(Due::Value { nesting: 1 });
+        Some(())
+    }
+
+    fn condition(&mut self, nesting: usize) -> Option<()> {
+        let [_, operator, n] = self.head(b'C', *b",,,")?;
+        let (operator, n) = (numeral(operator)?, numeral(n)?);
+        let (values, conditions) = match (operator, n) {
+            (1, 0..=1) => (0, 0),
+            (2 | 3, _) => (0, n),
+            (4, 0) => (0, 1),
+            (5 | 19, 0) => (1, 0),
+            (6..=17, 0) | (18, 1..=6) => (2, 0),
+            (20 | 21, _) => (1, 1),
+            _ => return None,
+        };
+        if operator >= 20 {
+            self.text(n)?;
+        }
+        self.end()?;
+        (nesting <= MAX_CONDITION_NESTING).then_some(())?;
+        self.siblings(conditions, |_| Due::Condition { nesting: nesting + 1 })?;
+        self.siblings(values, |_| Due::Value { nesting: 1 })
+    }
+
+    fn value(&mut self, nesting: usize) -> Option<()> {
+        let [_, kind, n] = self.head(b'V', *b",,,")?;
+        let (kind, n) = (numeral(kind)?, numeral(n)?);
+        let text = if matches!(kind, 4 | 5) { self.text(n)? } else { "" };
+        self.end()?;
+        (nesting <= MAX_VALUE_NESTING).then_some(())?;
+        match (kind, n) {
+            (1..=3, 0) | (5, _) => Some(()),
+            (4, _) => is_number(text).then_some(()),
+            (6, _) => self.siblings(n, |_| Due::Value { nesting: nesting + 1 }),
+            (7, _) => self.siblings(n, |group| Due::Key { nesting: nesting + 1, group }),
+            _ => None,
+        }
+    }
+
+    fn key(&mut self, nesting: usize, group: usize) -> Option<()> {
+        let [_, length] = self.head(b'K', *b",,")?;
+        let key = self.text(numeral(length)?)?;
+        self.end()?;
+        self.due.push(Due::Value { nesting });
+        self.rises(group, key)
+    }
+}
+
+/// A numeral that is written as its value is.
+fn numeral(field: &[u8]) -> Option<usize> {
+    let text = std::str::from_utf8(field).ok()?;
+    let value: usize = text.parse().ok()?;
+    (value.to_string() == text).then_some(value)
+}
+
+fn mark(field: &[u8]) -> Option<bool> {
+    match field {
+        b"0" => Some(false),
+        b"1" => Some(true),
+        _ => None,
+    }
+}

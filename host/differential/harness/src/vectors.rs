@@ -1,0 +1,107 @@
+//! `vectors`: a fixed list of answers that a program can replay without the Rust.
+
+use crate::agreement::{hold, printed, Held};
+use crate::case::Case;
+use crate::compare::report;
+use crate::edges::edges;
+use crate::generate::{damage, limits, planted, right, slips, widen};
+use crate::random::Random;
+use crate::tally::Tally;
+use differential::model::Answer;
+use std::collections::BTreeSet;
+
+/// No case of the list is larger than this, so that it stays quick to read and to replay.
+const MAX_CASE_BYTES: usize = 480;
+
+/// After so many tries a generator that still has not made its share makes too few small cases.
+const MAX_TRIES: u64 = 100_000;
+
+/// What is made how often: a name for the generator, and the number of cases.
+const SHARES: [(Make, u64); 6] = [
+    (|random, number| planted::planted(random, planted::TARGETS[number as usize % planted::TARGETS.len()]), 800),
+    (|random, _| slips(random), 400),
+    (|random, _| right(random), 250),
+    (|random, _| damage::case(random), 250),
+    (|random, _| widen::case(random), 100),
+    (|random, _| limits::settings(random), 80),
+];
+
+type Make = fn(&mut Random, u64) -> Case;
+
+/// Writes the list; an error leaves the file as it was.
+pub fn vectors(file: &str, seed: u64) -> Result<(), String> {
+    let mut list = List::default();
+    for case in edges() {
+        list.take(&case)?;
+    }
+    for (share, (make, count)) in SHARES.iter().enumerate() {
+        list.fill(*make, *count, seed.wrapping_add(share as u64))?;
+    }
+    if let Some(missing) = list.tally.missing().first() {
+        return Err(format!("no case of the list has the answer {missing:?}"));
+    }
+    let head = head(list.seen.len(), seed);
+    std::fs::write(file, [head.into_bytes(), list.bytes].concat()).map_err(|error| format!("{file} cannot be written: {error}"))?;
+    println!("{}\n{} cases written to {file}", list.tally, list.seen.len());
+    Ok(())
+}
+
+fn head(cases: usize, seed: u64) -> String {
+    format!(
+        "# {cases} cases and their answers, written by host/differential/run SOURCES vectors --out FILE --seed {seed}; the same seed gives the same bytes.\n\
+         # Acceptance, family, detail and path are those of the Rust in SOURCES; number, places and passed count are those of the model beside it,\n\
+         # which agrees with the Rust on all that the Rust tells. Refusals 1, 2, 4 and 5 are the model's alone, since the Rust sees no sheets.\n\
+         # A case is a line with two byte counts parted by a comma; then as many bytes as the first says, a file check.in; then as many as the\n\
+         # second says, what rulecheck prints for it. Lines that begin with # stand here only, before the first case.\n"
+    )
+}
+
+#[derive(Default)]
+struct List {
+    seen: BTreeSet<Vec<u8>>,
+    tally: Tally,
+    bytes: Vec<u8>,
+}
+
+impl List {
+    /// Adds so many cases that are small, new, and run on the Rust unless they are refused.
+    fn fill(&mut self, make: Make, count: u64, seed: u64) -> Result<(), String> {
+        let mut taken = 0;
+        for number in 0..MAX_TRIES {
+            let case = make(&mut Random::of_case(seed, number), taken);
+            let is_small = case.check_in().len() <= MAX_CASE_BYTES;
+            taken += u64::from(is_small && is_writable(&case) && self.take(&case)?);
+            if taken == count {
+                return Ok(());
+            }
+        }
+        Err(format!("only {taken} of {count} cases of one sort are small enough"))
+    }
+
+    /// Adds the case if it is new and was not kept out; an error is a disagreement.
+    fn take(&mut self, case: &Case) -> Result<bool, String> {
+        let held = hold(case).map_err(|trouble| report(case, &trouble, "a case for the list"))?;
+        let answer = match &held {
+            Held::KeptOut => return Ok(false),
+            Held::Refused(number) => Answer { number: *number, ..Answer::default() },
+            Held::Agreed(answer) => answer.clone(),
+        };
+        let input = case.check_in();
+        if !self.seen.insert(input.clone()) {
+            return Ok(false);
+        }
+        self.tally.count(&held);
+        let mut output = printed(&answer);
+        output.push(b'\n');
+        self.bytes.extend_from_slice(format!("{},{}\n", input.len(), output.len()).as_bytes());
+        self.bytes.extend_from_slice(&input);
+        self.bytes.extend_from_slice(&output);
+        Ok(true)
+    }
+}
+
+/// A file check.in says nothing of the buffers, and its settings are kept within 32 bits here.
+fn is_writable(case: &Case) -> bool {
+    let wide = Case::new(case.kind, case.semantics, &case.label, case.schema.clone(), case.rule.clone()).expecting(case.expect);
+    *case == wide && case.kind <= u64::from(u32::MAX) && case.semantics <= u64::from(u32::MAX)
+}

@@ -1,0 +1,145 @@
+//! A plain model of docs/FORMAT.md: trees and recursion, the check list as a list, obvious before fast. It is written from the
+//! format alone, so that the checker and the Rust can both be held against it.
+
+pub mod checks;
+pub mod instant;
+pub mod number;
+mod paths;
+mod program;
+pub mod settings;
+mod sheets;
+pub mod text;
+mod walks;
+mod widening;
+
+#[cfg(test)]
+mod tests;
+
+use crate::trees::{Field, Schema, Sheet};
+use checks::{Binders, Check, Question};
+use settings::Setting;
+
+pub use program::rulecheck;
+pub use sheets::{decode_rule, decode_schema, write_rule, write_schema};
+pub use walks::is_ordinal;
+pub use widening::{is_widening, only_marks_opened};
+
+pub const MAX_LABEL_BYTES: usize = 256;
+pub const PATH_BYTES: usize = 32_768;
+pub const SCRATCH_WORDS: usize = 8_192;
+
+/// What a caller hands over; of the two buffers only their lengths matter.
+#[derive(Clone, Copy, Debug)]
+pub struct Call<'a> {
+    pub kind: u64,
+    pub semantics: u64,
+    pub label: &'a [u8],
+    pub schema: &'a [u8],
+    pub rule: &'a [u8],
+    pub path_len: usize,
+    pub scratch_len: usize,
+}
+
+/// What the caller hears. A refusal has its number and nothing else, acceptance the passed count and nothing else.
+#[derive(Clone, Debug, Default, PartialEq, Eq)]
+pub struct Answer {
+    pub number: u32,
+    pub family: u32,
+    pub detail: u32,
+    pub place: u32,
+    pub over_place: u32,
+    pub passed: u32,
+    pub path: Vec<u8>,
+}
+
+/// Refusals 1 to 5 in their order, then the check list.
+pub fn check(call: &Call) -> Answer {
+    let refused = |number| Answer {
+        number,
+        ..Answer::default()
+    };
+    let Some(setting) = Setting::new(call.kind, call.semantics) else {
+        return refused(1);
+    };
+    if call.label.len() > MAX_LABEL_BYTES || !text::is_utf8(call.label) {
+        return refused(2);
+    }
+    if call.path_len < PATH_BYTES || call.scratch_len < SCRATCH_WORDS {
+        return refused(3);
+    }
+    let Some(schema) = decode_schema(call.schema) else {
+        return refused(4);
+    };
+    let Some(rule) = decode_rule(call.rule) else {
+        return refused(5);
+    };
+    judge(&setting, call.label, &schema, &rule)
+}
+
+/// The first failing check, or acceptance.
+fn judge(setting: &Setting, label: &[u8], schema: &Schema, rule: &Sheet) -> Answer {
+    let list = checks::checks(rule, setting);
+    for (passed, check) in list.iter().enumerate() {
+        if let Err(detail) = outcome(check, setting, schema) {
+            let (family, over_place) = family(check, setting);
+            return Answer {
+                number: check.number,
+                family,
+                detail,
+                place: check.place,
+                over_place,
+                passed: passed as u32,
+                path: paths::path(label, rule, check.number, check.place),
+            };
+        }
+    }
+    Answer {
+        passed: list.len() as u32,
+        ..Answer::default()
+    }
+}
+
+/// Whether one check passes against a schema; else its detail.
+fn outcome(check: &Check, setting: &Setting, schema: &Schema) -> Result<(), u32> {
+    match check.question {
+        Question::Settled(answer) => answer,
+        Question::Reference(text) => {
+            walks::validate_reference(text, setting, schema, &environment(&check.binders, schema))
+        }
+        Question::Collection(over) => {
+            walks::collection_element(over, schema, &environment(&check.binders, schema))
+                .map(|_| ())
+        }
+    }
+}
+
+/// The enclosing binders with their elements, outermost first.
+fn environment<'t>(binders: &Binders<'t>, schema: &'t Schema) -> Vec<(&'t str, Option<&'t Field>)> {
+    let Some(binder) = binders else {
+        return Vec::new();
+    };
+    let mut environment = environment(&binder.outer, schema);
+    let element = walks::collection_element(binder.over, schema, &environment);
+    environment.push((
+        binder.name,
+        element.expect("a collection is checked before the body under it"),
+    ));
+    environment
+}
+
+/// The family of a failing check, and the place of `in` where a quantifier's body changes it. A literal's check stands in no body.
+fn family(check: &Check, setting: &Setting) -> (u32, u32) {
+    let family = match check.number {
+        13 => 4,
+        15 => 3,
+        17 => 5,
+        18 if !setting.rule_kind => 2,
+        21 => 6,
+        22 => 7,
+        _ => 1,
+    };
+    match &check.binders {
+        Some(binder) if family == 1 => (8, binder.over.entry),
+        _ => (family, 0),
+    }
+}
