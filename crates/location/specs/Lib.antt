@@ -1,0 +1,10 @@
+pub mod Path
+pub mod Buffer
+pub mod Siblings
+pub mod Heads
+pub mod Keys
+pub mod Descent
+pub mod Next
+pub mod LengthLaws
+pub mod PathLaws
+pub mod WholeLaws

@@ -34,11 +34,11 @@ abbrev pub Every : (Check → Type 0) → List Check → Type 0
 Every P [] = Unit {0}
 Every P (c ∷ cs) = P c × Every P cs
 
-every-append : (P : Check → Type 0) (xs ys : List Check) → Every P xs → Every P ys → Every P (xs ++ ys)
+pub every-append : (P : Check → Type 0) (xs ys : List Check) → Every P xs → Every P ys → Every P (xs ++ ys)
 every-append P [] ys u w = w
 every-append P (c ∷ xs) ys u w = (u .0, every-append P xs ys (u .1) w)
 
-every-if : (P : Check → Type 0) (b : Bool) (xs ys : List Check) → Every P xs → Every P ys → Every P (cond b xs ys)
+pub every-if : (P : Check → Type 0) (b : Bool) (xs ys : List Check) → Every P xs → Every P ys → Every P (cond b xs ys)
 every-if P true xs ys u w = u
 every-if P false xs ys u w = w
 

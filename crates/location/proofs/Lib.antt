@@ -1,0 +1,8 @@
+mod BufferLaws
+mod Words
+mod Names
+mod Ranges
+mod Reached
+mod ValueSteps
+mod ConditionSteps
+mod RuleSteps

@@ -1,0 +1,86 @@
+use Rattle.location.proofs.BufferLaws.{wrote-digit, wrote-digits}
+use native.Mathlib.Omega.{arith}
+use borrow.Author.Needs.{needs}
+use Prim.Native.Nat.{ℕ, _<_}
+use borrow.Fn.Kinds.{In}
+use borrow.Fn.PlainCycle.{Measures, is, falls, and}
+use Rattle.location.proofs.buffer.put_decimal.Reads as put-decimal
+use Rattle.location.proofs.buffer.put_decimal.Kinds as put-decimal-kinds
+use Rattle.location.proofs.buffer.+put_decimal.Lts-put_decimal as put-decimal-lts
+use Rattle.location.proofs.buffer.push.Reads as push-reads
+use Rattle.location.proofs.buffer.+put_decimal.{statement}
+use Rattle.location.proofs.buffer.+put_decimal.Tie.{close}
+
+abbrev μ-put-decimal : Measures 1 put-decimal-kinds.ps ℕ
+μ-put-decimal κs a = a .1 .1 .0
+
+abbrev put-decimal-at : ℕ → In 1 put-decimal-kinds.ps
+put-decimal-at t =
+    and 1 put-decimal-kinds.ps (is 1 put-decimal-kinds.ps μ-put-decimal t) put-decimal.Pre
+
+abbrev put-decimal-below : ℕ → In 1 put-decimal-kinds.ps
+put-decimal-below t =
+    and 1 put-decimal-kinds.ps (falls 1 put-decimal-kinds.ps _<_ μ-put-decimal t) put-decimal.Pre
+
+abbrev cs-put-decimal : ℕ → put-decimal-lts.Claims
+cs-put-decimal t = (push-reads.Asked, push-reads.Learnt, put-decimal-below t, put-decimal.Post)
+
+-- src/buffer.rt:34:36
+put-decimal-cast-push : (t : ℕ) → put-decimal-lts.Need-cast-push (cs-put-decimal t) (put-decimal-at t) put-decimal.Post
+put-decimal-cast-push t c = search needs
+
+-- src/buffer.rt:34:31
+put-decimal-add-push : (t : ℕ) → put-decimal-lts.Need-add-push (cs-put-decimal t) (put-decimal-at t) put-decimal.Post
+put-decimal-add-push t c = search needs
+
+-- src/buffer.rt:34:9
+put-decimal-push-requires : (t : ℕ) → put-decimal-lts.Need-push-requires (cs-put-decimal t) (put-decimal-at t) put-decimal.Post
+put-decimal-push-requires t c κs = search needs
+
+-- src/buffer.rt:34:9
+put-decimal-same-length : (t : ℕ) → put-decimal-lts.Need-same-length (cs-put-decimal t) (put-decimal-at t) put-decimal.Post
+put-decimal-same-length t c = search needs
+
+-- src/buffer.rt:34:9
+put-decimal-returns : (t : ℕ) → put-decimal-lts.Need-returns (cs-put-decimal t) (put-decimal-at t) put-decimal.Post
+put-decimal-returns t c = search (wrote-digit, needs)
+
+-- src/buffer.rt:36:9
+put-decimal-put-decimal-requires : (t : ℕ) → put-decimal-lts.Need-put-decimal-requires (cs-put-decimal t) (put-decimal-at t) put-decimal.Post
+put-decimal-put-decimal-requires t c κs = search needs
+
+-- src/buffer.rt:37:27
+put-decimal-cast-push-2 : (t : ℕ) → put-decimal-lts.Need-cast-push-2 (cs-put-decimal t) (put-decimal-at t) put-decimal.Post
+put-decimal-cast-push-2 t c = search needs
+
+-- src/buffer.rt:37:22
+put-decimal-add-push-2 : (t : ℕ) → put-decimal-lts.Need-add-push-2 (cs-put-decimal t) (put-decimal-at t) put-decimal.Post
+put-decimal-add-push-2 t c = search needs
+
+-- src/buffer.rt:37:5
+put-decimal-push-requires-2 : (t : ℕ) → put-decimal-lts.Need-push-requires-2 (cs-put-decimal t) (put-decimal-at t) put-decimal.Post
+put-decimal-push-requires-2 t c κs = search needs
+
+-- src/buffer.rt:30:1
+put-decimal-same-length-2 : (t : ℕ) → put-decimal-lts.Need-same-length-2 (cs-put-decimal t) (put-decimal-at t) put-decimal.Post
+put-decimal-same-length-2 t c = search needs
+
+-- src/buffer.rt:30:1
+put-decimal-returns-2 : (t : ℕ) → put-decimal-lts.Need-returns-2 (cs-put-decimal t) (put-decimal-at t) put-decimal.Post
+put-decimal-returns-2 t c = search (wrote-digits, needs)
+
+pub +put-decimal-spec : {M : Type 1} → statement M
++put-decimal-spec = close μ-put-decimal λ t. put-decimal-lts.spec (cs-put-decimal t)
+    (put-decimal-at t)
+    put-decimal.Post
+    (put-decimal-cast-push t)
+    (put-decimal-add-push t)
+    (put-decimal-push-requires t)
+    (put-decimal-same-length t)
+    (put-decimal-returns t)
+    (put-decimal-put-decimal-requires t)
+    (put-decimal-cast-push-2 t)
+    (put-decimal-add-push-2 t)
+    (put-decimal-push-requires-2 t)
+    (put-decimal-same-length-2 t)
+    (put-decimal-returns-2 t)
