@@ -4,6 +4,7 @@ use crate::bound::bound;
 use crate::generate::values::near_bound;
 use crate::random::Random;
 use crate::refusals::is_number;
+use crate::samples;
 use differential::model::{number, text};
 use std::fmt::Debug;
 
@@ -15,7 +16,7 @@ type Check = (&'static str, fn() -> Result<u64, String>);
 
 /// Runs every check; an error names the first input on which two readings differ.
 pub fn leaves() -> Result<(), String> {
-    let checks: [Check; 8] = [
+    let checks: [Check; 10] = [
         ("UTF-8, all strings of up to 3 bytes", short_utf8),
         ("UTF-8, 4 bytes at the edges of the ranges", four_byte_utf8),
         ("UTF-8, random bytes", random_utf8),
@@ -24,6 +25,8 @@ pub fn leaves() -> Result<(), String> {
         ("number grammar, all short texts", short_numbers),
         ("finite, all short numbers and random ones at the bound", finite),
         ("the digits of the bound", digits_of_bound),
+        ("the samples of UTF-8 and of blank text", samples::texts),
+        ("the samples of numbers", samples::numbers),
     ];
     for (name, check) in checks {
         println!("{name}: {} inputs", check()?);

@@ -14,6 +14,7 @@ mod oracle;
 mod plan;
 mod random;
 mod refusals;
+mod samples;
 mod shrink;
 mod tally;
 mod vectors;
