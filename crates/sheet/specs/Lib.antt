@@ -12,3 +12,7 @@ pub mod ItemLaws
 pub mod HeadLaws
 pub mod RuleHeadLaws
 pub mod Computing
+pub mod Parts
+pub mod Compares
+pub mod Pieces
+pub mod Places

@@ -1,1 +1,8 @@
-// The entries of a sheet: numerals, texts and the head of each kind of entry (docs/FORMAT.md, "Sheets").
+// Sheets as bytes (docs/FORMAT.md, "Sheets"): a reader for the head of each entry, and the order of names. Every public function takes any
+// bytes and any place in them; past the end there is nothing to read.
+pub mod numeral; // numeral.rt: numerals
+pub mod part; // part.rt: texts as places in a sheet
+mod entry; // entry.rt: what entries are made of
+pub mod schema; // schema.rt: the entries H and F
+pub mod rule; // rule.rt: the entries R, T, C, V and K
+pub mod order; // order.rt: the order of names

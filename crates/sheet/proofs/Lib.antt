@@ -1,0 +1,4 @@
+pub mod Numerals
+pub mod Chains
+pub mod Heads
+pub mod Comparing

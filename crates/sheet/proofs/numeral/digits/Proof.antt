@@ -1,0 +1,90 @@
+-- `sheet::numeral::digits` meets its contract. The digits from `i` on, behind `value`, are those from `at` on, behind `first`.
+-- The measure is what is left of the bytes.
+use Prim.Native.Nat.{_≤_, _-_, _+_, _*_}
+use mathlib.Core.Path.{_≡_, refl, sym, _∙_}
+use native.Mathlib.Omega.{arith}
+use borrow.Author.Needs.{needs}
+use lib.ListN.{length, drop, getD}
+use Rattle.sheet.specs.Numeral.{digits}
+use Rattle.sheet.proofs.Numerals.{isDigit-range, digits-end, digits-stop, digits-more, digits-above}
+use Rattle.sheet.proofs.numeral.digits.Statement.{statement}
+use Rattle.sheet.proofs.numeral.digits.Tie as tie
+
+abbrev Inv-loop : tie.InvT-loop
+Inv-loop s at first high most value₀ i₀ value i = (digits value (drop i s) ≡ digits first (drop at s)) × (at ≤ i) × (i ≤ length s)
+
+abbrev μ-loop : tie.MeasureT-loop
+μ-loop s at first high most value₀ i₀ value i = length s - i
+
+wide-requires : tie.Need-wide-requires Inv-loop μ-loop
+wide-requires c κs = search needs
+
+loop-holds : tie.Need-loop-holds Inv-loop μ-loop
+loop-holds c = (refl, omega arith, omega arith)
+
+returns : tie.Need-returns Inv-loop μ-loop
+returns c =
+    let l = c .before .before .loop in
+    (sym (l .inv .0) ∙ digits-end (l .value) (c .before .before .before .before .before .args .s .now) (l .i) (c .if1 .taken), l .inv .1, l .inv .2, omega arith)
+
+shared-slice-read-b : tie.Need-shared-slice-read-b Inv-loop μ-loop
+shared-slice-read-b c = search needs
+
+is-digit-requires : tie.Need-is-digit-requires Inv-loop μ-loop
+is-digit-requires c κs = search needs
+
+mul-value : tie.Need-mul-value Inv-loop μ-loop
+mul-value c = search needs
+
+cast-value : tie.Need-cast-value Inv-loop μ-loop
+cast-value c = omega (arith, c .before .before .shared-slice-known2 .given (c .before .before .before .before .before .loop .i))
+
+sub-value : tie.Need-sub-value Inv-loop μ-loop
+sub-value c = omega (arith, isDigit-range _ (rw (c .if2 .taken) at (sym (c .before .is-digit .ensures))))
+
+add-value : tie.Need-add-value Inv-loop μ-loop
+add-value c = omega (arith, c .before .before .shared-slice-known2 .given (c .before .before .before .before .before .loop .i))
+
+add-i : tie.Need-add-i Inv-loop μ-loop
+add-i c = search needs
+
+loop-less : tie.Need-loop-less Inv-loop μ-loop
+loop-less c = search needs
+
+loop-again : tie.Need-loop-again Inv-loop μ-loop
+loop-again c =
+    let l = c .before .before .before .before .before .loop in
+    let d = sym (c .before .is-digit .ensures) ∙ c .if2 .taken in
+    (sym (digits-more (l .value) (c .before .before .before .before .before .before .before .before .args .s .now) (l .i) (c .before .before .before .if1 .left) d) ∙ l .inv .0, omega arith, omega arith)
+
+returns-2 : tie.Need-returns-2 Inv-loop μ-loop
+returns-2 c =
+    let l = c .before .before .before .before .before .loop in
+    let d = sym (c .before .is-digit .ensures) ∙ c .if2 .left in
+    (sym (l .inv .0) ∙ digits-stop (l .value) (c .before .before .before .before .before .before .before .before .args .s .now) (l .i) (c .before .before .before .if1 .left) d, l .inv .1, l .inv .2, omega arith)
+
+returns-3 : tie.Need-returns-3 Inv-loop μ-loop
+returns-3 c =
+    let l = c .before .loop in
+    digits-above (l .value) (c .before .before .before .before .args .high) (c .before .before .before .before .args .first) _ _ (omega arith) (l .inv .0)
+
+pub digits-spec : {M : Type 1} → statement M
+digits-spec =
+    tie.close
+    (tie.spec
+    Inv-loop
+    μ-loop
+    wide-requires
+    loop-holds
+    returns
+    shared-slice-read-b
+    is-digit-requires
+    mul-value
+    cast-value
+    sub-value
+    add-value
+    add-i
+    loop-less
+    loop-again
+    returns-2
+    returns-3)

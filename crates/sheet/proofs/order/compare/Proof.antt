@@ -1,0 +1,77 @@
+-- `sheet::order::compare` meets its contract. However the bytes from `i` on stand to each other, so do the texts.
+-- The measure is what is left of the first text.
+use Prim.Native.Nat.{_≤_, _-_}
+use native.Mathlib.Omega.{arith}
+use borrow.Author.Needs.{needs}
+use lib.ListN.{length}
+use Rattle.sheet.proofs.Comparing.{Goes, both-end, first-ends, second-ends, is-less, is-greater, goes-on}
+use Rattle.sheet.proofs.order.compare.Statement.{statement}
+use Rattle.sheet.proofs.order.compare.Tie as tie
+
+abbrev Inv-loop : tie.InvT-loop
+Inv-loop a b i₀ i = (i ≤ length a) × Goes a b i
+
+abbrev μ-loop : tie.MeasureT-loop
+μ-loop a b i₀ i = length a - i
+
+loop-holds : tie.Need-loop-holds Inv-loop μ-loop
+loop-holds c = (omega arith, λ p q r h. h)
+
+returns : tie.Need-returns Inv-loop μ-loop
+returns c =
+    second-ends (c .before .before .before .args .a .now) (c .before .before .before .args .b .now) (c .before .before .loop .i) (c .before .before .loop .inv .1) (c .before .loop-test .taken) (c .if1 .taken)
+
+shared-slice-read-x : tie.Need-shared-slice-read-x Inv-loop μ-loop
+shared-slice-read-x c = search needs
+
+shared-slice-read-y : tie.Need-shared-slice-read-y Inv-loop μ-loop
+shared-slice-read-y c = search needs
+
+returns-2 : tie.Need-returns-2 Inv-loop μ-loop
+returns-2 c =
+    is-less (c .before .before .before .before .before .before .args .a .now) (c .before .before .before .before .before .before .args .b .now) (c .before .before .before .before .before .loop .i) (c .before .before .before .before .before .loop .inv .1) (c .before .before .before .before .loop-test .taken) (c .before .before .before .if1 .left)
+    (c .if2 .taken)
+
+returns-3 : tie.Need-returns-3 Inv-loop μ-loop
+returns-3 c =
+    is-greater (c .before .before .before .before .before .before .before .args .a .now) (c .before .before .before .before .before .before .before .args .b .now) (c .before .before .before .before .before .before .loop .i) (c .before .before .before .before .before .before .loop .inv .1) (c .before .before .before .before .before .loop-test .taken) (c .before .before .before .before .if1 .left)
+    (c .if3 .taken)
+
+add-i : tie.Need-add-i Inv-loop μ-loop
+add-i c = search needs
+
+loop-less : tie.Need-loop-less Inv-loop μ-loop
+loop-less c = search needs
+
+loop-again : tie.Need-loop-again Inv-loop μ-loop
+loop-again c = (
+  omega arith,
+  goes-on (c .before .before .before .before .before .before .before .args .a .now) (c .before .before .before .before .before .before .before .args .b .now) (c .before .before .before .before .before .before .loop .i) (c .before .before .before .before .before .before .loop .inv .1) (c .before .before .before .before .before .loop-test .taken) (c .before .before .before .before .if1 .left)
+      (omega arith),
+)
+
+returns-4 : tie.Need-returns-4 Inv-loop μ-loop
+returns-4 c =
+    first-ends (c .before .before .before .args .a .now) (c .before .before .before .args .b .now) (c .before .before .loop .i) (c .before .before .loop .inv .1) (c .before .loop-test .left) (c .if4 .taken)
+
+returns-5 : tie.Need-returns-5 Inv-loop μ-loop
+returns-5 c =
+    both-end (c .before .before .before .args .a .now) (c .before .before .before .args .b .now) (c .before .before .loop .i) (c .before .before .loop .inv .1) (c .before .loop-test .left) (c .if4 .left)
+
+pub compare-spec : {M : Type 1} → statement M
+compare-spec =
+    tie.close
+    (tie.spec
+    Inv-loop
+    μ-loop
+    loop-holds
+    returns
+    shared-slice-read-x
+    shared-slice-read-y
+    returns-2
+    returns-3
+    add-i
+    loop-less
+    loop-again
+    returns-4
+    returns-5)

@@ -1,0 +1,63 @@
+-- `sheet::rule::rule_head` meets its contract: by the letter.
+use Rattle.sheet.specs.Places.{ruleOf}
+use native.Mathlib.Omega.{arith}
+use borrow.Author.Needs.{needs}
+use Rattle.sheet.proofs.Heads.{rule-named, template-reads, template-no-end, rule-other}
+use Rattle.sheet.proofs.rule.rule_head.Statement.{statement}
+use Rattle.sheet.proofs.rule.rule_head.Tie as tie
+
+starts-with-requires : tie.Need-starts-with-requires
+starts-with-requires c κs = search needs
+
+add-rule-texts : tie.Need-add-rule-texts
+add-rule-texts c =
+    let e = (rw (c .if1 .taken) at (c .before .starts-with .ensures)) in
+    omega (arith, e .within)
+
+rule-texts-requires : tie.Need-rule-texts-requires
+rule-texts-requires c κs = search needs
+
+returns : tie.Need-returns
+returns c = rule-named (rw (c .before .if1 .taken) at (c .before .before .starts-with .ensures)) (c .rule-texts .result) (c .rule-texts .ensures)
+
+starts-with-requires-2 : tie.Need-starts-with-requires-2
+starts-with-requires-2 c κs = search needs
+
+add-starts-with : tie.Need-add-starts-with
+add-starts-with c =
+    let e = (rw (c .if2 .taken) at (c .before .starts-with2 .ensures)) in
+    omega (arith, e .within)
+
+starts-with-requires-3 : tie.Need-starts-with-requires-3
+starts-with-requires-3 c κs = search needs
+
+add-t9 : tie.Need-add-t9
+add-t9 c =
+    let e = (rw (c .if3 .taken) at (c .before .starts-with3 .ensures)) in
+    omega (arith, e .within)
+
+returns-2 : tie.Need-returns-2
+unfolding ruleOf
+returns-2 c = template-reads (c .before .before .before .before .before .before .before .args .s .now) (c .before .before .before .before .before .before .before .args .at) (rw (c .before .before .before .before .if1 .left) at (c .before .before .before .before .before .starts-with .ensures)) (rw (c .before .before .if2 .taken) at (c .before .before .before .starts-with2 .ensures)) (rw (c .if3 .taken) at (c .before .starts-with3 .ensures))
+
+returns-3 : tie.Need-returns-3
+returns-3 c = template-no-end (c .before .before .before .before .before .before .before .args .s .now) (c .before .before .before .before .before .before .before .args .at) (rw (c .before .before .before .before .if1 .left) at (c .before .before .before .before .before .starts-with .ensures)) (rw (c .before .before .if2 .taken) at (c .before .before .before .starts-with2 .ensures)) (rw (c .if3 .left) at (c .before .starts-with3 .ensures))
+
+returns-4 : tie.Need-returns-4
+returns-4 c = rule-other (c .before .before .before .before .before .args .s .now) (c .before .before .before .before .before .args .at) (rw (c .before .before .if1 .left) at (c .before .before .before .starts-with .ensures)) (rw (c .if2 .left) at (c .before .starts-with2 .ensures))
+
+pub rule-head-spec : {M : Type 1} → statement M
+rule-head-spec =
+    tie.close
+    (tie.spec
+    starts-with-requires
+    add-rule-texts
+    rule-texts-requires
+    returns
+    starts-with-requires-2
+    add-starts-with
+    starts-with-requires-3
+    add-t9
+    returns-2
+    returns-3
+    returns-4)

@@ -1,0 +1,118 @@
+-- `sheet::rule::value_head` meets its contract: the type, its number and its text, which is tested where it is a number.
+use Rattle.sheet.specs.Parts.{partOf}
+use native.Mathlib.Omega.{arith}
+use borrow.Author.Needs.{needs}
+use Rattle.sheet.proofs.Heads.{value-other, value-no-number, value-no-text, value-wrong, value-reads, value-code, value-counted}
+use Rattle.sheet.proofs.rule.value_head.Statement.{statement}
+use Rattle.sheet.proofs.rule.value_head.Tie as tie
+
+first-requires : tie.Need-first-requires
+first-requires c κs = search needs
+
+enum-known-number : tie.Need-enum-known-number
+enum-known-number c = search needs
+
+enum-told : tie.Need-enum-told
+enum-told c = search needs
+
+returns : tie.Need-returns
+returns c = value-other (c .before .before .before .before .args .s .now) (c .before .before .before .before .args .at) (rw (c .enum-told .given .1) at (c .before .before .first .ensures))
+
+kind-of-requires : tie.Need-kind-of-requires
+kind-of-requires c κs = search needs
+
+most-of-requires : tie.Need-most-of-requires
+most-of-requires c κs = search needs
+
+item-requires : tie.Need-item-requires
+item-requires c κs = search needs
+
+enum-known-n : tie.Need-enum-known-n
+enum-known-n c = search needs
+
+enum-told-2 : tie.Need-enum-told-2
+enum-told-2 c = search needs
+
+returns-2 : tie.Need-returns-2
+returns-2 c =
+    let o = (rw (c .before .before .before .before .before .before .number .given .1) at (c .before .before .before .before .before .before .before .before .first .ensures)) in
+    value-no-number (o .0) (c .before .before .before .before .kind-of .result) (c .before .before .before .before .kind-of .ensures) (c .before .before .before .most-of .result) (c .before .before .before .most-of .ensures) (rw (c .enum-told2 .given .1) at (c .before .before .item .ensures))
+
+text-len-requires : tie.Need-text-len-requires
+text-len-requires c κs = search needs
+
+is-last-text-requires : tie.Need-is-last-text-requires
+is-last-text-requires c κs = search needs
+
+add-start : tie.Need-add-start
+add-start c =
+    let e = (rw (c .if1 .taken) at (c .before .is-last-text .ensures)) in
+    omega (arith, e .within)
+
+bytes-of-requires : tie.Need-bytes-of-requires
+bytes-of-requires c κs = search needs
+
+is-right-requires : tie.Need-is-right-requires
+is-right-requires c κs = search needs
+
+value-from-requires : tie.Need-value-from-requires
+value-from-requires c κs = search needs
+
+add-t18 : tie.Need-add-t18
+add-t18 c =
+    let e = (rw (c .before .before .before .before .if1 .taken) at (c .before .before .before .before .before .is-last-text .ensures)) in
+    omega (arith, e .within)
+
+add-t19 : tie.Need-add-t19
+add-t19 c =
+    let e = (rw (c .before .before .before .before .if1 .taken) at (c .before .before .before .before .before .is-last-text .ensures)) in
+    omega (arith, e .within)
+
+returns-3 : tie.Need-returns-3
+unfolding partOf
+returns-3 c =
+    let o = (rw (c .before .before .before .before .before .before .before .before .before .before .before .before .before .before .number .given .1) at (c .before .before .before .before .before .before .before .before .before .before .before .before .before .before .before .before .first .ensures)) in
+    let m = (rw (c .before .before .before .before .before .before .before .before .n .given .1) at (c .before .before .before .before .before .before .before .before .before .before .item .ensures)) in
+    let w = rw (c .before .if2 .taken, c .before .before .before .bytes-of .ensures) at (c .before .before .is-right .ensures) in
+    rw (c .value-from .ensures, ← value-code)
+    (value-reads (o .0) (c .before .before .before .before .before .before .before .before .before .before .before .before .kind-of .result) (c .before .before .before .before .before .before .before .before .before .before .before .before .kind-of .ensures) (c .before .before .before .before .before .before .before .before .before .before .before .most-of .result) (c .before .before .before .before .before .before .before .before .before .before .before .most-of .ensures) (m .0) (c .before .before .before .before .before .before .text-len .result) (c .before .before .before .before .before .before .text-len .ensures) (rw (c .before .before .before .before .if1 .taken) at (c .before .before .before .before .before .is-last-text .ensures)) w, value-counted (c .before .before .before .before .before .before .before .before .before .before .before .before .kind-of .result) _ _ _ (rw (c .before .before .before .before .before .before .before .before .before .before .before .most-of .ensures) at (m .2)))
+
+returns-4 : tie.Need-returns-4
+unfolding partOf
+returns-4 c =
+    let o = (rw (c .before .before .before .before .before .before .before .before .before .before .before .before .before .number .given .1) at (c .before .before .before .before .before .before .before .before .before .before .before .before .before .before .before .first .ensures)) in
+    let m = (rw (c .before .before .before .before .before .before .before .n .given .1) at (c .before .before .before .before .before .before .before .before .before .item .ensures)) in
+    let w = rw (c .if2 .left, c .before .before .bytes-of .ensures) at (c .before .is-right .ensures) in
+    value-wrong (o .0) (c .before .before .before .before .before .before .before .before .before .before .before .kind-of .result) (c .before .before .before .before .before .before .before .before .before .before .before .kind-of .ensures) (c .before .before .before .before .before .before .before .before .before .before .most-of .result) (c .before .before .before .before .before .before .before .before .before .before .most-of .ensures) (m .0) (c .before .before .before .before .before .text-len .result) (c .before .before .before .before .before .text-len .ensures) (rw (c .before .before .before .if1 .taken) at (c .before .before .before .before .is-last-text .ensures)) w
+
+returns-5 : tie.Need-returns-5
+returns-5 c =
+    let o = (rw (c .before .before .before .before .before .before .before .before .before .before .number .given .1) at (c .before .before .before .before .before .before .before .before .before .before .before .before .first .ensures)) in
+    let m = (rw (c .before .before .before .before .n .given .1) at (c .before .before .before .before .before .before .item .ensures)) in
+    value-no-text (o .0) (c .before .before .before .before .before .before .before .before .kind-of .result) (c .before .before .before .before .before .before .before .before .kind-of .ensures) (c .before .before .before .before .before .before .before .most-of .result) (c .before .before .before .before .before .before .before .most-of .ensures) (m .0) (c .before .before .text-len .result) (c .before .before .text-len .ensures) (rw (c .if1 .left) at (c .before .is-last-text .ensures))
+
+pub value-head-spec : {M : Type 1} → statement M
+value-head-spec =
+    tie.close
+    (tie.spec
+    first-requires
+    enum-known-number
+    enum-told
+    returns
+    kind-of-requires
+    most-of-requires
+    item-requires
+    enum-known-n
+    enum-told-2
+    returns-2
+    text-len-requires
+    is-last-text-requires
+    add-start
+    bytes-of-requires
+    is-right-requires
+    value-from-requires
+    add-t18
+    add-t19
+    returns-3
+    returns-4
+    returns-5)

@@ -1,0 +1,85 @@
+-- `sheet::schema::schema_head` meets its contract: the letter, the record, the arguments and the end of the line.
+use Rattle.sheet.specs.Places.{schemaOf}
+use native.Mathlib.Omega.{arith}
+use borrow.Author.Needs.{needs}
+use Rattle.sheet.proofs.Heads.{schema-no-fields, schema-no-arguments, schema-reads, schema-no-end, schema-other}
+use Rattle.sheet.proofs.schema.schema_head.Statement.{statement}
+use Rattle.sheet.proofs.schema.schema_head.Tie as tie
+
+starts-with-requires : tie.Need-starts-with-requires
+starts-with-requires c κs = search needs
+
+add-holder-head : tie.Need-add-holder-head
+add-holder-head c =
+    let e = (rw (c .if1 .taken) at (c .before .starts-with .ensures)) in
+    omega (arith, e .within)
+
+holder-head-requires : tie.Need-holder-head-requires
+holder-head-requires c κs = search needs
+
+enum-known-fields : tie.Need-enum-known-fields
+enum-known-fields c = search needs
+
+enum-told : tie.Need-enum-told
+enum-told c = search needs
+
+returns : tie.Need-returns
+returns c = schema-no-fields (rw (c .before .before .before .if1 .taken) at (c .before .before .before .before .starts-with .ensures)) (rw (c .enum-told .given .1) at (c .before .before .holder-head .ensures))
+
+arguments-head-requires : tie.Need-arguments-head-requires
+arguments-head-requires c κs = search needs
+
+enum-known-arguments : tie.Need-enum-known-arguments
+enum-known-arguments c = search needs
+
+enum-told-2 : tie.Need-enum-told-2
+enum-told-2 c = search needs
+
+returns-2 : tie.Need-returns-2
+returns-2 c =
+    let h = (rw (c .before .before .before .before .fields .given .1) at (c .before .before .before .before .before .before .holder-head .ensures)) in
+    schema-no-arguments (rw (c .before .before .before .before .before .before .before .if1 .taken) at (c .before .before .before .before .before .before .before .before .starts-with .ensures)) (h .0) (rw (c .enum-told2 .given .1) at (c .before .before .arguments-head .ensures))
+
+starts-with-requires-2 : tie.Need-starts-with-requires-2
+starts-with-requires-2 c κs = search needs
+
+add-t13 : tie.Need-add-t13
+add-t13 c =
+    let e = (rw (c .if2 .taken) at (c .before .starts-with2 .ensures)) in
+    omega (arith, e .within)
+
+returns-3 : tie.Need-returns-3
+unfolding schemaOf
+returns-3 c =
+    let h = (rw (c .before .before .before .before .before .before .before .fields .given .1) at (c .before .before .before .before .before .before .before .before .before .holder-head .ensures)) in
+    let a = (rw (c .before .before .before .arguments .given .1) at (c .before .before .before .before .before .arguments-head .ensures)) in
+    (schema-reads (rw (c .before .before .before .before .before .before .before .before .before .before .if1 .taken) at (c .before .before .before .before .before .before .before .before .before .before .before .starts-with .ensures)) (h .0) (a .0) (rw (c .if2 .taken) at (c .before .starts-with2 .ensures)), h .1, a .1)
+
+returns-4 : tie.Need-returns-4
+returns-4 c =
+    let h = (rw (c .before .before .before .before .before .before .before .fields .given .1) at (c .before .before .before .before .before .before .before .before .before .holder-head .ensures)) in
+    let a = (rw (c .before .before .before .arguments .given .1) at (c .before .before .before .before .before .arguments-head .ensures)) in
+    schema-no-end (rw (c .before .before .before .before .before .before .before .before .before .before .if1 .taken) at (c .before .before .before .before .before .before .before .before .before .before .before .starts-with .ensures)) (h .0) (a .0) (rw (c .if2 .left) at (c .before .starts-with2 .ensures))
+
+returns-5 : tie.Need-returns-5
+returns-5 c = schema-other (c .before .before .before .args .s .now) (c .before .before .before .args .at) (rw (c .if1 .left) at (c .before .starts-with .ensures))
+
+pub schema-head-spec : {M : Type 1} → statement M
+schema-head-spec =
+    tie.close
+    (tie.spec
+    starts-with-requires
+    add-holder-head
+    holder-head-requires
+    enum-known-fields
+    enum-told
+    returns
+    arguments-head-requires
+    enum-known-arguments
+    enum-told-2
+    returns-2
+    starts-with-requires-2
+    add-t13
+    returns-3
+    returns-4
+    returns-5)

@@ -1,0 +1,19 @@
+-- How two texts stand to each other, by what their comparison answers.
+use Prim.Native.Nat.{ℕ}
+use mathlib.Core.Bool.{Bool, true, false}
+use mathlib.Core.List.{List}
+use mathlib.Core.Path.{_≡_}
+use Rattle.sheet.specs.Order.{precedes, sameBytes}
+use Rattle.sheet.specs.declared.order.ByteOrder.{ByteOrder}
+use Rattle.sheet.specs.declared.order.ByteOrder.the-variants.{Less, Same, Greater}
+
+-- whether the first stands before the second, is the same, stands behind it
+pub record Stand (a b : List ℕ) (before same behind : Bool) : Type 0 where
+  pub before-is : precedes a b ≡ before
+  pub same-is : sameBytes a b ≡ same
+  pub behind-is : precedes b a ≡ behind
+
+abbrev pub Compares : List ℕ → List ℕ → ByteOrder → Type 0
+Compares a b Less = Stand a b true false false
+Compares a b Same = Stand a b false true false
+Compares a b Greater = Stand a b false false true

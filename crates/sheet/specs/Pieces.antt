@@ -1,0 +1,169 @@
+-- Pieces of entries, as the code reads them. The heads of Entries are made of these pieces, which the proofs show.
+use Prim.Native.Nat.{ℕ}
+use mathlib.Core.Bool.{Bool, true, cond}
+use mathlib.Core.List.{List}
+use mathlib.Core.Option.{Option}
+use lib.Dec.{leb, eqb}
+use Rattle.number.specs.Grammar.{isNumber}
+use Rattle.sheet.specs.Reader.{Reader, _>>=_, _>>_, ensure, pure}
+use Rattle.sheet.specs.Entries.{maxText, maxCount, byte, comma, dash, lineEnd, item, mark, textLength, text, optionalText, Shape, literal, many, negation, one, two, comparison, quantifier, RuleHead, rule, ConditionHead, literalHead, manyHead, negationHead, oneHead, twoHead, comparisonHead, quantifierHead, ValueHead, constantHead, numberHead, stringHead, arrayHead, objectHead}
+use Rattle.sheet.specs.declared.part.Part.{Part}
+use Rattle.sheet.specs.declared.schema.FieldMarks.{FieldMarks}
+use Rattle.sheet.specs.declared.rule.Shape.{Shape as CodeShape}
+use Rattle.sheet.specs.declared.rule.Shape.the-variants as shape
+use Rattle.sheet.specs.declared.rule.ConditionHead.{ConditionHead as CodeCondition}
+use Rattle.sheet.specs.declared.rule.ConditionHead.the-variants as condition
+use Rattle.sheet.specs.declared.rule.ValueKind.{ValueKind}
+use Rattle.sheet.specs.declared.rule.ValueKind.the-variants as kind
+use Rattle.sheet.specs.declared.rule.ValueHead.{ValueHead as CodeValue}
+use Rattle.sheet.specs.declared.rule.ValueHead.the-variants as value
+
+-- an entry's letter and its first field
+unfoldable pub first : ℕ → ℕ → ℕ → Reader (List ℕ) ℕ
+first letter low high = do
+  byte letter
+  item low high
+
+-- a field that is `-`
+unfoldable pub dashed : Reader (List ℕ) (Unit {0})
+dashed = do
+  comma
+  dash
+
+-- an entry's last field and its end
+unfoldable pub lastText : ℕ → Reader (List ℕ) (List ℕ)
+lastText n = do
+  comma
+  t ← text n
+  lineEnd
+  pure t
+
+-- a field's entry up to its count, and behind it
+unfoldable pub fieldMarks : Reader (List ℕ) FieldMarks
+fieldMarks = do
+  kind ← first 70 1 12
+  isOpen ← mark
+  hasItems ← mark
+  count ← item 0 maxCount
+  pure (record { kind = kind; opened = isOpen; items = hasItems; count = count })
+
+unfoldable pub fieldTexts : Reader (List ℕ) (List ℕ × Option (List ℕ))
+fieldTexts = do
+  a ← item 0 maxText
+  t ← textLength
+  comma
+  name ← text a
+  tag ← optionalText t
+  lineEnd
+  pure (name, tag)
+
+-- a rule's entry behind its letter
+unfoldable pub ruleTexts : Reader (List ℕ) RuleHead
+ruleTexts = do
+  a ← textLength
+  b ← textLength
+  comma
+  name ← optionalText a
+  message ← optionalText b
+  lineEnd
+  pure (rule name message)
+
+-- What stands behind an operator: a number from `leastOf` to `mostOf`, and a text of `bindLength` bytes.
+
+unfoldable pub shapeFor : CodeShape → Shape
+shapeFor shape.Literal = literal
+shapeFor shape.Many = many
+shapeFor shape.Negation = negation
+shapeFor shape.One = one
+shapeFor shape.Two = two
+shapeFor shape.Comparison = comparison
+shapeFor shape.Quantifier = quantifier
+
+unfoldable pub leastOf : Shape → ℕ
+leastOf literal = 0
+leastOf many = 0
+leastOf negation = 0
+leastOf one = 0
+leastOf two = 0
+leastOf comparison = 1
+leastOf quantifier = 0
+
+unfoldable pub mostOf : Shape → ℕ
+mostOf literal = 1
+mostOf many = maxCount
+mostOf negation = 0
+mostOf one = 0
+mostOf two = 0
+mostOf comparison = 6
+mostOf quantifier = maxText
+
+unfoldable pub bindLength : Shape → ℕ → ℕ
+bindLength literal n = 0
+bindLength many n = 0
+bindLength negation n = 0
+bindLength one n = 0
+bindLength two n = 0
+bindLength comparison n = 0
+bindLength quantifier n = n
+
+unfoldable pub conditionBy : ℕ → ℕ → List ℕ → Shape → ConditionHead
+conditionBy op n bind literal = literalHead (eqb n 1)
+conditionBy op n bind many = manyHead op n
+conditionBy op n bind negation = negationHead
+conditionBy op n bind one = oneHead op
+conditionBy op n bind two = twoHead op
+conditionBy op n bind comparison = comparisonHead n
+conditionBy op n bind quantifier = quantifierHead op bind
+
+unfoldable pub conditionFrom : ℕ → ℕ → Part → Shape → CodeCondition
+conditionFrom op n bind literal = condition.Literal (eqb n 1)
+conditionFrom op n bind many = condition.Many op n
+conditionFrom op n bind negation = condition.Negation
+conditionFrom op n bind one = condition.One op
+conditionFrom op n bind two = condition.Two op
+conditionFrom op n bind comparison = condition.Comparison n
+conditionFrom op n bind quantifier = condition.Quantifier op bind
+
+-- What stands behind a value's type: a number up to `mostOfKind`, and a text of `textLengthOf` bytes.
+
+unfoldable pub kindOf : ℕ → ValueKind
+kindOf type =
+    cond (leb type 3) kind.Constant
+    (cond (leb type 4) kind.Number
+    (cond (leb type 5) kind.Text
+    (cond (leb type 6) kind.Array kind.Object)))
+
+unfoldable pub mostOfKind : ValueKind → ℕ
+mostOfKind kind.Constant = 0
+mostOfKind kind.Number = maxText
+mostOfKind kind.Text = maxText
+mostOfKind kind.Array = maxCount
+mostOfKind kind.Object = maxCount
+
+unfoldable pub textLengthOf : ValueKind → ℕ → ℕ
+textLengthOf kind.Constant n = 0
+textLengthOf kind.Number n = n
+textLengthOf kind.Text n = n
+textLengthOf kind.Array n = 0
+textLengthOf kind.Object n = 0
+
+unfoldable pub isRight : ValueKind → List ℕ → Bool
+isRight kind.Constant t = true
+isRight kind.Number t = isNumber t
+isRight kind.Text t = true
+isRight kind.Array t = true
+isRight kind.Object t = true
+
+unfoldable pub valueBy : ValueKind → ℕ → ℕ → List ℕ → ValueHead
+valueBy kind.Constant type n t = constantHead type
+valueBy kind.Number type n t = numberHead t
+valueBy kind.Text type n t = stringHead t
+valueBy kind.Array type n t = arrayHead n
+valueBy kind.Object type n t = objectHead n
+
+unfoldable pub valueFrom : ValueKind → ℕ → ℕ → Part → CodeValue
+valueFrom kind.Constant type n t = value.Constant type
+valueFrom kind.Number type n t = value.Number t
+valueFrom kind.Text type n t = value.Text t
+valueFrom kind.Array type n t = value.Array n
+valueFrom kind.Object type n t = value.Object n

@@ -1,0 +1,228 @@
+-- What the code's readers answer, by cases: what the definition of Entries reads from place `at` of the bytes on, and the place behind it.
+use Prim.Native.Nat.{ℕ, _+_, _<_, _≤_}
+use mathlib.Core.Bool.{Bool, true, false}
+use mathlib.Core.List.{List}
+use mathlib.Core.Option.{Option, none, some}
+use mathlib.Core.Path.{_≡_}
+use lib.ListN.{length, take, drop}
+use Rattle.sheet.specs.Reader.{Reader}
+use Rattle.sheet.specs.Numeral.{digits, decimal, numeral as numeralOf}
+use Rattle.sheet.specs.Entries as entries
+use Rattle.sheet.specs.Parts.{partOf, optionalOf}
+use Rattle.sheet.specs.Pieces.{dashed, lastText, fieldMarks, fieldTexts, ruleTexts}
+use Rattle.sheet.specs.declared.part.Part.{Part}
+use Rattle.sheet.specs.declared.numeral.NumeralRead.{NumeralRead}
+use Rattle.sheet.specs.declared.numeral.NumeralRead.the-variants as numeral
+use Rattle.sheet.specs.declared.entry.MarkRead.{MarkRead}
+use Rattle.sheet.specs.declared.entry.MarkRead.the-variants as mark
+use Rattle.sheet.specs.declared.entry.Length.{Length}
+use Rattle.sheet.specs.declared.entry.Length.the-variants as length-of
+use Rattle.sheet.specs.declared.entry.LengthRead.{LengthRead}
+use Rattle.sheet.specs.declared.entry.LengthRead.the-variants as text-length
+use Rattle.sheet.specs.declared.entry.OptionalRead.{OptionalRead}
+use Rattle.sheet.specs.declared.entry.OptionalRead.the-variants as optional
+use Rattle.sheet.specs.declared.schema.HolderHead.{HolderHead}
+use Rattle.sheet.specs.declared.schema.HolderRead.{HolderRead}
+use Rattle.sheet.specs.declared.schema.HolderRead.the-variants as holder
+use Rattle.sheet.specs.declared.schema.Arguments.{Arguments}
+use Rattle.sheet.specs.declared.schema.Arguments.the-variants as arguments
+use Rattle.sheet.specs.declared.schema.ArgumentsRead.{ArgumentsRead}
+use Rattle.sheet.specs.declared.schema.ArgumentsRead.the-variants as arguments-head
+use Rattle.sheet.specs.declared.schema.SchemaHead.{SchemaHead}
+use Rattle.sheet.specs.declared.schema.SchemaRead.{SchemaRead}
+use Rattle.sheet.specs.declared.schema.SchemaRead.the-variants as schema
+use Rattle.sheet.specs.declared.schema.FieldMarksRead.{FieldMarksRead}
+use Rattle.sheet.specs.declared.schema.FieldMarksRead.the-variants as field-marks
+use Rattle.sheet.specs.declared.schema.FieldTexts.{FieldTexts}
+use Rattle.sheet.specs.declared.schema.FieldTextsRead.{FieldTextsRead}
+use Rattle.sheet.specs.declared.schema.FieldTextsRead.the-variants as field-texts
+use Rattle.sheet.specs.declared.schema.FieldHead.{FieldHead}
+use Rattle.sheet.specs.declared.schema.FieldRead.{FieldRead}
+use Rattle.sheet.specs.declared.schema.FieldRead.the-variants as field
+use Rattle.sheet.specs.declared.rule.RuleHead.{RuleHead}
+use Rattle.sheet.specs.declared.rule.RuleHead.the-variants as rule-head
+use Rattle.sheet.specs.declared.rule.RuleRead.{RuleRead}
+use Rattle.sheet.specs.declared.rule.RuleRead.the-variants as rule
+use Rattle.sheet.specs.declared.rule.ConditionHead.{ConditionHead}
+use Rattle.sheet.specs.declared.rule.ConditionHead.the-variants as condition-head
+use Rattle.sheet.specs.declared.rule.ConditionRead.{ConditionRead}
+use Rattle.sheet.specs.declared.rule.ConditionRead.the-variants as condition
+use Rattle.sheet.specs.declared.rule.ValueHead.{ValueHead}
+use Rattle.sheet.specs.declared.rule.ValueHead.the-variants as value-head
+use Rattle.sheet.specs.declared.rule.ValueRead.{ValueRead}
+use Rattle.sheet.specs.declared.rule.ValueRead.the-variants as value
+use Rattle.sheet.specs.declared.rule.KeyRead.{KeyRead}
+use Rattle.sheet.specs.declared.rule.KeyRead.the-variants as key
+
+-- `p` reads `a` from place `at` on, and stops further on, at `next`
+pub record ReadsTo {A : Type 0} (p : Reader (List ℕ) A) (s : List ℕ) (at : ℕ) (a : A) (next : ℕ) : Type 0 where
+  pub reads : p (drop at s) ≡ some (a, drop next s)
+  pub past : at < next
+  pub within : next ≤ length s
+
+-- `p` reads nothing from place `at` on
+abbrev pub Refuses : {A : Type 0} → Reader (List ℕ) A → List ℕ → ℕ → Type 0
+Refuses p s at = p (drop at s) ≡ none
+
+-- What entries are made of.
+
+abbrev pub NumeralIs : Reader (List ℕ) ℕ → ℕ → ℕ → List ℕ → ℕ → NumeralRead → Type 0
+NumeralIs p low high s at (numeral.Is n next) = ReadsTo p s at n next × (low ≤ n) × (n ≤ high)
+NumeralIs p low high s at numeral.Bad = Refuses p s at
+
+-- the digits behind those whose value is `value`; `Bad` where their value is above `high`
+abbrev pub DigitsAre : ℕ → ℕ → List ℕ → ℕ → NumeralRead → Type 0
+DigitsAre value high s at (numeral.Is n next) = (digits value (drop at s) ≡ (n, drop next s)) × (at ≤ next) × (next ≤ length s) × (n ≤ high)
+DigitsAre value high s at numeral.Bad = high < digits value (drop at s) .0
+
+-- a numeral up to `high`; `Bad` where none is, whatever the least number
+abbrev pub AtMostIs : ℕ → List ℕ → ℕ → NumeralRead → Type 0
+AtMostIs high s at (numeral.Is n next) = ReadsTo decimal s at n next × (n ≤ high)
+AtMostIs high s at numeral.Bad = (low : ℕ) → Refuses (numeralOf low high) s at
+
+abbrev pub StartsWith : ℕ → List ℕ → ℕ → Bool → Type 0
+StartsWith b s at true = ReadsTo (entries.byte b) s at tt (at + 1)
+StartsWith b s at false = Refuses (entries.byte b) s at
+
+abbrev pub MarkIs : List ℕ → ℕ → MarkRead → Type 0
+MarkIs s at (mark.Is b next) = ReadsTo entries.mark s at b next
+MarkIs s at mark.Bad = Refuses entries.mark s at
+
+abbrev pub IsDashed : List ℕ → ℕ → Bool → Type 0
+IsDashed s at true = ReadsTo dashed s at tt (at + 2)
+IsDashed s at false = Refuses dashed s at
+
+-- `len` bytes of UTF-8
+abbrev pub TextIs : ℕ → List ℕ → ℕ → Bool → Type 0
+TextIs len s at true = (entries.text len (drop at s) ≡ some (take len (drop at s), drop (at + len) s)) × (at + len ≤ length s)
+TextIs len s at false = Refuses (entries.text len) s at
+
+abbrev pub LastTextIs : ℕ → List ℕ → ℕ → Bool → Type 0
+LastTextIs len s at true = ReadsTo (lastText len) s at (take len (drop (at + 1) s)) (at + 1 + len + 1)
+LastTextIs len s at false = Refuses (lastText len) s at
+
+unfoldable pub lengthOf : Length → Option ℕ
+lengthOf (length-of.Of n) = some n
+lengthOf length-of.Absent = none
+
+abbrev pub LengthIs : List ℕ → ℕ → LengthRead → Type 0
+LengthIs s at (text-length.Is l next) = ReadsTo entries.textLength s at (lengthOf l) next
+LengthIs s at text-length.Bad = Refuses entries.textLength s at
+
+abbrev pub OptionalIs : Length → List ℕ → ℕ → OptionalRead → Type 0
+OptionalIs l s at (optional.Is t next) =
+    (entries.optionalText (lengthOf l) (drop at s) ≡ some (optionalOf s t, drop next s)) × (at ≤ next) × (next ≤ length s)
+OptionalIs l s at optional.Bad = Refuses (entries.optionalText (lengthOf l)) s at
+
+-- The entries of a schema sheet.
+
+unfoldable pub holderOf : HolderHead → entries.HolderHead
+holderOf h = record { isOpen = h .opened; count = h .count }
+
+abbrev pub HolderIs : List ℕ → ℕ → HolderRead → Type 0
+HolderIs s at (holder.Is h next) = ReadsTo entries.holderHead s at (holderOf h) next × (h .count ≤ entries.maxCount)
+HolderIs s at holder.Bad = Refuses entries.holderHead s at
+
+unfoldable pub argumentsOf : Arguments → Option entries.HolderHead
+argumentsOf (arguments.Are h) = some (holderOf h)
+argumentsOf arguments.Absent = none
+
+-- the number of fields
+unfoldable pub argumentCount : Arguments → ℕ
+argumentCount (arguments.Are h) = h .count
+argumentCount arguments.Absent = 0
+
+abbrev pub ArgumentsAre : List ℕ → ℕ → ArgumentsRead → Type 0
+ArgumentsAre s at (arguments-head.Is a next) = ReadsTo entries.argumentsHead s at (argumentsOf a) next × (argumentCount a ≤ entries.maxCount)
+ArgumentsAre s at arguments-head.Bad = Refuses entries.argumentsHead s at
+
+unfoldable pub schemaOf : SchemaHead → entries.SchemaHead
+schemaOf h = record { fields = holderOf (h .fields); arguments = argumentsOf (h .arguments) }
+
+abbrev pub SchemaIs : List ℕ → ℕ → SchemaRead → Type 0
+SchemaIs s at (schema.Is h next) =
+    ReadsTo entries.schemaHead s at (schemaOf h) next × (h .fields .count ≤ entries.maxCount) × (argumentCount (h .arguments) ≤ entries.maxCount)
+SchemaIs s at schema.Bad = Refuses entries.schemaHead s at
+
+abbrev pub FieldMarksAre : List ℕ → ℕ → FieldMarksRead → Type 0
+FieldMarksAre s at (field-marks.Are m next) = ReadsTo fieldMarks s at m next × (m .kind ≤ 12) × (m .count ≤ entries.maxCount)
+FieldMarksAre s at field-marks.Bad = Refuses fieldMarks s at
+
+abbrev pub FieldTextsAre : List ℕ → ℕ → FieldTextsRead → Type 0
+FieldTextsAre s at (field-texts.Are t next) = ReadsTo fieldTexts s at (partOf s (t .name), optionalOf s (t .tag)) next
+FieldTextsAre s at field-texts.Bad = Refuses fieldTexts s at
+
+unfoldable pub fieldOf : List ℕ → FieldHead → entries.FieldHead
+fieldOf s h =
+    record {
+      kind = h .kind;
+      isOpen = h .opened;
+      hasItems = h .items;
+      count = h .count;
+      name = partOf s (h .name);
+      tag = optionalOf s (h .tag);
+    }
+
+abbrev pub FieldIs : List ℕ → ℕ → FieldRead → Type 0
+FieldIs s at (field.Is h next) = ReadsTo entries.fieldHead s at (fieldOf s h) next × (h .kind ≤ 12) × (h .count ≤ entries.maxCount)
+FieldIs s at field.Bad = Refuses entries.fieldHead s at
+
+-- The entries of a rule sheet.
+
+unfoldable pub ruleOf : List ℕ → RuleHead → entries.RuleHead
+ruleOf s (rule-head.Rule name message) = entries.rule (optionalOf s name) (optionalOf s message)
+ruleOf s rule-head.Template = entries.template
+
+abbrev pub RuleTextsAre : List ℕ → ℕ → RuleRead → Type 0
+RuleTextsAre s at (rule.Is h next) = ReadsTo ruleTexts s at (ruleOf s h) next
+RuleTextsAre s at rule.Bad = Refuses ruleTexts s at
+
+abbrev pub RuleIs : List ℕ → ℕ → RuleRead → Type 0
+RuleIs s at (rule.Is h next) = ReadsTo entries.ruleHead s at (ruleOf s h) next
+RuleIs s at rule.Bad = Refuses entries.ruleHead s at
+
+unfoldable pub conditionOf : List ℕ → ConditionHead → entries.ConditionHead
+conditionOf s (condition-head.Literal truth) = entries.literalHead truth
+conditionOf s (condition-head.Many op count) = entries.manyHead op count
+conditionOf s condition-head.Negation = entries.negationHead
+conditionOf s (condition-head.One op) = entries.oneHead op
+conditionOf s (condition-head.Two op) = entries.twoHead op
+conditionOf s (condition-head.Comparison which) = entries.comparisonHead which
+conditionOf s (condition-head.Quantifier op bind) = entries.quantifierHead op (partOf s bind)
+
+-- how many conditions are announced
+unfoldable pub conditionCount : ConditionHead → ℕ
+conditionCount (condition-head.Literal truth) = 0
+conditionCount (condition-head.Many op count) = count
+conditionCount condition-head.Negation = 1
+conditionCount (condition-head.One op) = 0
+conditionCount (condition-head.Two op) = 0
+conditionCount (condition-head.Comparison which) = 0
+conditionCount (condition-head.Quantifier op bind) = 1
+
+abbrev pub ConditionIs : List ℕ → ℕ → ConditionRead → Type 0
+ConditionIs s at (condition.Is h next) = ReadsTo entries.conditionHead s at (conditionOf s h) next × (conditionCount h ≤ entries.maxCount)
+ConditionIs s at condition.Bad = Refuses entries.conditionHead s at
+
+unfoldable pub valueOf : List ℕ → ValueHead → entries.ValueHead
+valueOf s (value-head.Constant type) = entries.constantHead type
+valueOf s (value-head.Number digits) = entries.numberHead (partOf s digits)
+valueOf s (value-head.Text string) = entries.stringHead (partOf s string)
+valueOf s (value-head.Array count) = entries.arrayHead count
+valueOf s (value-head.Object count) = entries.objectHead count
+
+-- how many values are announced
+unfoldable pub valueCount : ValueHead → ℕ
+valueCount (value-head.Constant type) = 0
+valueCount (value-head.Number digits) = 0
+valueCount (value-head.Text string) = 0
+valueCount (value-head.Array count) = count
+valueCount (value-head.Object count) = count
+
+abbrev pub ValueIs : List ℕ → ℕ → ValueRead → Type 0
+ValueIs s at (value.Is h next) = ReadsTo entries.valueHead s at (valueOf s h) next × (valueCount h ≤ entries.maxCount)
+ValueIs s at value.Bad = Refuses entries.valueHead s at
+
+abbrev pub KeyIs : List ℕ → ℕ → KeyRead → Type 0
+KeyIs s at (key.Is k next) = ReadsTo entries.keyHead s at (partOf s k) next
+KeyIs s at key.Bad = Refuses entries.keyHead s at

@@ -1,0 +1,76 @@
+// Numerals: decimal, without leading zeros.
+ghost use mathlib.Core.Path.{_≡_};
+ghost use Prim.Native.Nat.{ℕ, _≤_};
+ghost use lib.ListN.{length};
+ghost use Rattle.sheet.specs.Numeral.{isDigit, numeral};
+ghost use Rattle.sheet.specs.Places.{NumeralIs, DigitsAre, AtMostIs};
+
+pub enum NumeralRead {
+    // The number, and the place behind it.
+    Is(usize, usize),
+    Bad,
+}
+
+fn is_digit(b: u8) -> bool
+    ensures { λ r. ⌜ r ≡ isDigit b ⌝ }
+{
+    b'0' <= b && b <= b'9'
+}
+
+fn wide(n: u32) -> usize
+    ensures { λ r. ⌜ r ≡ n ⌝ }
+{
+    n as usize
+}
+
+// The digits from `at` on, behind those whose value is `first`. A value above `high` only grows, so it is given up before it could wrap.
+fn digits(s: &[u8], at: usize, first: usize, high: u32) -> NumeralRead
+    requires { ⌜ at ≤ length (now s) ⌝ }
+    ensures { λ r. ⌜ DigitsAre first high (now (s .entry)) at r ⌝ }
+{
+    let most = wide(high);
+    let mut value = first;
+    let mut i = at;
+    while value <= most {
+        if s.len() <= i {
+            return NumeralRead::Is(value, i);
+        }
+        let b = s[i];
+        if is_digit(b) {
+            value = value * 10 + (b as usize - 48);
+            i += 1;
+        } else {
+            return NumeralRead::Is(value, i);
+        }
+    }
+    NumeralRead::Bad
+}
+
+fn at_most(s: &[u8], at: usize, high: u32) -> NumeralRead
+    ensures { λ r. ⌜ AtMostIs high (now (s .entry)) at r ⌝ }
+{
+    if s.len() <= at {
+        return NumeralRead::Bad;
+    }
+    let b = s[at];
+    if b == b'0' {
+        return NumeralRead::Is(0, at + 1);
+    }
+    if is_digit(b) {
+        return digits(s, at + 1, b as usize - 48, high);
+    }
+    NumeralRead::Bad
+}
+
+// A numeral from `low` to `high`, of which the first digit stands at `at`.
+pub fn numeral(s: &[u8], at: usize, low: u32, high: u32) -> NumeralRead
+    ensures { λ r. ⌜ NumeralIs (numeral low high) low high (now (s .entry)) at r ⌝ }
+{
+    let NumeralRead::Is(n, next) = at_most(s, at, high) else {
+        return NumeralRead::Bad;
+    };
+    if n < wide(low) {
+        return NumeralRead::Bad;
+    }
+    NumeralRead::Is(n, next)
+}

@@ -1,0 +1,209 @@
+// The entries of a schema sheet.
+use crate::entry;
+use crate::entry::Length;
+use crate::entry::LengthRead;
+use crate::entry::MAX_COUNT;
+use crate::entry::MAX_TEXT;
+use crate::entry::MarkRead;
+use crate::entry::OptionalRead;
+use crate::numeral::NumeralRead;
+use crate::part::OptionalPart;
+use crate::part::Part;
+ghost use Rattle.sheet.specs.Places.{HolderIs, ArgumentsAre, SchemaIs, FieldMarksAre, FieldTextsAre, FieldIs};
+
+// The open mark and the field count of the record or of the arguments.
+pub struct HolderHead {
+    pub opened: bool,
+    pub count: usize,
+}
+
+pub enum HolderRead {
+    // The head, and the place behind it.
+    Is(HolderHead, usize),
+    Bad,
+}
+
+pub enum Arguments {
+    Are(HolderHead),
+    Absent,
+}
+
+pub enum ArgumentsRead {
+    // The head, and the place behind it.
+    Is(Arguments, usize),
+    Bad,
+}
+
+pub struct SchemaHead {
+    pub fields: HolderHead,
+    pub arguments: Arguments,
+}
+
+pub enum SchemaRead {
+    // The head, and the place behind it.
+    Is(SchemaHead, usize),
+    Bad,
+}
+
+pub struct FieldMarks {
+    pub kind: usize,
+    pub opened: bool,
+    // Whether an element follows.
+    pub items: bool,
+    // How many fields follow below this one.
+    pub count: usize,
+}
+
+pub enum FieldMarksRead {
+    // The marks, and the place behind them.
+    Are(FieldMarks, usize),
+    Bad,
+}
+
+pub struct FieldTexts {
+    pub name: Part,
+    pub tag: OptionalPart,
+}
+
+pub enum FieldTextsRead {
+    // The texts, and the place behind them.
+    Are(FieldTexts, usize),
+    Bad,
+}
+
+pub struct FieldHead {
+    pub kind: usize,
+    pub opened: bool,
+    // Whether an element follows.
+    pub items: bool,
+    // How many fields follow below this one.
+    pub count: usize,
+    pub name: Part,
+    pub tag: OptionalPart,
+}
+
+pub enum FieldRead {
+    // The head, and the place behind it.
+    Is(FieldHead, usize),
+    Bad,
+}
+
+fn holder_head(s: &[u8], at: usize) -> HolderRead
+    ensures { λ r. ⌜ HolderIs (now (s .entry)) at r ⌝ }
+{
+    let MarkRead::Is(opened, behind) = entry::mark(s, at) else {
+        return HolderRead::Bad;
+    };
+    let NumeralRead::Is(count, next) = entry::item(s, behind, 0, MAX_COUNT) else {
+        return HolderRead::Bad;
+    };
+    HolderRead::Is(HolderHead { opened, count }, next)
+}
+
+fn arguments_head(s: &[u8], at: usize) -> ArgumentsRead
+    ensures { λ r. ⌜ ArgumentsAre (now (s .entry)) at r ⌝ }
+{
+    if entry::is_dashed(s, at) {
+        let NumeralRead::Is(_, next) = entry::item(s, at + 2, 0, 0) else {
+            return ArgumentsRead::Bad;
+        };
+        return ArgumentsRead::Is(Arguments::Absent, next);
+    }
+    let HolderRead::Is(head, next) = holder_head(s, at) else {
+        return ArgumentsRead::Bad;
+    };
+    ArgumentsRead::Is(Arguments::Are(head), next)
+}
+
+pub fn schema_head(s: &[u8], at: usize) -> SchemaRead
+    ensures { λ r. ⌜ SchemaIs (now (s .entry)) at r ⌝ }
+{
+    if entry::starts_with(s, at, b'H') {
+        let HolderRead::Is(fields, behind) = holder_head(s, at + 1) else {
+            return SchemaRead::Bad;
+        };
+        let ArgumentsRead::Is(arguments, end) = arguments_head(s, behind) else {
+            return SchemaRead::Bad;
+        };
+        if entry::starts_with(s, end, b'\n') {
+            return SchemaRead::Is(SchemaHead { fields, arguments }, end + 1);
+        }
+    }
+    SchemaRead::Bad
+}
+
+// A field's entry up to its count.
+fn field_marks(s: &[u8], at: usize) -> FieldMarksRead
+    ensures { λ r. ⌜ FieldMarksAre (now (s .entry)) at r ⌝ }
+{
+    let NumeralRead::Is(kind, a) = entry::first(s, at, b'F', 1, 12) else {
+        return FieldMarksRead::Bad;
+    };
+    let MarkRead::Is(opened, b) = entry::mark(s, a) else {
+        return FieldMarksRead::Bad;
+    };
+    let MarkRead::Is(items, c) = entry::mark(s, b) else {
+        return FieldMarksRead::Bad;
+    };
+    let NumeralRead::Is(count, next) = entry::item(s, c, 0, MAX_COUNT) else {
+        return FieldMarksRead::Bad;
+    };
+    FieldMarksRead::Are(
+        FieldMarks {
+            kind,
+            opened,
+            items,
+            count,
+        },
+        next,
+    )
+}
+
+// A field's entry behind its count.
+fn field_texts(s: &[u8], at: usize) -> FieldTextsRead
+    ensures { λ r. ⌜ FieldTextsAre (now (s .entry)) at r ⌝ }
+{
+    let NumeralRead::Is(len, a) = entry::item(s, at, 0, MAX_TEXT) else {
+        return FieldTextsRead::Bad;
+    };
+    let LengthRead::Is(tag_len, b) = entry::text_length(s, a) else {
+        return FieldTextsRead::Bad;
+    };
+    if entry::starts_with(s, b, b',') {
+        let start = b + 1;
+        if entry::is_text(s, start, len) {
+            let OptionalRead::Is(tag, end) = entry::optional_text(s, start + len, tag_len) else {
+                return FieldTextsRead::Bad;
+            };
+            if entry::starts_with(s, end, b'\n') {
+                let name = Part { start, len };
+                return FieldTextsRead::Are(FieldTexts { name, tag }, end + 1);
+            }
+        }
+    }
+    FieldTextsRead::Bad
+}
+
+pub fn field_head(s: &[u8], at: usize) -> FieldRead
+    ensures { λ r. ⌜ FieldIs (now (s .entry)) at r ⌝ }
+{
+    let FieldMarksRead::Are(marks, behind) = field_marks(s, at) else {
+        return FieldRead::Bad;
+    };
+    let FieldTextsRead::Are(texts, next) = field_texts(s, behind) else {
+        return FieldRead::Bad;
+    };
+    let name = texts.name;
+    let tag = texts.tag;
+    FieldRead::Is(
+        FieldHead {
+            kind: marks.kind,
+            opened: marks.opened,
+            items: marks.items,
+            count: marks.count,
+            name,
+            tag,
+        },
+        next,
+    )
+}
