@@ -1,2 +1,4 @@
 pub mod Leaves
 pub mod Shown
+pub mod Verdicts
+pub mod Literals

@@ -1,1 +1,3 @@
-// The check list in code: the first check of a rule or template that fails, found over the indexes of both sheets.
+// The check list of a rule or template in code: the first check that fails, and how many passed before it.
+pub mod verdict; // verdict.rt: what judging answers
+pub mod literal; // literal.rt: the literal pass

@@ -1,0 +1,96 @@
+-- Going on: nothing more, one list after the other, one check that passes or fails, and a defect that stays.
+use Prim.Native.Nat.{ℕ, _+_, _-_, _≤_}
+use native.Mathlib.Omega.{arith}
+use mathlib.Core.Bool.{Bool, true, false}
+use mathlib.Core.List.{List, [], _∷_, _++_}
+use mathlib.Core.Option.{Option, none, some}
+use mathlib.Core.Path.{_≡_, refl, sym, ap, _∙_}
+use Rattle.sheet.specs.Entries.{ValueHead}
+use Rattle.validation.specs.Check.{Check}
+use Rattle.validation.specs.Judge.{Outcome, allPass, failsAt, decide, judgeFrom}
+use Rattle.judge.specs.Shown.{overOf, Shown, passes, fails, shownOf, goOn, judge-append}
+use Rattle.judge.specs.Verdicts.{numberOf, detailOf, overBy, shownWith, shownBy, GoesOn, FailsWith, failed, Required}
+use Rattle.judge.specs.Leaves.{saidIn, said-append}
+use Rattle.judge.specs.declared.verdict.Fault.{Fault}
+use Rattle.judge.specs.declared.verdict.Over.{Over}
+use Rattle.judge.specs.declared.verdict.Verdict.{Verdict}
+use Rattle.judge.specs.declared.verdict.Verdict.the-variants.{Pass, Defect}
+use Rattle.judge.specs.declared.verdict.Answer.{Answer}
+
+none-goes : (ask : Check → Outcome) (s : Shown) → s ≡ goOn s (λ n. shownOf (judgeFrom ask n []))
+unfolding goOn judgeFrom shownOf
+none-goes ask (passes n) = refl
+none-goes ask (fails n number place over d) = refl
+
+pub goes-nothing : {ask : Check → Outcome} {a : Answer} → GoesOn ask a [] a
+goes-nothing {ask} {a} = record { shows = none-goes ask (shownBy a) }
+
+both-go : (ask : Check → Outcome) (xs ys : List Check) (s : Shown)
+    → goOn (goOn s (λ n. shownOf (judgeFrom ask n xs))) (λ n. shownOf (judgeFrom ask n ys))
+    ≡ goOn s (λ n. shownOf (judgeFrom ask n (xs ++ ys)))
+unfolding goOn
+both-go ask xs ys (passes n) = sym (judge-append ask n xs ys)
+both-go ask xs ys (fails n number place over d) = refl
+
+pub goes-then : {ask : Check → Outcome} {a b r : Answer} {xs ys : List Check} → GoesOn ask a xs b → GoesOn ask b ys r → GoesOn ask a (xs ++ ys) r
+goes-then {ask} {a} {b} {r} {xs} {ys} g h =
+    record {
+      shows =
+          h .shows
+          ∙ ap (λ (s : Shown). goOn s (λ n. shownOf (judgeFrom ask n ys))) (g .shows)
+          ∙ both-go ask xs ys (shownBy a);
+    }
+
+pub goes-stopped : {ask : Check → Outcome} {checks : List Check} {a : Answer} {f : Fault} {place : ℕ} {over : Over}
+    → a .verdict ≡ Defect f place over
+    → GoesOn ask a checks a
+unfolding shownBy shownWith goOn
+goes-stopped e = record { shows = rw e }
+
+one-judged : (ask : Check → Outcome) (n : ℕ) (c : Check) (o : Outcome) → ask c ≡ o → judgeFrom ask n (c ∷ []) ≡ decide o n c (allPass (n + 1))
+unfolding judgeFrom
+one-judged ask n c o e = rw e
+
+pub goes-one : {ask : Check → Outcome} {a : Answer} {c : Check} → a .verdict ≡ Pass → ask c ≡ none → GoesOn ask a (c ∷ []) (record { passed = a .passed + 1; verdict = Pass })
+unfolding shownBy shownWith goOn decide shownOf
+goes-one {ask} {a} {c} e p = record { shows = rw (e, one-judged ask (a .passed) c none p) }
+
+pub goes-wrong : {ask : Check → Outcome} {a : Answer} {c : Check} {fault : Fault} {place : ℕ} {over : Over}
+    → a .verdict ≡ Pass
+    → FailsWith c fault place over
+    → ask c ≡ some (detailOf fault)
+    → GoesOn ask a (c ∷ []) (record { passed = a .passed; verdict = Defect fault place over })
+unfolding shownBy shownWith goOn decide shownOf
+goes-wrong {ask} {a} {c} {fault} {place} {over} e w p =
+    record { shows = rw (e, one-judged ask (a .passed) c (some (detailOf fault)) p, w .numbered, w .placed, w .held) }
+
+-- One check in code.
+
+pub required-stopped : {a : Answer} {wrong : Bool} {fault f : Fault} {place at : ℕ} {over o : Over}
+    → a .verdict ≡ Defect f at o
+    → Required a wrong fault place over a
+required-stopped e = record { atMost = omega arith; goes = λ ask c w p. goes-stopped e }
+
+pub required-wrong : {a : Answer} {wrong : Bool} {fault : Fault} {place : ℕ} {over : Over}
+    → a .verdict ≡ Pass
+    → wrong ≡ true
+    → Required a wrong fault place over (record { passed = a .passed; verdict = Defect fault place over })
+unfolding failed
+required-wrong e t = record { atMost = omega arith; goes = λ ask c w p. goes-wrong e w (rw t at p) }
+
+pub required-right : {a : Answer} {wrong : Bool} {fault : Fault} {place : ℕ} {over : Over}
+    → a .verdict ≡ Pass
+    → wrong ≡ false
+    → Required a wrong fault place over (record { passed = a .passed + 1; verdict = Pass })
+unfolding failed
+required-right e t = record { atMost = omega arith; goes = λ ask c w p. goes-one e (rw t at p) }
+
+-- The entries of a value, one by one.
+
+pub said-next : {A : Type 0} (says : ℕ → ValueHead → List A) (sheet words : List ℕ) {start i : ℕ}
+    → start ≤ i
+    → saidIn says sheet words (i + 1 - start) start ≡ saidIn says sheet words (i - start) start ++ saidIn says sheet words 1 i
+said-next says sheet words {start} {i} h =
+    let e : i + 1 - start ≡ (i - start) + 1 = omega arith in
+    let f : start + (i - start) ≡ i = omega arith in
+    rw (e, said-append says sheet words (i - start) 1 start, f)
