@@ -1,2 +1,5 @@
 mod Going
+mod NodeSteps
+mod DepthSteps
 mod LiteralSteps
+mod ObservedSteps

@@ -1,4 +1,6 @@
 pub mod Leaves
 pub mod Shown
 pub mod Verdicts
+pub mod Nodes
+pub mod Depth
 pub mod Literals

@@ -1,3 +1,5 @@
 // The check list of a rule or template in code: the first check that fails, and how many passed before it.
 pub mod verdict; // verdict.rt: what judging answers
+mod node; // node.rt: where the words of an index lead
+pub mod depth; // depth.rt: how deep conditions nest
 pub mod literal; // literal.rt: the literal pass
