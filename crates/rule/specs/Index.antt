@@ -117,3 +117,14 @@ abbrev mutual
   ConditionsAt sheet words i noConditions = Unit {0}
   ConditionsAt sheet words i (condition c others) =
       ConditionAt sheet words i c × ConditionsAt sheet words (i + sizeOfCondition c) others
+
+-- the whole sheet: word 0 is that of its `R` or `T`
+abbrev pub RuleAt : (sheet words : List ℕ) → Rule → Type 0
+RuleAt sheet words (rule name message assert) =
+    EntryAt ruleHead sheet words 0 (1 + sizeOfCondition assert) 1 (Entries.rule name message) × ConditionAt sheet words 1 assert
+RuleAt sheet words (template v) =
+    EntryAt ruleHead sheet words 0 (1 + sizeOfValue v) 1 Entries.template × ValueAt sheet words 1 v
+
+unfoldable pub sizeOfRule : Rule → ℕ
+sizeOfRule (rule name message assert) = 1 + sizeOfCondition assert
+sizeOfRule (template v) = 1 + sizeOfValue v

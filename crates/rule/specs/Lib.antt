@@ -1,1 +1,4 @@
 pub mod Index
+pub mod IndexLaws
+pub mod Read
+pub mod Rule

@@ -1,21 +1,30 @@
 -- The index of a schema in the scratch: a slot of two words for each field. The children of a field stand in neighbouring slots, its
 -- element first, then its properties in the order of their names; they are followed by the slots of what lies below them, child by child.
-use Prim.Native.Nat.{ℕ, _+_, _*_, _/_, _%_, _≤_, _<_}
+use Prim.Native.Nat.{ℕ, _+_, _-_, _*_, _/_, _%_}
 use mathlib.Core.Bool.{Bool, true, false}
 use mathlib.Core.List.{List, []}
-use mathlib.Core.Option.{Option, none, some}
+use mathlib.Core.Option.{some}
 use mathlib.Core.Path.{_≡_}
 use lib.ListN.{getD, drop}
 use Rattle.sheet.specs.Entries.{FieldHead, fieldHead}
-use Rattle.definition.specs.Tree.{Text, Field, field, Items, absent, element, Members, noMembers, member, Holder, Schema}
+use Rattle.definition.specs.Tree.{Text, Field, field, Items, absent, element, Members, noMembers, member}
+use Rattle.definition.specs.Limits.{maxSchemaEntries}
+
+-- the words before this one are a rule's
+abbrev pub firstWord : ℕ
+firstWord = 2048
+
+-- every entry but the sheet's head is a field's
+abbrev pub maxSlots : ℕ
+maxSlots = maxSchemaEntries - 1
 
 -- the first word of slot `k`: where the field's entry starts, times 4,096, and its number
 abbrev pub placeWord : List ℕ → ℕ → ℕ
-placeWord words k = getD words (2048 + 2 * k) 0
+placeWord words k = getD words (firstWord + 2 * k) 0
 
 -- its second word: the slot of its first child
 abbrev pub childWord : List ℕ → ℕ → ℕ
-childWord words k = getD words (2048 + 2 * k + 1) 0
+childWord words k = getD words (firstWord + 2 * k + 1) 0
 
 unfoldable pub hasElement : Items → Bool
 hasElement absent = false

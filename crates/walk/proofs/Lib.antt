@@ -1,2 +1,5 @@
 mod Dots
 mod Digits
+mod StepLaws
+mod PathLaws
+mod CollectionLaws

@@ -3,9 +3,8 @@ use Prim.Native.Nat.{ℕ, _≤_}
 use mathlib.Core.List.{List}
 use mathlib.Core.Path.{_≡_}
 use Rattle.definition.specs.Tree.{Text, Field}
-use Rattle.definition.specs.Within.{FieldRises}
 use Rattle.reference.specs.Walk.{Step, refuse, leaf, free, into, Reached, refused, unknown, known}
-use Rattle.schema.specs.Index.{FieldAt}
+use Rattle.schema.specs.Slot.{SlotHolds}
 use Rattle.walk.specs.declared.answer.ReferenceFault.{ReferenceFault}
 use Rattle.walk.specs.declared.answer.ReferenceFault.the-variants.{EmptyPath, UnknownRoot, ClosedObject, ArrayMember, MapMember, AfterCount, AfterTag, UnionMember, NoCount, NoMember, NotAvailable, NoReference}
 use Rattle.walk.specs.declared.answer.CollectionFault.{CollectionFault}
@@ -42,23 +41,16 @@ collectionDetail Collection.NoMember = 3
 collectionDetail Collection.NotCollection = 4
 collectionDetail Collection.NoCollection = 5
 
--- slot `k` of the index is that of the field, and sibling names rise in it
-pub record Indexed (sheet words : List ℕ) (k : ℕ) (f : Field) : Type 0 where
-  pub low : ℕ
-  pub name : Text
-  pub at : FieldAt sheet words k low name f
-  pub rises : FieldRises f
-
 abbrev pub StepIs : (sheet words : List ℕ) → WalkStep → Step → Type 0
 StepIs sheet words (WalkStep.Refuse fault) s = s ≡ refuse (referenceDetail fault)
 StepIs sheet words (WalkStep.Leaf fault) s = s ≡ leaf (referenceDetail fault)
 StepIs sheet words WalkStep.Free s = s ≡ free
-StepIs sheet words (WalkStep.Into k) s = (f : Field) × (s ≡ into f) × Indexed sheet words k f
+StepIs sheet words (WalkStep.Into k) s = (f : Field) × (s ≡ into f) × SlotHolds sheet words k f
 
 abbrev pub FieldStepIs : (sheet words : List ℕ) → FieldStep → Step → Type 0
 FieldStepIs sheet words (FieldStep.Refuse fault) s = s ≡ refuse (collectionDetail fault)
 FieldStepIs sheet words FieldStep.Free s = s ≡ free
-FieldStepIs sheet words (FieldStep.Into k) s = (f : Field) × (s ≡ into f) × Indexed sheet words k f
+FieldStepIs sheet words (FieldStep.Into k) s = (f : Field) × (s ≡ into f) × SlotHolds sheet words k f
 
 abbrev pub IsReached : Reached → Type 0
 IsReached (refused d at left) = ⊥
@@ -72,7 +64,7 @@ ReadableIs (No fault at) x = (left : List Text) × (x ≡ refused (referenceDeta
 
 -- what a path of `in` leads to. Details 6 and 7 of `collection` never occur in a result, so nothing is said of their fault.
 abbrev pub CollectedIs : (sheet words : List ℕ) → Collected → Reached → Type 0
-CollectedIs sheet words (Collected.Known k) x = (f : Field) × (x ≡ known f) × Indexed sheet words k f
+CollectedIs sheet words (Collected.Known k) x = (f : Field) × (x ≡ known f) × SlotHolds sheet words k f
 CollectedIs sheet words Collected.Unknown x = x ≡ unknown
 CollectedIs sheet words (Collected.No fault at) x =
     (d : ℕ) × (left : List Text) × (x ≡ refused d at left) × (d ≤ 5 → d ≡ collectionDetail fault)

@@ -3,7 +3,7 @@ use Prim.Native.Nat.{ℕ, _+_, _<_}
 use mathlib.Core.List.{List, [], _∷_}
 use mathlib.Core.Path.{_≡_}
 use lib.ListN.{length, take, drop}
-use Rattle.reference.specs.Path.{Segments, split, cut}
+use Rattle.reference.specs.Path.{split}
 use Rattle.walk.specs.declared.path.Dot.{Dot}
 use Rattle.walk.specs.declared.path.Dot.the-variants.{At, Nowhere}
 

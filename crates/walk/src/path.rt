@@ -1,6 +1,9 @@
 // Paths: segments parted by dots.
+use sheet::order::ByteOrder;
+use sheet::order::compare;
 ghost use mathlib.Core.Path.{_≡_};
-ghost use Rattle.reference.specs.Path.{isDigits, isOrdinal};
+ghost use Rattle.reference.specs.Path.{isDigits, isOrdinal, isCount};
+ghost use Rattle.sheet.specs.Order.{sameBytes};
 ghost use Rattle.walk.specs.Dots.{Cuts};
 
 // Where a path is cut.
@@ -52,4 +55,20 @@ pub fn is_ordinal(segment: &[u8]) -> bool
         return segment.len() == 1;
     }
     is_digits(segment)
+}
+
+pub fn same_bytes(a: &[u8], b: &[u8]) -> bool
+    ensures { λ r. ⌜ r ≡ sameBytes (now (a .entry)) (now (b .entry)) ⌝ }
+{
+    match compare(a, b) {
+        ByteOrder::Less => false,
+        ByteOrder::Same => true,
+        ByteOrder::Greater => false,
+    }
+}
+
+pub fn is_count(segment: &[u8]) -> bool
+    ensures { λ r. ⌜ r ≡ isCount (now (segment .entry)) ⌝ }
+{
+    same_bytes(segment, b"count")
 }

@@ -10,17 +10,21 @@ starts-with-requires c κs = search needs
 
 add-item : tie.Need-add-item
 add-item c =
-    let e = (rw (c .if1 .taken) at (c .before .starts-with .ensures)) in
-    omega (arith, e .within)
+    let starts-with = rw (c .if1 .taken) at (c .before .starts-with .ensures) in
+    omega (arith, starts-with .within)
 
 item-requires : tie.Need-item-requires
 item-requires c κs = search needs
 
 returns : tie.Need-returns
-returns c = first-some (c .before .before .before .before .args .letter) (c .before .before .before .before .args .low) (c .before .before .before .before .args .high) (rw (c .before .if1 .taken) at (c .before .before .starts-with .ensures)) (c .item .result) (c .item .ensures)
+returns c =
+    let starts-with = rw (c .before .if1 .taken) at (c .before .before .starts-with .ensures) in
+    first-some (c .before .before .before .before .args .letter) (c .before .before .before .before .args .low) (c .before .before .before .before .args .high) starts-with (c .item .result) (c .item .ensures)
 
 returns-2 : tie.Need-returns-2
-returns-2 c = first-none (c .before .before .before .args .letter) (c .before .before .before .args .low) (c .before .before .before .args .high) (c .before .before .before .args .s .now) (c .before .before .before .args .at) (rw (c .if1 .left) at (c .before .starts-with .ensures))
+returns-2 c =
+    let starts-with = rw (c .if1 .left) at (c .before .starts-with .ensures) in
+    first-none (c .before .before .before .args .letter) (c .before .before .before .args .low) (c .before .before .before .args .high) (c .before .before .before .args .s .now) (c .before .before .before .args .at) starts-with
 
 pub first-spec : {M : Type 1} → statement M
 first-spec =

@@ -10,17 +10,21 @@ starts-with-requires c κs = search needs
 
 add-starts-with : tie.Need-add-starts-with
 add-starts-with c =
-    let e = (rw (c .if1 .taken) at (c .before .starts-with .ensures)) in
-    omega (arith, e .within)
+    let starts-with = rw (c .if1 .taken) at (c .before .starts-with .ensures) in
+    omega (arith, starts-with .within)
 
 starts-with-requires-2 : tie.Need-starts-with-requires-2
 starts-with-requires-2 c κs = search needs
 
 returns : tie.Need-returns
-returns c = dashed-some (rw (c .before .if1 .taken) at (c .before .before .starts-with .ensures)) (c .starts-with2 .result) (c .starts-with2 .ensures)
+returns c =
+    let starts-with = rw (c .before .if1 .taken) at (c .before .before .starts-with .ensures) in
+    dashed-some starts-with (c .starts-with2 .result) (c .starts-with2 .ensures)
 
 returns-2 : tie.Need-returns-2
-returns-2 c = dashed-none (c .before .before .before .args .s .now) (c .before .before .before .args .at) (rw (c .if1 .left) at (c .before .starts-with .ensures))
+returns-2 c =
+    let starts-with = rw (c .if1 .left) at (c .before .starts-with .ensures) in
+    dashed-none (c .before .before .before .args .s .now) (c .before .before .before .args .at) starts-with
 
 pub is-dashed-spec : {M : Type 1} → statement M
 is-dashed-spec =

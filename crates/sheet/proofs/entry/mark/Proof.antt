@@ -14,12 +14,14 @@ enum-told : tie.Need-enum-told
 enum-told c = search needs
 
 returns : tie.Need-returns
-returns c = mark-refused (c .before .before .before .before .args .s .now) (c .before .before .before .before .args .at) (rw (c .enum-told .given .1) at (c .before .before .item .ensures))
+returns c =
+    let item = rw (c .enum-told .given .1) at (c .before .before .item .ensures) in
+    mark-refused (c .before .before .before .before .args .s .now) (c .before .before .before .before .args .at) item
 
 returns-2 : tie.Need-returns-2
 returns-2 c =
-    let e = (rw (c .before .n .given .1) at (c .before .before .before .item .ensures)) in
-    mark-reads (e .0)
+    let item = rw (c .before .n .given .1) at (c .before .before .before .item .ensures) in
+    mark-reads (item .0)
 
 pub mark-spec : {M : Type 1} → statement M
 mark-spec =

@@ -19,14 +19,18 @@ is-text-requires c κs = c .before .before .before .before .pre
 
 add-t9 : tie.Need-add-t9
 add-t9 c =
-    let t = (rw (c .if1 .taken) at (c .before .is-text .ensures)) in
-    omega (arith, t .1)
+    let is-text = rw (c .if1 .taken) at (c .before .is-text .ensures) in
+    omega (arith, is-text .1)
 
 returns-2 : tie.Need-returns-2
-returns-2 c = optional-present (c .before .before .before .before .before .before .args .len) _ (c .before .before .before .before .before .before .args .s .now) (c .before .before .before .before .before .before .args .at) (c .before .before .before .len .given .1) (rw (c .if1 .taken) at (c .before .is-text .ensures))
+returns-2 c =
+    let is-text = rw (c .if1 .taken) at (c .before .is-text .ensures) in
+    optional-present (c .before .before .before .before .before .before .args .len) _ (c .before .before .before .before .before .before .args .s .now) (c .before .before .before .before .before .before .args .at) (c .before .before .before .len .given .1) is-text
 
 returns-3 : tie.Need-returns-3
-returns-3 c = optional-refused (c .before .before .before .before .before .before .args .len) _ (c .before .before .before .before .before .before .args .s .now) (c .before .before .before .before .before .before .args .at) (c .before .before .before .len .given .1) (rw (c .if1 .left) at (c .before .is-text .ensures))
+returns-3 c =
+    let is-text = rw (c .if1 .left) at (c .before .is-text .ensures) in
+    optional-refused (c .before .before .before .before .before .before .args .len) _ (c .before .before .before .before .before .before .args .s .now) (c .before .before .before .before .before .before .args .at) (c .before .before .before .len .given .1) is-text
 
 pub optional-text-spec : {M : Type 1} → statement M
 optional-text-spec =

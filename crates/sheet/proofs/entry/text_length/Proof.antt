@@ -11,12 +11,14 @@ is-dashed-requires c κs = search needs
 
 add-t7 : tie.Need-add-t7
 add-t7 c =
-    let e = (rw (c .if1 .taken) at (c .before .is-dashed .ensures)) in
-    omega (arith, e .within)
+    let is-dashed = rw (c .if1 .taken) at (c .before .is-dashed .ensures) in
+    omega (arith, is-dashed .within)
 
 returns : tie.Need-returns
 unfolding lengthOf
-returns c = length-dashed (rw (c .if1 .taken) at (c .before .is-dashed .ensures))
+returns c =
+    let is-dashed = rw (c .if1 .taken) at (c .before .is-dashed .ensures) in
+    length-dashed is-dashed
 
 item-requires : tie.Need-item-requires
 item-requires c κs = search needs
@@ -28,13 +30,17 @@ enum-told : tie.Need-enum-told
 enum-told c = search needs
 
 returns-2 : tie.Need-returns-2
-returns-2 c = length-refused (c .before .before .before .before .before .before .args .s .now) (c .before .before .before .before .before .before .args .at) (rw (c .before .before .before .if1 .left) at (c .before .before .before .before .is-dashed .ensures)) (rw (c .enum-told .given .1) at (c .before .before .item .ensures))
+returns-2 c =
+    let is-dashed = rw (c .before .before .before .if1 .left) at (c .before .before .before .before .is-dashed .ensures) in
+    let item = rw (c .enum-told .given .1) at (c .before .before .item .ensures) in
+    length-refused (c .before .before .before .before .before .before .args .s .now) (c .before .before .before .before .before .before .args .at) is-dashed item
 
 returns-3 : tie.Need-returns-3
 unfolding lengthOf
 returns-3 c =
-    let e = (rw (c .before .n .given .1) at (c .before .before .before .item .ensures)) in
-    length-reads (c .before .before .before .before .before .before .before .args .s .now) (c .before .before .before .before .before .before .before .args .at) (rw (c .before .before .before .before .if1 .left) at (c .before .before .before .before .before .is-dashed .ensures)) (e .0)
+    let is-dashed = rw (c .before .before .before .before .if1 .left) at (c .before .before .before .before .before .is-dashed .ensures) in
+    let item = rw (c .before .n .given .1) at (c .before .before .before .item .ensures) in
+    length-reads (c .before .before .before .before .before .before .before .args .s .now) (c .before .before .before .before .before .before .before .args .at) is-dashed (item .0)
 
 pub text-length-spec : {M : Type 1} → statement M
 text-length-spec =

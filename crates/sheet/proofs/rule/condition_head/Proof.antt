@@ -17,7 +17,9 @@ enum-told : tie.Need-enum-told
 enum-told c = search needs
 
 returns : tie.Need-returns
-returns c = condition-other (c .before .before .before .before .args .s .now) (c .before .before .before .before .args .at) (rw (c .enum-told .given .1) at (c .before .before .first .ensures))
+returns c =
+    let first = rw (c .enum-told .given .1) at (c .before .before .first .ensures) in
+    condition-other (c .before .before .before .before .args .s .now) (c .before .before .before .before .args .at) first
 
 shape-of-requires : tie.Need-shape-of-requires
 shape-of-requires c κs = search needs
@@ -39,8 +41,12 @@ enum-told-2 c = search needs
 
 returns-2 : tie.Need-returns-2
 returns-2 c =
-    let o = (rw (c .before .before .before .before .before .before .before .op .given .1) at (c .before .before .before .before .before .before .before .before .before .first .ensures)) in
-    condition-no-number (o .0) (shapeFor (c .before .before .before .before .before .shape-of .result)) (c .before .before .before .before .before .shape-of .ensures) (c .before .before .before .before .least .result) (c .before .before .before .most .result) (c .before .before .before .before .least .ensures) (c .before .before .before .most .ensures) (rw (c .enum-told2 .given .1) at (c .before .before .item .ensures))
+    let first = rw (c .before .before .before .before .before .before .before .op .given .1) at (c .before .before .before .before .before .before .before .before .before .first .ensures) in
+    let item = rw (c .enum-told2 .given .1) at (c .before .before .item .ensures) in
+    let shape-of = c .before .before .before .before .before .shape-of in
+    let least = c .before .before .before .before .least in
+    let most = c .before .before .before .most in
+    condition-no-number (first .0) (shapeFor (shape-of .result)) (shape-of .ensures) (least .result) (most .result) (least .ensures) (most .ensures) item
 
 bind-len-requires : tie.Need-bind-len-requires
 bind-len-requires c κs = search needs
@@ -50,36 +56,47 @@ is-last-text-requires c κs = search needs
 
 add-start : tie.Need-add-start
 add-start c =
-    let e = (rw (c .if1 .taken) at (c .before .is-last-text .ensures)) in
-    omega (arith, e .within)
+    let is-last-text = rw (c .if1 .taken) at (c .before .is-last-text .ensures) in
+    omega (arith, is-last-text .within)
 
 condition-from-requires : tie.Need-condition-from-requires
 condition-from-requires c κs = search needs
 
 add-t17 : tie.Need-add-t17
 add-t17 c =
-    let e = (rw (c .before .if1 .taken) at (c .before .before .is-last-text .ensures)) in
-    omega (arith, e .within)
+    let is-last-text = rw (c .before .if1 .taken) at (c .before .before .is-last-text .ensures) in
+    omega (arith, is-last-text .within)
 
 add-t18 : tie.Need-add-t18
 add-t18 c =
-    let e = (rw (c .before .if1 .taken) at (c .before .before .is-last-text .ensures)) in
-    omega (arith, e .within)
+    let is-last-text = rw (c .before .if1 .taken) at (c .before .before .is-last-text .ensures) in
+    omega (arith, is-last-text .within)
 
 returns-3 : tie.Need-returns-3
 unfolding partOf
 returns-3 c =
-    let o = (rw (c .before .before .before .before .before .before .before .before .before .before .before .before .op .given .1) at (c .before .before .before .before .before .before .before .before .before .before .before .before .before .before .first .ensures)) in
-    let m = (rw (c .before .before .before .before .before .n .given .1) at (c .before .before .before .before .before .before .before .item .ensures)) in
-    let sh = shapeFor (c .before .before .before .before .before .before .before .before .before .before .shape-of .result) in
-    rw (c .condition-from .ensures, ← condition-code)
-    (condition-reads (o .0) (shapeFor (c .before .before .before .before .before .before .before .before .before .before .shape-of .result)) (c .before .before .before .before .before .before .before .before .before .before .shape-of .ensures) (c .before .before .before .before .before .before .before .before .before .least .result) (c .before .before .before .before .before .before .before .before .most .result) (c .before .before .before .before .before .before .before .before .before .least .ensures) (c .before .before .before .before .before .before .before .before .most .ensures) (m .0) (c .before .before .before .bind-len .result) (c .before .before .before .bind-len .ensures) (rw (c .before .if1 .taken) at (c .before .before .is-last-text .ensures)), condition-counted _ _ _ sh (rw (c .before .before .before .before .before .before .before .before .most .ensures) at (m .2)))
+    let first = rw (c .before .before .before .before .before .before .before .before .before .before .before .before .op .given .1) at (c .before .before .before .before .before .before .before .before .before .before .before .before .before .before .first .ensures) in
+    let item = rw (c .before .before .before .before .before .n .given .1) at (c .before .before .before .before .before .before .before .item .ensures) in
+    let is-last-text = rw (c .before .if1 .taken) at (c .before .before .is-last-text .ensures) in
+    let shape-of = c .before .before .before .before .before .before .before .before .before .before .shape-of in
+    let condition-from = c .condition-from in
+    let least = c .before .before .before .before .before .before .before .before .before .least in
+    let most = c .before .before .before .before .before .before .before .before .most in
+    let bind-len = c .before .before .before .bind-len in
+    let sh = shapeFor (shape-of .result) in
+    rw (condition-from .ensures, ← condition-code)
+    (condition-reads (first .0) (shapeFor (shape-of .result)) (shape-of .ensures) (least .result) (most .result) (least .ensures) (most .ensures) (item .0) (bind-len .result) (bind-len .ensures) is-last-text, condition-counted _ _ _ sh (rw (most .ensures) at (item .2)))
 
 returns-4 : tie.Need-returns-4
 returns-4 c =
-    let o = (rw (c .before .before .before .before .before .before .before .before .before .before .before .op .given .1) at (c .before .before .before .before .before .before .before .before .before .before .before .before .before .first .ensures)) in
-    let m = (rw (c .before .before .before .before .n .given .1) at (c .before .before .before .before .before .before .item .ensures)) in
-    condition-no-text (o .0) (shapeFor (c .before .before .before .before .before .before .before .before .before .shape-of .result)) (c .before .before .before .before .before .before .before .before .before .shape-of .ensures) (c .before .before .before .before .before .before .before .before .least .result) (c .before .before .before .before .before .before .before .most .result) (c .before .before .before .before .before .before .before .before .least .ensures) (c .before .before .before .before .before .before .before .most .ensures) (m .0) (c .before .before .bind-len .result) (c .before .before .bind-len .ensures) (rw (c .if1 .left) at (c .before .is-last-text .ensures))
+    let first = rw (c .before .before .before .before .before .before .before .before .before .before .before .op .given .1) at (c .before .before .before .before .before .before .before .before .before .before .before .before .before .first .ensures) in
+    let item = rw (c .before .before .before .before .n .given .1) at (c .before .before .before .before .before .before .item .ensures) in
+    let is-last-text = rw (c .if1 .left) at (c .before .is-last-text .ensures) in
+    let shape-of = c .before .before .before .before .before .before .before .before .before .shape-of in
+    let least = c .before .before .before .before .before .before .before .before .least in
+    let most = c .before .before .before .before .before .before .before .most in
+    let bind-len = c .before .before .bind-len in
+    condition-no-text (first .0) (shapeFor (shape-of .result)) (shape-of .ensures) (least .result) (most .result) (least .ensures) (most .ensures) (item .0) (bind-len .result) (bind-len .ensures) is-last-text
 
 pub condition-head-spec : {M : Type 1} → statement M
 condition-head-spec =

@@ -16,36 +16,40 @@ enum-told : tie.Need-enum-told
 enum-told c = search needs
 
 returns : tie.Need-returns
-returns c = key-other (c .before .before .before .before .args .s .now) (c .before .before .before .before .args .at) (rw (c .enum-told .given .1) at (c .before .before .first .ensures))
+returns c =
+    let first = rw (c .enum-told .given .1) at (c .before .before .first .ensures) in
+    key-other (c .before .before .before .before .args .s .now) (c .before .before .before .before .args .at) first
 
 is-last-text-requires : tie.Need-is-last-text-requires
 is-last-text-requires c κs = search needs
 
 add-start : tie.Need-add-start
 add-start c =
-    let e = (rw (c .if1 .taken) at (c .before .is-last-text .ensures)) in
-    omega (arith, e .within)
+    let is-last-text = rw (c .if1 .taken) at (c .before .is-last-text .ensures) in
+    omega (arith, is-last-text .within)
 
 add-t9 : tie.Need-add-t9
 add-t9 c =
-    let e = (rw (c .if1 .taken) at (c .before .is-last-text .ensures)) in
-    omega (arith, e .within)
+    let is-last-text = rw (c .if1 .taken) at (c .before .is-last-text .ensures) in
+    omega (arith, is-last-text .within)
 
 add-t10 : tie.Need-add-t10
 add-t10 c =
-    let e = (rw (c .if1 .taken) at (c .before .is-last-text .ensures)) in
-    omega (arith, e .within)
+    let is-last-text = rw (c .if1 .taken) at (c .before .is-last-text .ensures) in
+    omega (arith, is-last-text .within)
 
 returns-2 : tie.Need-returns-2
 unfolding partOf
 returns-2 c =
-    let o = (rw (c .before .before .before .len .given .1) at (c .before .before .before .before .before .first .ensures)) in
-    key-reads (o .0) (rw (c .if1 .taken) at (c .before .is-last-text .ensures))
+    let first = rw (c .before .before .before .len .given .1) at (c .before .before .before .before .before .first .ensures) in
+    let is-last-text = rw (c .if1 .taken) at (c .before .is-last-text .ensures) in
+    key-reads (first .0) is-last-text
 
 returns-3 : tie.Need-returns-3
 returns-3 c =
-    let o = (rw (c .before .before .before .len .given .1) at (c .before .before .before .before .before .first .ensures)) in
-    key-no-text (o .0) (rw (c .if1 .left) at (c .before .is-last-text .ensures))
+    let first = rw (c .before .before .before .len .given .1) at (c .before .before .before .before .before .first .ensures) in
+    let is-last-text = rw (c .if1 .left) at (c .before .is-last-text .ensures) in
+    key-no-text (first .0) is-last-text
 
 pub key-head-spec : {M : Type 1} → statement M
 key-head-spec =

@@ -11,40 +11,53 @@ starts-with-requires c κs = search needs
 
 add-rule-texts : tie.Need-add-rule-texts
 add-rule-texts c =
-    let e = (rw (c .if1 .taken) at (c .before .starts-with .ensures)) in
-    omega (arith, e .within)
+    let starts-with = rw (c .if1 .taken) at (c .before .starts-with .ensures) in
+    omega (arith, starts-with .within)
 
 rule-texts-requires : tie.Need-rule-texts-requires
 rule-texts-requires c κs = search needs
 
 returns : tie.Need-returns
-returns c = rule-named (rw (c .before .if1 .taken) at (c .before .before .starts-with .ensures)) (c .rule-texts .result) (c .rule-texts .ensures)
+returns c =
+    let starts-with = rw (c .before .if1 .taken) at (c .before .before .starts-with .ensures) in
+    rule-named starts-with (c .rule-texts .result) (c .rule-texts .ensures)
 
 starts-with-requires-2 : tie.Need-starts-with-requires-2
 starts-with-requires-2 c κs = search needs
 
 add-starts-with : tie.Need-add-starts-with
 add-starts-with c =
-    let e = (rw (c .if2 .taken) at (c .before .starts-with2 .ensures)) in
-    omega (arith, e .within)
+    let starts-with2 = rw (c .if2 .taken) at (c .before .starts-with2 .ensures) in
+    omega (arith, starts-with2 .within)
 
 starts-with-requires-3 : tie.Need-starts-with-requires-3
 starts-with-requires-3 c κs = search needs
 
 add-t9 : tie.Need-add-t9
 add-t9 c =
-    let e = (rw (c .if3 .taken) at (c .before .starts-with3 .ensures)) in
-    omega (arith, e .within)
+    let starts-with3 = rw (c .if3 .taken) at (c .before .starts-with3 .ensures) in
+    omega (arith, starts-with3 .within)
 
 returns-2 : tie.Need-returns-2
 unfolding ruleOf
-returns-2 c = template-reads (c .before .before .before .before .before .before .before .args .s .now) (c .before .before .before .before .before .before .before .args .at) (rw (c .before .before .before .before .if1 .left) at (c .before .before .before .before .before .starts-with .ensures)) (rw (c .before .before .if2 .taken) at (c .before .before .before .starts-with2 .ensures)) (rw (c .if3 .taken) at (c .before .starts-with3 .ensures))
+returns-2 c =
+    let starts-with = rw (c .before .before .before .before .if1 .left) at (c .before .before .before .before .before .starts-with .ensures) in
+    let starts-with2 = rw (c .before .before .if2 .taken) at (c .before .before .before .starts-with2 .ensures) in
+    let starts-with3 = rw (c .if3 .taken) at (c .before .starts-with3 .ensures) in
+    template-reads (c .before .before .before .before .before .before .before .args .s .now) (c .before .before .before .before .before .before .before .args .at) starts-with starts-with2 starts-with3
 
 returns-3 : tie.Need-returns-3
-returns-3 c = template-no-end (c .before .before .before .before .before .before .before .args .s .now) (c .before .before .before .before .before .before .before .args .at) (rw (c .before .before .before .before .if1 .left) at (c .before .before .before .before .before .starts-with .ensures)) (rw (c .before .before .if2 .taken) at (c .before .before .before .starts-with2 .ensures)) (rw (c .if3 .left) at (c .before .starts-with3 .ensures))
+returns-3 c =
+    let starts-with = rw (c .before .before .before .before .if1 .left) at (c .before .before .before .before .before .starts-with .ensures) in
+    let starts-with2 = rw (c .before .before .if2 .taken) at (c .before .before .before .starts-with2 .ensures) in
+    let starts-with3 = rw (c .if3 .left) at (c .before .starts-with3 .ensures) in
+    template-no-end (c .before .before .before .before .before .before .before .args .s .now) (c .before .before .before .before .before .before .before .args .at) starts-with starts-with2 starts-with3
 
 returns-4 : tie.Need-returns-4
-returns-4 c = rule-other (c .before .before .before .before .before .args .s .now) (c .before .before .before .before .before .args .at) (rw (c .before .before .if1 .left) at (c .before .before .before .starts-with .ensures)) (rw (c .if2 .left) at (c .before .starts-with2 .ensures))
+returns-4 c =
+    let starts-with = rw (c .before .before .if1 .left) at (c .before .before .before .starts-with .ensures) in
+    let starts-with2 = rw (c .if2 .left) at (c .before .starts-with2 .ensures) in
+    rule-other (c .before .before .before .before .before .args .s .now) (c .before .before .before .before .before .args .at) starts-with starts-with2
 
 pub rule-head-spec : {M : Type 1} → statement M
 rule-head-spec =

@@ -16,7 +16,9 @@ enum-told : tie.Need-enum-told
 enum-told c = search needs
 
 returns : tie.Need-returns
-returns c = value-other (c .before .before .before .before .args .s .now) (c .before .before .before .before .args .at) (rw (c .enum-told .given .1) at (c .before .before .first .ensures))
+returns c =
+    let first = rw (c .enum-told .given .1) at (c .before .before .first .ensures) in
+    value-other (c .before .before .before .before .args .s .now) (c .before .before .before .before .args .at) first
 
 kind-of-requires : tie.Need-kind-of-requires
 kind-of-requires c κs = search needs
@@ -35,8 +37,11 @@ enum-told-2 c = search needs
 
 returns-2 : tie.Need-returns-2
 returns-2 c =
-    let o = (rw (c .before .before .before .before .before .before .number .given .1) at (c .before .before .before .before .before .before .before .before .first .ensures)) in
-    value-no-number (o .0) (c .before .before .before .before .kind-of .result) (c .before .before .before .before .kind-of .ensures) (c .before .before .before .most-of .result) (c .before .before .before .most-of .ensures) (rw (c .enum-told2 .given .1) at (c .before .before .item .ensures))
+    let first = rw (c .before .before .before .before .before .before .number .given .1) at (c .before .before .before .before .before .before .before .before .first .ensures) in
+    let item = rw (c .enum-told2 .given .1) at (c .before .before .item .ensures) in
+    let kind-of = c .before .before .before .before .kind-of in
+    let most-of = c .before .before .before .most-of in
+    value-no-number (first .0) (kind-of .result) (kind-of .ensures) (most-of .result) (most-of .ensures) item
 
 text-len-requires : tie.Need-text-len-requires
 text-len-requires c κs = search needs
@@ -46,8 +51,8 @@ is-last-text-requires c κs = search needs
 
 add-start : tie.Need-add-start
 add-start c =
-    let e = (rw (c .if1 .taken) at (c .before .is-last-text .ensures)) in
-    omega (arith, e .within)
+    let is-last-text = rw (c .if1 .taken) at (c .before .is-last-text .ensures) in
+    omega (arith, is-last-text .within)
 
 bytes-of-requires : tie.Need-bytes-of-requires
 bytes-of-requires c κs = search needs
@@ -60,36 +65,53 @@ value-from-requires c κs = search needs
 
 add-t18 : tie.Need-add-t18
 add-t18 c =
-    let e = (rw (c .before .before .before .before .if1 .taken) at (c .before .before .before .before .before .is-last-text .ensures)) in
-    omega (arith, e .within)
+    let is-last-text = rw (c .before .before .before .before .if1 .taken) at (c .before .before .before .before .before .is-last-text .ensures) in
+    omega (arith, is-last-text .within)
 
 add-t19 : tie.Need-add-t19
 add-t19 c =
-    let e = (rw (c .before .before .before .before .if1 .taken) at (c .before .before .before .before .before .is-last-text .ensures)) in
-    omega (arith, e .within)
+    let is-last-text = rw (c .before .before .before .before .if1 .taken) at (c .before .before .before .before .before .is-last-text .ensures) in
+    omega (arith, is-last-text .within)
 
 returns-3 : tie.Need-returns-3
 unfolding partOf
 returns-3 c =
-    let o = (rw (c .before .before .before .before .before .before .before .before .before .before .before .before .before .before .number .given .1) at (c .before .before .before .before .before .before .before .before .before .before .before .before .before .before .before .before .first .ensures)) in
-    let m = (rw (c .before .before .before .before .before .before .before .before .n .given .1) at (c .before .before .before .before .before .before .before .before .before .before .item .ensures)) in
-    let w = rw (c .before .if2 .taken, c .before .before .before .bytes-of .ensures) at (c .before .before .is-right .ensures) in
-    rw (c .value-from .ensures, ← value-code)
-    (value-reads (o .0) (c .before .before .before .before .before .before .before .before .before .before .before .before .kind-of .result) (c .before .before .before .before .before .before .before .before .before .before .before .before .kind-of .ensures) (c .before .before .before .before .before .before .before .before .before .before .before .most-of .result) (c .before .before .before .before .before .before .before .before .before .before .before .most-of .ensures) (m .0) (c .before .before .before .before .before .before .text-len .result) (c .before .before .before .before .before .before .text-len .ensures) (rw (c .before .before .before .before .if1 .taken) at (c .before .before .before .before .before .is-last-text .ensures)) w, value-counted (c .before .before .before .before .before .before .before .before .before .before .before .before .kind-of .result) _ _ _ (rw (c .before .before .before .before .before .before .before .before .before .before .before .most-of .ensures) at (m .2)))
+    let first = rw (c .before .before .before .before .before .before .before .before .before .before .before .before .before .before .number .given .1) at (c .before .before .before .before .before .before .before .before .before .before .before .before .before .before .before .before .first .ensures) in
+    let item = rw (c .before .before .before .before .before .before .before .before .n .given .1) at (c .before .before .before .before .before .before .before .before .before .before .item .ensures) in
+    let is-last-text = rw (c .before .before .before .before .if1 .taken) at (c .before .before .before .before .before .is-last-text .ensures) in
+    let bytes-of = c .before .before .before .bytes-of in
+    let is-right = c .before .before .is-right in
+    let value-from = c .value-from in
+    let kind-of = c .before .before .before .before .before .before .before .before .before .before .before .before .kind-of in
+    let most-of = c .before .before .before .before .before .before .before .before .before .before .before .most-of in
+    let text-len = c .before .before .before .before .before .before .text-len in
+    let w = rw (c .before .if2 .taken, bytes-of .ensures) at (is-right .ensures) in
+    rw (value-from .ensures, ← value-code)
+    (value-reads (first .0) (kind-of .result) (kind-of .ensures) (most-of .result) (most-of .ensures) (item .0) (text-len .result) (text-len .ensures) is-last-text w, value-counted (kind-of .result) _ _ _ (rw (most-of .ensures) at (item .2)))
 
 returns-4 : tie.Need-returns-4
 unfolding partOf
 returns-4 c =
-    let o = (rw (c .before .before .before .before .before .before .before .before .before .before .before .before .before .number .given .1) at (c .before .before .before .before .before .before .before .before .before .before .before .before .before .before .before .first .ensures)) in
-    let m = (rw (c .before .before .before .before .before .before .before .n .given .1) at (c .before .before .before .before .before .before .before .before .before .item .ensures)) in
-    let w = rw (c .if2 .left, c .before .before .bytes-of .ensures) at (c .before .is-right .ensures) in
-    value-wrong (o .0) (c .before .before .before .before .before .before .before .before .before .before .before .kind-of .result) (c .before .before .before .before .before .before .before .before .before .before .before .kind-of .ensures) (c .before .before .before .before .before .before .before .before .before .before .most-of .result) (c .before .before .before .before .before .before .before .before .before .before .most-of .ensures) (m .0) (c .before .before .before .before .before .text-len .result) (c .before .before .before .before .before .text-len .ensures) (rw (c .before .before .before .if1 .taken) at (c .before .before .before .before .is-last-text .ensures)) w
+    let first = rw (c .before .before .before .before .before .before .before .before .before .before .before .before .before .number .given .1) at (c .before .before .before .before .before .before .before .before .before .before .before .before .before .before .before .first .ensures) in
+    let item = rw (c .before .before .before .before .before .before .before .n .given .1) at (c .before .before .before .before .before .before .before .before .before .item .ensures) in
+    let is-last-text = rw (c .before .before .before .if1 .taken) at (c .before .before .before .before .is-last-text .ensures) in
+    let bytes-of = c .before .before .bytes-of in
+    let is-right = c .before .is-right in
+    let kind-of = c .before .before .before .before .before .before .before .before .before .before .before .kind-of in
+    let most-of = c .before .before .before .before .before .before .before .before .before .before .most-of in
+    let text-len = c .before .before .before .before .before .text-len in
+    let w = rw (c .if2 .left, bytes-of .ensures) at (is-right .ensures) in
+    value-wrong (first .0) (kind-of .result) (kind-of .ensures) (most-of .result) (most-of .ensures) (item .0) (text-len .result) (text-len .ensures) is-last-text w
 
 returns-5 : tie.Need-returns-5
 returns-5 c =
-    let o = (rw (c .before .before .before .before .before .before .before .before .before .before .number .given .1) at (c .before .before .before .before .before .before .before .before .before .before .before .before .first .ensures)) in
-    let m = (rw (c .before .before .before .before .n .given .1) at (c .before .before .before .before .before .before .item .ensures)) in
-    value-no-text (o .0) (c .before .before .before .before .before .before .before .before .kind-of .result) (c .before .before .before .before .before .before .before .before .kind-of .ensures) (c .before .before .before .before .before .before .before .most-of .result) (c .before .before .before .before .before .before .before .most-of .ensures) (m .0) (c .before .before .text-len .result) (c .before .before .text-len .ensures) (rw (c .if1 .left) at (c .before .is-last-text .ensures))
+    let first = rw (c .before .before .before .before .before .before .before .before .before .before .number .given .1) at (c .before .before .before .before .before .before .before .before .before .before .before .before .first .ensures) in
+    let item = rw (c .before .before .before .before .n .given .1) at (c .before .before .before .before .before .before .item .ensures) in
+    let is-last-text = rw (c .if1 .left) at (c .before .is-last-text .ensures) in
+    let kind-of = c .before .before .before .before .before .before .before .before .kind-of in
+    let most-of = c .before .before .before .before .before .before .before .most-of in
+    let text-len = c .before .before .text-len in
+    value-no-text (first .0) (kind-of .result) (kind-of .ensures) (most-of .result) (most-of .ensures) (item .0) (text-len .result) (text-len .ensures) is-last-text
 
 pub value-head-spec : {M : Type 1} → statement M
 value-head-spec =

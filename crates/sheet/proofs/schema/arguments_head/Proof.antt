@@ -11,8 +11,8 @@ is-dashed-requires c κs = search needs
 
 add-item : tie.Need-add-item
 add-item c =
-    let e = (rw (c .if1 .taken) at (c .before .is-dashed .ensures)) in
-    omega (arith, e .within)
+    let is-dashed = rw (c .if1 .taken) at (c .before .is-dashed .ensures) in
+    omega (arith, is-dashed .within)
 
 item-requires : tie.Need-item-requires
 item-requires c κs = search needs
@@ -24,13 +24,17 @@ enum-told : tie.Need-enum-told
 enum-told c = search needs
 
 returns : tie.Need-returns
-returns c = arguments-counted (rw (c .before .before .before .if1 .taken) at (c .before .before .before .before .is-dashed .ensures)) (rw (c .enum-told .given .1) at (c .before .before .item .ensures))
+returns c =
+    let is-dashed = rw (c .before .before .before .if1 .taken) at (c .before .before .before .before .is-dashed .ensures) in
+    let item = rw (c .enum-told .given .1) at (c .before .before .item .ensures) in
+    arguments-counted is-dashed item
 
 returns-2 : tie.Need-returns-2
 unfolding argumentsOf argumentCount
 returns-2 c =
-    let e = (rw (c .before .next .given .1) at (c .before .before .before .item .ensures)) in
-    (arguments-absent (rw (c .before .before .before .before .if1 .taken) at (c .before .before .before .before .before .is-dashed .ensures)) (e .0), omega arith)
+    let is-dashed = rw (c .before .before .before .before .if1 .taken) at (c .before .before .before .before .before .is-dashed .ensures) in
+    let item = rw (c .before .next .given .1) at (c .before .before .before .item .ensures) in
+    (arguments-absent is-dashed (item .0), omega arith)
 
 holder-head-requires : tie.Need-holder-head-requires
 holder-head-requires c κs = search needs
@@ -42,13 +46,17 @@ enum-told-2 : tie.Need-enum-told-2
 enum-told-2 c = search needs
 
 returns-3 : tie.Need-returns-3
-returns-3 c = arguments-refused (c .before .before .before .before .before .before .args .s .now) (c .before .before .before .before .before .before .args .at) (rw (c .before .before .before .if1 .left) at (c .before .before .before .before .is-dashed .ensures)) (rw (c .enum-told2 .given .1) at (c .before .before .holder-head .ensures))
+returns-3 c =
+    let is-dashed = rw (c .before .before .before .if1 .left) at (c .before .before .before .before .is-dashed .ensures) in
+    let holder-head = rw (c .enum-told2 .given .1) at (c .before .before .holder-head .ensures) in
+    arguments-refused (c .before .before .before .before .before .before .args .s .now) (c .before .before .before .before .before .before .args .at) is-dashed holder-head
 
 returns-4 : tie.Need-returns-4
 unfolding argumentsOf argumentCount
 returns-4 c =
-    let e = (rw (c .before .head .given .1) at (c .before .before .before .holder-head .ensures)) in
-    (arguments-reads (c .before .before .before .before .before .before .before .args .s .now) (c .before .before .before .before .before .before .before .args .at) (rw (c .before .before .before .before .if1 .left) at (c .before .before .before .before .before .is-dashed .ensures)) (e .0), e .1)
+    let is-dashed = rw (c .before .before .before .before .if1 .left) at (c .before .before .before .before .before .is-dashed .ensures) in
+    let holder-head = rw (c .before .head .given .1) at (c .before .before .before .holder-head .ensures) in
+    (arguments-reads (c .before .before .before .before .before .before .before .args .s .now) (c .before .before .before .before .before .before .before .args .at) is-dashed (holder-head .0), holder-head .1)
 
 pub arguments-head-spec : {M : Type 1} → statement M
 arguments-head-spec =

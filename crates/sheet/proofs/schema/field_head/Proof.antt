@@ -14,7 +14,9 @@ enum-told : tie.Need-enum-told
 enum-told c = search needs
 
 returns : tie.Need-returns
-returns c = field-no-marks (c .before .before .before .before .args .s .now) (c .before .before .before .before .args .at) (rw (c .enum-told .given .1) at (c .before .before .field-marks .ensures))
+returns c =
+    let field-marks = rw (c .enum-told .given .1) at (c .before .before .field-marks .ensures) in
+    field-no-marks (c .before .before .before .before .args .s .now) (c .before .before .before .before .args .at) field-marks
 
 field-texts-requires : tie.Need-field-texts-requires
 field-texts-requires c κs = search needs
@@ -27,13 +29,15 @@ enum-told-2 c = search needs
 
 returns-2 : tie.Need-returns-2
 returns-2 c =
-    let m = (rw (c .before .before .before .before .marks .given .1) at (c .before .before .before .before .before .before .field-marks .ensures)) in
-    field-no-texts (m .0) (rw (c .enum-told2 .given .1) at (c .before .before .field-texts .ensures))
+    let field-marks = rw (c .before .before .before .before .marks .given .1) at (c .before .before .before .before .before .before .field-marks .ensures) in
+    let field-texts = rw (c .enum-told2 .given .1) at (c .before .before .field-texts .ensures) in
+    field-no-texts (field-marks .0) field-texts
 
 returns-3 : tie.Need-returns-3
 returns-3 c =
-    let m = (rw (c .before .before .before .before .before .before .marks .given .1) at (c .before .before .before .before .before .before .before .before .field-marks .ensures)) in
-    (field-reads (m .0) _ _ (rw (c .before .before .texts .given .1) at (c .before .before .before .before .field-texts .ensures)), m .1, m .2)
+    let field-marks = rw (c .before .before .before .before .before .before .marks .given .1) at (c .before .before .before .before .before .before .before .before .field-marks .ensures) in
+    let field-texts = rw (c .before .before .texts .given .1) at (c .before .before .before .before .field-texts .ensures) in
+    (field-reads (field-marks .0) _ _ field-texts, field-marks .1, field-marks .2)
 
 pub field-head-spec : {M : Type 1} → statement M
 field-head-spec =

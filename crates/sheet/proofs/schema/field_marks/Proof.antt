@@ -14,7 +14,9 @@ enum-told : tie.Need-enum-told
 enum-told c = search needs
 
 returns : tie.Need-returns
-returns c = marks-no-kind (c .before .before .before .before .args .s .now) (c .before .before .before .before .args .at) (rw (c .enum-told .given .1) at (c .before .before .first .ensures))
+returns c =
+    let first = rw (c .enum-told .given .1) at (c .before .before .first .ensures) in
+    marks-no-kind (c .before .before .before .before .args .s .now) (c .before .before .before .before .args .at) first
 
 mark-requires : tie.Need-mark-requires
 mark-requires c κs = search needs
@@ -27,8 +29,9 @@ enum-told-2 c = search needs
 
 returns-2 : tie.Need-returns-2
 returns-2 c =
-    let k = (rw (c .before .before .before .before .kind .given .1) at (c .before .before .before .before .before .before .first .ensures)) in
-    marks-no-open (k .0) (rw (c .enum-told2 .given .1) at (c .before .before .mark .ensures))
+    let first = rw (c .before .before .before .before .kind .given .1) at (c .before .before .before .before .before .before .first .ensures) in
+    let mark = rw (c .enum-told2 .given .1) at (c .before .before .mark .ensures) in
+    marks-no-open (first .0) mark
 
 mark-requires-2 : tie.Need-mark-requires-2
 mark-requires-2 c κs = search needs
@@ -41,8 +44,10 @@ enum-told-3 c = search needs
 
 returns-3 : tie.Need-returns-3
 returns-3 c =
-    let k = (rw (c .before .before .before .before .before .before .before .before .kind .given .1) at (c .before .before .before .before .before .before .before .before .before .before .first .ensures)) in
-    marks-no-items (k .0) (rw (c .before .before .before .before .opened .given .1) at (c .before .before .before .before .before .before .mark .ensures)) (rw (c .enum-told3 .given .1) at (c .before .before .mark2 .ensures))
+    let first = rw (c .before .before .before .before .before .before .before .before .kind .given .1) at (c .before .before .before .before .before .before .before .before .before .before .first .ensures) in
+    let mark = rw (c .before .before .before .before .opened .given .1) at (c .before .before .before .before .before .before .mark .ensures) in
+    let mark2 = rw (c .enum-told3 .given .1) at (c .before .before .mark2 .ensures) in
+    marks-no-items (first .0) mark mark2
 
 item-requires : tie.Need-item-requires
 item-requires c κs = search needs
@@ -55,14 +60,19 @@ enum-told-4 c = search needs
 
 returns-4 : tie.Need-returns-4
 returns-4 c =
-    let k = (rw (c .before .before .before .before .before .before .before .before .before .before .before .before .kind .given .1) at (c .before .before .before .before .before .before .before .before .before .before .before .before .before .before .first .ensures)) in
-    marks-no-count (k .0) (rw (c .before .before .before .before .before .before .before .before .opened .given .1) at (c .before .before .before .before .before .before .before .before .before .before .mark .ensures)) (rw (c .before .before .before .before .items .given .1) at (c .before .before .before .before .before .before .mark2 .ensures)) (rw (c .enum-told4 .given .1) at (c .before .before .item .ensures))
+    let first = rw (c .before .before .before .before .before .before .before .before .before .before .before .before .kind .given .1) at (c .before .before .before .before .before .before .before .before .before .before .before .before .before .before .first .ensures) in
+    let mark = rw (c .before .before .before .before .before .before .before .before .opened .given .1) at (c .before .before .before .before .before .before .before .before .before .before .mark .ensures) in
+    let mark2 = rw (c .before .before .before .before .items .given .1) at (c .before .before .before .before .before .before .mark2 .ensures) in
+    let item = rw (c .enum-told4 .given .1) at (c .before .before .item .ensures) in
+    marks-no-count (first .0) mark mark2 item
 
 returns-5 : tie.Need-returns-5
 returns-5 c =
-    let k = (rw (c .before .before .before .before .before .before .before .before .before .before .before .before .before .kind .given .1) at (c .before .before .before .before .before .before .before .before .before .before .before .before .before .before .before .first .ensures)) in
-    let n = (rw (c .before .count .given .1) at (c .before .before .before .item .ensures)) in
-    (marks-read (k .0) (rw (c .before .before .before .before .before .before .before .before .before .opened .given .1) at (c .before .before .before .before .before .before .before .before .before .before .before .mark .ensures)) (rw (c .before .before .before .before .before .items .given .1) at (c .before .before .before .before .before .before .before .mark2 .ensures)) (n .0), k .2, n .2)
+    let first = rw (c .before .before .before .before .before .before .before .before .before .before .before .before .before .kind .given .1) at (c .before .before .before .before .before .before .before .before .before .before .before .before .before .before .before .first .ensures) in
+    let mark = rw (c .before .before .before .before .before .before .before .before .before .opened .given .1) at (c .before .before .before .before .before .before .before .before .before .before .before .mark .ensures) in
+    let mark2 = rw (c .before .before .before .before .before .items .given .1) at (c .before .before .before .before .before .before .before .mark2 .ensures) in
+    let item = rw (c .before .count .given .1) at (c .before .before .before .item .ensures) in
+    (marks-read (first .0) mark mark2 (item .0), first .2, item .2)
 
 pub field-marks-spec : {M : Type 1} → statement M
 field-marks-spec =

@@ -14,7 +14,9 @@ enum-told : tie.Need-enum-told
 enum-told c = search needs
 
 returns : tie.Need-returns
-returns c = holder-no-mark (c .before .before .before .before .args .s .now) (c .before .before .before .before .args .at) (rw (c .enum-told .given .1) at (c .before .before .mark .ensures))
+returns c =
+    let mark = rw (c .enum-told .given .1) at (c .before .before .mark .ensures) in
+    holder-no-mark (c .before .before .before .before .args .s .now) (c .before .before .before .before .args .at) mark
 
 item-requires : tie.Need-item-requires
 item-requires c κs = search needs
@@ -26,12 +28,16 @@ enum-told-2 : tie.Need-enum-told-2
 enum-told-2 c = search needs
 
 returns-2 : tie.Need-returns-2
-returns-2 c = holder-no-count (rw (c .before .before .before .before .opened .given .1) at (c .before .before .before .before .before .before .mark .ensures)) (rw (c .enum-told2 .given .1) at (c .before .before .item .ensures))
+returns-2 c =
+    let mark = rw (c .before .before .before .before .opened .given .1) at (c .before .before .before .before .before .before .mark .ensures) in
+    let item = rw (c .enum-told2 .given .1) at (c .before .before .item .ensures) in
+    holder-no-count mark item
 
 returns-3 : tie.Need-returns-3
 returns-3 c =
-    let e = (rw (c .before .count .given .1) at (c .before .before .before .item .ensures)) in
-    (holder-reads (rw (c .before .before .before .before .before .opened .given .1) at (c .before .before .before .before .before .before .before .mark .ensures)) (e .0), e .2)
+    let mark = rw (c .before .before .before .before .before .opened .given .1) at (c .before .before .before .before .before .before .before .mark .ensures) in
+    let item = rw (c .before .count .given .1) at (c .before .before .before .item .ensures) in
+    (holder-reads mark (item .0), item .2)
 
 pub holder-head-spec : {M : Type 1} → statement M
 holder-head-spec =

@@ -1,3 +1,4 @@
+-- `walk::path::first_dot` meets its contract.
 use Prim.Native.Nat.{_≤_, _-_}
 use lib.ListN.{length}
 use Rattle.walk.proofs.Dots.{Passed, passed-none, passed-more, passed-dot, passed-all}
@@ -5,8 +6,6 @@ use native.Mathlib.Omega.{arith}
 use borrow.Author.Needs.{needs}
 use Rattle.walk.proofs.path.first_dot.Statement.{statement}
 use Rattle.walk.proofs.path.first_dot.Tie as tie
-use Rattle.walk.proofs.path.first_dot.Reads as reads
-use Rattle.walk.proofs.path.first_dot.Lts as lts
 
 abbrev Inv-loop : tie.InvT-loop
 Inv-loop path i₀ i = (i ≤ length path) × Passed path i
@@ -14,31 +13,24 @@ Inv-loop path i₀ i = (i ≤ length path) × Passed path i
 abbrev μ-loop : tie.MeasureT-loop
 μ-loop path i₀ i = length path - i
 
--- src/path.rt:18:5
 loop-holds : tie.Need-loop-holds Inv-loop μ-loop
 loop-holds c = (omega arith, passed-none _)
 
--- src/path.rt:19:12
 shared-slice-read-if1 : tie.Need-shared-slice-read-if1 Inv-loop μ-loop
 shared-slice-read-if1 c = search needs
 
--- src/path.rt:20:13
 returns : tie.Need-returns Inv-loop μ-loop
 returns c = search (passed-dot, needs)
 
--- src/path.rt:22:9
 add-i : tie.Need-add-i Inv-loop μ-loop
 add-i c = search needs
 
--- src/path.rt:18:5
 loop-less : tie.Need-loop-less Inv-loop μ-loop
 loop-less c = search needs
 
--- src/path.rt:18:5
 loop-again : tie.Need-loop-again Inv-loop μ-loop
 loop-again c = search (passed-more, needs)
 
--- src/path.rt:14:1
 returns-2 : tie.Need-returns-2 Inv-loop μ-loop
 returns-2 c = search (passed-all, needs)
 

@@ -1,12 +1,10 @@
+-- `walk::path::is_digits` meets its contract.
 use Prim.Native.Nat.{_≤_, _-_}
 use lib.ListN.{length}
 use Rattle.walk.proofs.Digits.{SoFar, digit-passed, below-digits, above-digits, digits-ended}
-use native.Mathlib.Omega.{arith}
 use borrow.Author.Needs.{needs}
 use Rattle.walk.proofs.path.is_digits.Statement.{statement}
 use Rattle.walk.proofs.path.is_digits.Tie as tie
-use Rattle.walk.proofs.path.is_digits.Reads as reads
-use Rattle.walk.proofs.path.is_digits.Lts as lts
 
 abbrev Inv-loop : tie.InvT-loop
 Inv-loop segment i₀ i = (i ≤ length segment) × SoFar segment i
@@ -14,35 +12,27 @@ Inv-loop segment i₀ i = (i ≤ length segment) × SoFar segment i
 abbrev μ-loop : tie.MeasureT-loop
 μ-loop segment i₀ i = length segment - i
 
--- src/path.rt:31:5
 loop-holds : tie.Need-loop-holds Inv-loop μ-loop
 loop-holds c = search needs
 
--- src/path.rt:32:17
 shared-slice-read-b : tie.Need-shared-slice-read-b Inv-loop μ-loop
 shared-slice-read-b c = search needs
 
--- src/path.rt:34:13
 returns : tie.Need-returns Inv-loop μ-loop
 returns c = search (below-digits, needs)
 
--- src/path.rt:37:13
 returns-2 : tie.Need-returns-2 Inv-loop μ-loop
 returns-2 c = search (above-digits, needs)
 
--- src/path.rt:39:9
 add-i : tie.Need-add-i Inv-loop μ-loop
 add-i c = search needs
 
--- src/path.rt:31:5
 loop-less : tie.Need-loop-less Inv-loop μ-loop
 loop-less c = search needs
 
--- src/path.rt:31:5
 loop-again : tie.Need-loop-again Inv-loop μ-loop
 loop-again c = search (digit-passed, needs)
 
--- src/path.rt:27:1
 returns-3 : tie.Need-returns-3 Inv-loop μ-loop
 returns-3 c = search (digits-ended, needs)
 

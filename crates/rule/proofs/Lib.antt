@@ -1,0 +1,11 @@
+mod CloseLaws
+mod ConditionAnswers
+mod ConditionLaws
+mod KeptLaws
+mod KeyLaws
+mod ReaderLaws
+mod RuleLaws
+mod SiblingKinds
+mod SiblingLaws
+mod ValueAnswers
+mod ValueLaws

@@ -1,0 +1,129 @@
+-- Siblings, read one by one: what has been read is right for the whole if what is left is.
+use Prim.Native.Nat.{ℕ, suc, _+_, _-_, _≤_, _<_}
+use mathlib.Core.List.{List}
+use mathlib.Core.Option.{Option, none, some}
+use mathlib.Core.Path.{_≡_, refl, sym, ap, _∙_}
+use native.Mathlib.Omega.{arith}
+use lib.ListN.{length}
+use Rattle.sheet.specs.Reader.{Reader, pure, andThen, _>>=_}
+use Rattle.definition.specs.Limits.{maxSheetBytes, maxRuleEntries}
+use Rattle.definition.specs.Decode.{Ahead}
+use Rattle.rule.specs.declared.cursor.Cursor.{Cursor}
+use Rattle.rule.specs.IndexLaws.{Agree, agree-within, agree-then, agree-same}
+use Rattle.rule.specs.Read.{aheadOf, Kept, Ready, Indexed}
+use Rattle.rule.proofs.KeptLaws.{kept-all, kept-then, kept-wider, agree-below}
+
+-- A kind of siblings: each reader is told what the one before it read.
+pub record Siblings (K E T : Type 0) : Type 1 where
+  pub item : K → Reader Ahead E
+  pub all : K → ℕ → Reader Ahead T
+  pub told : E → K
+  pub none-of : T
+  pub cons : E → T → T
+  pub ItemAt : List ℕ → ℕ → E → Type 0
+  pub AllAt : List ℕ → ℕ → T → Type 0
+  pub itemSize : E → ℕ
+  pub allSize : T → ℕ
+  pub all-zero : (k : K) (a : Ahead) → all k 0 a ≡ some (none-of, a)
+  pub all-suc : (k : K) (n : ℕ) (a : Ahead) → all k (suc n) a ≡ andThen (item k a) (λ e. all (told e) n >>= λ t. pure (cons e t))
+  pub none-at : (words : List ℕ) (i : ℕ) → AllAt words i none-of
+  pub cons-at : (words : List ℕ) (i : ℕ) (e : E) (t : T) → ItemAt words i e → AllAt words (i + itemSize e) t → AllAt words i (cons e t)
+  pub none-size : allSize none-of ≡ 0
+  pub cons-size : (e : E) (t : T) → allSize (cons e t) ≡ itemSize e + allSize t
+  pub item-frame : (words later : List ℕ) (i : ℕ) (e : E) → ItemAt words i e → Agree words later i (i + itemSize e) → ItemAt later i e
+
+-- `count` siblings, of `cost` entries, were announced at `c`; `n` of them, of `paid` entries, lie ahead of `here`
+pub record Passing {K E T : Type 0} (S : Siblings K E T) (s before words : List ℕ) (first k : K) (count cost n paid : ℕ) (c here : Cursor) : Type 0 where
+  pub done : T → T
+  pub onward : S .all first count (aheadOf s c) ≡ andThen (S .all k n (aheadOf s here)) (λ t. pure (done t))
+  pub indexed : (later : List ℕ) (t : T) → Agree words later (c .word) (here .word) → S .AllAt later (here .word) t → S .AllAt later (c .word) (done t)
+  pub size : (t : T) → c .word + S .allSize (done t) ≡ here .word + S .allSize t
+  pub kept : Kept before words (c .word) (here .word)
+  pub rises : c .word ≤ here .word
+  pub ready : Ready s words paid here
+  pub budget : here .word + paid + here .left ≡ c .word + cost + c .left
+
+then-pure : {T : Type 0} (o : Option (T × Ahead)) → o ≡ andThen o (λ t. pure t)
+unfolding andThen pure
+then-pure none = refl
+then-pure (some r) = refl
+
+then-twice : {T : Type 0} (f g : T → T) (o : Option (T × Ahead))
+    → andThen (andThen o (λ t. pure (g t))) (λ t. pure (f t)) ≡ andThen o (λ t. pure (f (g t)))
+unfolding andThen pure
+then-twice f g none = refl
+then-twice f g (some r) = refl
+
+pub siblings-begin : {K E T : Type 0} (S : Siblings K E T) {s words : List ℕ} (k : K) (count : ℕ) {cost : ℕ} {c : Cursor}
+    → Ready s words cost c
+    → Passing S s words words k k count cost count cost c c
+siblings-begin S {s} k count {c} ready =
+    record {
+      done = λ t. t;
+      onward = then-pure (S .all k count (aheadOf s c));
+      indexed = λ later t agree at. at;
+      size = λ t. refl;
+      kept = kept-all;
+      rises = omega arith;
+      ready = ready;
+      budget = refl;
+    }
+
+module _ {K E T : Type 0} {S : Siblings K E T} {s before words : List ℕ} {first k : K} {count cost n paid : ℕ} {c here : Cursor} (passing : Passing S s before words first k count cost n paid c here) where
+  item-then : (o : Option (E × Ahead))
+      → 0 < n
+      → S .item k (aheadOf s here) ≡ o
+      → S .all k n (aheadOf s here) ≡ andThen o (λ e. S .all (S .told e) (n - 1) >>= λ t. pure (S .cons e t))
+  item-then o h e =
+      let one-more : n ≡ suc (n - 1) = omega arith in
+      ap (λ (n : ℕ). S .all k n (aheadOf s here)) one-more
+      ∙ S .all-suc k (n - 1) (aheadOf s here)
+      ∙ ap (λ o. andThen o (λ e. S .all (S .told e) (n - 1) >>= λ t. pure (S .cons e t))) e
+
+  pub siblings-bad : {later : List ℕ}
+      → 0 < n
+      → (S .item k (aheadOf s here) ≡ none) × Kept words later (here .word) maxRuleEntries
+      → (S .all first count (aheadOf s c) ≡ none) × Kept before later (c .word) maxRuleEntries
+  unfolding andThen
+  siblings-bad h bad =
+      (passing .onward ∙ ap (λ o. andThen o (λ t. pure (passing .done t))) (item-then none h (bad .0)), kept-then (passing .kept) (bad .1) (omega arith) (passing .rises) (omega (arith, passing .ready .budget)) (omega arith))
+
+  pub siblings-next : (rest : ℕ) {later : List ℕ} {spent : ℕ} {next : Cursor}
+      → 0 < n
+      → spent + rest ≡ paid
+      → (item : Indexed (S .item k) (S .ItemAt) (S .itemSize) s words later spent here next)
+      → Passing S s before later first (S .told (item .tree)) count cost (n - 1) rest c next
+  unfolding andThen _>>=_ pure
+  siblings-next rest {later} {next} h e item =
+      let v = item .tree in
+      let step : S .all k n (aheadOf s here) ≡ andThen (S .all (S .told v) (n - 1) (aheadOf s next)) (λ t. pure (S .cons v t)) = item-then (some (v, aheadOf s next)) h (item .reads) in
+      let rises : here .word ≤ next .word = omega (arith, item .size) in
+      record {
+        done = λ t. passing .done (S .cons v t);
+        onward = passing .onward ∙ ap (λ o. andThen o (λ t. pure (passing .done t))) step ∙ then-twice (passing .done) (S .cons v) (S .all (S .told v) (n - 1) (aheadOf s next));
+        indexed =
+            λ last t agree at.
+            passing .indexed last (S .cons v t)
+            (agree-then (agree-below (item .kept) (omega arith)) (agree-within agree (omega arith) (omega arith)))
+            (S .cons-at last (here .word) v t
+            (S .item-frame later last (here .word) v (item .indexed) (agree-within agree (omega arith) (omega (arith, item .size))))
+            (rw (item .size) at at));
+        size = λ t. passing .size (S .cons v t) ∙ omega (arith, S .cons-size v t, item .size);
+        kept = kept-then (passing .kept) (item .kept) (omega arith) (omega arith) (omega arith) (omega arith);
+        rises = omega arith;
+        ready = record { small = passing .ready .small; room = omega (arith, item .kept .len); inside = item .inside; budget = omega arith };
+        budget = omega arith;
+      }
+
+  pub siblings-end : n ≡ 0 → paid ≡ 0 → Indexed (S .all first count) (S .AllAt) (S .allSize) s before words cost c here
+  unfolding andThen pure
+  siblings-end f e =
+      record {
+        tree = passing .done (S .none-of);
+        reads = passing .onward ∙ ap (λ (n : ℕ). andThen (S .all k n (aheadOf s here)) (λ t. pure (passing .done t))) f ∙ ap (λ o. andThen o (λ t. pure (passing .done t))) (S .all-zero k (aheadOf s here));
+        indexed = passing .indexed words (S .none-of) agree-same (S .none-at words (here .word));
+        size = omega (arith, passing .size (S .none-of), S .none-size);
+        kept = passing .kept;
+        inside = passing .ready .inside;
+        budget = omega arith;
+      }

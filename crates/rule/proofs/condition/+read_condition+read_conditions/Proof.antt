@@ -1,0 +1,296 @@
+use native.Mathlib.Omega.{arith}
+use borrow.Author.Needs.{needs}
+use Prim.Native.Nat.{ℕ, _+_, _*_, _-_, _<_}
+use mathlib.Core.Path.{ap, _∙_}
+use lib.ListN.{length-set}
+use denote.Ref.{now}
+use Rattle.rule.proofs.KeptLaws.{ready-fewer, ready-inside}
+use Rattle.rule.proofs.SiblingLaws.{Passing, siblings-begin, siblings-bad, siblings-next, siblings-end}
+use Rattle.rule.proofs.SiblingKinds.{conditions-kind}
+use Rattle.rule.proofs.ConditionAnswers.{condition-deep-answer, condition-headless-answer, operands-few, operands-unpaid-answer, operands-valueless-answer, operands-ready, operands-conditionless-answer, operands-answer}
+use borrow.Fn.Kinds.{In}
+use borrow.Fn.PlainCycle.{Measures, is, falls, and}
+use Rattle.rule.proofs.condition.read_condition.Reads as read-condition
+use Rattle.rule.proofs.condition.read_condition.Kinds as read-condition-kinds
+use Rattle.rule.proofs.condition.+read_condition+read_conditions.Lts-read_condition as read-condition-lts
+use Rattle.rule.proofs.condition.read_conditions.Reads as read-conditions
+use Rattle.rule.proofs.condition.read_conditions.Kinds as read-conditions-kinds
+use Rattle.rule.proofs.condition.+read_condition+read_conditions.Lts-read_conditions as read-conditions-lts
+use Rattle.rule.proofs.condition.operands_of.Reads as operands-of-reads
+use Rattle.rule.proofs.index.word_of.Reads as word-of-reads
+use Rattle.rule.proofs.value.read_values.Reads as read-values-reads
+use Rattle.sheet.proofs.rule.condition_head.Reads as condition-head-reads
+use Rattle.rule.proofs.condition.+read_condition+read_conditions.{statement}
+use Rattle.rule.proofs.condition.+read_condition+read_conditions.Tie.{close}
+
+abbrev μ-read-condition : Measures 2 read-condition-kinds.ps ℕ
+μ-read-condition κs a = 2 * (a .1 .1 .0)
+
+abbrev μ-read-conditions : Measures 2 read-conditions-kinds.ps ℕ
+μ-read-conditions κs a = 2 * (a .1 .1 .0) + 1
+
+abbrev read-condition-at : ℕ → In 2 read-condition-kinds.ps
+read-condition-at t =
+    and
+    2
+    read-condition-kinds.ps
+    (is 2 read-condition-kinds.ps μ-read-condition t)
+    read-condition.Pre
+
+abbrev read-condition-below : ℕ → In 2 read-condition-kinds.ps
+read-condition-below t =
+    and
+    2
+    read-condition-kinds.ps
+    (falls 2 read-condition-kinds.ps _<_ μ-read-condition t)
+    read-condition.Pre
+
+abbrev read-conditions-at : ℕ → In 2 read-conditions-kinds.ps
+read-conditions-at t =
+    and
+    2
+    read-conditions-kinds.ps
+    (is 2 read-conditions-kinds.ps μ-read-conditions t)
+    read-conditions.Pre
+
+abbrev read-conditions-below : ℕ → In 2 read-conditions-kinds.ps
+read-conditions-below t =
+    and
+    2
+    read-conditions-kinds.ps
+    (falls 2 read-conditions-kinds.ps _<_ μ-read-conditions t)
+    read-conditions.Pre
+
+abbrev cs-read-condition : ℕ → read-condition-lts.Claims
+cs-read-condition t = (
+  condition-head-reads.Asked,
+  condition-head-reads.Learnt,
+  operands-of-reads.Asked,
+  operands-of-reads.Learnt,
+  read-values-reads.Asked,
+  read-values-reads.Learnt,
+  read-conditions-below t,
+  read-conditions.Post,
+  word-of-reads.Asked,
+  word-of-reads.Learnt,
+)
+
+abbrev cs-read-conditions : ℕ → read-conditions-lts.Claims
+cs-read-conditions t = (read-condition-below t, read-condition.Post)
+
+-- src/condition.rt:37:9
+read-condition-returns : (t : ℕ) → read-condition-lts.Need-returns (cs-read-condition t) (read-condition-at t) read-condition.Post
+read-condition-returns t c = condition-deep-answer (now (c .before .before .before .args .s)) (now (c .before .before .before .args .scratch)) (c .before .before .before .args .depth) (c .before .before .before .args .c) (c .if1 .taken)
+
+-- src/condition.rt:42:43
+read-condition-condition-head-requires : (t : ℕ) → read-condition-lts.Need-condition-head-requires (cs-read-condition t) (read-condition-at t) read-condition.Post
+read-condition-condition-head-requires t c κs = search needs
+
+-- src/condition.rt:42:27
+read-condition-enum-known-head : (t : ℕ) → read-condition-lts.Need-enum-known-head (cs-read-condition t) (read-condition-at t) read-condition.Post
+read-condition-enum-known-head t c = search needs
+
+-- src/condition.rt:43:9
+read-condition-enum-told : (t : ℕ) → read-condition-lts.Need-enum-told (cs-read-condition t) (read-condition-at t) read-condition.Post
+read-condition-enum-told t c = search needs
+
+-- src/condition.rt:43:9
+read-condition-returns-2 : (t : ℕ) → read-condition-lts.Need-returns-2 (cs-read-condition t) (read-condition-at t) read-condition.Post
+read-condition-returns-2 t c = condition-headless-answer (now (c .before .before .before .before .before .before .args .s)) (now (c .before .before .before .before .before .before .args .scratch)) (c .before .before .before .before .before .before .args .depth) (c .before .before .before .before .before .before .args .c) (c .before .before .before .if1 .left) (rw (c .enum-told .given .1) at (c .before .before .condition-head .ensures))
+
+-- src/condition.rt:45:9
+read-condition-operands-of-requires : (t : ℕ) → read-condition-lts.Need-operands-of-requires (cs-read-condition t) (read-condition-at t) read-condition.Post
+read-condition-operands-of-requires t c κs = search needs
+
+-- src/condition.rt:46:16
+read-condition-add-cost : (t : ℕ) → read-condition-lts.Need-add-cost (cs-read-condition t) (read-condition-at t) read-condition.Post
+read-condition-add-cost t c = let head = rw (c .before .before .before .head .given .1) at (c .before .before .before .before .before .condition-head .ensures) in let few = operands-few (c .before .before .before .head .given .0 .0) (head .1) in omega (arith, few .0, few .1, ap (λ o. o .values) (c .before .operands-of .ensures), ap (λ o. o .conditions) (c .before .operands-of .ensures))
+
+-- src/condition.rt:48:9
+read-condition-returns-3 : (t : ℕ) → read-condition-lts.Need-returns-3 (cs-read-condition t) (read-condition-at t) read-condition.Post
+read-condition-returns-3 t c =
+    let head = rw (c .before .before .before .before .head .given .1) at (c .before .before .before .before .before .before .condition-head .ensures) in
+    let operands = c .before .before .operands-of .result in
+    operands-unpaid-answer (now (c .before .before .before .before .before .before .before .before .before .before .args .s)) (now (c .before .before .before .before .before .before .before .before .before .before .args .scratch)) (c .before .before .before .before .before .before .before .before .before .before .args .depth) (c .before .before .before .before .head .given .0 .1 .0) (operands .values) (operands .conditions) (c .before .before .before .before .before .before .before .before .before .before .args .c) (c .before .before .before .before .head .given .0 .0) (c .before .before .before .before .before .before .before .if1 .left) (head .0) (ap (λ o. o .values) (c .before .before .operands-of .ensures)) (ap (λ o. o .conditions) (c .before .before .operands-of .ensures)) (c .if2 .taken)
+
+-- src/condition.rt:50:44
+read-condition-add-read-conditions : (t : ℕ) → read-condition-lts.Need-add-read-conditions (cs-read-condition t) (read-condition-at t) read-condition.Post
+read-condition-add-read-conditions t c = omega (arith, c .before .before .before .before .before .before .before .before .before .before .pre .1 .budget)
+
+-- src/condition.rt:51:34
+read-condition-read-values-requires : (t : ℕ) → read-condition-lts.Need-read-values-requires (cs-read-condition t) (read-condition-at t) read-condition.Post
+read-condition-read-values-requires t c κs = let head = rw (c .before .before .before .before .before .head .given .1) at (c .before .before .before .before .before .before .before .condition-head .ensures) in ready-inside (c .before .before .before .before .before .before .before .before .before .before .before .pre .1) (head .0 .within) (omega (arith, c .before .if2 .left))
+
+-- src/condition.rt:51:24
+read-condition-enum-known-middle : (t : ℕ) → read-condition-lts.Need-enum-known-middle (cs-read-condition t) (read-condition-at t) read-condition.Post
+read-condition-enum-known-middle t c = search needs
+
+-- src/condition.rt:52:9
+read-condition-enum-told-2 : (t : ℕ) → read-condition-lts.Need-enum-told-2 (cs-read-condition t) (read-condition-at t) read-condition.Post
+read-condition-enum-told-2 t c = search needs
+
+-- src/condition.rt:52:9
+read-condition-same-length : (t : ℕ) → read-condition-lts.Need-same-length (cs-read-condition t) (read-condition-at t) read-condition.Post
+read-condition-same-length t c = c .before .before .before .before .read-values .kept .1 .0
+
+-- src/condition.rt:52:9
+read-condition-returns-4 : (t : ℕ) → read-condition-lts.Need-returns-4 (cs-read-condition t) (read-condition-at t) read-condition.Post
+read-condition-returns-4 t c =
+    let head = rw (c .before .before .before .before .before .before .before .before .before .before .head .given .1) at (c .before .before .before .before .before .before .before .before .before .before .before .before .condition-head .ensures) in
+    let operands = c .before .before .before .before .before .before .before .before .operands-of .result in
+    operands-valueless-answer (now (c .before .before .before .before .before .before .before .before .before .before .before .before .before .before .before .before .args .s)) (now (c .before .before .before .before .before .before .before .before .before .before .before .before .before .before .before .before .args .scratch)) (c .before .before .before .before .before .before .before .before .before .before .before .before .before .before .before .before .args .depth) (c .before .before .before .before .before .before .before .before .before .before .head .given .0 .1 .0) (operands .values) (operands .conditions) (c .before .before .before .before .before .before .before .before .before .before .before .before .before .before .before .before .args .c) (c .before .before .before .before .before .before .before .before .before .before .head .given .0 .0) (c .before .before .before .before .before .before .before .before .before .before .before .before .before .if1 .left) (head .0) (ap (λ o. o .values) (c .before .before .before .before .before .before .before .before .operands-of .ensures)) (ap (λ o. o .conditions) (c .before .before .before .before .before .before .before .before .operands-of .ensures)) (c .before .before .before .before .before .before .if2 .left) (rw (c .enum-told2 .given .1) at (c .before .before .before .before .read-values .ensures))
+
+-- src/condition.rt:54:60
+read-condition-sub-read-conditions : (t : ℕ) → read-condition-lts.Need-sub-read-conditions (cs-read-condition t) (read-condition-at t) read-condition.Post
+read-condition-sub-read-conditions t c = search needs
+
+-- src/condition.rt:54:32
+read-condition-read-conditions-requires :
+    (t : ℕ) → read-condition-lts.Need-read-conditions-requires (cs-read-condition t) (read-condition-at t) read-condition.Post
+read-condition-read-conditions-requires t c κs = (
+  omega (arith, c .before .before .before .before .before .before .before .before .before .before .before .before .before .before .before .before .before .before .pre .0, c .before .before .before .before .before .before .before .before .before .before .before .before .before .before .before .if1 .left),
+  let head = rw (c .before .before .before .before .before .before .before .before .before .before .before .before .head .given .1) at (c .before .before .before .before .before .before .before .before .before .before .before .before .before .before .condition-head .ensures) in
+      let operands = c .before .before .before .before .before .before .before .before .before .before .operands-of .result in
+      operands-ready (now (c .before .before .before .before .before .before .before .before .before .before .before .before .before .before .before .before .before .before .args .s)) (now (c .before .before .before .before .before .before .before .before .before .before .before .before .before .before .before .before .before .before .args .scratch)) (c .before .before .before .before .before .before .before .before .before .before .before .before .before .before .before .before .before .before .args .depth) (c .before .before .before .before .before .before .before .before .before .before .before .before .head .given .0 .1 .0) (operands .values) (operands .conditions) (c .before .before .before .before .before .before .before .before .before .before .before .before .before .before .before .before .before .before .args .c) (c .before .before .before .before .before .before .before .before .before .before .before .before .head .given .0 .0) (c .before .before .before .before .before .before .before .before .before .before .before .before .before .before .before .if1 .left) (head .0) (ap (λ o. o .values) (c .before .before .before .before .before .before .before .before .before .before .operands-of .ensures)) (ap (λ o. o .conditions) (c .before .before .before .before .before .before .before .before .before .before .operands-of .ensures)) (c .before .before .before .before .before .before .before .before .if2 .left) (c .before .before .before .before .before .before .before .before .before .before .before .before .before .before .before .before .before .before .pre .1) (rw (c .before .before .middle .given .1) at (c .before .before .before .before .before .before .read-values .ensures)),
+)
+
+-- src/condition.rt:54:24
+read-condition-enum-known-next : (t : ℕ) → read-condition-lts.Need-enum-known-next (cs-read-condition t) (read-condition-at t) read-condition.Post
+read-condition-enum-known-next t c = search needs
+
+-- src/condition.rt:55:9
+read-condition-enum-told-3 : (t : ℕ) → read-condition-lts.Need-enum-told-3 (cs-read-condition t) (read-condition-at t) read-condition.Post
+read-condition-enum-told-3 t c = search needs
+
+-- src/condition.rt:55:9
+read-condition-same-length-2 : (t : ℕ) → read-condition-lts.Need-same-length-2 (cs-read-condition t) (read-condition-at t) read-condition.Post
+read-condition-same-length-2 t c = c .before .before .before .before .read-conditions .kept .1 .0 ∙ c .before .before .before .before .before .before .before .before .before .before .before .read-values .kept .1 .0
+
+-- src/condition.rt:55:9
+read-condition-returns-5 : (t : ℕ) → read-condition-lts.Need-returns-5 (cs-read-condition t) (read-condition-at t) read-condition.Post
+read-condition-returns-5 t c =
+    let head = rw (c .before .before .before .before .before .before .before .before .before .before .before .before .before .before .before .before .before .head .given .1) at (c .before .before .before .before .before .before .before .before .before .before .before .before .before .before .before .before .before .before .before .condition-head .ensures) in
+    let operands = c .before .before .before .before .before .before .before .before .before .before .before .before .before .before .before .operands-of .result in
+    operands-conditionless-answer (now (c .before .before .before .before .before .before .before .before .before .before .before .before .before .before .before .before .before .before .before .before .before .before .before .args .s)) (now (c .before .before .before .before .before .before .before .before .before .before .before .before .before .before .before .before .before .before .before .before .before .before .before .args .scratch)) (c .before .before .before .before .before .before .before .before .before .before .before .before .before .before .before .before .before .before .before .before .before .before .before .args .depth) (c .before .before .before .before .before .before .before .before .before .before .before .before .before .before .before .before .before .head .given .0 .1 .0) (operands .values) (operands .conditions) (c .before .before .before .before .before .before .before .before .before .before .before .before .before .before .before .before .before .before .before .before .before .before .before .args .c) (c .before .before .before .before .before .before .before .before .before .before .before .before .before .before .before .before .before .head .given .0 .0) (c .before .before .before .before .before .before .before .before .before .before .before .before .before .before .before .before .before .before .before .before .if1 .left) (head .0) (ap (λ o. o .values) (c .before .before .before .before .before .before .before .before .before .before .before .before .before .before .before .operands-of .ensures)) (ap (λ o. o .conditions) (c .before .before .before .before .before .before .before .before .before .before .before .before .before .before .before .operands-of .ensures)) (c .before .before .before .before .before .before .before .before .before .before .before .before .before .if2 .left) (c .before .before .before .before .before .before .before .before .before .before .before .before .before .before .before .before .before .before .before .before .before .before .before .pre .1) (rw (c .before .before .before .before .before .before .before .middle .given .1) at (c .before .before .before .before .before .before .before .before .before .before .before .read-values .ensures)) (rw (c .enum-told3 .given .1) at (c .before .before .before .before .read-conditions .ensures))
+
+-- src/condition.rt:57:21
+read-condition-word-of-requires : (t : ℕ) → read-condition-lts.Need-word-of-requires (cs-read-condition t) (read-condition-at t) read-condition.Post
+read-condition-word-of-requires t c κs = let values = rw (c .before .before .before .before .before .before .before .before .middle .given .1) at (c .before .before .before .before .before .before .before .before .before .before .before .before .read-values .ensures) in let conditions = rw (c .before .next .given .1) at (c .before .before .before .before .before .read-conditions .ensures) in (omega (arith, c .before .before .before .before .before .before .before .before .before .before .before .before .before .before .before .before .before .before .before .before .before .before .before .before .pre .1 .inside, c .before .before .before .before .before .before .before .before .before .before .before .before .before .before .before .before .before .before .before .before .before .before .before .before .pre .1 .small), omega (arith, values .budget, conditions .budget, c .before .before .before .before .before .before .before .before .before .before .before .before .before .before .before .before .before .before .before .before .before .before .before .before .pre .1 .budget, c .before .before .before .before .before .before .before .before .before .before .before .before .before .before .if2 .left))
+
+-- src/condition.rt:57:5
+read-condition-mul-scratch : (t : ℕ) → read-condition-lts.Need-mul-scratch (cs-read-condition t) (read-condition-at t) read-condition.Post
+read-condition-mul-scratch t c = omega (arith, c .before .before .before .before .before .before .before .before .before .before .before .before .before .before .before .before .before .before .before .before .before .before .before .before .before .pre .1 .budget)
+
+-- src/condition.rt:57:5
+read-condition-slice-write-scratch : (t : ℕ) → read-condition-lts.Need-slice-write-scratch (cs-read-condition t) (read-condition-at t) read-condition.Post
+read-condition-slice-write-scratch t c = omega (arith, c .before .before .before .before .before .before .read-conditions .kept .1 .0, c .before .before .before .before .before .before .before .before .before .before .before .before .before .read-values .kept .1 .0, c .before .before .before .before .before .before .before .before .before .before .before .before .before .before .before .before .before .before .before .before .before .before .before .before .before .pre .1 .room, c .before .before .before .before .before .before .before .before .before .before .before .before .before .before .before .before .before .before .before .before .before .before .before .before .before .pre .1 .budget)
+
+-- src/condition.rt:32:1
+read-condition-same-length-3 : (t : ℕ) → read-condition-lts.Need-same-length-3 (cs-read-condition t) (read-condition-at t) read-condition.Post
+read-condition-same-length-3 t c = length-set (c .before .before .before .before .before .before .read-conditions .last .1 .0) (c .before .before .before .before .before .before .before .before .before .before .before .before .before .before .before .before .before .before .before .before .before .before .before .before .before .args .c .word) (c .word-of .result) ∙ c .before .before .before .before .before .before .read-conditions .kept .1 .0 ∙ c .before .before .before .before .before .before .before .before .before .before .before .before .before .read-values .kept .1 .0
+
+-- src/condition.rt:32:1
+read-condition-returns-6 : (t : ℕ) → read-condition-lts.Need-returns-6 (cs-read-condition t) (read-condition-at t) read-condition.Post
+read-condition-returns-6 t c =
+    let head = rw (c .before .before .before .before .before .before .before .before .before .before .before .before .before .before .before .before .before .before .before .head .given .1) at (c .before .before .before .before .before .before .before .before .before .before .before .before .before .before .before .before .before .before .before .before .before .condition-head .ensures) in
+    let operands = c .before .before .before .before .before .before .before .before .before .before .before .before .before .before .before .before .before .operands-of .result in
+    operands-answer (now (c .before .before .before .before .before .before .before .before .before .before .before .before .before .before .before .before .before .before .before .before .before .before .before .before .before .args .s)) (now (c .before .before .before .before .before .before .before .before .before .before .before .before .before .before .before .before .before .before .before .before .before .before .before .before .before .args .scratch)) (c .before .before .before .before .before .before .before .before .before .before .before .before .before .before .before .before .before .before .before .before .before .before .before .before .before .args .depth) (c .before .before .before .before .before .before .before .before .before .before .before .before .before .before .before .before .before .before .before .head .given .0 .1 .0) (operands .values) (operands .conditions) (c .before .before .before .before .before .before .before .before .before .before .before .before .before .before .before .before .before .before .before .before .before .before .before .before .before .args .c) (c .before .before .before .before .before .before .before .before .before .before .before .before .before .before .before .before .before .before .before .head .given .0 .0) (c .before .before .before .before .before .before .before .before .before .before .before .before .before .before .before .before .before .before .before .before .before .before .if1 .left) (head .0) (ap (λ o. o .values) (c .before .before .before .before .before .before .before .before .before .before .before .before .before .before .before .before .before .operands-of .ensures)) (ap (λ o. o .conditions) (c .before .before .before .before .before .before .before .before .before .before .before .before .before .before .before .before .before .operands-of .ensures)) (c .before .before .before .before .before .before .before .before .before .before .before .before .before .before .before .if2 .left) (c .before .before .before .before .before .before .before .before .before .before .before .before .before .before .before .before .before .before .before .before .before .before .before .before .before .pre .1) (rw (c .before .before .before .before .before .before .before .before .before .middle .given .1) at (c .before .before .before .before .before .before .before .before .before .before .before .before .before .read-values .ensures)) (c .word-of .ensures) (rw (c .before .before .next .given .1) at (c .before .before .before .before .before .before .read-conditions .ensures))
+
+abbrev read-conditions-Inv-loop : read-conditions-lts.InvT-loop
+read-conditions-Inv-loop s scratch₀ depth count here₀ n₀ scratch here n = Passing (conditions-kind s depth) s scratch₀ scratch tt tt count count n n here₀ here
+
+abbrev read-conditions-μ-loop : read-conditions-lts.MeasureT-loop
+read-conditions-μ-loop s scratch₀ depth count here₀ n₀ scratch here n = n
+
+-- src/condition.rt:68:5
+read-conditions-loop-holds : (t : ℕ) → read-conditions-lts.Need-loop-holds (cs-read-conditions t) (read-conditions-at t) read-conditions.Post read-conditions-Inv-loop read-conditions-μ-loop
+read-conditions-loop-holds t c = siblings-begin (conditions-kind (now (c .before .before .args .s)) (c .before .before .args .depth)) tt (c .before .before .args .count) (c .before .before .pre .1)
+
+-- src/condition.rt:69:36
+read-conditions-read-condition-requires :
+    (t : ℕ) → read-conditions-lts.Need-read-condition-requires (cs-read-conditions t) (read-conditions-at t) read-conditions.Post read-conditions-Inv-loop read-conditions-μ-loop
+read-conditions-read-condition-requires t c κs = (omega (arith, c .before .before .before .before .before .pre .0), ready-fewer (c .before .before .loop .inv .ready) (omega (arith, c .before .loop-test .taken)))
+
+-- src/condition.rt:69:28
+read-conditions-enum-known-next : (t : ℕ) → read-conditions-lts.Need-enum-known-next (cs-read-conditions t) (read-conditions-at t) read-conditions.Post read-conditions-Inv-loop read-conditions-μ-loop
+read-conditions-enum-known-next t c = search needs
+
+-- src/condition.rt:70:13
+read-conditions-enum-told : (t : ℕ) → read-conditions-lts.Need-enum-told (cs-read-conditions t) (read-conditions-at t) read-conditions.Post read-conditions-Inv-loop read-conditions-μ-loop
+read-conditions-enum-told t c = search needs
+
+-- src/condition.rt:70:13
+read-conditions-same-length : (t : ℕ) → read-conditions-lts.Need-same-length (cs-read-conditions t) (read-conditions-at t) read-conditions.Post read-conditions-Inv-loop read-conditions-μ-loop
+read-conditions-same-length t c = c .before .before .before .before .read-condition .kept .1 .0 ∙ c .before .before .before .before .before .before .before .loop .inv .kept .len
+
+-- src/condition.rt:70:13
+read-conditions-returns : (t : ℕ) → read-conditions-lts.Need-returns (cs-read-conditions t) (read-conditions-at t) read-conditions.Post read-conditions-Inv-loop read-conditions-μ-loop
+read-conditions-returns t c = siblings-bad (c .before .before .before .before .before .before .before .loop .inv) (c .before .before .before .before .before .before .loop-test .taken) (rw (c .enum-told .given .1) at (c .before .before .before .before .read-condition .ensures))
+
+-- src/condition.rt:73:9
+read-conditions-sub-n : (t : ℕ) → read-conditions-lts.Need-sub-n (cs-read-conditions t) (read-conditions-at t) read-conditions.Post read-conditions-Inv-loop read-conditions-μ-loop
+read-conditions-sub-n t c = search needs
+
+-- src/condition.rt:68:5
+read-conditions-loop-less : (t : ℕ) → read-conditions-lts.Need-loop-less (cs-read-conditions t) (read-conditions-at t) read-conditions.Post read-conditions-Inv-loop read-conditions-μ-loop
+read-conditions-loop-less t c = search needs
+
+-- src/condition.rt:68:5
+read-conditions-loop-again : (t : ℕ) → read-conditions-lts.Need-loop-again (cs-read-conditions t) (read-conditions-at t) read-conditions.Post read-conditions-Inv-loop read-conditions-μ-loop
+read-conditions-loop-again t c = siblings-next (c .before .before .before .before .before .before .before .before .loop .inv) (c .before .before .before .before .before .before .before .before .loop .n - 1) (c .before .before .before .before .before .before .before .loop-test .taken) (omega (arith, c .before .before .before .before .before .before .before .loop-test .taken)) (rw (c .before .next .given .1) at (c .before .before .before .before .before .read-condition .ensures))
+
+-- src/condition.rt:62:1
+read-conditions-same-length-2 : (t : ℕ) → read-conditions-lts.Need-same-length-2 (cs-read-conditions t) (read-conditions-at t) read-conditions.Post read-conditions-Inv-loop read-conditions-μ-loop
+read-conditions-same-length-2 t c = c .before .loop .inv .kept .len
+
+-- src/condition.rt:62:1
+read-conditions-returns-2 : (t : ℕ) → read-conditions-lts.Need-returns-2 (cs-read-conditions t) (read-conditions-at t) read-conditions.Post read-conditions-Inv-loop read-conditions-μ-loop
+read-conditions-returns-2 t c = siblings-end (c .before .loop .inv) (omega (arith, c .loop-test .left)) (omega (arith, c .loop-test .left))
+
+pub +read-condition+read-conditions-spec : {M : Type 1} → statement M
++read-condition+read-conditions-spec =
+    close μ-read-condition μ-read-conditions (λ t. read-condition-lts.spec (cs-read-condition t)
+    (read-condition-at t)
+    read-condition.Post
+    (read-condition-returns t)
+    (read-condition-condition-head-requires t)
+    (read-condition-enum-known-head t)
+    (read-condition-enum-told t)
+    (read-condition-returns-2 t)
+    (read-condition-operands-of-requires t)
+    (read-condition-add-cost t)
+    (read-condition-returns-3 t)
+    (read-condition-add-read-conditions t)
+    (read-condition-read-values-requires t)
+    (read-condition-enum-known-middle t)
+    (read-condition-enum-told-2 t)
+    (read-condition-same-length t)
+    (read-condition-returns-4 t)
+    (read-condition-sub-read-conditions t)
+    (read-condition-read-conditions-requires t)
+    (read-condition-enum-known-next t)
+    (read-condition-enum-told-3 t)
+    (read-condition-same-length-2 t)
+    (read-condition-returns-5 t)
+    (read-condition-word-of-requires t)
+    (read-condition-mul-scratch t)
+    (read-condition-slice-write-scratch t)
+    (read-condition-same-length-3 t)
+    (read-condition-returns-6 t))
+    λ t. read-conditions-lts.spec
+    (read-condition-below t, read-condition.Post)
+    (read-conditions-at t)
+    read-conditions.Post
+    read-conditions-Inv-loop
+    read-conditions-μ-loop
+    (read-conditions-loop-holds t)
+    (read-conditions-read-condition-requires t)
+    (read-conditions-enum-known-next t)
+    (read-conditions-enum-told t)
+    (read-conditions-same-length t)
+    (read-conditions-returns t)
+    (read-conditions-sub-n t)
+    (read-conditions-loop-less t)
+    (read-conditions-loop-again t)
+    (read-conditions-same-length-2 t)
+    (read-conditions-returns-2 t)

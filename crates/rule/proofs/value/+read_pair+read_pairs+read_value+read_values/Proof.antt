@@ -1,0 +1,593 @@
+use native.Mathlib.Omega.{arith}
+use borrow.Author.Needs.{needs}
+use Prim.Native.Nat.{ℕ, _+_, _*_, _-_, _<_}
+use mathlib.Core.Path.{sym, _∙_}
+use lib.ListN.{drop, length-set}
+use Rattle.rule.proofs.CloseLaws.{pair-closed}
+use Rattle.rule.proofs.ValueAnswers.{value-deep-answer, value-headless-answer, values-unpaid-answer, values-bad-answer, values-answer, pairs-unpaid-answer, pairs-bad-answer, pairs-answer}
+use mathlib.Core.Option.{none}
+use denote.Ref.{now}
+use Rattle.sheet.specs.Parts.{partOf, optionalOf}
+use Rattle.definition.specs.Decode.{valueIn}
+use Rattle.rule.specs.Read.{aheadOf}
+use borrow.Fn.Kinds.{In}
+use borrow.Fn.PlainCycle.{Measures, is, falls, and}
+use Rattle.rule.proofs.value.read_pair.Reads as read-pair
+use Rattle.rule.proofs.value.read_pair.Kinds as read-pair-kinds
+use Rattle.rule.proofs.value.+read_pair+read_pairs+read_value+read_values.Lts-read_pair as read-pair-lts
+use Rattle.rule.proofs.value.read_pairs.Reads as read-pairs
+use Rattle.rule.proofs.value.read_pairs.Kinds as read-pairs-kinds
+use Rattle.rule.proofs.value.+read_pair+read_pairs+read_value+read_values.Lts-read_pairs as read-pairs-lts
+use Rattle.rule.proofs.value.read_value.Reads as read-value
+use Rattle.rule.proofs.value.read_value.Kinds as read-value-kinds
+use Rattle.rule.proofs.value.+read_pair+read_pairs+read_value+read_values.Lts-read_value as read-value-lts
+use Rattle.rule.proofs.value.read_values.Reads as read-values
+use Rattle.rule.proofs.value.read_values.Kinds as read-values-kinds
+use Rattle.rule.proofs.value.+read_pair+read_pairs+read_value+read_values.Lts-read_values as read-values-lts
+use Rattle.rule.proofs.index.word_of.Reads as word-of-reads
+use Rattle.rule.proofs.value.held_by.Reads as held-by-reads
+use Rattle.rule.proofs.value.is_next_key.Reads as is-next-key-reads
+use Rattle.sheet.proofs.rule.key_head.Reads as key-head-reads
+use Rattle.sheet.proofs.rule.value_head.Reads as value-head-reads
+use Rattle.rule.proofs.KeptLaws.{ready-fewer, ready-inside, kept-all, kept-wider}
+use Rattle.rule.proofs.ValueLaws.{pair-keyless, pair-unordered, pair-valueless}
+use Rattle.rule.proofs.SiblingLaws.{Passing, siblings-begin, siblings-bad, siblings-next, siblings-end}
+use Rattle.rule.proofs.SiblingKinds.{values-kind, pairs-kind, pairs-next}
+use Rattle.rule.proofs.value.+read_pair+read_pairs+read_value+read_values.{statement}
+use Rattle.rule.proofs.value.+read_pair+read_pairs+read_value+read_values.Tie.{close}
+
+abbrev μ-read-pair : Measures 2 read-pair-kinds.ps ℕ
+μ-read-pair κs a = 4 * (a .1 .1 .0) + 1
+
+abbrev μ-read-pairs : Measures 2 read-pairs-kinds.ps ℕ
+μ-read-pairs κs a = 4 * (a .1 .1 .0) + 2
+
+abbrev μ-read-value : Measures 2 read-value-kinds.ps ℕ
+μ-read-value κs a = 4 * (a .1 .1 .0)
+
+abbrev μ-read-values : Measures 2 read-values-kinds.ps ℕ
+μ-read-values κs a = 4 * (a .1 .1 .0) + 1
+
+abbrev read-pair-at : ℕ → In 2 read-pair-kinds.ps
+read-pair-at t = and 2 read-pair-kinds.ps (is 2 read-pair-kinds.ps μ-read-pair t) read-pair.Pre
+
+abbrev read-pair-below : ℕ → In 2 read-pair-kinds.ps
+read-pair-below t =
+    and 2 read-pair-kinds.ps (falls 2 read-pair-kinds.ps _<_ μ-read-pair t) read-pair.Pre
+
+abbrev read-pairs-at : ℕ → In 2 read-pairs-kinds.ps
+read-pairs-at t =
+    and 2 read-pairs-kinds.ps (is 2 read-pairs-kinds.ps μ-read-pairs t) read-pairs.Pre
+
+abbrev read-pairs-below : ℕ → In 2 read-pairs-kinds.ps
+read-pairs-below t =
+    and 2 read-pairs-kinds.ps (falls 2 read-pairs-kinds.ps _<_ μ-read-pairs t) read-pairs.Pre
+
+abbrev read-value-at : ℕ → In 2 read-value-kinds.ps
+read-value-at t =
+    and 2 read-value-kinds.ps (is 2 read-value-kinds.ps μ-read-value t) read-value.Pre
+
+abbrev read-value-below : ℕ → In 2 read-value-kinds.ps
+read-value-below t =
+    and 2 read-value-kinds.ps (falls 2 read-value-kinds.ps _<_ μ-read-value t) read-value.Pre
+
+abbrev read-values-at : ℕ → In 2 read-values-kinds.ps
+read-values-at t =
+    and 2 read-values-kinds.ps (is 2 read-values-kinds.ps μ-read-values t) read-values.Pre
+
+abbrev read-values-below : ℕ → In 2 read-values-kinds.ps
+read-values-below t =
+    and 2 read-values-kinds.ps (falls 2 read-values-kinds.ps _<_ μ-read-values t) read-values.Pre
+
+abbrev cs-read-pair : ℕ → read-pair-lts.Claims
+cs-read-pair t = (
+  key-head-reads.Asked,
+  key-head-reads.Learnt,
+  is-next-key-reads.Asked,
+  is-next-key-reads.Learnt,
+  read-value-below t,
+  read-value.Post,
+  word-of-reads.Asked,
+  word-of-reads.Learnt,
+)
+
+abbrev cs-read-pairs : ℕ → read-pairs-lts.Claims
+cs-read-pairs t = (read-pair-below t, read-pair.Post)
+
+abbrev cs-read-value : ℕ → read-value-lts.Claims
+cs-read-value t = (
+  value-head-reads.Asked,
+  value-head-reads.Learnt,
+  held-by-reads.Asked,
+  held-by-reads.Learnt,
+  read-values-below t,
+  read-values.Post,
+  word-of-reads.Asked,
+  word-of-reads.Learnt,
+  read-pairs-below t,
+  read-pairs.Post,
+)
+
+abbrev cs-read-values : ℕ → read-values-lts.Claims
+cs-read-values t = (read-value-below t, read-value.Post)
+
+-- src/value.rt:118:36
+read-pair-key-head-requires : (t : ℕ) → read-pair-lts.Need-key-head-requires (cs-read-pair t) (read-pair-at t) read-pair.Post
+read-pair-key-head-requires t c κs = search needs
+
+-- src/value.rt:118:21
+read-pair-enum-known-key : (t : ℕ) → read-pair-lts.Need-enum-known-key (cs-read-pair t) (read-pair-at t) read-pair.Post
+read-pair-enum-known-key t c = search needs
+
+-- src/value.rt:119:9
+read-pair-enum-told : (t : ℕ) → read-pair-lts.Need-enum-told (cs-read-pair t) (read-pair-at t) read-pair.Post
+read-pair-enum-told t c = search needs
+
+-- src/value.rt:119:9
+read-pair-returns : (t : ℕ) → read-pair-lts.Need-returns (cs-read-pair t) (read-pair-at t) read-pair.Post
+read-pair-returns t c = (pair-keyless (optionalOf (now (c .before .before .before .before .before .args .s)) (c .before .before .before .before .before .args .previous)) (valueIn (c .before .before .before .before .before .args .depth)) (aheadOf (now (c .before .before .before .before .before .args .s)) (c .before .before .before .before .before .args .c)) (rw (c .enum-told .given .1) at (c .before .before .key-head .ensures)), kept-all)
+
+-- src/value.rt:121:8
+read-pair-is-next-key-requires : (t : ℕ) → read-pair-lts.Need-is-next-key-requires (cs-read-pair t) (read-pair-at t) read-pair.Post
+read-pair-is-next-key-requires t c κs = search needs
+
+-- src/value.rt:122:48
+read-pair-add-scratch : (t : ℕ) → read-pair-lts.Need-add-scratch (cs-read-pair t) (read-pair-at t) read-pair.Post
+read-pair-add-scratch t c = omega (arith, c .before .before .before .before .before .before .before .before .pre .1 .budget)
+
+-- src/value.rt:123:36
+read-pair-read-value-requires : (t : ℕ) → read-pair-lts.Need-read-value-requires (cs-read-pair t) (read-pair-at t) read-pair.Post
+read-pair-read-value-requires t c κs = let head = rw (c .before .before .before .before .key .given .1) at (c .before .before .before .before .before .before .key-head .ensures) in (omega (arith, c .before .before .before .before .before .before .before .before .before .pre .0), ready-inside (c .before .before .before .before .before .before .before .before .before .pre .1) (head .within) (omega arith))
+
+-- src/value.rt:123:28
+read-pair-enum-known-next : (t : ℕ) → read-pair-lts.Need-enum-known-next (cs-read-pair t) (read-pair-at t) read-pair.Post
+read-pair-enum-known-next t c = search needs
+
+-- src/value.rt:124:13
+read-pair-enum-told-2 : (t : ℕ) → read-pair-lts.Need-enum-told-2 (cs-read-pair t) (read-pair-at t) read-pair.Post
+read-pair-enum-told-2 t c = search needs
+
+-- src/value.rt:124:13
+read-pair-same-length : (t : ℕ) → read-pair-lts.Need-same-length (cs-read-pair t) (read-pair-at t) read-pair.Post
+read-pair-same-length t c = c .before .before .before .before .read-value .kept .1 .0
+
+-- src/value.rt:124:13
+read-pair-returns-2 : (t : ℕ) → read-pair-lts.Need-returns-2 (cs-read-pair t) (read-pair-at t) read-pair.Post
+read-pair-returns-2 t c =
+    let s = now (c .before .before .before .before .before .before .before .before .before .before .before .before .before .before .args .s) in
+    let head = rw (c .before .before .before .before .before .before .before .before .before .key .given .1) at (c .before .before .before .before .before .before .before .before .before .before .before .key-head .ensures) in
+    let bad = rw (c .enum-told2 .given .1) at (c .before .before .before .before .read-value .ensures) in
+    (pair-valueless (optionalOf s (c .before .before .before .before .before .before .before .before .before .before .before .before .before .before .args .previous)) (valueIn (c .before .before .before .before .before .before .before .before .before .before .before .before .before .before .args .depth)) (aheadOf s (c .before .before .before .before .before .before .before .before .before .before .before .before .before .before .args .c)) (partOf s (c .before .before .before .before .before .before .before .before .before .key .given .0 .0)) (drop (c .before .before .before .before .before .before .before .before .before .key .given .0 .1 .0) s) (head .reads) (sym (c .before .before .before .before .before .before .before .is-next-key .ensures) ∙ c .before .before .before .before .before .before .if1 .taken) (bad .0), kept-wider (bad .1) (omega arith) (omega arith))
+
+-- src/value.rt:126:25
+read-pair-word-of-requires : (t : ℕ) → read-pair-lts.Need-word-of-requires (cs-read-pair t) (read-pair-at t) read-pair.Post
+read-pair-word-of-requires t c κs = let inner = rw (c .before .next .given .1) at (c .before .before .before .before .before .read-value .ensures) in (omega (arith, c .before .before .before .before .before .before .before .before .before .before .before .before .before .before .before .pre .1 .inside, c .before .before .before .before .before .before .before .before .before .before .before .before .before .before .before .pre .1 .small), omega (arith, inner .budget, c .before .before .before .before .before .before .before .before .before .before .before .before .before .before .before .pre .1 .budget))
+
+-- src/value.rt:126:9
+read-pair-mul-scratch : (t : ℕ) → read-pair-lts.Need-mul-scratch (cs-read-pair t) (read-pair-at t) read-pair.Post
+read-pair-mul-scratch t c = omega (arith, c .before .before .before .before .before .before .before .before .before .before .before .before .before .before .before .before .pre .1 .budget)
+
+-- src/value.rt:126:9
+read-pair-slice-write-scratch : (t : ℕ) → read-pair-lts.Need-slice-write-scratch (cs-read-pair t) (read-pair-at t) read-pair.Post
+read-pair-slice-write-scratch t c = omega (arith, c .before .before .before .before .before .before .read-value .kept .1 .0, c .before .before .before .before .before .before .before .before .before .before .before .before .before .before .before .before .pre .1 .room, c .before .before .before .before .before .before .before .before .before .before .before .before .before .before .before .before .pre .1 .budget)
+
+-- src/value.rt:127:9
+read-pair-same-length-2 : (t : ℕ) → read-pair-lts.Need-same-length-2 (cs-read-pair t) (read-pair-at t) read-pair.Post
+read-pair-same-length-2 t c = length-set (c .before .before .before .before .before .before .read-value .last .1 .0) (c .before .before .before .before .before .before .before .before .before .before .before .before .before .before .before .before .args .c .word) (c .word-of .result) ∙ c .before .before .before .before .before .before .read-value .kept .1 .0
+
+-- src/value.rt:127:9
+read-pair-returns-3 : (t : ℕ) → read-pair-lts.Need-returns-3 (cs-read-pair t) (read-pair-at t) read-pair.Post
+read-pair-returns-3 t c =
+    let s = now (c .before .before .before .before .before .before .before .before .before .before .before .before .before .before .before .before .args .s) in
+    let head = rw (c .before .before .before .before .before .before .before .before .before .before .before .key .given .1) at (c .before .before .before .before .before .before .before .before .before .before .before .before .before .key-head .ensures) in
+    let inner = rw (c .before .before .next .given .1) at (c .before .before .before .before .before .before .read-value .ensures) in
+    pair-closed s (now (c .before .before .before .before .before .before .before .before .before .before .before .before .before .before .before .before .args .scratch)) (c .before .before .before .before .before .before .read-value .last .1 .0) (c .before .before .before .before .before .before .before .before .before .before .before .before .before .before .before .before .args .c) (c .before .before .next .given .0 .0) (c .before .before .before .before .before .before .before .before .before .before .before .before .before .before .before .before .args .depth) (c .before .before .before .before .before .before .before .before .before .before .before .key .given .0 .1 .0) (c .word-of .result) (optionalOf s (c .before .before .before .before .before .before .before .before .before .before .before .before .before .before .before .before .args .previous)) (partOf s (c .before .before .before .before .before .before .before .before .before .before .before .key .given .0 .0)) (c .before .before .before .before .before .before .before .before .before .before .before .before .before .before .before .before .pre .1) (head .reads) (sym (c .before .before .before .before .before .before .before .before .before .is-next-key .ensures) ∙ c .before .before .before .before .before .before .before .before .if1 .taken) (c .word-of .ensures) inner
+
+-- src/value.rt:112:1
+read-pair-returns-4 : (t : ℕ) → read-pair-lts.Need-returns-4 (cs-read-pair t) (read-pair-at t) read-pair.Post
+read-pair-returns-4 t c =
+    let s = now (c .before .before .before .before .before .before .before .before .args .s) in
+    let head = rw (c .before .before .before .key .given .1) at (c .before .before .before .before .before .key-head .ensures) in
+    (pair-unordered (optionalOf s (c .before .before .before .before .before .before .before .before .args .previous)) (valueIn (c .before .before .before .before .before .before .before .before .args .depth)) (aheadOf s (c .before .before .before .before .before .before .before .before .args .c)) (partOf s (c .before .before .before .key .given .0 .0)) (drop (c .before .before .before .key .given .0 .1 .0) s) (head .reads) (sym (c .before .is-next-key .ensures) ∙ c .if1 .left), kept-all)
+
+abbrev read-pairs-Inv-loop : read-pairs-lts.InvT-loop
+read-pairs-Inv-loop s scratch₀ depth count here₀ previous₀ n₀ scratch here previous n = Passing (pairs-kind s depth) s scratch₀ scratch none (optionalOf s previous) count (2 * count) n (2 * n) here₀ here
+
+abbrev read-pairs-μ-loop : read-pairs-lts.MeasureT-loop
+read-pairs-μ-loop s scratch₀ depth count here₀ previous₀ n₀ scratch here previous n = n
+
+-- src/value.rt:140:5
+read-pairs-loop-holds : (t : ℕ) → read-pairs-lts.Need-loop-holds (cs-read-pairs t) (read-pairs-at t) read-pairs.Post read-pairs-Inv-loop read-pairs-μ-loop
+unfolding optionalOf
+read-pairs-loop-holds t c = siblings-begin (pairs-kind (now (c .before .before .args .s)) (c .before .before .args .depth)) none (c .before .before .args .count) (c .before .before .pre .1)
+
+-- src/value.rt:141:41
+read-pairs-read-pair-requires : (t : ℕ) → read-pairs-lts.Need-read-pair-requires (cs-read-pairs t) (read-pairs-at t) read-pairs.Post read-pairs-Inv-loop read-pairs-μ-loop
+read-pairs-read-pair-requires t c κs = (omega (arith, c .before .before .before .before .before .pre .0), ready-fewer (c .before .before .loop .inv .ready) (omega (arith, c .before .loop-test .taken)))
+
+-- src/value.rt:141:28
+read-pairs-enum-known-key : (t : ℕ) → read-pairs-lts.Need-enum-known-key (cs-read-pairs t) (read-pairs-at t) read-pairs.Post read-pairs-Inv-loop read-pairs-μ-loop
+read-pairs-enum-known-key t c = search needs
+
+-- src/value.rt:142:13
+read-pairs-enum-told :
+    (t : ℕ) →
+    read-pairs-lts.Need-enum-told
+    (read-pair-below t, read-pair.Post)
+    (read-pairs-at t)
+    read-pairs.Post
+    read-pairs-Inv-loop
+    read-pairs-μ-loop
+read-pairs-enum-told t c = search needs
+
+-- src/value.rt:142:13
+read-pairs-same-length : (t : ℕ) → read-pairs-lts.Need-same-length (cs-read-pairs t) (read-pairs-at t) read-pairs.Post read-pairs-Inv-loop read-pairs-μ-loop
+read-pairs-same-length t c = c .before .before .before .before .read-pair .kept .1 .0 ∙ c .before .before .before .before .before .before .before .loop .inv .kept .len
+
+-- src/value.rt:142:13
+read-pairs-returns :
+    (t : ℕ) →
+    read-pairs-lts.Need-returns
+    (read-pair-below t, read-pair.Post)
+    (read-pairs-at t)
+    read-pairs.Post
+    read-pairs-Inv-loop
+    read-pairs-μ-loop
+read-pairs-returns t c = siblings-bad (c .before .before .before .before .before .before .before .loop .inv) (c .before .before .before .before .before .before .loop-test .taken) (rw (c .enum-told .given .1) at (c .before .before .before .before .read-pair .ensures))
+
+-- src/value.rt:146:9
+read-pairs-sub-n :
+    (t : ℕ) →
+    read-pairs-lts.Need-sub-n
+    (read-pair-below t, read-pair.Post)
+    (read-pairs-at t)
+    read-pairs.Post
+    read-pairs-Inv-loop
+    read-pairs-μ-loop
+read-pairs-sub-n t c = search needs
+
+-- src/value.rt:140:5
+read-pairs-loop-less :
+    (t : ℕ) →
+    read-pairs-lts.Need-loop-less
+    (read-pair-below t, read-pair.Post)
+    (read-pairs-at t)
+    read-pairs.Post
+    read-pairs-Inv-loop
+    read-pairs-μ-loop
+read-pairs-loop-less t c = search needs
+
+-- src/value.rt:140:5
+read-pairs-loop-again : (t : ℕ) → read-pairs-lts.Need-loop-again (cs-read-pairs t) (read-pairs-at t) read-pairs.Post read-pairs-Inv-loop read-pairs-μ-loop
+read-pairs-loop-again t c = pairs-next (c .before .before .before .before .before .before .before .before .before .before .before .args .depth) (c .before .key .given .0 .0) (c .before .before .before .before .before .before .before .before .loop .inv) (c .before .before .before .before .before .before .before .loop-test .taken) (rw (c .before .key .given .1) at (c .before .before .before .before .before .read-pair .ensures))
+
+-- src/value.rt:133:1
+read-pairs-same-length-2 : (t : ℕ) → read-pairs-lts.Need-same-length-2 (cs-read-pairs t) (read-pairs-at t) read-pairs.Post read-pairs-Inv-loop read-pairs-μ-loop
+read-pairs-same-length-2 t c = c .before .loop .inv .kept .len
+
+-- src/value.rt:133:1
+read-pairs-returns-2 :
+    (t : ℕ) →
+    read-pairs-lts.Need-returns-2
+    (read-pair-below t, read-pair.Post)
+    (read-pairs-at t)
+    read-pairs.Post
+    read-pairs-Inv-loop
+    read-pairs-μ-loop
+read-pairs-returns-2 t c = siblings-end (c .before .loop .inv) (omega (arith, c .loop-test .left)) (omega (arith, c .loop-test .left))
+
+-- src/value.rt:60:9
+read-value-returns : (t : ℕ) → read-value-lts.Need-returns (cs-read-value t) (read-value-at t) read-value.Post
+read-value-returns t c = value-deep-answer (now (c .before .before .before .args .s)) (now (c .before .before .before .args .scratch)) (c .before .before .before .args .depth) (c .before .before .before .args .c) (c .if1 .taken)
+
+-- src/value.rt:65:39
+read-value-value-head-requires : (t : ℕ) → read-value-lts.Need-value-head-requires (cs-read-value t) (read-value-at t) read-value.Post
+read-value-value-head-requires t c κs = search needs
+
+-- src/value.rt:65:23
+read-value-enum-known-head : (t : ℕ) → read-value-lts.Need-enum-known-head (cs-read-value t) (read-value-at t) read-value.Post
+read-value-enum-known-head t c = search needs
+
+-- src/value.rt:66:9
+read-value-enum-told : (t : ℕ) → read-value-lts.Need-enum-told (cs-read-value t) (read-value-at t) read-value.Post
+read-value-enum-told t c = search needs
+
+-- src/value.rt:66:9
+read-value-returns-2 : (t : ℕ) → read-value-lts.Need-returns-2 (cs-read-value t) (read-value-at t) read-value.Post
+read-value-returns-2 t c = value-headless-answer (now (c .before .before .before .before .before .before .args .s)) (now (c .before .before .before .before .before .before .args .scratch)) (c .before .before .before .before .before .before .args .depth) (c .before .before .before .before .before .before .args .c) (c .before .before .before .if1 .left) (rw (c .enum-told .given .1) at (c .before .before .value-head .ensures))
+
+-- src/value.rt:68:11
+read-value-held-by-requires : (t : ℕ) → read-value-lts.Need-held-by-requires (cs-read-value t) (read-value-at t) read-value.Post
+read-value-held-by-requires t c κs = search needs
+
+-- src/value.rt:69:22
+read-value-enum-known-n : (t : ℕ) → read-value-lts.Need-enum-known-n (cs-read-value t) (read-value-at t) read-value.Post
+read-value-enum-known-n t c = search needs
+
+-- src/value.rt:71:17
+read-value-returns-3 : (t : ℕ) → read-value-lts.Need-returns-3 (cs-read-value t) (read-value-at t) read-value.Post
+read-value-returns-3 t c =
+    let head = rw (c .before .before .before .before .before .before .head .given .1) at (c .before .before .before .before .before .before .before .before .value-head .ensures) in
+    values-unpaid-answer (now (c .before .before .before .before .before .before .before .before .before .before .before .before .args .s)) (now (c .before .before .before .before .before .before .before .before .before .before .before .before .args .scratch)) (c .before .before .before .before .before .before .before .before .before .before .before .before .args .depth) (c .before .before .before .before .before .before .head .given .0 .1 .0) (c .before .before .n .given .0 .0) (c .before .before .before .before .before .before .before .before .before .before .before .before .args .c) (c .before .before .before .before .before .before .head .given .0 .0) (c .before .before .before .before .before .before .before .before .before .if1 .left) (head .0) (sym (c .before .before .before .before .held-by .ensures) ∙ c .before .before .n .given .1) (c .if2 .taken)
+
+-- src/value.rt:73:52
+read-value-add-read-values : (t : ℕ) → read-value-lts.Need-add-read-values (cs-read-value t) (read-value-at t) read-value.Post
+read-value-add-read-values t c = omega (arith, c .before .before .before .before .before .before .before .before .before .before .before .before .pre .1 .budget)
+
+-- src/value.rt:74:64
+read-value-sub-read-values : (t : ℕ) → read-value-lts.Need-sub-read-values (cs-read-value t) (read-value-at t) read-value.Post
+read-value-sub-read-values t c = search needs
+
+-- src/value.rt:74:40
+read-value-read-values-requires : (t : ℕ) → read-value-lts.Need-read-values-requires (cs-read-value t) (read-value-at t) read-value.Post
+read-value-read-values-requires t c κs = let head = rw (c .before .before .before .before .before .before .before .head .given .1) at (c .before .before .before .before .before .before .before .before .before .value-head .ensures) in (omega (arith, c .before .before .before .before .before .before .before .before .before .before .before .before .before .pre .0, c .before .before .before .before .before .before .before .before .before .before .if1 .left), ready-inside (c .before .before .before .before .before .before .before .before .before .before .before .before .before .pre .1) (head .0 .within) (omega (arith, c .before .if2 .left)))
+
+-- src/value.rt:74:32
+read-value-enum-known-next : (t : ℕ) → read-value-lts.Need-enum-known-next (cs-read-value t) (read-value-at t) read-value.Post
+read-value-enum-known-next t c = search needs
+
+-- src/value.rt:75:17
+read-value-enum-told-2 : (t : ℕ) → read-value-lts.Need-enum-told-2 (cs-read-value t) (read-value-at t) read-value.Post
+read-value-enum-told-2 t c = search needs
+
+-- src/value.rt:75:17
+read-value-same-length : (t : ℕ) → read-value-lts.Need-same-length (cs-read-value t) (read-value-at t) read-value.Post
+read-value-same-length t c = c .before .before .before .before .read-values .kept .1 .0
+
+-- src/value.rt:75:17
+read-value-returns-4 : (t : ℕ) → read-value-lts.Need-returns-4 (cs-read-value t) (read-value-at t) read-value.Post
+read-value-returns-4 t c =
+    let head = rw (c .before .before .before .before .before .before .before .before .before .before .before .before .head .given .1) at (c .before .before .before .before .before .before .before .before .before .before .before .before .before .before .value-head .ensures) in
+    values-bad-answer (now (c .before .before .before .before .before .before .before .before .before .before .before .before .before .before .before .before .before .before .args .s)) (now (c .before .before .before .before .before .before .before .before .before .before .before .before .before .before .before .before .before .before .args .scratch)) (c .before .before .before .before .before .before .before .before .before .before .before .before .before .before .before .before .before .before .args .depth) (c .before .before .before .before .before .before .before .before .before .before .before .before .head .given .0 .1 .0) (c .before .before .before .before .before .before .before .before .n .given .0 .0) (c .before .before .before .before .before .before .before .before .before .before .before .before .before .before .before .before .before .before .args .c) (c .before .before .before .before .before .before .before .before .before .before .before .before .head .given .0 .0) (c .before .before .before .before .before .before .before .before .before .before .before .before .before .before .before .if1 .left) (head .0) (sym (c .before .before .before .before .before .before .before .before .before .before .held-by .ensures) ∙ c .before .before .before .before .before .before .before .before .n .given .1) (c .before .before .before .before .before .before .if2 .left) (rw (c .enum-told2 .given .1) at (c .before .before .before .before .read-values .ensures))
+
+-- src/value.rt:77:29
+read-value-word-of-requires : (t : ℕ) → read-value-lts.Need-word-of-requires (cs-read-value t) (read-value-at t) read-value.Post
+read-value-word-of-requires t c κs = let inner = rw (c .before .next .given .1) at (c .before .before .before .before .before .read-values .ensures) in (omega (arith, c .before .before .before .before .before .before .before .before .before .before .before .before .before .before .before .before .before .before .before .pre .1 .inside, c .before .before .before .before .before .before .before .before .before .before .before .before .before .before .before .before .before .before .before .pre .1 .small), omega (arith, inner .budget, c .before .before .before .before .before .before .before .before .before .before .before .before .before .before .before .before .before .before .before .pre .1 .budget, c .before .before .before .before .before .before .before .if2 .left))
+
+-- src/value.rt:77:13
+read-value-mul-scratch : (t : ℕ) → read-value-lts.Need-mul-scratch (cs-read-value t) (read-value-at t) read-value.Post
+read-value-mul-scratch t c = omega (arith, c .before .before .before .before .before .before .before .before .before .before .before .before .before .before .before .before .before .before .before .before .pre .1 .budget)
+
+-- src/value.rt:77:13
+read-value-slice-write-scratch : (t : ℕ) → read-value-lts.Need-slice-write-scratch (cs-read-value t) (read-value-at t) read-value.Post
+read-value-slice-write-scratch t c = omega (arith, c .before .before .before .before .before .before .read-values .kept .1 .0, c .before .before .before .before .before .before .before .before .before .before .before .before .before .before .before .before .before .before .before .before .pre .1 .room, c .before .before .before .before .before .before .before .before .before .before .before .before .before .before .before .before .before .before .before .before .pre .1 .budget)
+
+-- src/value.rt:80:21
+read-value-enum-known-n-2 : (t : ℕ) → read-value-lts.Need-enum-known-n-2 (cs-read-value t) (read-value-at t) read-value.Post
+read-value-enum-known-n-2 t c = search needs
+
+-- src/value.rt:82:17
+read-value-returns-5 : (t : ℕ) → read-value-lts.Need-returns-5 (cs-read-value t) (read-value-at t) read-value.Post
+read-value-returns-5 t c =
+    let head = rw (c .before .before .before .before .before .before .head .given .1) at (c .before .before .before .before .before .before .before .before .value-head .ensures) in
+    pairs-unpaid-answer (now (c .before .before .before .before .before .before .before .before .before .before .before .before .args .s)) (now (c .before .before .before .before .before .before .before .before .before .before .before .before .args .scratch)) (c .before .before .before .before .before .before .before .before .before .before .before .before .args .depth) (c .before .before .before .before .before .before .head .given .0 .1 .0) (c .before .before .n2 .given .0 .0) (c .before .before .before .before .before .before .before .before .before .before .before .before .args .c) (c .before .before .before .before .before .before .head .given .0 .0) (c .before .before .before .before .before .before .before .before .before .if1 .left) (head .0) (sym (c .before .before .before .before .held-by .ensures) ∙ c .before .before .n2 .given .1) (c .if3 .taken)
+
+-- src/value.rt:84:52
+read-value-add-read-pairs : (t : ℕ) → read-value-lts.Need-add-read-pairs (cs-read-value t) (read-value-at t) read-value.Post
+read-value-add-read-pairs t c = omega (arith, c .before .before .before .before .before .before .before .before .before .before .before .before .pre .1 .budget)
+
+-- src/value.rt:84:75
+read-value-mul-scratch-2 : (t : ℕ) → read-value-lts.Need-mul-scratch-2 (cs-read-value t) (read-value-at t) read-value.Post
+read-value-mul-scratch-2 t c = omega (arith, c .before .before .before .before .before .before .before .before .before .before .before .before .pre .1 .budget, c .if3 .left)
+
+-- src/value.rt:84:68
+read-value-sub-scratch : (t : ℕ) → read-value-lts.Need-sub-scratch (cs-read-value t) (read-value-at t) read-value.Post
+read-value-sub-scratch t c = search needs
+
+-- src/value.rt:85:63
+read-value-sub-read-pairs : (t : ℕ) → read-value-lts.Need-sub-read-pairs (cs-read-value t) (read-value-at t) read-value.Post
+read-value-sub-read-pairs t c = search needs
+
+-- src/value.rt:85:40
+read-value-read-pairs-requires : (t : ℕ) → read-value-lts.Need-read-pairs-requires (cs-read-value t) (read-value-at t) read-value.Post
+read-value-read-pairs-requires t c κs = let head = rw (c .before .before .before .before .before .before .before .head .given .1) at (c .before .before .before .before .before .before .before .before .before .value-head .ensures) in (omega (arith, c .before .before .before .before .before .before .before .before .before .before .before .before .before .pre .0, c .before .before .before .before .before .before .before .before .before .before .if1 .left), ready-inside (c .before .before .before .before .before .before .before .before .before .before .before .before .before .pre .1) (head .0 .within) (omega (arith, c .before .if3 .left)))
+
+-- src/value.rt:85:32
+read-value-enum-known-next-2 : (t : ℕ) → read-value-lts.Need-enum-known-next-2 (cs-read-value t) (read-value-at t) read-value.Post
+read-value-enum-known-next-2 t c = search needs
+
+-- src/value.rt:86:17
+read-value-enum-told-3 : (t : ℕ) → read-value-lts.Need-enum-told-3 (cs-read-value t) (read-value-at t) read-value.Post
+read-value-enum-told-3 t c = search needs
+
+-- src/value.rt:86:17
+read-value-same-length-2 : (t : ℕ) → read-value-lts.Need-same-length-2 (cs-read-value t) (read-value-at t) read-value.Post
+read-value-same-length-2 t c = c .before .before .before .before .read-pairs .kept .1 .0
+
+-- src/value.rt:86:17
+read-value-returns-6 : (t : ℕ) → read-value-lts.Need-returns-6 (cs-read-value t) (read-value-at t) read-value.Post
+read-value-returns-6 t c =
+    let head = rw (c .before .before .before .before .before .before .before .before .before .before .before .before .head .given .1) at (c .before .before .before .before .before .before .before .before .before .before .before .before .before .before .value-head .ensures) in
+    pairs-bad-answer (now (c .before .before .before .before .before .before .before .before .before .before .before .before .before .before .before .before .before .before .args .s)) (now (c .before .before .before .before .before .before .before .before .before .before .before .before .before .before .before .before .before .before .args .scratch)) (c .before .before .before .before .before .before .before .before .before .before .before .before .before .before .before .before .before .before .args .depth) (c .before .before .before .before .before .before .before .before .before .before .before .before .head .given .0 .1 .0) (c .before .before .before .before .before .before .before .before .n2 .given .0 .0) (c .before .before .before .before .before .before .before .before .before .before .before .before .before .before .before .before .before .before .args .c) (c .before .before .before .before .before .before .before .before .before .before .before .before .head .given .0 .0) (c .before .before .before .before .before .before .before .before .before .before .before .before .before .before .before .if1 .left) (head .0) (sym (c .before .before .before .before .before .before .before .before .before .before .held-by .ensures) ∙ c .before .before .before .before .before .before .before .before .n2 .given .1) (c .before .before .before .before .before .before .if3 .left) (rw (c .enum-told3 .given .1) at (c .before .before .before .before .read-pairs .ensures))
+
+-- src/value.rt:88:29
+read-value-word-of-requires-2 : (t : ℕ) → read-value-lts.Need-word-of-requires-2 (cs-read-value t) (read-value-at t) read-value.Post
+read-value-word-of-requires-2 t c κs = let inner = rw (c .before .next2 .given .1) at (c .before .before .before .before .before .read-pairs .ensures) in (omega (arith, c .before .before .before .before .before .before .before .before .before .before .before .before .before .before .before .before .before .before .before .pre .1 .inside, c .before .before .before .before .before .before .before .before .before .before .before .before .before .before .before .before .before .before .before .pre .1 .small), omega (arith, inner .budget, c .before .before .before .before .before .before .before .before .before .before .before .before .before .before .before .before .before .before .before .pre .1 .budget, c .before .before .before .before .before .before .before .if3 .left))
+
+-- src/value.rt:88:13
+read-value-mul-scratch-3 : (t : ℕ) → read-value-lts.Need-mul-scratch-3 (cs-read-value t) (read-value-at t) read-value.Post
+read-value-mul-scratch-3 t c = omega (arith, c .before .before .before .before .before .before .before .before .before .before .before .before .before .before .before .before .before .before .before .before .pre .1 .budget)
+
+-- src/value.rt:88:13
+read-value-slice-write-scratch-2 : (t : ℕ) → read-value-lts.Need-slice-write-scratch-2 (cs-read-value t) (read-value-at t) read-value.Post
+read-value-slice-write-scratch-2 t c = omega (arith, c .before .before .before .before .before .before .read-pairs .kept .1 .0, c .before .before .before .before .before .before .before .before .before .before .before .before .before .before .before .before .before .before .before .before .pre .1 .room, c .before .before .before .before .before .before .before .before .before .before .before .before .before .before .before .before .before .before .before .before .pre .1 .budget)
+
+-- src/value.rt:55:1
+read-value-same-length-3 : (t : ℕ) → read-value-lts.Need-same-length-3 (cs-read-value t) (read-value-at t) read-value.Post
+read-value-same-length-3 t c = length-set (c .before .before .before .before .before .before .read-values .last .1 .0) (c .before .before .before .before .before .before .before .before .before .before .before .before .before .before .before .before .before .before .before .before .args .c .word) (c .word-of .result) ∙ c .before .before .before .before .before .before .read-values .kept .1 .0
+
+-- src/value.rt:55:1
+read-value-returns-7 : (t : ℕ) → read-value-lts.Need-returns-7 (cs-read-value t) (read-value-at t) read-value.Post
+read-value-returns-7 t c =
+    let head = rw (c .before .before .before .before .before .before .before .before .before .before .before .before .before .before .head .given .1) at (c .before .before .before .before .before .before .before .before .before .before .before .before .before .before .before .before .value-head .ensures) in
+    values-answer (now (c .before .before .before .before .before .before .before .before .before .before .before .before .before .before .before .before .before .before .before .before .args .s)) (now (c .before .before .before .before .before .before .before .before .before .before .before .before .before .before .before .before .before .before .before .before .args .scratch)) (c .before .before .before .before .before .before .before .before .before .before .before .before .before .before .before .before .before .before .before .before .args .depth) (c .before .before .before .before .before .before .before .before .before .before .before .before .before .before .head .given .0 .1 .0) (c .before .before .before .before .before .before .before .before .before .before .n .given .0 .0) (c .before .before .before .before .before .before .before .before .before .before .before .before .before .before .before .before .before .before .before .before .args .c) (c .before .before .before .before .before .before .before .before .before .before .before .before .before .before .head .given .0 .0) (c .before .before .before .before .before .before .before .before .before .before .before .before .before .before .before .before .before .if1 .left) (head .0) (sym (c .before .before .before .before .before .before .before .before .before .before .before .before .held-by .ensures) ∙ c .before .before .before .before .before .before .before .before .before .before .n .given .1) (c .before .before .before .before .before .before .before .before .if2 .left) (c .before .before .before .before .before .before .before .before .before .before .before .before .before .before .before .before .before .before .before .before .pre .1) (c .word-of .ensures) (rw (c .before .before .next .given .1) at (c .before .before .before .before .before .before .read-values .ensures))
+
+-- src/value.rt:55:1
+read-value-same-length-4 : (t : ℕ) → read-value-lts.Need-same-length-4 (cs-read-value t) (read-value-at t) read-value.Post
+read-value-same-length-4 t c = length-set (c .before .before .before .before .before .before .read-pairs .last .1 .0) (c .before .before .before .before .before .before .before .before .before .before .before .before .before .before .before .before .before .before .before .before .args .c .word) (c .word-of2 .result) ∙ c .before .before .before .before .before .before .read-pairs .kept .1 .0
+
+-- src/value.rt:55:1
+read-value-returns-8 : (t : ℕ) → read-value-lts.Need-returns-8 (cs-read-value t) (read-value-at t) read-value.Post
+read-value-returns-8 t c =
+    let head = rw (c .before .before .before .before .before .before .before .before .before .before .before .before .before .before .head .given .1) at (c .before .before .before .before .before .before .before .before .before .before .before .before .before .before .before .before .value-head .ensures) in
+    pairs-answer (now (c .before .before .before .before .before .before .before .before .before .before .before .before .before .before .before .before .before .before .before .before .args .s)) (now (c .before .before .before .before .before .before .before .before .before .before .before .before .before .before .before .before .before .before .before .before .args .scratch)) (c .before .before .before .before .before .before .before .before .before .before .before .before .before .before .before .before .before .before .before .before .args .depth) (c .before .before .before .before .before .before .before .before .before .before .before .before .before .before .head .given .0 .1 .0) (c .before .before .before .before .before .before .before .before .before .before .n2 .given .0 .0) (c .before .before .before .before .before .before .before .before .before .before .before .before .before .before .before .before .before .before .before .before .args .c) (c .before .before .before .before .before .before .before .before .before .before .before .before .before .before .head .given .0 .0) (c .before .before .before .before .before .before .before .before .before .before .before .before .before .before .before .before .before .if1 .left) (head .0) (sym (c .before .before .before .before .before .before .before .before .before .before .before .before .held-by .ensures) ∙ c .before .before .before .before .before .before .before .before .before .before .n2 .given .1) (c .before .before .before .before .before .before .before .before .if3 .left) (c .before .before .before .before .before .before .before .before .before .before .before .before .before .before .before .before .before .before .before .before .pre .1) (c .word-of2 .ensures) (rw (c .before .before .next2 .given .1) at (c .before .before .before .before .before .before .read-pairs .ensures))
+
+abbrev read-values-Inv-loop : read-values-lts.InvT-loop
+read-values-Inv-loop s scratch₀ depth count here₀ n₀ scratch here n = Passing (values-kind s depth) s scratch₀ scratch tt tt count count n n here₀ here
+
+abbrev read-values-μ-loop : read-values-lts.MeasureT-loop
+read-values-μ-loop s scratch₀ depth count here₀ n₀ scratch here n = n
+
+-- src/value.rt:101:5
+read-values-loop-holds : (t : ℕ) → read-values-lts.Need-loop-holds (cs-read-values t) (read-values-at t) read-values.Post read-values-Inv-loop read-values-μ-loop
+read-values-loop-holds t c = siblings-begin (values-kind (now (c .before .before .args .s)) (c .before .before .args .depth)) tt (c .before .before .args .count) (c .before .before .pre .1)
+
+-- src/value.rt:102:36
+read-values-read-value-requires : (t : ℕ) → read-values-lts.Need-read-value-requires (cs-read-values t) (read-values-at t) read-values.Post read-values-Inv-loop read-values-μ-loop
+read-values-read-value-requires t c κs = (omega (arith, c .before .before .before .before .before .pre .0), ready-fewer (c .before .before .loop .inv .ready) (omega (arith, c .before .loop-test .taken)))
+
+-- src/value.rt:102:28
+read-values-enum-known-next : (t : ℕ) → read-values-lts.Need-enum-known-next (cs-read-values t) (read-values-at t) read-values.Post read-values-Inv-loop read-values-μ-loop
+read-values-enum-known-next t c = search needs
+
+-- src/value.rt:103:13
+read-values-enum-told : (t : ℕ) → read-values-lts.Need-enum-told (cs-read-values t) (read-values-at t) read-values.Post read-values-Inv-loop read-values-μ-loop
+read-values-enum-told t c = search needs
+
+-- src/value.rt:103:13
+read-values-same-length : (t : ℕ) → read-values-lts.Need-same-length (cs-read-values t) (read-values-at t) read-values.Post read-values-Inv-loop read-values-μ-loop
+read-values-same-length t c = c .before .before .before .before .read-value .kept .1 .0 ∙ c .before .before .before .before .before .before .before .loop .inv .kept .len
+
+-- src/value.rt:103:13
+read-values-returns :
+    (t : ℕ) →
+    read-values-lts.Need-returns
+    (read-value-below t, read-value.Post)
+    (read-values-at t)
+    read-values.Post
+    read-values-Inv-loop
+    read-values-μ-loop
+read-values-returns t c = siblings-bad (c .before .before .before .before .before .before .before .loop .inv) (c .before .before .before .before .before .before .loop-test .taken) (rw (c .enum-told .given .1) at (c .before .before .before .before .read-value .ensures))
+
+-- src/value.rt:106:9
+read-values-sub-n :
+    (t : ℕ) →
+    read-values-lts.Need-sub-n
+    (read-value-below t, read-value.Post)
+    (read-values-at t)
+    read-values.Post
+    read-values-Inv-loop
+    read-values-μ-loop
+read-values-sub-n t c = search needs
+
+-- src/value.rt:101:5
+read-values-loop-less : (t : ℕ) → read-values-lts.Need-loop-less (cs-read-values t) (read-values-at t) read-values.Post read-values-Inv-loop read-values-μ-loop
+read-values-loop-less t c = search needs
+
+-- src/value.rt:101:5
+read-values-loop-again : (t : ℕ) → read-values-lts.Need-loop-again (cs-read-values t) (read-values-at t) read-values.Post read-values-Inv-loop read-values-μ-loop
+read-values-loop-again t c = siblings-next (c .before .before .before .before .before .before .before .before .loop .inv) (c .before .before .before .before .before .before .before .before .loop .n - 1) (c .before .before .before .before .before .before .before .loop-test .taken) (omega (arith, c .before .before .before .before .before .before .before .loop-test .taken)) (rw (c .before .next .given .1) at (c .before .before .before .before .before .read-value .ensures))
+
+-- src/value.rt:95:1
+read-values-same-length-2 : (t : ℕ) → read-values-lts.Need-same-length-2 (cs-read-values t) (read-values-at t) read-values.Post read-values-Inv-loop read-values-μ-loop
+read-values-same-length-2 t c = c .before .loop .inv .kept .len
+
+-- src/value.rt:95:1
+read-values-returns-2 : (t : ℕ) → read-values-lts.Need-returns-2 (cs-read-values t) (read-values-at t) read-values.Post read-values-Inv-loop read-values-μ-loop
+read-values-returns-2 t c = siblings-end (c .before .loop .inv) (omega (arith, c .loop-test .left)) (omega (arith, c .loop-test .left))
+
+pub +read-pair+read-pairs+read-value+read-values-spec : {M : Type 1} → statement M
++read-pair+read-pairs+read-value+read-values-spec =
+    close μ-read-pair μ-read-pairs μ-read-value μ-read-values (λ t. read-pair-lts.spec (cs-read-pair t)
+    (read-pair-at t)
+    read-pair.Post
+    (read-pair-key-head-requires t)
+    (read-pair-enum-known-key t)
+    (read-pair-enum-told t)
+    (read-pair-returns t)
+    (read-pair-is-next-key-requires t)
+    (read-pair-add-scratch t)
+    (read-pair-read-value-requires t)
+    (read-pair-enum-known-next t)
+    (read-pair-enum-told-2 t)
+    (read-pair-same-length t)
+    (read-pair-returns-2 t)
+    (read-pair-word-of-requires t)
+    (read-pair-mul-scratch t)
+    (read-pair-slice-write-scratch t)
+    (read-pair-same-length-2 t)
+    (read-pair-returns-3 t)
+    (read-pair-returns-4 t))
+    (λ t. read-pairs-lts.spec
+    (read-pair-below t, read-pair.Post)
+    (read-pairs-at t)
+    read-pairs.Post
+    read-pairs-Inv-loop
+    read-pairs-μ-loop
+    (read-pairs-loop-holds t)
+    (read-pairs-read-pair-requires t)
+    (read-pairs-enum-known-key t)
+    (read-pairs-enum-told t)
+    (read-pairs-same-length t)
+    (read-pairs-returns t)
+    (read-pairs-sub-n t)
+    (read-pairs-loop-less t)
+    (read-pairs-loop-again t)
+    (read-pairs-same-length-2 t)
+    (read-pairs-returns-2 t))
+    (λ t. read-value-lts.spec (cs-read-value t)
+    (read-value-at t)
+    read-value.Post
+    (read-value-returns t)
+    (read-value-value-head-requires t)
+    (read-value-enum-known-head t)
+    (read-value-enum-told t)
+    (read-value-returns-2 t)
+    (read-value-held-by-requires t)
+    (read-value-enum-known-n t)
+    (read-value-returns-3 t)
+    (read-value-add-read-values t)
+    (read-value-sub-read-values t)
+    (read-value-read-values-requires t)
+    (read-value-enum-known-next t)
+    (read-value-enum-told-2 t)
+    (read-value-same-length t)
+    (read-value-returns-4 t)
+    (read-value-word-of-requires t)
+    (read-value-mul-scratch t)
+    (read-value-slice-write-scratch t)
+    (read-value-enum-known-n-2 t)
+    (read-value-returns-5 t)
+    (read-value-add-read-pairs t)
+    (read-value-mul-scratch-2 t)
+    (read-value-sub-scratch t)
+    (read-value-sub-read-pairs t)
+    (read-value-read-pairs-requires t)
+    (read-value-enum-known-next-2 t)
+    (read-value-enum-told-3 t)
+    (read-value-same-length-2 t)
+    (read-value-returns-6 t)
+    (read-value-word-of-requires-2 t)
+    (read-value-mul-scratch-3 t)
+    (read-value-slice-write-scratch-2 t)
+    (read-value-same-length-3 t)
+    (read-value-returns-7 t)
+    (read-value-same-length-4 t)
+    (read-value-returns-8 t))
+    λ t. read-values-lts.spec
+    (read-value-below t, read-value.Post)
+    (read-values-at t)
+    read-values.Post
+    read-values-Inv-loop
+    read-values-μ-loop
+    (read-values-loop-holds t)
+    (read-values-read-value-requires t)
+    (read-values-enum-known-next t)
+    (read-values-enum-told t)
+    (read-values-same-length t)
+    (read-values-returns t)
+    (read-values-sub-n t)
+    (read-values-loop-less t)
+    (read-values-loop-again t)
+    (read-values-same-length-2 t)
+    (read-values-returns-2 t)

@@ -1,0 +1,108 @@
+// Conditions, with all that they hold.
+use crate::cursor::Cursor;
+use crate::cursor::TreeRead;
+use crate::index::word_of;
+use crate::value::MAX_VALUE_NESTING;
+use crate::value::read_values;
+use sheet::rule::ConditionHead;
+use sheet::rule::ConditionRead;
+use sheet::rule::condition_head;
+ghost use mathlib.Core.Path.{_≡_};
+ghost use Rattle.rule.specs.Read.{Ready, operandsOf, ConditionAnswer, ConditionsAnswer};
+
+// How deep conditions may nest.
+pub const MAX_CONDITION_NESTING: usize = 256;
+
+// What follows a condition's head: so many values, then so many conditions.
+pub struct Operands {
+    pub values: usize,
+    pub conditions: usize,
+}
+
+fn operands_of(h: ConditionHead) -> Operands
+    ensures { λ r. ⌜ r ≡ operandsOf h ⌝ }
+{
+    match h {
+        ConditionHead::Literal(_) => Operands {
+            values: 0,
+            conditions: 0,
+        },
+        ConditionHead::Many(_, n) => Operands {
+            values: 0,
+            conditions: n,
+        },
+        ConditionHead::Negation => Operands {
+            values: 0,
+            conditions: 1,
+        },
+        ConditionHead::One(_) => Operands {
+            values: 1,
+            conditions: 0,
+        },
+        ConditionHead::Two(_) => Operands {
+            values: 2,
+            conditions: 0,
+        },
+        ConditionHead::Comparison(_) => Operands {
+            values: 2,
+            conditions: 0,
+        },
+        ConditionHead::Quantifier(_, _) => Operands {
+            values: 1,
+            conditions: 1,
+        },
+    }
+}
+
+// One condition. `depth` is how deep it may nest.
+pub fn read_condition(s: &[u8], scratch: &mut [u32], depth: usize, c: Cursor) -> TreeRead
+    requires { ⌜ Ready (now s) (now scratch) 1 c ⌝ }
+    ensures { λ r. ⌜ ConditionAnswer (now (s .entry)) (now (scratch .entry)) (now (scratch .exit)) depth c r ⌝ }
+{
+    if depth == 0 {
+        return TreeRead::Bad;
+    }
+    let at = c.at;
+    let word = c.word;
+    let left = c.left;
+    let ConditionRead::Is(head, behind) = condition_head(s, at) else {
+        return TreeRead::Bad;
+    };
+    let operands = operands_of(head);
+    let cost = operands.values + operands.conditions;
+    if left < cost {
+        return TreeRead::Bad;
+    }
+    let inner = Cursor {
+        at: behind,
+        word: word + 1,
+        left: left - cost,
+    };
+    let TreeRead::Good(middle) = read_values(s, scratch, MAX_VALUE_NESTING, operands.values, inner)
+    else {
+        return TreeRead::Bad;
+    };
+    let TreeRead::Good(next) = read_conditions(s, scratch, depth - 1, operands.conditions, middle)
+    else {
+        return TreeRead::Bad;
+    };
+    scratch[word] = word_of(at, next.word);
+    TreeRead::Good(next)
+}
+
+// `count` conditions, side by side.
+fn read_conditions(s: &[u8], scratch: &mut [u32], depth: usize, count: usize, c: Cursor) -> TreeRead
+    requires { ⌜ Ready (now s) (now scratch) count c ⌝ }
+    ensures { λ r. ⌜ ConditionsAnswer (now (s .entry)) (now (scratch .entry)) (now (scratch .exit)) depth count c r ⌝ }
+{
+    let mut here = c;
+    let mut n = count;
+    while 0 < n {
+        let TreeRead::Good(next) = read_condition(s, scratch, depth, here) else {
+            return TreeRead::Bad;
+        };
+        here = next;
+        n -= 1;
+    }
+    TreeRead::Good(here)
+}

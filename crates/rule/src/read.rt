@@ -1,0 +1,85 @@
+// A whole rule sheet.
+use crate::condition::MAX_CONDITION_NESTING;
+use crate::condition::read_condition;
+use crate::cursor::Cursor;
+use crate::cursor::TreeRead;
+use crate::index::MAX_RULE_ENTRIES;
+use crate::index::word_of;
+use crate::value::MAX_VALUE_NESTING;
+use crate::value::read_value;
+use sheet::rule::RuleHead;
+use sheet::rule::rule_head;
+ghost use mathlib.Core.Path.{_≡_};
+ghost use Prim.Native.Nat.{_≤_};
+ghost use lib.ListN.{length};
+ghost use Rattle.definition.specs.Limits.{maxRuleEntries};
+ghost use Rattle.rule.specs.Read.{Ready};
+ghost use Rattle.rule.specs.Rule.{isTemplateHead, TreeAnswer, RuleAnswer};
+
+// No sheet is longer than this.
+pub const MAX_SHEET_BYTES: usize = 30000;
+
+// A well-formed sheet: `R` or `T`, and how many entries it has.
+pub struct RuleSheet {
+    pub is_template: bool,
+    pub entries: usize,
+}
+
+pub enum RuleRead {
+    Good(RuleSheet),
+    // The sheet is not well formed.
+    Bad,
+}
+
+fn is_template(h: RuleHead) -> bool
+    ensures { λ r. ⌜ r ≡ isTemplateHead h ⌝ }
+{
+    match h {
+        RuleHead::Rule(_, _) => false,
+        RuleHead::Template => true,
+    }
+}
+
+// What follows the first entry: a value under `T`, a condition under `R`.
+fn read_tree(s: &[u8], scratch: &mut [u32], is_template: bool, c: Cursor) -> TreeRead
+    requires { ⌜ Ready (now s) (now scratch) 1 c ⌝ }
+    ensures { λ r. ⌜ TreeAnswer (now (s .entry)) (now (scratch .entry)) (now (scratch .exit)) «is_template» c r ⌝ }
+{
+    if is_template {
+        return read_value(s, scratch, MAX_VALUE_NESTING, c);
+    }
+    read_condition(s, scratch, MAX_CONDITION_NESTING, c)
+}
+
+// The words of the index are written, and no others.
+pub fn read_rule(s: &[u8], scratch: &mut [u32]) -> RuleRead
+    requires { ⌜ maxRuleEntries ≤ length (now scratch) ⌝ }
+    ensures { λ r. ⌜ RuleAnswer (now (s .entry)) (now (scratch .entry)) (now (scratch .exit)) r ⌝ }
+{
+    if MAX_SHEET_BYTES < s.len() {
+        return RuleRead::Bad;
+    }
+    let sheet::rule::RuleRead::Is(head, behind) = rule_head(s, 0) else {
+        return RuleRead::Bad;
+    };
+    let template = is_template(head);
+    // The first entry announces itself and its tree.
+    let inner = Cursor {
+        at: behind,
+        word: 1,
+        left: MAX_RULE_ENTRIES - 2,
+    };
+    let TreeRead::Good(next) = read_tree(s, scratch, template, inner) else {
+        return RuleRead::Bad;
+    };
+    let end = next.at;
+    let entries = next.word;
+    if end < s.len() {
+        return RuleRead::Bad;
+    }
+    scratch[0] = word_of(0, entries);
+    RuleRead::Good(RuleSheet {
+        is_template: template,
+        entries,
+    })
+}

@@ -1,0 +1,178 @@
+// Values, with all that they hold.
+use crate::cursor::Cursor;
+use crate::cursor::TreeRead;
+use crate::index::word_of;
+use sheet::order::ByteOrder;
+use sheet::part::OptionalPart;
+use sheet::part::Part;
+use sheet::part::bytes_of;
+use sheet::rule::KeyRead;
+use sheet::rule::ValueHead;
+use sheet::rule::ValueRead;
+use sheet::rule::key_head;
+use sheet::rule::value_head;
+ghost use mathlib.Core.Path.{_≡_};
+ghost use Prim.Native.Nat.{_*_};
+ghost use Rattle.sheet.specs.Order.{follows};
+ghost use Rattle.sheet.specs.Parts.{partOf, optionalOf};
+ghost use Rattle.rule.specs.Read.{Ready, heldBy, ValueAnswer, ValuesAnswer, PairAnswer, PairsAnswer};
+
+// How deep values may nest.
+pub const MAX_VALUE_NESTING: usize = 64;
+
+// What a value holds.
+pub enum Held {
+    // So many values.
+    Values(usize),
+    // So many keys, each with its value.
+    Pairs(usize),
+}
+
+// What reading a key with its value finds.
+pub enum PairRead {
+    // The key, and the place behind the value.
+    Good(Part, Cursor),
+    // They are not well formed.
+    Bad,
+}
+
+fn held_by(h: ValueHead) -> Held
+    ensures { λ r. ⌜ r ≡ heldBy h ⌝ }
+{
+    match h {
+        ValueHead::Constant(_) => Held::Values(0),
+        ValueHead::Number(_) => Held::Values(0),
+        ValueHead::Text(_) => Held::Values(0),
+        ValueHead::Array(n) => Held::Values(n),
+        ValueHead::Object(n) => Held::Pairs(n),
+    }
+}
+
+// Whether a key may stand behind the one before it, if there is one.
+fn is_next_key(s: &[u8], previous: OptionalPart, key: Part) -> bool
+    ensures { λ r. ⌜ r ≡ follows (optionalOf (now (s .entry)) previous) (partOf (now (s .entry)) key) ⌝ }
+{
+    let OptionalPart::Is(earlier) = previous else {
+        return true;
+    };
+    match sheet::order::compare(bytes_of(s, earlier), bytes_of(s, key)) {
+        ByteOrder::Less => true,
+        ByteOrder::Same => false,
+        ByteOrder::Greater => false,
+    }
+}
+
+// One value. `depth` is how deep it may nest.
+pub fn read_value(s: &[u8], scratch: &mut [u32], depth: usize, c: Cursor) -> TreeRead
+    requires { ⌜ Ready (now s) (now scratch) 1 c ⌝ }
+    ensures { λ r. ⌜ ValueAnswer (now (s .entry)) (now (scratch .entry)) (now (scratch .exit)) depth c r ⌝ }
+{
+    if depth == 0 {
+        return TreeRead::Bad;
+    }
+    let at = c.at;
+    let word = c.word;
+    let left = c.left;
+    let ValueRead::Is(head, behind) = value_head(s, at) else {
+        return TreeRead::Bad;
+    };
+    match held_by(head) {
+        Held::Values(n) => {
+            if left < n {
+                return TreeRead::Bad;
+            }
+            let inner = Cursor {
+                at: behind,
+                word: word + 1,
+                left: left - n,
+            };
+            let TreeRead::Good(next) = read_values(s, scratch, depth - 1, n, inner) else {
+                return TreeRead::Bad;
+            };
+            scratch[word] = word_of(at, next.word);
+            TreeRead::Good(next)
+        }
+        Held::Pairs(n) => {
+            if left / 2 < n {
+                return TreeRead::Bad;
+            }
+            let inner = Cursor {
+                at: behind,
+                word: word + 1,
+                left: left - 2 * n,
+            };
+            let TreeRead::Good(next) = read_pairs(s, scratch, depth - 1, n, inner) else {
+                return TreeRead::Bad;
+            };
+            scratch[word] = word_of(at, next.word);
+            TreeRead::Good(next)
+        }
+    }
+}
+
+// `count` values, side by side.
+pub fn read_values(s: &[u8], scratch: &mut [u32], depth: usize, count: usize, c: Cursor) -> TreeRead
+    requires { ⌜ Ready (now s) (now scratch) count c ⌝ }
+    ensures { λ r. ⌜ ValuesAnswer (now (s .entry)) (now (scratch .entry)) (now (scratch .exit)) depth count c r ⌝ }
+{
+    let mut here = c;
+    let mut n = count;
+    while 0 < n {
+        let TreeRead::Good(next) = read_value(s, scratch, depth, here) else {
+            return TreeRead::Bad;
+        };
+        here = next;
+        n -= 1;
+    }
+    TreeRead::Good(here)
+}
+
+// A key behind the key before it, and its value.
+fn read_pair(
+    s: &[u8],
+    scratch: &mut [u32],
+    depth: usize,
+    previous: OptionalPart,
+    c: Cursor,
+) -> PairRead
+    requires { ⌜ Ready (now s) (now scratch) 2 c ⌝ }
+    ensures { λ r. ⌜ PairAnswer (now (s .entry)) (now (scratch .entry)) (now (scratch .exit)) depth previous c r ⌝ }
+{
+    let at = c.at;
+    let word = c.word;
+    let KeyRead::Is(key, behind) = key_head(s, at) else {
+        return PairRead::Bad;
+    };
+    if is_next_key(s, previous, key) {
+        let inner = Cursor {
+            at: behind,
+            word: word + 1,
+            left: c.left,
+        };
+        let TreeRead::Good(next) = read_value(s, scratch, depth, inner) else {
+            return PairRead::Bad;
+        };
+        scratch[word] = word_of(at, next.word);
+        return PairRead::Good(key, next);
+    }
+    PairRead::Bad
+}
+
+// `count` keys, each with its value.
+fn read_pairs(s: &[u8], scratch: &mut [u32], depth: usize, count: usize, c: Cursor) -> TreeRead
+    requires { ⌜ Ready (now s) (now scratch) (2 * count) c ⌝ }
+    ensures { λ r. ⌜ PairsAnswer (now (s .entry)) (now (scratch .entry)) (now (scratch .exit)) depth count c r ⌝ }
+{
+    let mut here = c;
+    let mut previous = OptionalPart::Absent;
+    let mut n = count;
+    while 0 < n {
+        let PairRead::Good(key, next) = read_pair(s, scratch, depth, previous, here) else {
+            return TreeRead::Bad;
+        };
+        here = next;
+        previous = OptionalPart::Is(key);
+        n -= 1;
+    }
+    TreeRead::Good(here)
+}

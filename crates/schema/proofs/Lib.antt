@@ -1,0 +1,7 @@
+mod Slots
+mod FieldSteps
+mod MemberSteps
+mod Names
+mod SchemaSteps
+mod Halving
+mod Parts

@@ -1,0 +1,71 @@
+-- The parts of the field that a slot holds.
+use Prim.Native.Nat.{ℕ, _+_, _/_, _%_, _≤_}
+use mathlib.Core.Bool.{Bool, true, false}
+use mathlib.Core.List.{List, []}
+use mathlib.Core.Option.{Option, none, some, Option·none-ne-some, Option·some-injective}
+use mathlib.Core.Path.{_≡_, refl, sym, ap, _∙_}
+use native.Mathlib.Omega.{arith}
+use lib.ListN.{drop}
+use Rattle.sheet.specs.Entries as Entries
+use Rattle.sheet.specs.Entries.{fieldHead}
+use Rattle.definition.specs.Tree.{Field, field, Items, absent, element, Members}
+use Rattle.definition.specs.Within.{ItemsRise}
+use Rattle.definition.specs.Decode.{toCount}
+use Rattle.schema.specs.Index.{maxSlots, placeWord, childWord, hasElement, elements, countOf, below, belowItems, belowMembers, ItemsAt}
+use Rattle.schema.specs.Slot.{SlotHolds, ElementAt, elementFrom, IndexedIs}
+use Rattle.sheet.specs.Places.{fieldOf}
+use Rattle.sheet.specs.declared.schema.FieldHead.{FieldHead}
+use Rattle.schema.specs.declared.index.Element.{Element}
+use Rattle.schema.specs.declared.index.IndexedField.{IndexedField}
+use Rattle.schema.proofs.FieldSteps.{elements-marked}
+
+-- a slot that holds a field has a head
+pub headless-parts : (s w : List ℕ) (k : ℕ) (r : IndexedField) → fieldHead (drop (placeWord w k / 4096) s) ≡ none → IndexedIs s w k r
+headless-parts s w k r n (field e kind o tag items members) holds =
+    absurd (Option·none-ne-some _ (sym n ∙ holds .indexed .1 .reads))
+
+items-element : (s w : List ℕ) (k low : ℕ) (items : Items) → ItemsAt s w k low items → ItemsRise items → low + belowItems items ≤ maxSlots
+    → ElementAt s w (elementFrom (hasElement items) k) items
+unfolding elementFrom hasElement belowItems
+items-element s w k low absent at rises room = tt
+items-element s w k low (element f) at rises room = record { name = []; low = low; indexed = at; rises = rises; room = room }
+
+pub indexed-parts : (s w : List ℕ) (k : ℕ) (head : FieldHead) (rest : List ℕ) (place child elems : ℕ) (el : Element)
+    → fieldHead (drop (placeWord w k / 4096) s) ≡ some (fieldOf s head, rest) → place ≡ placeWord w k → child ≡ childWord w k
+    → elems ≡ toCount (head .items) → el ≡ elementFrom (head .items) child
+    → IndexedIs s w k
+    (record {
+      entry = place % 4096;
+      kind = head .kind;
+      tag = head .tag;
+      element = el;
+      members = record { opened = head .opened; first = child + elems; count = head .count };
+    })
+unfolding fieldOf below
+indexed-parts s w k head rest place child elems el reads p c n l (field e kind o tag items members) holds =
+    let at = holds .indexed in
+    let q = ap (λ (r : Entries.FieldHead × List ℕ). r .0) (Option·some-injective _ _ (sym reads ∙ at .1 .reads)) in
+    let has : head .items ≡ hasElement items = ap (λ (h : Entries.FieldHead). h .hasItems) q in
+    let count : head .count ≡ countOf members = ap (λ (h : Entries.FieldHead). h .count) q in
+    let low : child ≡ holds .low = c ∙ at .2 in
+    let m : elems ≡ elements items = n ∙ ap toCount has ∙ sym (elements-marked items) in
+    let room = holds .room in
+    let first : child + elems ≡ holds .low + elements items = omega arith in
+    record {
+      numbered = rw p (at .0);
+      kinded = ap (λ (h : Entries.FieldHead). h .kind) q;
+      tagged = ap (λ (h : Entries.FieldHead). h .tag) q;
+      elements =
+          rw (l, has, low)
+          (items-element s w (holds .low) (holds .low + (elements items + countOf members)) items (at .3) (holds .rises .0) (omega arith));
+      members =
+          record {
+            marked = ap (λ (h : Entries.FieldHead). h .isOpen) q;
+            counted = sym count;
+            low = holds .low + (elements items + countOf members) + belowItems items;
+            indexed = rw first (at .4);
+            rises = holds .rises .1;
+            slots = omega arith;
+            room = omega arith;
+          };
+    }

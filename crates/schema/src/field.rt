@@ -1,0 +1,147 @@
+// A schema sheet, read from left to right: fields within fields by recursion, siblings by a loop, so that the stack goes as deep as the fields nest.
+use crate::index::MAX_SLOTS;
+use crate::index::put_slot;
+use crate::index::to_count;
+use sheet::order::ByteOrder;
+use sheet::part::Part;
+use sheet::schema::FieldRead;
+ghost use mathlib.Core.Path.{_≡_};
+ghost use Rattle.definition.specs.Decode.{toCount};
+ghost use Rattle.schema.specs.Fields.{Ready, FieldPost, ItemsPost, MembersPost, nameBefore};
+ghost use Rattle.sheet.specs.Parts.{partOf};
+ghost use Rattle.sheet.specs.Order.{follows};
+
+// How deep fields nest, the outermost counting 1.
+pub const MAX_FIELD_NESTING: usize = 64;
+
+// Where reading stands: the next entry's number, how many slots are in use, and the next byte.
+pub struct Cursor {
+    pub next: usize,
+    pub used: usize,
+    pub at: usize,
+}
+
+pub enum OneRead {
+    // The field's name, and where its last entry ends.
+    Good(Part, Cursor),
+    Bad,
+}
+
+pub enum ManyRead {
+    // Where the last entry ends.
+    Good(Cursor),
+    Bad,
+}
+
+// A field, with all that lies below it, into `slot`. What lies below it takes the slots that follow those in use.
+fn read_field(sheet: &[u8], words: &mut [u32], depth: usize, slot: usize, from: Cursor) -> OneRead
+    requires { ⌜ Ready (now sheet) (now words) from slot 1 ⌝ }
+    ensures { λ r. ⌜ FieldPost (now (sheet .entry)) (now (words .entry)) (now (words .exit)) depth slot from r ⌝ }
+{
+    if depth == 0 {
+        return OneRead::Bad;
+    }
+    let at = from.at;
+    let low = from.used;
+    let FieldRead::Is(head, end) = sheet::schema::field_head(sheet, at) else {
+        return OneRead::Bad;
+    };
+    let elements = to_count(head.items);
+    let announced = elements + head.count;
+    if MAX_SLOTS - low < announced {
+        return OneRead::Bad;
+    }
+    put_slot(words, slot, at, from.next, low);
+    let inner = Cursor {
+        next: from.next + 1,
+        used: low + announced,
+        at: end,
+    };
+    let ManyRead::Good(behind) = read_element(sheet, words, depth - 1, head.items, low, inner)
+    else {
+        return OneRead::Bad;
+    };
+    let ManyRead::Good(to) = read_members(
+        sheet,
+        words,
+        depth - 1,
+        low + elements,
+        head.count,
+        behind,
+    ) else {
+        return OneRead::Bad;
+    };
+    let name = head.name;
+    OneRead::Good(name, to)
+}
+
+// The element, if there is one: it has no name.
+fn read_element(
+    sheet: &[u8],
+    words: &mut [u32],
+    depth: usize,
+    has: bool,
+    slot: usize,
+    from: Cursor,
+) -> ManyRead
+    requires { ⌜ Ready (now sheet) (now words) from slot (toCount has) ⌝ }
+    ensures { λ r. ⌜ ItemsPost (now (sheet .entry)) (now (words .entry)) (now (words .exit)) depth has slot from r ⌝ }
+{
+    if has {
+        let OneRead::Good(name, to) = read_field(sheet, words, depth, slot, from) else {
+            return ManyRead::Bad;
+        };
+        if sheet::part::bytes_of(sheet, name).len() == 0 {
+            return ManyRead::Good(to);
+        }
+        return ManyRead::Bad;
+    }
+    ManyRead::Good(from)
+}
+
+// Whether a name may stand behind that of the sibling before it, if there is one.
+fn rises(sheet: &[u8], i: usize, before: Part, name: Part) -> bool
+    ensures { λ r. ⌜ r ≡ follows (nameBefore (now (sheet .entry)) i before) (partOf (now (sheet .entry)) name) ⌝ }
+{
+    if i == 0 {
+        return true;
+    }
+    match sheet::order::compare(
+        sheet::part::bytes_of(sheet, before),
+        sheet::part::bytes_of(sheet, name),
+    ) {
+        ByteOrder::Less => true,
+        ByteOrder::Same => false,
+        ByteOrder::Greater => false,
+    }
+}
+
+// Siblings, as many as announced: their names rise.
+pub fn read_members(
+    sheet: &[u8],
+    words: &mut [u32],
+    depth: usize,
+    first: usize,
+    count: usize,
+    from: Cursor,
+) -> ManyRead
+    requires { ⌜ Ready (now sheet) (now words) from first count ⌝ }
+    ensures { λ r. ⌜ MembersPost (now (sheet .entry)) (now (words .entry)) (now (words .exit)) depth first count from r ⌝ }
+{
+    let mut to = from;
+    let mut before = Part { start: 0, len: 0 };
+    let mut i = 0;
+    while i < count {
+        let OneRead::Good(name, behind) = read_field(sheet, words, depth, first + i, to) else {
+            return ManyRead::Bad;
+        };
+        if rises(sheet, i, before, name) {
+            before = name;
+            to = behind;
+            i += 1;
+        } else {
+            return ManyRead::Bad;
+        }
+    }
+    ManyRead::Good(to)
+}

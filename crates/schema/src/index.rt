@@ -1,0 +1,143 @@
+// The slots of the index: two words for each field, behind the words of a rule.
+use sheet::part::OptionalPart;
+use sheet::schema::FieldRead;
+ghost use mathlib.Core.Path.{_≡_};
+ghost use Prim.Native.Nat.{_/_};
+ghost use lib.ListN.{getD};
+ghost use Rattle.definition.specs.Decode.{toCount};
+ghost use Rattle.schema.specs.Index.{placeWord, childWord};
+ghost use Rattle.schema.specs.Fields.{SlotFits, SlotPut};
+ghost use Rattle.schema.specs.Slot.{elementFrom, IndexedIs};
+ghost use Rattle.sheet.specs.Places.{FieldIs};
+
+// No schema has more entries.
+pub const MAX_SCHEMA_ENTRIES: usize = 2048;
+
+// Every entry but the sheet's head has a slot.
+pub const MAX_SLOTS: usize = MAX_SCHEMA_ENTRIES - 1;
+
+// The words before this one are a rule's.
+pub const FIRST_WORD: usize = 2048;
+
+// A word holds where an entry starts, and its number, which is below this.
+const ENTRY_NUMBERS: usize = 4096;
+
+// The members of the record, of the arguments or of a field: the slot of the first, and how many there are.
+pub struct Holder {
+    pub opened: bool,
+    pub first: usize,
+    pub count: usize,
+}
+
+// The slot of a field's element.
+pub enum Element {
+    At(usize),
+    Absent,
+}
+
+// What a slot says of its field.
+pub struct IndexedField {
+    pub entry: usize,
+    pub kind: usize,
+    pub tag: OptionalPart,
+    pub element: Element,
+    pub members: Holder,
+}
+
+// The word at `i`, 0 past the end.
+fn word_at(words: &[u32], i: usize) -> u32
+    ensures { λ r. ⌜ r ≡ getD (now (words .entry)) i 0 ⌝ }
+{
+    if i < words.len() { words[i] } else { 0 }
+}
+
+// Where the entry of slot `k` starts, times 4,096, and its number.
+fn place_word(words: &[u32], k: usize) -> u32
+    ensures { λ r. ⌜ r ≡ placeWord (now (words .entry)) k ⌝ }
+{
+    if words.len() <= k {
+        return 0;
+    }
+    word_at(words, FIRST_WORD + 2 * k)
+}
+
+// The slot of the first child of slot `k`.
+fn child_word(words: &[u32], k: usize) -> u32
+    ensures { λ r. ⌜ r ≡ childWord (now (words .entry)) k ⌝ }
+{
+    if words.len() <= k {
+        return 0;
+    }
+    word_at(words, FIRST_WORD + 2 * k + 1)
+}
+
+pub fn put_slot(words: &mut [u32], k: usize, start: usize, entry: usize, child: usize)
+    requires { ⌜ SlotFits (now words) k start entry child ⌝ }
+    ensures { λ _. ⌜ SlotPut (now (words .entry)) (now (words .exit)) k start entry child ⌝ }
+{
+    let i = FIRST_WORD + 2 * k;
+    words[i] = (start * ENTRY_NUMBERS + entry) as u32;
+    words[i + 1] = child as u32;
+}
+
+// The head of slot `k`, read again.
+pub fn head_of(sheet: &[u8], words: &[u32], k: usize) -> FieldRead
+    ensures { λ r. ⌜ FieldIs (now (sheet .entry)) (placeWord (now (words .entry)) k / 4096) r ⌝ }
+{
+    let start = place_word(words, k) as usize / ENTRY_NUMBERS;
+    sheet::schema::field_head(sheet, start)
+}
+
+pub fn to_count(is: bool) -> usize
+    ensures { λ r. ⌜ r ≡ toCount is ⌝ }
+{
+    if is { 1 } else { 0 }
+}
+
+fn element_at(has: bool, k: usize) -> Element
+    ensures { λ r. ⌜ r ≡ elementFrom has k ⌝ }
+{
+    if has { Element::At(k) } else { Element::Absent }
+}
+
+// A field of no kind and without members, for a slot that holds none.
+fn no_field() -> IndexedField {
+    let members = Holder {
+        opened: false,
+        first: 0,
+        count: 0,
+    };
+    let tag = OptionalPart::Absent;
+    let element = Element::Absent;
+    IndexedField {
+        entry: 0,
+        kind: 0,
+        tag,
+        element,
+        members,
+    }
+}
+
+// The field that slot `k` holds.
+pub fn indexed_field(sheet: &[u8], words: &[u32], k: usize) -> IndexedField
+    ensures { λ r. ⌜ IndexedIs (now (sheet .entry)) (now (words .entry)) k r ⌝ }
+{
+    let FieldRead::Is(head, _) = head_of(sheet, words, k) else {
+        return no_field();
+    };
+    let first = child_word(words, k) as usize;
+    let tag = head.tag;
+    let element = element_at(head.items, first);
+    let members = Holder {
+        opened: head.opened,
+        first: first + to_count(head.items),
+        count: head.count,
+    };
+    IndexedField {
+        entry: place_word(words, k) as usize % ENTRY_NUMBERS,
+        kind: head.kind,
+        tag,
+        element,
+        members,
+    }
+}

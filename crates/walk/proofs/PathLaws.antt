@@ -1,0 +1,196 @@
+-- A path behind a field: the first segment, then what is left of the path behind its dot.
+use Prim.Native.Nat.{ℕ, _+_, _-_, _<_}
+use native.Mathlib.Omega.{arith}
+use mathlib.Core.Bool.{Bool}
+use mathlib.Core.List.{List, [], _∷_}
+use mathlib.Core.Path.{_≡_, refl, sym}
+use lib.ListN.{length, take, drop, length-take, length-drop}
+use lib.Seq.{take-all}
+use Rattle.definition.specs.Tree.{Text, Field, field}
+use Rattle.reference.specs.Path.{split}
+use Rattle.reference.specs.Walk.{Step, refuse, leaf, free, into, known, lastOr, arrive, entryOf, travel, walkStep, fieldStep}
+use Rattle.schema.specs.Slot.{SlotHolds, PartsOf, IndexedIs}
+use Rattle.walk.specs.Dots.{Cuts}
+use Rattle.walk.specs.Answers.{referenceDetail, collectionDetail}
+use Rattle.walk.specs.Steps.{WalkSteps, LastStep, Walks, FieldSteps, LastField, FieldsAt}
+use Rattle.schema.specs.declared.index.IndexedField.{IndexedField}
+use Rattle.walk.specs.declared.path.Dot.{Dot}
+use Rattle.walk.specs.declared.path.Dot.the-variants.{At, Nowhere}
+use Rattle.walk.specs.declared.answer.ReferenceFault.{ReferenceFault}
+use Rattle.walk.specs.declared.answer.WalkStep.{WalkStep}
+use Rattle.walk.specs.declared.answer.WalkStep.the-variants.{Refuse, Leaf, Free, Into}
+use Rattle.walk.specs.declared.answer.Readable.{Readable}
+use Rattle.walk.specs.declared.answer.Readable.the-variants.{Yes, No}
+use Rattle.walk.specs.declared.answer.CollectionFault.{CollectionFault}
+use Rattle.walk.specs.declared.answer.FieldStep.{FieldStep}
+use Rattle.walk.specs.declared.answer.FieldStep.the-variants as FieldStep
+use Rattle.walk.specs.declared.answer.Collected.{Collected}
+use Rattle.walk.specs.declared.answer.Collected.the-variants as Collected
+
+pub cut-within : (path : List ℕ) (dot : Dot) (d : ℕ) → Cuts path dot → dot ≡ At d → d < length path
+cut-within path dot d cuts e = let q : Cuts path (At d) = rw e at cuts in q .0
+
+pub cut-length : (path : List ℕ) (dot : Dot) (d : ℕ) → Cuts path dot → dot ≡ At d → d ≡ length (take d path)
+cut-length path dot d cuts e =
+    let less = cut-within path dot d cuts e in
+    simp length-take (omega arith)
+
+pub rest-whole : (path : List ℕ) (d : ℕ) → take (length path - (d + 1)) (drop (d + 1) path) ≡ drop (d + 1) path
+rest-whole path d = take-all (length path - (d + 1)) (drop (d + 1) path) (omega (arith, length-drop (d + 1) path))
+
+-- The last segment
+
+pub last-refuse : (entry : ℕ) (w : WalkStep) (fault : ReferenceFault) → w ≡ Refuse fault → LastStep entry w (No fault entry)
+unfolding arrive
+last-refuse entry w fault e = record {
+  leads = λ sheet words step s x h.
+      let q : x ≡ refuse (referenceDetail fault) = rw e at h in
+      (s ∷ [], rw q);
+}
+
+pub last-leaf : (entry : ℕ) (w : WalkStep) (fault : ReferenceFault) → w ≡ Leaf fault → LastStep entry w Yes
+unfolding arrive lastOr
+last-leaf entry w fault e = record {
+  leads = λ sheet words step s x h.
+      let q : x ≡ leaf (referenceDetail fault) = rw e at h in
+      rw q tt;
+}
+
+pub last-free : (entry : ℕ) (w : WalkStep) → w ≡ Free → LastStep entry w Yes
+unfolding arrive
+last-free entry w e = record {
+  leads = λ sheet words step s x h.
+      let q : x ≡ free = rw e at h in
+      rw q tt;
+}
+
+pub last-into : (entry : ℕ) (w : WalkStep) (k : ℕ) → w ≡ Into k → LastStep entry w Yes
+unfolding arrive travel
+last-into entry w k e = record {
+  leads = λ sheet words step s x h.
+      let q : (f : Field) × (x ≡ into f) × SlotHolds sheet words k f = rw e at h in
+      rw (q .1) tt;
+}
+
+pub last-field-refuse : (entry : ℕ) (w : FieldStep) (fault : CollectionFault) → w ≡ FieldStep.Refuse fault → LastField entry w (Collected.No fault entry)
+unfolding arrive
+last-field-refuse entry w fault e = record {
+  leads = λ sheet words s x h.
+      let q : x ≡ refuse (collectionDetail fault) = rw e at h in
+      (collectionDetail fault, s ∷ [], rw q, λ small. refl);
+}
+
+pub last-field-free : (entry : ℕ) (w : FieldStep) → w ≡ FieldStep.Free → LastField entry w Collected.Unknown
+unfolding arrive
+last-field-free entry w e = record {
+  leads = λ sheet words s x h.
+      let q : x ≡ free = rw e at h in
+      rw q;
+}
+
+into-known : (entry : ℕ) (s : Text) (x : Step) (f : Field) → x ≡ into f → arrive entry s [] (λ g. travel fieldStep [] g) x ≡ known f
+unfolding arrive travel
+into-known entry s x f e = rw e
+
+pub last-field-into : (entry : ℕ) (w : FieldStep) (k : ℕ) → w ≡ FieldStep.Into k → LastField entry w (Collected.Known k)
+last-field-into entry w k e = record {
+  leads = λ sheet words s x h.
+      let q : (f : Field) × (x ≡ into f) × SlotHolds sheet words k f = rw e at h in
+      (q .0, into-known entry s x (q .0) (q .1), q .2);
+}
+
+-- The whole path
+
+module _ (sheet words path : List ℕ) (k : ℕ) (x : IndexedField) (held : IndexedIs sheet words k x) (dot : Dot) (cuts : Cuts path dot) where
+  entry-is : (f : Field) → PartsOf sheet words f x → entryOf f ≡ x .entry
+  unfolding entryOf
+  entry-is (field e kind o tag items members) p = sym (p .numbered)
+
+  cut-nowhere : dot ≡ Nowhere → split path ≡ record { first = path; others = [] }
+  cut-nowhere e = rw e at cuts
+
+  pub walk-last : (service : Bool) (r : Readable) (w : WalkStep) → dot ≡ Nowhere → WalkSteps sheet words x path service w → LastStep (x .entry) w r
+      → Walks sheet words k path service r
+  unfolding travel
+  walk-last service r w e steps last = record {
+    leads = λ f at.
+        rw (cut-nowhere e, entry-is f (held f at))
+        (last .leads sheet words (walkStep service) path (walkStep service f path) (steps .leads f (held f at)));
+  }
+
+  pub field-last : (r : Collected) (w : FieldStep) → dot ≡ Nowhere → FieldSteps sheet words x path w → LastField (x .entry) w r → FieldsAt sheet words k path r
+  unfolding travel
+  field-last r w e steps last = record {
+    leads = λ f at.
+        rw (cut-nowhere e, entry-is f (held f at)) (last .leads sheet words path (fieldStep f path) (steps .leads f (held f at)));
+  }
+
+  module _ (d : ℕ) (there : dot ≡ At d) where
+    abbrev others : List Text
+    others = split (drop (d + 1) path) .first ∷ split (drop (d + 1) path) .others
+
+    cut-at : split path ≡ record { first = take d path; others = others }
+    cut-at = let q : Cuts path (At d) = rw there at cuts in q .1
+
+    pub walk-refused : (service : Bool) (w : WalkStep) (fault : ReferenceFault) → WalkSteps sheet words x (take d path) service w → w ≡ Refuse fault
+        → Walks sheet words k path service (No fault (x .entry))
+    unfolding travel arrive
+    walk-refused service w fault steps e = record {
+      leads = λ f at.
+          let q : walkStep service f (take d path) ≡ refuse (referenceDetail fault) = rw e at (steps .leads f (held f at)) in
+          (take d path ∷ others, rw (cut-at, q, entry-is f (held f at)));
+    }
+
+    pub walk-leaf : (service : Bool) (w : WalkStep) (fault : ReferenceFault) → WalkSteps sheet words x (take d path) service w → w ≡ Leaf fault
+        → Walks sheet words k path service (No fault (x .entry))
+    unfolding travel arrive lastOr
+    walk-leaf service w fault steps e = record {
+      leads = λ f at.
+          let q : walkStep service f (take d path) ≡ leaf (referenceDetail fault) = rw e at (steps .leads f (held f at)) in
+          (take d path ∷ others, rw (cut-at, q, entry-is f (held f at)));
+    }
+
+    pub walk-free : (service : Bool) (w : WalkStep) → WalkSteps sheet words x (take d path) service w → w ≡ Free → Walks sheet words k path service Yes
+    unfolding travel arrive
+    walk-free service w steps e = record {
+      leads = λ f at.
+          let q : walkStep service f (take d path) ≡ free = rw e at (steps .leads f (held f at)) in
+          rw (cut-at, q) tt;
+    }
+
+    pub walk-into : (service : Bool) (w : WalkStep) (next : ℕ) (r : Readable) → WalkSteps sheet words x (take d path) service w → w ≡ Into next
+        → Walks sheet words next (take (length path - (d + 1)) (drop (d + 1) path)) service r → Walks sheet words k path service r
+    unfolding travel arrive
+    walk-into service w next r steps e m = record {
+      leads = λ f at.
+          let q : (g : Field) × (walkStep service f (take d path) ≡ into g) × SlotHolds sheet words next g = rw e at (steps .leads f (held f at)) in
+          let onward : Walks sheet words next (drop (d + 1) path) service r = rw (rest-whole path d) at m in
+          rw (cut-at, q .1) (onward .leads (q .0) (q .2));
+    }
+
+    pub field-refused : (w : FieldStep) (fault : CollectionFault) → FieldSteps sheet words x (take d path) w → w ≡ FieldStep.Refuse fault
+        → FieldsAt sheet words k path (Collected.No fault (x .entry))
+    unfolding travel arrive
+    field-refused w fault steps e = record {
+      leads = λ f at.
+          let q : fieldStep f (take d path) ≡ refuse (collectionDetail fault) = rw e at (steps .leads f (held f at)) in
+          (collectionDetail fault, take d path ∷ others, rw (cut-at, q, entry-is f (held f at)), λ small. refl);
+    }
+
+    pub field-free : (w : FieldStep) → FieldSteps sheet words x (take d path) w → w ≡ FieldStep.Free → FieldsAt sheet words k path Collected.Unknown
+    unfolding travel arrive
+    field-free w steps e = record {
+      leads = λ f at.
+          let q : fieldStep f (take d path) ≡ free = rw e at (steps .leads f (held f at)) in
+          rw (cut-at, q);
+    }
+
+    pub field-into : (w : FieldStep) (next : ℕ) (r : Collected) → FieldSteps sheet words x (take d path) w → w ≡ FieldStep.Into next
+        → FieldsAt sheet words next (take (length path - (d + 1)) (drop (d + 1) path)) r → FieldsAt sheet words k path r
+    unfolding travel arrive
+    field-into w next r steps e m = record {
+      leads = λ f at.
+          let q : (g : Field) × (fieldStep f (take d path) ≡ into g) × SlotHolds sheet words next g = rw e at (steps .leads f (held f at)) in
+          let onward : FieldsAt sheet words next (drop (d + 1) path) r = rw (rest-whole path d) at m in
+          rw (cut-at, q .1) (onward .leads (q .0) (q .2));
+    }

@@ -1,0 +1,314 @@
+-- One segment: how each way through the code answers what the step on the tree is.
+use Prim.Native.Nat.{ℕ}
+use native.Mathlib.Omega.{arith}
+use mathlib.Core.Bool.{Bool, true, false, cond, _&&_}
+use mathlib.Core.List.{List, [], _∷_}
+use mathlib.Core.Option.{Option, none}
+use mathlib.Core.Path.{_≡_, refl, sym, _∙_}
+use lib.Dec.{eqb}
+use lib.ListN.{length}
+use borrow.Author.Tests.{ne-eqb}
+use Rattle.definition.specs.Tree as Tree
+use Rattle.definition.specs.Tree.{Text, Field, field, Items, absent, element, Members}
+use Rattle.sheet.specs.Ascii.{ascii}
+use Rattle.sheet.specs.Order.{sameBytes}
+use Rattle.reference.specs.Path.{isCount, isOrdinal}
+use Rattle.reference.specs.Walk.{Step, refuse, leaf, free, lookup, memberStep, itemStep, isEmpty, arrayStep, mapStep, isTag, contentKey, unionStep, walkStep}
+use Rattle.sheet.specs.Parts.{partOf, optionalOf}
+use Rattle.sheet.specs.Compares.{Stand, Compares}
+use Rattle.schema.specs.Slot.{HolderAt, ElementAt, FieldParts, PartsOf}
+use Rattle.schema.specs.Lookup.{FoundAt, LookedUp}
+use Rattle.walk.specs.Answers.{referenceDetail, StepIs}
+use Rattle.walk.specs.Steps.{ItemSteps, ArraySteps, MapSteps, UnionSteps, MemberSteps, scalarStep, ScalarSteps, ServiceSteps, WalkSteps}
+use Rattle.sheet.specs.declared.part.Part.{Part}
+use Rattle.sheet.specs.declared.part.OptionalPart.{OptionalPart}
+use Rattle.sheet.specs.declared.part.OptionalPart.the-variants as O
+use Rattle.sheet.specs.declared.order.ByteOrder.{ByteOrder}
+use Rattle.sheet.specs.declared.order.ByteOrder.the-variants as ByteOrder
+use Rattle.schema.specs.declared.index.Holder.{Holder}
+use Rattle.schema.specs.declared.index.Element.{Element}
+use Rattle.schema.specs.declared.index.Element.the-variants as Element
+use Rattle.schema.specs.declared.index.IndexedField.{IndexedField}
+use Rattle.schema.specs.declared.lookup.Found.{Found}
+use Rattle.schema.specs.declared.lookup.Found.the-variants as Found
+use Rattle.walk.specs.declared.answer.ReferenceFault.the-variants.{EmptyPath, ClosedObject, ArrayMember, MapMember, AfterCount, AfterTag, UnionMember, NoCount, NoMember}
+use Rattle.walk.specs.declared.answer.WalkStep.{WalkStep}
+use Rattle.walk.specs.declared.answer.WalkStep.the-variants.{Refuse, Leaf, Free, Into}
+
+-- Texts
+
+pub same-less : (a b : List ℕ) (o : ByteOrder) → Compares a b o → o ≡ ByteOrder.Less → false ≡ sameBytes a b
+same-less a b o p e = let q : Stand a b true false false = rw e at p in sym (q .same-is)
+
+pub same-same : (a b : List ℕ) (o : ByteOrder) → Compares a b o → o ≡ ByteOrder.Same → true ≡ sameBytes a b
+same-same a b o p e = let q : Stand a b false true false = rw e at p in sym (q .same-is)
+
+pub same-greater : (a b : List ℕ) (o : ByteOrder) → Compares a b o → o ≡ ByteOrder.Greater → false ≡ sameBytes a b
+same-greater a b o p e = let q : Stand a b false false true = rw e at p in sym (q .same-is)
+
+pub count-spelt : (r : Bool) (s : List ℕ) → r ≡ sameBytes s (99 ∷ 111 ∷ 117 ∷ 110 ∷ 116 ∷ []) → r ≡ isCount s
+unfolding isCount ascii
+count-spelt r s e = e
+
+-- The element of an array
+
+item-known : (sheet words : List ℕ) (k : ℕ) (items : Items) → ElementAt sheet words (Element.At k) items → StepIs sheet words (Into k) (itemStep items)
+unfolding itemStep
+item-known sheet words k absent h = absurd h
+item-known sheet words k (element f) h = (f, refl, h)
+
+item-open : (sheet words : List ℕ) (items : Items) → ElementAt sheet words Element.Absent items → itemStep items ≡ free
+unfolding itemStep
+item-open sheet words absent h = refl
+item-open sheet words (element f) h = absurd h
+
+pub item-into : (x : Element) (k : ℕ) → x ≡ Element.At k → ItemSteps x (Into k)
+item-into x k e = rw e (record { leads = λ sheet words items h. item-known sheet words k items h })
+
+pub item-free : (x : Element) → x ≡ Element.Absent → ItemSteps x Free
+item-free x e = rw e (record { leads = λ sheet words items h. item-open sheet words items h })
+
+pub array-count : (x : Element) (s : List ℕ) (b : Bool) → b ≡ isCount s → b ≡ true → ArraySteps x s (Leaf AfterCount)
+unfolding arrayStep referenceDetail
+array-count x s b p q = record { leads = λ sheet words items h. rw (sym p ∙ q) }
+
+pub array-item : (x : Element) (s : List ℕ) (r : WalkStep) (b o : Bool) → b ≡ isCount s → b ≡ false → o ≡ isOrdinal s → o ≡ true → ItemSteps x r → ArraySteps x s r
+unfolding arrayStep
+array-item x s r b o p q u v m =
+    record { leads = λ sheet words items h. rw (sym p ∙ q, sym u ∙ v) (m .leads sheet words items h) }
+
+pub array-other : (x : Element) (s : List ℕ) (b o : Bool) → b ≡ isCount s → b ≡ false → o ≡ isOrdinal s → o ≡ false → ArraySteps x s (Refuse ArrayMember)
+unfolding arrayStep referenceDetail
+array-other x s b o p q u v = record { leads = λ sheet words items h. rw (sym p ∙ q, sym u ∙ v) }
+
+pub map-count : (s : List ℕ) (b : Bool) → b ≡ isCount s → b ≡ true → MapSteps s (Leaf AfterCount)
+unfolding mapStep referenceDetail
+map-count s b p q = record { leads = λ sheet words. rw (sym p ∙ q) }
+
+pub map-other : (s : List ℕ) (b : Bool) → b ≡ isCount s → b ≡ false → MapSteps s (Refuse MapMember)
+unfolding mapStep referenceDetail
+map-other s b p q = record { leads = λ sheet words. rw (sym p ∙ q) }
+
+-- A union
+
+pub tag-same : (sheet s n : List ℕ) (tag : OptionalPart) (p : Part) (r : Bool) → tag ≡ O.Is p → n ≡ partOf sheet p → r ≡ sameBytes n s → r ≡ isTag (optionalOf sheet tag) s
+unfolding isTag optionalOf
+tag-same sheet s n tag p r e q h = rw (e, ← q) h
+
+pub tag-none : (sheet s : List ℕ) (tag : OptionalPart) → tag ≡ O.Absent → false ≡ isTag (optionalOf sheet tag) s
+unfolding isTag optionalOf
+tag-none sheet s tag e = rw e
+
+pub content-value : (sheet s : List ℕ) (tag : OptionalPart) (b r : Bool) → b ≡ isTag (optionalOf sheet tag) (118 ∷ 97 ∷ 108 ∷ 117 ∷ 101 ∷ []) → b ≡ true
+    → r ≡ sameBytes (99 ∷ 111 ∷ 110 ∷ 116 ∷ 101 ∷ 110 ∷ 116 ∷ []) s → r ≡ sameBytes (contentKey (optionalOf sheet tag)) s
+unfolding contentKey ascii
+content-value sheet s tag b r p q h = h ∙ rw (sym p ∙ q)
+
+pub content-other : (sheet s : List ℕ) (tag : OptionalPart) (b r : Bool) → b ≡ isTag (optionalOf sheet tag) (118 ∷ 97 ∷ 108 ∷ 117 ∷ 101 ∷ []) → b ≡ false
+    → r ≡ sameBytes (118 ∷ 97 ∷ 108 ∷ 117 ∷ 101 ∷ []) s → r ≡ sameBytes (contentKey (optionalOf sheet tag)) s
+unfolding contentKey ascii
+content-other sheet s tag b r p q h = h ∙ rw (sym p ∙ q)
+
+pub union-tag : (sheet s : List ℕ) (tag : OptionalPart) (b : Bool) → b ≡ isTag (optionalOf sheet tag) s → b ≡ true → UnionSteps sheet tag s (Leaf AfterTag)
+unfolding unionStep referenceDetail
+union-tag sheet s tag b p q = record { leads = λ words. rw (sym p ∙ q) }
+
+pub union-content : (sheet s : List ℕ) (tag : OptionalPart) (b d : Bool) → b ≡ isTag (optionalOf sheet tag) s → b ≡ false
+    → d ≡ sameBytes (contentKey (optionalOf sheet tag)) s → d ≡ true → UnionSteps sheet tag s Free
+unfolding unionStep
+union-content sheet s tag b d p q u v = record { leads = λ words. rw (sym p ∙ q, sym u ∙ v) }
+
+pub union-other : (sheet s : List ℕ) (tag : OptionalPart) (b d : Bool) → b ≡ isTag (optionalOf sheet tag) s → b ≡ false
+    → d ≡ sameBytes (contentKey (optionalOf sheet tag)) s → d ≡ false → UnionSteps sheet tag s (Refuse UnionMember)
+unfolding unionStep referenceDetail
+union-other sheet s tag b d p q u v = record { leads = λ words. rw (sym p ∙ q, sym u ∙ v) }
+
+-- A member
+
+module _ (sheet words s : List ℕ) (h : Holder) (found : Found) (looked : LookedUp sheet words h s found) where
+  missing : found ≡ Found.Missing → (t : Tree.Holder) → HolderAt sheet words h t → lookup s (t .members) ≡ none
+  missing e t at = rw e at (looked t at)
+
+  pub member-open : found ≡ Found.Missing → h .opened ≡ true → MemberSteps sheet words h s Free
+  unfolding memberStep
+  member-open e o = record { leads = λ t at. rw (missing e t at, sym (at .marked) ∙ o) }
+
+  pub member-closed : found ≡ Found.Missing → h .opened ≡ false → MemberSteps sheet words h s (Refuse ClosedObject)
+  unfolding memberStep referenceDetail
+  member-closed e o = record { leads = λ t at. rw (missing e t at, sym (at .marked) ∙ o) }
+
+  found-at : (k : ℕ) → found ≡ Found.At k → (t : Tree.Holder) → HolderAt sheet words h t → FoundAt sheet words s (t .members) k
+  found-at k e t at = rw e at (looked t at)
+
+  pub member-into : (k : ℕ) → found ≡ Found.At k → MemberSteps sheet words h s (Into k)
+  unfolding memberStep
+  member-into k e = record {
+    leads = λ t at.
+        let here = found-at k e t at in
+        (here .f, rw (here .found), here .holds);
+  }
+
+-- A field without members
+
+pub scalar-string : (kind : ℕ) (s : List ℕ) (b : Bool) → b ≡ isCount s → b ≡ true → kind ≡ 1 → ScalarSteps kind s (Leaf AfterCount)
+unfolding scalarStep referenceDetail
+scalar-string kind s b p q e = record { leads = λ sheet words. rw (sym p ∙ q, e) }
+
+pub scalar-count : (kind : ℕ) (s : List ℕ) (b : Bool) → b ≡ isCount s → b ≡ true → (kind ≡ 1 → ⊥) → ScalarSteps kind s (Refuse NoCount)
+unfolding scalarStep referenceDetail
+scalar-count kind s b p q e = record { leads = λ sheet words. rw (sym p ∙ q, ne-eqb kind 1 e) }
+
+pub scalar-other : (kind : ℕ) (s : List ℕ) (b : Bool) → b ≡ isCount s → b ≡ false → ScalarSteps kind s (Refuse NoMember)
+unfolding scalarStep referenceDetail
+scalar-other kind s b p q = record { leads = λ sheet words. rw (sym p ∙ q) }
+
+-- The step on the tree, by the field's kind
+
+not-empty : (s : List ℕ) → (length s ≡ 0 → ⊥) → isEmpty s ≡ false
+unfolding isEmpty
+not-empty [] h = absurd (h refl)
+not-empty (b ∷ s) h = refl
+
+empty : (s : List ℕ) → length s ≡ 0 → isEmpty s ≡ true
+unfolding isEmpty
+empty [] h = refl
+empty (b ∷ s) h = absurd (omega arith)
+
+two-tests : (a b : Bool) (x y z : Step) → cond (a && b) x (cond b y z) ≡ cond b (cond a x y) z
+two-tests true true x y z = refl
+two-tests true false x y z = refl
+two-tests false true x y z = refl
+two-tests false false x y z = refl
+
+module _ (e k : ℕ) (o : Bool) (tag : Option Text) (items : Items) (members : Members) (s : List ℕ) where
+  abbrev here : Field
+  here = field e k o tag items members
+
+  step-empty : (service : Bool) → isEmpty s ≡ true → walkStep service here s ≡ refuse 1
+  unfolding walkStep
+  step-empty service h = rw h
+
+  step-array : isEmpty s ≡ false → k ≡ 6 → walkStep true here s ≡ arrayStep items s
+  unfolding walkStep
+  step-array h q = rw (h, q)
+
+  step-map : isEmpty s ≡ false → k ≡ 10 → walkStep true here s ≡ mapStep s
+  unfolding walkStep
+  step-map h q = rw (h, q)
+
+  step-json : (service : Bool) → isEmpty s ≡ false → k ≡ 8 → walkStep service here s ≡ free
+  unfolding walkStep
+  step-json true h q = rw (h, q)
+  step-json false h q = rw (h, q)
+
+  step-object : (service : Bool) → isEmpty s ≡ false → k ≡ 7 → walkStep service here s ≡ memberStep (lookup s members) o 3
+  unfolding walkStep
+  step-object true h q = rw (h, q)
+  step-object false h q = rw (h, q)
+
+  step-union : isEmpty s ≡ false → k ≡ 11 → walkStep true here s ≡ unionStep tag s
+  unfolding walkStep
+  step-union h q = rw (h, q)
+
+  step-scalar : isEmpty s ≡ false → (k ≡ 6 → ⊥) → (k ≡ 10 → ⊥) → (k ≡ 8 → ⊥) → (k ≡ 7 → ⊥) → (k ≡ 11 → ⊥) → walkStep true here s ≡ scalarStep k s
+  unfolding walkStep scalarStep
+  step-scalar h a b c d f =
+      rw (h, ne-eqb k 6 a, ne-eqb k 10 b, ne-eqb k 8 c, ne-eqb k 7 d, ne-eqb k 11 f)
+      (two-tests (eqb k 1) (isCount s) (leaf 6) (refuse 9) (refuse 10))
+
+  step-plain : isEmpty s ≡ false → (k ≡ 8 → ⊥) → (k ≡ 7 → ⊥) → walkStep false here s ≡ refuse 10
+  unfolding walkStep
+  step-plain h c d = rw (h, ne-eqb k 8 c, ne-eqb k 7 d)
+
+-- The code's step, by the kind that the index gives
+
+module _ (sheet words s : List ℕ) (x : IndexedField) (service : Bool) (r : WalkStep) where
+  Ways : Type 0
+  Ways = (e k : ℕ) (o : Bool) (tag : Option Text) (items : Items) (members : Members) → FieldParts sheet words e k tag items (record { isOpen = o; members = members }) x
+      → StepIs sheet words r (walkStep service (field e k o tag items members) s)
+
+  each-way : Ways → (f : Field) → PartsOf sheet words f x → StepIs sheet words r (walkStep service f s)
+  unfolding Ways
+  each-way way (field e k o tag items members) p = way e k o tag items members p
+
+module _ (sheet words s : List ℕ) (x : IndexedField) where
+  pub service-array : (r : WalkStep) → x .kind ≡ 6 → ArraySteps (x .element) s r → ServiceSteps sheet words x s r
+  unfolding Ways
+  service-array r q m = record {
+    leads = λ n. each-way sheet words s x true r λ e k o tag items members p.
+        rw (step-array e k o tag items members s (not-empty s n) (sym (p .kinded) ∙ q)) (m .leads sheet words items (p .elements));
+  }
+
+  pub service-map : (r : WalkStep) → x .kind ≡ 10 → MapSteps s r → ServiceSteps sheet words x s r
+  unfolding Ways
+  service-map r q m = record {
+    leads = λ n. each-way sheet words s x true r λ e k o tag items members p.
+        rw (step-map e k o tag items members s (not-empty s n) (sym (p .kinded) ∙ q)) (m .leads sheet words);
+  }
+
+  pub service-json : x .kind ≡ 8 → ServiceSteps sheet words x s Free
+  unfolding Ways
+  service-json q = record {
+    leads = λ n. each-way sheet words s x true Free λ e k o tag items members p.
+        step-json e k o tag items members s true (not-empty s n) (sym (p .kinded) ∙ q);
+  }
+
+  pub service-object : (r : WalkStep) → x .kind ≡ 7 → MemberSteps sheet words (x .members) s r → ServiceSteps sheet words x s r
+  unfolding Ways referenceDetail
+  service-object r q m = record {
+    leads = λ n. each-way sheet words s x true r λ e k o tag items members p.
+        rw (step-object e k o tag items members s true (not-empty s n) (sym (p .kinded) ∙ q))
+        (m .leads (record { isOpen = o; members = members }) (p .members));
+  }
+
+  pub service-union : (r : WalkStep) → x .kind ≡ 11 → UnionSteps sheet (x .tag) s r → ServiceSteps sheet words x s r
+  unfolding Ways
+  service-union r q m = record {
+    leads = λ n. each-way sheet words s x true r λ e k o tag items members p.
+        rw (step-union e k o tag items members s (not-empty s n) (sym (p .kinded) ∙ q), ← p .tagged) (m .leads words);
+  }
+
+  pub service-scalar : (r : WalkStep) → (x .kind ≡ 6 → ⊥) → (x .kind ≡ 10 → ⊥) → (x .kind ≡ 8 → ⊥) → (x .kind ≡ 7 → ⊥) → (x .kind ≡ 11 → ⊥)
+      → ScalarSteps (x .kind) s r → ServiceSteps sheet words x s r
+  unfolding Ways
+  service-scalar r a b c d f m = record {
+    leads = λ n. each-way sheet words s x true r λ e k o tag items members p.
+        rw (
+          step-scalar e k o tag items members s (not-empty s n) (λ z. a (p .kinded ∙ z)) (λ z. b (p .kinded ∙ z)) (λ z. c (p .kinded ∙ z)) (λ z. d (p .kinded ∙ z))
+              (λ z. f (p .kinded ∙ z)),
+          ← p .kinded,
+        ) (m .leads sheet words);
+  }
+
+  pub walk-empty : (service : Bool) → length s ≡ 0 → WalkSteps sheet words x s service (Refuse EmptyPath)
+  unfolding Ways referenceDetail
+  walk-empty service n = record {
+    leads = each-way sheet words s x service (Refuse EmptyPath) λ e k o tag items members p.
+        step-empty e k o tag items members s service (empty s n);
+  }
+
+  pub walk-service : (service : Bool) (r : WalkStep) → (length s ≡ 0 → ⊥) → service ≡ true → ServiceSteps sheet words x s r → WalkSteps sheet words x s service r
+  walk-service service r n e m = rw e (record { leads = m .leads n })
+
+  pub walk-json : (service : Bool) → (length s ≡ 0 → ⊥) → service ≡ false → x .kind ≡ 8 → WalkSteps sheet words x s service Free
+  unfolding Ways
+  walk-json service n v q = record {
+    leads = each-way sheet words s x service Free λ e k o tag items members p.
+        step-json e k o tag items members s service (not-empty s n) (sym (p .kinded) ∙ q);
+  }
+
+  pub walk-object : (service : Bool) (r : WalkStep) → (length s ≡ 0 → ⊥) → service ≡ false → x .kind ≡ 7 → MemberSteps sheet words (x .members) s r
+      → WalkSteps sheet words x s service r
+  unfolding Ways referenceDetail
+  walk-object service r n v q m = record {
+    leads = each-way sheet words s x service r λ e k o tag items members p.
+        rw (step-object e k o tag items members s service (not-empty s n) (sym (p .kinded) ∙ q))
+        (m .leads (record { isOpen = o; members = members }) (p .members));
+  }
+
+  pub walk-plain : (service : Bool) → (length s ≡ 0 → ⊥) → service ≡ false → (x .kind ≡ 8 → ⊥) → (x .kind ≡ 7 → ⊥) → WalkSteps sheet words x s service (Refuse NoMember)
+  unfolding Ways referenceDetail
+  walk-plain service n v c d = rw v (record {
+    leads = each-way sheet words s x false (Refuse NoMember) λ e k o tag items members p.
+        step-plain e k o tag items members s (not-empty s n) (λ z. c (p .kinded ∙ z)) (λ z. d (p .kinded ∙ z));
+  })

@@ -1,0 +1,113 @@
+// The path of an `in` value, behind a field, and the element of what it leads to.
+use crate::answer::Collected;
+use crate::answer::CollectionFault;
+use crate::answer::FieldStep;
+use crate::path::Dot;
+use crate::path::first_dot;
+use crate::path::is_ordinal;
+use crate::step::ARRAY;
+use crate::step::JSON;
+use crate::step::MAP;
+use crate::step::OBJECT;
+use crate::step::UNION;
+use schema::index::Element;
+use schema::index::IndexedField;
+use schema::index::indexed_field;
+use schema::lookup::Found;
+use schema::lookup::lookup;
+ghost use Rattle.walk.specs.Steps.{FieldSteps, LastField, FieldsAt, DeclaredElement, ElementOfField, ElementIs};
+
+fn field_step(schema: &[u8], words: &[u32], field: IndexedField, segment: &[u8]) -> FieldStep
+    ensures { λ r. ⌜ FieldSteps (now (schema .entry)) (now (words .entry)) field (now (segment .entry)) r ⌝ }
+{
+    let kind = field.kind;
+    if kind == JSON {
+        return FieldStep::Free;
+    }
+    if kind == UNION {
+        return FieldStep::Free;
+    }
+    if kind == OBJECT {
+        let members = field.members;
+        let Found::At(slot) = lookup(schema, words, members, segment) else {
+            if members.opened {
+                return FieldStep::Free;
+            }
+            return FieldStep::Refuse(CollectionFault::ClosedObject);
+        };
+        return FieldStep::Into(slot);
+    }
+    if kind == ARRAY {
+        if is_ordinal(segment) {
+            let element = field.element;
+            let Element::At(slot) = element else {
+                return FieldStep::Free;
+            };
+            return FieldStep::Into(slot);
+        }
+    }
+    FieldStep::Refuse(CollectionFault::NoMember)
+}
+
+// The last segment, of the field with that entry.
+fn last_field(entry: usize, step: FieldStep) -> Collected
+    ensures { λ r. ⌜ LastField entry step r ⌝ }
+{
+    match step {
+        FieldStep::Refuse(fault) => Collected::No(fault, entry),
+        FieldStep::Free => Collected::Unknown,
+        FieldStep::Into(slot) => Collected::Known(slot),
+    }
+}
+
+// The field that a path leads to from the field of `slot`.
+pub fn field_at(schema: &[u8], words: &[u32], slot: usize, path: &[u8]) -> Collected
+    ensures { λ r. ⌜ FieldsAt (now (schema .entry)) (now (words .entry)) slot (now (path .entry)) r ⌝ }
+{
+    let field = indexed_field(schema, words, slot);
+    let entry = field.entry;
+    let Dot::At(dot) = first_dot(path) else {
+        return last_field(entry, field_step(schema, words, field, path));
+    };
+    match field_step(schema, words, field, &path[..dot]) {
+        FieldStep::Refuse(fault) => Collected::No(fault, entry),
+        FieldStep::Free => Collected::Unknown,
+        FieldStep::Into(next) => field_at(schema, words, next, &path[dot + 1..]),
+    }
+}
+
+fn declared_element(element: Element) -> Collected
+    ensures { λ r. ⌜ DeclaredElement element r ⌝ }
+{
+    match element {
+        Element::At(slot) => Collected::Known(slot),
+        Element::Absent => Collected::Unknown,
+    }
+}
+
+// Arrays and maps have elements.
+fn element_of_field(schema: &[u8], words: &[u32], slot: usize) -> Collected
+    ensures { λ r. ⌜ ElementOfField (now (schema .entry)) (now (words .entry)) slot r ⌝ }
+{
+    let field = indexed_field(schema, words, slot);
+    let kind = field.kind;
+    let element = field.element;
+    if kind == ARRAY {
+        return declared_element(element);
+    }
+    if kind == MAP {
+        return declared_element(element);
+    }
+    Collected::No(CollectionFault::NotCollection, field.entry)
+}
+
+// The element of what was reached.
+pub fn element_of(schema: &[u8], words: &[u32], collected: Collected) -> Collected
+    ensures { λ r. ⌜ ElementIs (now (schema .entry)) (now (words .entry)) collected r ⌝ }
+{
+    match collected {
+        Collected::Known(slot) => element_of_field(schema, words, slot),
+        Collected::Unknown => Collected::Unknown,
+        Collected::No(fault, at) => Collected::No(fault, at),
+    }
+}
