@@ -1,15 +1,16 @@
 -- The search for the first dot: what was passed is the beginning of the first segment.
-use Prim.Native.Nat.{ℕ, zero, suc, _+_, _<_, _≤_}
+use Prim.Native.Nat.{ℕ, _+_, _<_, _≤_}
 use native.Mathlib.Omega.{arith}
 use native.Mathlib.Numerals.{add-one}
-use mathlib.Core.Bool.{Bool, true, false, cond}
 use mathlib.Core.List.{List, [], _∷_, _++_, append-nil, append-assoc}
 use mathlib.Core.Path.{_≡_, refl, ap, sym, _∙_}
-use lib.Dec.{eqb}
 use lib.ListN.{length, take, drop, getD, drop-of-length-le}
-use lib.Seq.{drop-cons, take-suc, take-all}
+use lib.Seq.{drop-cons, take-suc, take-all, take-length}
 use borrow.Author.Tests.{eq-eqb, ne-eqb}
 use Rattle.reference.specs.Path.{Segments, split, cut, extend}
+use Rattle.walk.specs.Dots.{Cuts, Ends}
+use Rattle.walk.specs.declared.path.Dot.{Dot}
+use Rattle.walk.specs.declared.path.Dot.the-variants.{At, Nowhere}
 
 -- a segment's beginning, in front of what is left to split
 unfoldable pub behind : List ℕ → Segments → Segments
@@ -35,3 +36,25 @@ passed-dot path i h less dot = h ∙ rw (add-one, drop-cons path i 0, eq-eqb (ge
 pub passed-all : (path : List ℕ) (i : ℕ) → Passed path i → length path ≤ i → split path ≡ record { first = path; others = [] }
 unfolding behind split
 passed-all path i h end = h ∙ rw (drop-of-length-le path end, take-all i path, append-nil)
+
+-- Where the first segment ends
+
+pub ends-at : (path : List ℕ) (dot : Dot) (d : ℕ) → Cuts path dot → dot ≡ At d → Ends path d
+ends-at path dot d cuts e =
+    let q : Cuts path (At d) = rw e at cuts in
+    record {
+      within = omega (arith, q .0);
+      first = ap (λ (p : Segments). p .first) (q .1);
+      last = λ end. absurd (omega (arith, q .0));
+      more = λ less. ap (λ (p : Segments). p .others) (q .1);
+    }
+
+pub ends-nowhere : (path : List ℕ) (dot : Dot) → Cuts path dot → dot ≡ Nowhere → Ends path (length path)
+ends-nowhere path dot cuts e =
+    let q : split path ≡ record { first = path; others = [] } = rw e at cuts in
+    record {
+      within = omega arith;
+      first = ap (λ (p : Segments). p .first) q ∙ sym (take-length path);
+      last = λ end. ap (λ (p : Segments). p .others) q;
+      more = λ less. absurd (omega arith);
+    }

@@ -4,13 +4,13 @@ use native.Mathlib.Omega.{arith}
 use mathlib.Core.Bool.{Bool}
 use mathlib.Core.List.{List, [], _∷_}
 use mathlib.Core.Path.{_≡_, refl, sym}
-use lib.ListN.{length, take, drop, length-take, length-drop}
-use lib.Seq.{take-all}
+use lib.ListN.{length, take, drop}
 use Rattle.definition.specs.Tree.{Text, Field, field}
 use Rattle.reference.specs.Path.{split}
 use Rattle.reference.specs.Walk.{Step, refuse, leaf, free, into, known, lastOr, arrive, entryOf, travel, walkStep, fieldStep}
 use Rattle.schema.specs.Slot.{SlotHolds, PartsOf, IndexedIs}
 use Rattle.walk.specs.Dots.{Cuts}
+use Rattle.walk.specs.DotLaws.{part-length, rest-whole}
 use Rattle.walk.specs.Answers.{referenceDetail, collectionDetail}
 use Rattle.walk.specs.Steps.{WalkSteps, LastStep, Walks, FieldSteps, LastField, FieldsAt}
 use Rattle.schema.specs.declared.index.IndexedField.{IndexedField}
@@ -33,10 +33,7 @@ cut-within path dot d cuts e = let q : Cuts path (At d) = rw e at cuts in q .0
 pub cut-length : (path : List ℕ) (dot : Dot) (d : ℕ) → Cuts path dot → dot ≡ At d → d ≡ length (take d path)
 cut-length path dot d cuts e =
     let less = cut-within path dot d cuts e in
-    simp length-take (omega arith)
-
-pub rest-whole : (path : List ℕ) (d : ℕ) → take (length path - (d + 1)) (drop (d + 1) path) ≡ drop (d + 1) path
-rest-whole path d = take-all (length path - (d + 1)) (drop (d + 1) path) (omega (arith, length-drop (d + 1) path))
+    part-length path d (omega arith)
 
 -- The last segment
 

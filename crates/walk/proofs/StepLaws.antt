@@ -1,6 +1,5 @@
 -- One segment: how each way through the code answers what the step on the tree is.
 use Prim.Native.Nat.{ℕ}
-use native.Mathlib.Omega.{arith}
 use mathlib.Core.Bool.{Bool, true, false, cond, _&&_}
 use mathlib.Core.List.{List, [], _∷_}
 use mathlib.Core.Option.{Option, none}
@@ -18,6 +17,7 @@ use Rattle.sheet.specs.Parts.{partOf, optionalOf}
 use Rattle.sheet.specs.Compares.{Stand, Compares}
 use Rattle.schema.specs.Slot.{HolderAt, ElementAt, FieldParts, PartsOf}
 use Rattle.schema.specs.Lookup.{FoundAt, LookedUp}
+use Rattle.walk.specs.DotLaws.{segment-empty, segment-full}
 use Rattle.walk.specs.Answers.{referenceDetail, StepIs}
 use Rattle.walk.specs.Steps.{ItemSteps, ArraySteps, MapSteps, UnionSteps, MemberSteps, scalarStep, ScalarSteps, ServiceSteps, WalkSteps}
 use Rattle.sheet.specs.declared.part.Part.{Part}
@@ -164,16 +164,6 @@ scalar-other kind s b p q = record { leads = λ sheet words. rw (sym p ∙ q) }
 
 -- The step on the tree, by the field's kind
 
-not-empty : (s : List ℕ) → (length s ≡ 0 → ⊥) → isEmpty s ≡ false
-unfolding isEmpty
-not-empty [] h = absurd (h refl)
-not-empty (b ∷ s) h = refl
-
-empty : (s : List ℕ) → length s ≡ 0 → isEmpty s ≡ true
-unfolding isEmpty
-empty [] h = refl
-empty (b ∷ s) h = absurd (omega arith)
-
 two-tests : (a b : Bool) (x y z : Step) → cond (a && b) x (cond b y z) ≡ cond b (cond a x y) z
 two-tests true true x y z = refl
 two-tests true false x y z = refl
@@ -236,28 +226,28 @@ module _ (sheet words s : List ℕ) (x : IndexedField) where
   unfolding Ways
   service-array r q m = record {
     leads = λ n. each-way sheet words s x true r λ e k o tag items members p.
-        rw (step-array e k o tag items members s (not-empty s n) (sym (p .kinded) ∙ q)) (m .leads sheet words items (p .elements));
+        rw (step-array e k o tag items members s (segment-full s n) (sym (p .kinded) ∙ q)) (m .leads sheet words items (p .elements));
   }
 
   pub service-map : (r : WalkStep) → x .kind ≡ 10 → MapSteps s r → ServiceSteps sheet words x s r
   unfolding Ways
   service-map r q m = record {
     leads = λ n. each-way sheet words s x true r λ e k o tag items members p.
-        rw (step-map e k o tag items members s (not-empty s n) (sym (p .kinded) ∙ q)) (m .leads sheet words);
+        rw (step-map e k o tag items members s (segment-full s n) (sym (p .kinded) ∙ q)) (m .leads sheet words);
   }
 
   pub service-json : x .kind ≡ 8 → ServiceSteps sheet words x s Free
   unfolding Ways
   service-json q = record {
     leads = λ n. each-way sheet words s x true Free λ e k o tag items members p.
-        step-json e k o tag items members s true (not-empty s n) (sym (p .kinded) ∙ q);
+        step-json e k o tag items members s true (segment-full s n) (sym (p .kinded) ∙ q);
   }
 
   pub service-object : (r : WalkStep) → x .kind ≡ 7 → MemberSteps sheet words (x .members) s r → ServiceSteps sheet words x s r
   unfolding Ways referenceDetail
   service-object r q m = record {
     leads = λ n. each-way sheet words s x true r λ e k o tag items members p.
-        rw (step-object e k o tag items members s true (not-empty s n) (sym (p .kinded) ∙ q))
+        rw (step-object e k o tag items members s true (segment-full s n) (sym (p .kinded) ∙ q))
         (m .leads (record { isOpen = o; members = members }) (p .members));
   }
 
@@ -265,7 +255,7 @@ module _ (sheet words s : List ℕ) (x : IndexedField) where
   unfolding Ways
   service-union r q m = record {
     leads = λ n. each-way sheet words s x true r λ e k o tag items members p.
-        rw (step-union e k o tag items members s (not-empty s n) (sym (p .kinded) ∙ q), ← p .tagged) (m .leads words);
+        rw (step-union e k o tag items members s (segment-full s n) (sym (p .kinded) ∙ q), ← p .tagged) (m .leads words);
   }
 
   pub service-scalar : (r : WalkStep) → (x .kind ≡ 6 → ⊥) → (x .kind ≡ 10 → ⊥) → (x .kind ≡ 8 → ⊥) → (x .kind ≡ 7 → ⊥) → (x .kind ≡ 11 → ⊥)
@@ -274,7 +264,7 @@ module _ (sheet words s : List ℕ) (x : IndexedField) where
   service-scalar r a b c d f m = record {
     leads = λ n. each-way sheet words s x true r λ e k o tag items members p.
         rw (
-          step-scalar e k o tag items members s (not-empty s n) (λ z. a (p .kinded ∙ z)) (λ z. b (p .kinded ∙ z)) (λ z. c (p .kinded ∙ z)) (λ z. d (p .kinded ∙ z))
+          step-scalar e k o tag items members s (segment-full s n) (λ z. a (p .kinded ∙ z)) (λ z. b (p .kinded ∙ z)) (λ z. c (p .kinded ∙ z)) (λ z. d (p .kinded ∙ z))
               (λ z. f (p .kinded ∙ z)),
           ← p .kinded,
         ) (m .leads sheet words);
@@ -284,7 +274,7 @@ module _ (sheet words s : List ℕ) (x : IndexedField) where
   unfolding Ways referenceDetail
   walk-empty service n = record {
     leads = each-way sheet words s x service (Refuse EmptyPath) λ e k o tag items members p.
-        step-empty e k o tag items members s service (empty s n);
+        step-empty e k o tag items members s service (segment-empty s n);
   }
 
   pub walk-service : (service : Bool) (r : WalkStep) → (length s ≡ 0 → ⊥) → service ≡ true → ServiceSteps sheet words x s r → WalkSteps sheet words x s service r
@@ -294,7 +284,7 @@ module _ (sheet words s : List ℕ) (x : IndexedField) where
   unfolding Ways
   walk-json service n v q = record {
     leads = each-way sheet words s x service Free λ e k o tag items members p.
-        step-json e k o tag items members s service (not-empty s n) (sym (p .kinded) ∙ q);
+        step-json e k o tag items members s service (segment-full s n) (sym (p .kinded) ∙ q);
   }
 
   pub walk-object : (service : Bool) (r : WalkStep) → (length s ≡ 0 → ⊥) → service ≡ false → x .kind ≡ 7 → MemberSteps sheet words (x .members) s r
@@ -302,7 +292,7 @@ module _ (sheet words s : List ℕ) (x : IndexedField) where
   unfolding Ways referenceDetail
   walk-object service r n v q m = record {
     leads = each-way sheet words s x service r λ e k o tag items members p.
-        rw (step-object e k o tag items members s service (not-empty s n) (sym (p .kinded) ∙ q))
+        rw (step-object e k o tag items members s service (segment-full s n) (sym (p .kinded) ∙ q))
         (m .leads (record { isOpen = o; members = members }) (p .members));
   }
 
@@ -310,5 +300,5 @@ module _ (sheet words s : List ℕ) (x : IndexedField) where
   unfolding Ways referenceDetail
   walk-plain service n v c d = rw v (record {
     leads = each-way sheet words s x false (Refuse NoMember) λ e k o tag items members p.
-        step-plain e k o tag items members s (not-empty s n) (λ z. c (p .kinded ∙ z)) (λ z. d (p .kinded ∙ z));
+        step-plain e k o tag items members s (segment-full s n) (λ z. c (p .kinded ∙ z)) (λ z. d (p .kinded ∙ z));
   })

@@ -1,5 +1,5 @@
 -- What the first dot of a path parts.
-use Prim.Native.Nat.{ℕ, _+_, _<_}
+use Prim.Native.Nat.{ℕ, _+_, _≤_, _<_}
 use mathlib.Core.List.{List, [], _∷_}
 use mathlib.Core.Path.{_≡_}
 use lib.ListN.{length, take, drop}
@@ -12,3 +12,10 @@ Cuts path (At d) =
     (d < length path)
     × (split path ≡ record { first = take d path; others = split (drop (d + 1) path) .first ∷ split (drop (d + 1) path) .others })
 Cuts path Nowhere = split path ≡ record { first = path; others = [] }
+
+-- the first segment is the first `n` bytes, and what is left follows the dot behind it
+pub record Ends (path : List ℕ) (n : ℕ) : Type 0 where
+  pub within : n ≤ length path
+  pub first : split path .first ≡ take n path
+  pub last : n ≡ length path → split path .others ≡ []
+  pub more : n < length path → split path .others ≡ split (drop (n + 1) path) .first ∷ split (drop (n + 1) path) .others

@@ -1,3 +1,4 @@
 pub mod Dots
+pub mod DotLaws
 pub mod Answers
 pub mod Steps

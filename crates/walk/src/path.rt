@@ -4,7 +4,7 @@ use sheet::order::compare;
 ghost use mathlib.Core.Path.{_≡_};
 ghost use Rattle.reference.specs.Path.{isDigits, isOrdinal, isCount};
 ghost use Rattle.sheet.specs.Order.{sameBytes};
-ghost use Rattle.walk.specs.Dots.{Cuts};
+ghost use Rattle.walk.specs.Dots.{Cuts, Ends};
 
 // Where a path is cut.
 pub enum Dot {
@@ -25,6 +25,16 @@ pub fn first_dot(path: &[u8]) -> Dot
         i += 1;
     }
     Dot::Nowhere
+}
+
+// Where the first segment of a path ends.
+pub fn first_end(path: &[u8]) -> usize
+    ensures { λ r. ⌜ Ends (now (path .entry)) r ⌝ }
+{
+    match first_dot(path) {
+        Dot::At(dot) => dot,
+        Dot::Nowhere => path.len(),
+    }
 }
 
 fn is_digits(segment: &[u8]) -> bool

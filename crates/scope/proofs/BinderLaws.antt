@@ -1,0 +1,158 @@
+-- The binders in scope, innermost first.
+use Prim.Native.Nat.{ℕ, zero, suc, _+_, _-_, _<_, _≤_}
+use native.Mathlib.Omega.{arith}
+use native.Mathlib.Numerals.{add-one}
+use mathlib.Core.Bool.{Bool, true, false}
+use mathlib.Core.List.{List, [], _∷_}
+use mathlib.Core.Option.{none, some}
+use mathlib.Core.Path.{_≡_, refl, ap, sym, _∙_}
+use lib.ListN.{length, getD, set}
+use lib.Seq.{getD-set-same, getD-set-other}
+use Rattle.sheet.specs.Order.{sameBytes}
+use Rattle.sheet.specs.Parts.{partOf}
+use Rattle.sheet.specs.declared.part.Part.{Part}
+use Rattle.definition.specs.Tree.{Text}
+use Rattle.reference.specs.Reference as Reference
+use Rattle.reference.specs.Reference.{Environment, bound}
+use Rattle.schema.specs.declared.read.Schema.{Schema}
+use Rattle.scope.specs.Scopes.{noBinder, chainOf, BinderAt, ChainAt, Unbound, Binds, BoundIs}
+use Rattle.scope.specs.declared.binder.Element.{Element}
+use Rattle.scope.specs.declared.binder.Binder.{Binder}
+use Rattle.scope.specs.declared.binder.Scope.{Scope}
+use Rattle.scope.specs.declared.binder.Bound.{Bound}
+use Rattle.scope.specs.declared.binder.Bound.the-variants.{To, Nothing}
+
+chain-step : (bs : List Binder) (i : ℕ) → 0 < i → chainOf i bs ≡ getD bs (i - 1) noBinder ∷ chainOf (i - 1) bs
+unfolding chainOf
+chain-step bs zero h = absurd (omega arith)
+chain-step bs (suc i) h = let e : suc i - 1 ≡ i = omega arith in rw e
+
+-- a chain that is not empty goes with an environment that is not
+record Opened (sheet rule words : List ℕ) (x : Binder) (xs : List Binder) (env : Environment) : Type 0 where
+  b : Reference.Bound
+  others : Environment
+  is : env ≡ b ∷ others
+  here : BinderAt sheet rule words x b
+  rest : ChainAt sheet rule words xs others
+
+opened : (sheet rule words : List ℕ) (x : Binder) (xs : List Binder) (env : Environment) → ChainAt sheet rule words (x ∷ xs) env → Opened sheet rule words x xs env
+opened sheet rule words x xs [] h = absurd h
+opened sheet rule words x xs (b ∷ env) h = record { b = b; others = env; is = refl; here = h .0; rest = h .1 }
+
+closed : (sheet rule words : List ℕ) (env : Environment) → ChainAt sheet rule words [] env → env ≡ []
+closed sheet rule words [] h = refl
+closed sheet rule words (b ∷ env) h = absurd h
+
+bound-passed : (name : Text) (env : Environment) (b : Reference.Bound) (others : Environment) → env ≡ b ∷ others → sameBytes (b .name) name ≡ false → bound name env ≡ bound name others
+unfolding bound
+bound-passed name env b others e q = rw (e, q)
+
+bound-hit : (name : Text) (env : Environment) (b : Reference.Bound) (others : Environment) → env ≡ b ∷ others → sameBytes (b .name) name ≡ true → bound name env ≡ some (b .element)
+unfolding bound
+bound-hit name env b others e q = rw (e, q)
+
+bound-none : (name : Text) (env : Environment) → env ≡ [] → bound name env ≡ none
+unfolding bound
+bound-none name env e = rw e
+
+-- Of `n` binders all but the first `i` have another name
+pub record Searched (rule name : List ℕ) (bs : List Binder) (n i : ℕ) : Type 0 where
+  pub rest : (sheet words : List ℕ) (env : Environment) → ChainAt sheet rule words (chainOf n bs) env
+      → (left : Environment) × ChainAt sheet rule words (chainOf i bs) left × (bound name env ≡ bound name left)
+
+pub searched-none : (rule name : List ℕ) (bs : List Binder) (n : ℕ) → Searched rule name bs n n
+searched-none rule name bs n = record { rest = λ sheet words env h. (env, h, refl) }
+
+module _ (rule name : List ℕ) (scope : Scope) (i : ℕ) (so-far : Searched rule name (scope .binders) (scope .count) i) (some-left : 0 < i)
+    (p : List ℕ) (part : p ≡ partOf rule (getD (scope .binders) (i - 1) noBinder .name)) (b : Bool) (compared : b ≡ sameBytes p name) where
+  abbrev last-binder : Binder
+  last-binder = getD (scope .binders) (i - 1) noBinder
+
+  last-of : (sheet words : List ℕ) (left : Environment) → ChainAt sheet rule words (chainOf i (scope .binders)) left
+      → Opened sheet rule words last-binder (chainOf (i - 1) (scope .binders)) left
+  last-of sheet words left h =
+      opened sheet rule words last-binder (chainOf (i - 1) (scope .binders)) left (rw (chain-step (scope .binders) i some-left) at h)
+
+  named-so : (sheet words : List ℕ) (x : Reference.Bound) → BinderAt sheet rule words last-binder x → sameBytes (x .name) name ≡ b
+  named-so sheet words x at = ap (λ (z : List ℕ). sameBytes z name) (sym (at .name) ∙ sym part) ∙ sym compared
+
+  pub searched-more : b ≡ false → Searched rule name (scope .binders) (scope .count) (i - 1)
+  searched-more q = record {
+    rest = λ sheet words env h.
+        let so = so-far .rest sheet words env h in
+        let first = last-of sheet words (so .0) (so .1) in
+        (first .others, first .rest, so .2 ∙ bound-passed name (so .0) (first .b) (first .others) (first .is) (named-so sheet words (first .b) (first .here) ∙ q));
+  }
+
+  pub searched-found : b ≡ true → BoundIs rule scope name (To (getD (scope .binders) (i - 1) noBinder .element))
+  searched-found q = record {
+    leads = λ sheet words env at.
+        let so = so-far .rest sheet words env (at .chain) in
+        let first = last-of sheet words (so .0) (so .1) in
+        (first .b .element, so .2 ∙ bound-hit name (so .0) (first .b) (first .others) (first .is) (named-so sheet words (first .b) (first .here) ∙ q), first .here .element);
+  }
+
+chain-empty : (bs : List Binder) (i : ℕ) → (0 < i → ⊥) → chainOf i bs ≡ []
+unfolding chainOf
+chain-empty bs zero h = refl
+chain-empty bs (suc i) h = absurd (h (omega arith))
+
+pub searched-all : (rule name : List ℕ) (i : ℕ) (scope : Scope) → Searched rule name (scope .binders) (scope .count) i → i ≤ 0 → BoundIs rule scope name Nothing
+searched-all rule name i scope so-far none-left = record {
+  leads = λ sheet words env at.
+      let so = so-far .rest sheet words env (at .chain) in
+      so .2 ∙ bound-none name (so .0) (closed sheet rule words (so .0) (rw (chain-empty (scope .binders) i (λ h. omega arith)) at (so .1)));
+}
+
+pub bound-crowded : (rule name : List ℕ) (scope : Scope) → 31 < scope .count → BoundIs rule scope name Nothing
+bound-crowded rule name scope many = record { leads = λ sheet words env at. absurd (omega (arith, at .few)) }
+
+-- One binder more
+
+pub bind-crowded : (scope : Scope) (name : Part) (element : Element) → 31 ≤ scope .count → Binds scope name element scope
+bind-crowded scope name element many = record {
+  kind = refl;
+  service = refl;
+  schema = refl;
+  counted = λ room. absurd (omega arith);
+  binders = λ room. absurd (omega arith);
+}
+
+chain-kept : (bs : List Binder) (v : Binder) (m n : ℕ) → n ≤ m → chainOf n (set bs m v) ≡ chainOf n bs
+unfolding chainOf
+chain-kept bs v m zero h = refl
+chain-kept bs v m (suc n) h = rw (getD-set-other bs m n v noBinder (omega arith), chain-kept bs v m n (omega arith))
+
+chain-more : (bs : List Binder) (v : Binder) (n : ℕ) → n < length bs → chainOf (n + 1) (set bs n v) ≡ v ∷ chainOf n bs
+unfolding chainOf
+chain-more bs v n h = rw (add-one, getD-set-same bs n v noBinder h, chain-kept bs v n n (omega arith))
+
+pub bind-more : (scope : Scope) (name : Part) (element : Element) → scope .count < 31 → length (scope .binders) ≡ 31
+    → Binds scope name element (record {
+      kind = scope .kind;
+      service = scope .service;
+      schema = scope .schema;
+      binders = set (scope .binders) (scope .count) (record { name = name; element = element });
+      count = scope .count + 1;
+    })
+bind-more scope name element few whole = record {
+  kind = refl;
+  service = refl;
+  schema = refl;
+  counted = λ room. add-one (scope .count);
+  binders = λ room sheet rule words env f at e. record {
+    few = omega arith;
+    chain = rw (chain-more (scope .binders) (record { name = name; element = element }) (scope .count) (omega arith))
+        (record { name = refl; element = e }, at .chain);
+  };
+}
+
+pub unbound-none : (k : ℕ) (isService : Bool) (s : Schema) (bs : List Binder)
+    → Unbound k isService s (record { kind = k; service = isService; schema = s; binders = bs; count = 0 })
+unfolding chainOf
+unbound-none k isService s bs = record {
+  kind = refl;
+  service = refl;
+  schema = refl;
+  binders = λ sheet rule words. record { few = omega arith; chain = tt };
+}

@@ -1,0 +1,5 @@
+mod NameLaws
+mod BinderLaws
+mod RootLaws
+mod ReferenceLaws
+mod CollectionLaws

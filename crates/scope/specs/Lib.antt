@@ -1,0 +1,5 @@
+pub mod Names
+pub mod Scopes
+pub mod Roots
+pub mod References
+pub mod Collections

@@ -1,0 +1,25 @@
+-- The code's names beside those of the definitions.
+use mathlib.Core.Option.{none, some}
+use mathlib.Core.Path.{_≡_}
+use Rattle.definition.specs.Tree.{Text}
+use Rattle.reference.specs.Setting as Setting
+use Rattle.reference.specs.Setting.{nameOf}
+use Rattle.scope.specs.declared.name.Name.{Name}
+use Rattle.scope.specs.declared.name.Name.the-variants.{Id, Entity, Version, Fields, State, ToState, FromState, Args, OldFields}
+use Rattle.scope.specs.declared.name.Named.{Named}
+use Rattle.scope.specs.declared.name.Named.the-variants.{Is, Nothing}
+
+unfoldable pub nameIs : Name → Setting.Name
+nameIs Id = Setting.id
+nameIs Entity = Setting.entity
+nameIs Version = Setting.version
+nameIs Fields = Setting.fields
+nameIs State = Setting.state
+nameIs ToState = Setting.toState
+nameIs FromState = Setting.fromState
+nameIs Args = Setting.args
+nameIs OldFields = Setting.oldFields
+
+abbrev pub NamedIs : Text → Named → Type 0
+NamedIs t (Is n) = nameOf t ≡ some (nameIs n)
+NamedIs t Nothing = nameOf t ≡ none
