@@ -9,7 +9,7 @@ use Rattle.sheet.specs.Entries.{ValueHead}
 use Rattle.validation.specs.Check.{Check}
 use Rattle.validation.specs.Judge.{Outcome, allPass, failsAt, decide, judgeFrom}
 use Rattle.judge.specs.Shown.{overOf, Shown, passes, fails, shownOf, goOn, judge-append}
-use Rattle.judge.specs.Verdicts.{numberOf, detailOf, overBy, shownWith, shownBy, GoesOn, FailsWith, failed, Required}
+use Rattle.judge.specs.Verdicts.{numberOf, detailOf, overBy, shownWith, shownBy, GoesOn, FailsWith, PassedOn, Failed, failed, Required}
 use Rattle.judge.specs.Leaves.{saidIn, said-append}
 use Rattle.judge.specs.declared.verdict.Fault.{Fault}
 use Rattle.judge.specs.declared.verdict.Over.{Over}
@@ -64,26 +64,55 @@ unfolding shownBy shownWith goOn decide shownOf
 goes-wrong {ask} {a} {c} {fault} {place} {over} e w p =
     record { shows = rw (e, one-judged ask (a .passed) c (some (detailOf fault)) p, w .numbered, w .placed, w .held) }
 
+-- a failing check ends it
+pub goes-wrong-on : {ask : Check → Outcome} {a : Answer} {c : Check} {checks : List Check} {fault : Fault} {place : ℕ} {over : Over}
+    → a .verdict ≡ Pass
+    → FailsWith c fault place over
+    → ask c ≡ some (detailOf fault)
+    → GoesOn ask a (c ∷ checks) (record { passed = a .passed; verdict = Defect fault place over })
+goes-wrong-on e w p = goes-then (goes-wrong e w p) (goes-stopped refl)
+
 -- One check in code.
 
-pub required-stopped : {a : Answer} {wrong : Bool} {fault f : Fault} {place at : ℕ} {over o : Over}
-    → a .verdict ≡ Defect f at o
-    → Required a wrong fault place over a
-required-stopped e = record { atMost = omega arith; goes = λ ask c w p. goes-stopped e }
+pub passed-stopped : {a : Answer} {f : Fault} {at : ℕ} {o : Over} → a .verdict ≡ Defect f at o → PassedOn a a
+passed-stopped e = record { atMost = omega arith; goes = λ ask c p. goes-stopped e }
 
-pub required-wrong : {a : Answer} {wrong : Bool} {fault : Fault} {place : ℕ} {over : Over}
+pub passed-on : {a : Answer} → a .verdict ≡ Pass → PassedOn a (record { passed = a .passed + 1; verdict = Pass })
+passed-on e = record { atMost = omega arith; goes = λ ask c p. goes-one e p }
+
+pub failed-stopped : {a : Answer} {fault f : Fault} {place at : ℕ} {over o : Over} → a .verdict ≡ Defect f at o → Failed a fault place over a
+failed-stopped e = record { same = refl; goes = λ ask c checks w p. goes-stopped e; stays = λ ask checks s. goes-stopped e }
+
+pub failed-now : {a : Answer} {fault : Fault} {place : ℕ} {over : Over}
     → a .verdict ≡ Pass
+    → Failed a fault place over (record { passed = a .passed; verdict = Defect fault place over })
+unfolding shownBy shownWith
+failed-now {a} e =
+    record {
+      same = refl;
+      goes = λ ask c checks w p. goes-wrong-on e w p;
+      stays = λ ask checks {n} {number} {at} {o} {detail} s. absurd (none-failed n number at o detail s);
+    }
+  where
+    none-failed : (n number at : ℕ) (o : Option ℕ) (detail : ℕ) → shownBy a ≡ fails n number at o detail → ⊥
+    none-failed n number at o detail s =
+        let p : passes (a .passed) ≡ fails n number at o detail = rw e at s in
+        let z : _≡_ {A = ℕ} 0 1 = cc in
+        omega arith
+
+pub required-wrong : {a r : Answer} {wrong : Bool} {fault : Fault} {place : ℕ} {over : Over}
     → wrong ≡ true
-    → Required a wrong fault place over (record { passed = a .passed; verdict = Defect fault place over })
+    → Failed a fault place over r
+    → Required a wrong fault place over r
 unfolding failed
-required-wrong e t = record { atMost = omega arith; goes = λ ask c w p. goes-wrong e w (rw t at p) }
+required-wrong t f = record { atMost = omega (arith, f .same); goes = λ ask c w p. f .goes ask c [] w (rw t at p) }
 
-pub required-right : {a : Answer} {wrong : Bool} {fault : Fault} {place : ℕ} {over : Over}
-    → a .verdict ≡ Pass
+pub required-right : {a r : Answer} {wrong : Bool} {fault : Fault} {place : ℕ} {over : Over}
     → wrong ≡ false
-    → Required a wrong fault place over (record { passed = a .passed + 1; verdict = Pass })
+    → PassedOn a r
+    → Required a wrong fault place over r
 unfolding failed
-required-right e t = record { atMost = omega arith; goes = λ ask c w p. goes-one e (rw t at p) }
+required-right t f = record { atMost = f .atMost; goes = λ ask c w p. f .goes ask c (rw t at p) }
 
 -- The entries of a value, one by one.
 

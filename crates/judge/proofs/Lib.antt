@@ -3,3 +3,7 @@ mod NodeSteps
 mod DepthSteps
 mod LiteralSteps
 mod ObservedSteps
+mod ReferenceSteps
+mod OperandSteps
+mod BodySteps
+mod QuantifierSteps

@@ -4,3 +4,5 @@ pub mod Verdicts
 pub mod Nodes
 pub mod Depth
 pub mod Literals
+pub mod Frames
+pub mod Bodies

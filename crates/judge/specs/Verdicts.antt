@@ -83,6 +83,23 @@ pub record FailsWith (c : Check) (fault : Fault) (place : ℕ) (over : Over) : T
   pub placed : c .place ≡ place
   pub held : overOf (c .binders) ≡ overBy over
 
+-- one check more, which passes
+pub record PassedOn (a r : Answer) : Type 0 where
+  pub atMost : r .passed ≤ a .passed + 1
+  pub goes : (ask : Check → Outcome) (c : Check) → ask c ≡ none → GoesOn ask a (c ∷ []) r
+
+-- one check more, which fails: nothing is asked behind it
+pub record Failed (a : Answer) (fault : Fault) (place : ℕ) (over : Over) (r : Answer) : Type 0 where
+  pub same : r .passed ≡ a .passed
+  pub goes : (ask : Check → Outcome) (c : Check) (checks : List Check)
+      → FailsWith c fault place over
+      → ask c ≡ some (detailOf fault)
+      → GoesOn ask a (c ∷ checks) r
+  -- where a check failed before
+  pub stays : (ask : Check → Outcome) (checks : List Check) {n number at : ℕ} {o : Option ℕ} {detail : ℕ}
+      → shownBy a ≡ fails n number at o detail
+      → GoesOn ask a checks r
+
 unfoldable pub failed : Bool → ℕ → Outcome
 failed true detail = some detail
 failed false detail = none

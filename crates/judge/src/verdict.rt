@@ -1,7 +1,7 @@
 // What judging answers, and how it goes on check by check.
 use walk::answer::CollectionFault;
 use walk::answer::ReferenceFault;
-ghost use Rattle.judge.specs.Verdicts.{HasRoom, Required};
+ghost use Rattle.judge.specs.Verdicts.{HasRoom, PassedOn, Failed, Required};
 
 // A side of a comparison.
 pub enum Side {
@@ -54,24 +54,42 @@ pub struct Answer {
     pub verdict: Verdict,
 }
 
-// One check more, which finds the fault where `wrong` holds. A defect stays as it is.
-pub fn require(a: Answer, wrong: bool, fault: Fault, place: usize, over: Over) -> Answer
+// One check more, which passes. A defect stays as it is.
+pub fn pass(a: Answer) -> Answer
     requires { ⌜ HasRoom a 1 ⌝ }
-    ensures { λ r. ⌜ Required a wrong fault place over r ⌝ }
+    ensures { λ r. ⌜ PassedOn a r ⌝ }
 {
     let verdict = a.verdict;
     let Verdict::Pass = verdict else {
         return a;
     };
-    let passed = a.passed;
-    if wrong {
-        return Answer {
-            passed,
-            verdict: Verdict::Defect(fault, place, over),
-        };
-    }
     Answer {
-        passed: passed + 1,
+        passed: a.passed + 1,
         verdict: Verdict::Pass,
     }
+}
+
+// One check more, which fails: the end. A defect stays as it is.
+pub fn fail(a: Answer, fault: Fault, place: usize, over: Over) -> Answer
+    ensures { λ r. ⌜ Failed a fault place over r ⌝ }
+{
+    let verdict = a.verdict;
+    let Verdict::Pass = verdict else {
+        return a;
+    };
+    Answer {
+        passed: a.passed,
+        verdict: Verdict::Defect(fault, place, over),
+    }
+}
+
+// One check more, which fails with the fault where `wrong` holds.
+pub fn require(a: Answer, wrong: bool, fault: Fault, place: usize, over: Over) -> Answer
+    requires { ⌜ HasRoom a 1 ⌝ }
+    ensures { λ r. ⌜ Required a wrong fault place over r ⌝ }
+{
+    if wrong {
+        return fail(a, fault, place, over);
+    }
+    pass(a)
 }
