@@ -7,3 +7,4 @@ mod ReferenceSteps
 mod OperandSteps
 mod BodySteps
 mod QuantifierSteps
+mod RuleSteps

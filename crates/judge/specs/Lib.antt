@@ -6,3 +6,4 @@ pub mod Depth
 pub mod Literals
 pub mod Frames
 pub mod Bodies
+pub mod Rules

@@ -6,3 +6,4 @@ pub mod literal; // literal.rt: the literal pass
 mod references; // references.rt: the references of a value
 mod operand; // operand.rt: the operands of a condition
 mod body; // body.rt: the checks of a condition
+pub mod rules; // rules.rt: a whole rule or template
