@@ -1,34 +1,32 @@
 -- The checks of a condition, step by step.
-use Prim.Native.Nat.{ℕ, zero, suc, _+_, _*_, _-_, _≤_, _<_, max}
-use Prim.Native.Char.{code}
+use Prim.Native.Nat.{ℕ, zero, suc, _+_, _*_, _-_, _≤_, _<_}
 use native.Mathlib.Omega.{arith}
 use native.Mathlib.Numerals.{add-one}
-use mathlib.Core.Bool.{Bool, true, false, not, cond, _&&_, _||_}
-use mathlib.Core.List.{List, [], _∷_, _++_, append-nil}
-use mathlib.Core.Option.{Option, none, some}
+use mathlib.Core.Bool.{Bool, true, false, not}
+use mathlib.Core.List.{List, [], _∷_, append-nil}
+use mathlib.Core.Option.{none, some}
 use mathlib.Core.Path.{_≡_, refl, sym, ap, _∙_}
 use lib.ListN.{length, getD, drop}
 use lib.Seq.{drop-cons}
-use lib.Dec.{leb, eqb}
+use lib.Dec.{eqb}
 use borrow.Author.Tests.{eq-eqb, ne-eqb, le-leb, lt-leb}
 use Rattle.sheet.specs.Entries.{ConditionHead, literalHead, manyHead, negationHead, oneHead, twoHead, comparisonHead, quantifierHead, conditionHead}
 use Rattle.sheet.specs.Places.{ReadsTo, conditionOf}
 use Rattle.sheet.specs.declared.rule.ConditionHead.{ConditionHead as Head}
 use Rattle.definition.specs.Tree.{Text, Schema, Value, string, Condition, literal, many, negation, one, two, comparison, quantifier, Conditions, noConditions, condition}
 use Rattle.definition.specs.Tree as Tree
-use Rattle.reference.specs.Setting.{Setting, settingOf}
-use Rattle.reference.specs.Walk.{Reached, refused}
+use Rattle.reference.specs.Setting.{settingOf}
+use Rattle.reference.specs.Walk.{refused}
 use Rattle.reference.specs.Reference.{Environment, collection}
-use Rattle.rule.specs.Index.{startOf, sizeOfValue, sizeOfCondition, sizeOfConditions, countOfConditions, ValueAt, ConditionAt}
+use Rattle.rule.specs.Index.{startOf, sizeOfValue, sizeOfCondition, sizeOfConditions, countOfConditions, ValueAt}
 use Rattle.walk.specs.Answers.{collectionDetail, CollectedIs}
 use Rattle.walk.specs.declared.answer.Collected.{Collected}
 use Rattle.walk.specs.declared.answer.Collected.the-variants as Collected
 use Rattle.walk.specs.declared.answer.CollectionFault.the-variants.{NotString}
-use Rattle.validation.specs.Check.{Binder, Question, settled, Check, check, failsIf, entryOf, isString, hasDot, operatorCheck, isEmpty, operand, compareSide, references, body, bodies, depth, depthOfConditions}
-use Rattle.validation.specs.Judge.{Outcome, outcome}
-use Rattle.judge.specs.Nodes.{IsValue, IsCondition, AreConditions, Behind}
+use Rattle.validation.specs.Check.{Binder, check, failsIf, entryOf, isString, hasDot, operatorCheck, isEmpty, operand, compareSide, body, bodies, depth, depthOfConditions}
+use Rattle.validation.specs.Judge.{outcome}
+use Rattle.judge.specs.Nodes.{IsCondition, AreConditions, Behind}
 use Rattle.judge.specs.Verdicts.{numberOf, detailOf, sideDetail, failed, GoesOn, PassedOn, Failed, Required}
-use Rattle.scope.specs.Scopes.{ScopeAt}
 use Rattle.scope.specs.Collections.{CollectionIs}
 use Rattle.judge.specs.Frames.{Frame, frame, Stands, settingIn, ReferencesIn, PairJudged, side}
 use Rattle.judge.specs.Bodies.{operatorIn, OperatorJudged, CollectionOf, BodyJudged, BodiesJudged, QuantifierJudged}

@@ -2,7 +2,7 @@
 use Prim.Native.Nat.{ℕ, _+_, _-_, _≤_, _<_, min, max}
 use native.Mathlib.Omega.{arith}
 use mathlib.Core.List.{List}
-use mathlib.Core.Option.{Option, none, some}
+use mathlib.Core.Option.{none}
 use mathlib.Core.Path.{_≡_, refl, sym, ap, _∙_}
 use lib.ListN.{drop}
 use Rattle.sheet.specs.Entries.{ConditionHead, conditionHead}
@@ -10,7 +10,7 @@ use Rattle.sheet.specs.Places.{ReadsTo}
 use Rattle.definition.specs.Tree.{Condition, literal, many, negation, one, two, comparison, quantifier, Conditions, noConditions, condition}
 use Rattle.rule.specs.Index.{startOf}
 use Rattle.validation.specs.Check.{depth, depthOfConditions}
-use Rattle.judge.specs.Nodes.{IsCondition, AreConditions, Behind, childrenOf, ChildrenAt}
+use Rattle.judge.specs.Nodes.{AreConditions, Behind, childrenOf, ChildrenAt}
 use Rattle.judge.specs.Depth.{DepthIs, DepthsAre}
 use Rattle.judge.proofs.NodeSteps.{condition-unread, children-stand, tailOf, first-stands, tail-stands, none-left, none-ends}
 

@@ -7,13 +7,12 @@ use mathlib.Core.Option.{Option, none, some}
 use mathlib.Core.Path.{_≡_, refl, sym, ap, _∙_}
 use Rattle.sheet.specs.Entries.{ValueHead}
 use Rattle.validation.specs.Check.{Check}
-use Rattle.validation.specs.Judge.{Outcome, allPass, failsAt, decide, judgeFrom}
-use Rattle.judge.specs.Shown.{overOf, Shown, passes, fails, shownOf, goOn, judge-append}
-use Rattle.judge.specs.Verdicts.{numberOf, detailOf, overBy, shownWith, shownBy, GoesOn, FailsWith, PassedOn, Failed, failed, Required}
+use Rattle.validation.specs.Judge.{Outcome, allPass, decide, judgeFrom}
+use Rattle.judge.specs.Shown.{Shown, passes, fails, shownOf, goOn, judge-append}
+use Rattle.judge.specs.Verdicts.{detailOf, shownWith, shownBy, GoesOn, FailsWith, PassedOn, Failed, failed, Required}
 use Rattle.judge.specs.Leaves.{saidIn, said-append}
 use Rattle.judge.specs.declared.verdict.Fault.{Fault}
 use Rattle.judge.specs.declared.verdict.Over.{Over}
-use Rattle.judge.specs.declared.verdict.Verdict.{Verdict}
 use Rattle.judge.specs.declared.verdict.Verdict.the-variants.{Pass, Defect}
 use Rattle.judge.specs.declared.verdict.Answer.{Answer}
 

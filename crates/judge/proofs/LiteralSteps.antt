@@ -2,9 +2,9 @@
 use Prim.Native.Nat.{ℕ, _+_, _-_, _≤_}
 use native.Mathlib.Omega.{arith}
 use mathlib.Core.Bool.{Bool, true, false, not}
-use mathlib.Core.List.{List, [], _∷_, _++_, append-nil}
-use mathlib.Core.Option.{Option, none, some}
-use mathlib.Core.Path.{_≡_, refl, sym, ap, _∙_}
+use mathlib.Core.List.{List, [], append-nil}
+use mathlib.Core.Option.{none, some}
+use mathlib.Core.Path.{_≡_, refl, sym}
 use lib.ListN.{drop}
 use Rattle.number.specs.Finite.{isFinite}
 use Rattle.sheet.specs.Entries.{ValueHead, numberHead, valueHead}
@@ -13,11 +13,11 @@ use Rattle.definition.specs.Tree.{Schema}
 use Rattle.reference.specs.Setting.{Setting}
 use Rattle.reference.specs.Reference.{Environment}
 use Rattle.rule.specs.Index.{startOf}
-use Rattle.validation.specs.Check.{Binder, Check, check, failsIf, literalCheck}
+use Rattle.validation.specs.Check.{Binder, check, failsIf, literalCheck}
 use Rattle.validation.specs.Judge.{outcome, environment, answer, answerIn}
 use Rattle.judge.specs.Leaves.{saysAt, saysIf, saidIn}
 use Rattle.judge.specs.Shown.{overOf}
-use Rattle.judge.specs.Verdicts.{numberOf, detailOf, overBy, failed, GoesOn, Required}
+use Rattle.judge.specs.Verdicts.{numberOf, detailOf, overBy, failed, Required}
 use Rattle.judge.specs.Literals.{literalSays, LiteralsJudged}
 use Rattle.judge.specs.declared.verdict.Fault.the-variants.{Literal}
 use Rattle.judge.specs.declared.verdict.Over.the-variants.{Outside}

@@ -2,14 +2,14 @@
 use Prim.Native.Nat.{ℕ, _+_, _≤_, _<_}
 use native.Mathlib.Omega.{arith}
 use mathlib.Core.List.{List}
-use mathlib.Core.Option.{Option, none, some}
+use mathlib.Core.Option.{none, some}
 use mathlib.Core.Path.{_≡_, refl, sym, ap, _∙_}
 use lib.ListN.{drop}
 use Rattle.sheet.specs.Reader.{Reader}
 use Rattle.sheet.specs.Entries.{ConditionHead, conditionHead}
 use Rattle.sheet.specs.Places.{ReadsTo}
 use Rattle.definition.specs.Tree.{Value, constant, number, string, array, object, Condition, literal, many, negation, one, two, comparison, quantifier, Conditions, noConditions, condition}
-use Rattle.rule.specs.Index.{startOf, endOf, sizeOfValue, sizeOfCondition, sizeOfConditions, EntryAt, ConditionAt, ConditionsAt}
+use Rattle.rule.specs.Index.{startOf, endOf, sizeOfValue, sizeOfCondition, sizeOfConditions, EntryAt, ConditionAt}
 use Rattle.rule.specs.IndexLaws.{value-next, condition-next}
 use Rattle.judge.specs.Nodes.{IsCondition, AreConditions, Behind, childrenOf, ChildrenAt}
 

@@ -2,9 +2,9 @@
 use Prim.Native.Nat.{ℕ, _+_, _-_, _≤_, _<_}
 use native.Mathlib.Omega.{arith}
 use mathlib.Core.Bool.{Bool, true, false, cond, _&&_}
-use mathlib.Core.List.{List, [], _∷_, _++_, map, append-nil, append-assoc, map-append}
-use mathlib.Core.Option.{Option, none, some}
-use mathlib.Core.Path.{_≡_, refl, sym, ap, ap₂, _∙_}
+use mathlib.Core.List.{List, [], _++_, map, append-nil, append-assoc, map-append}
+use mathlib.Core.Option.{none}
+use mathlib.Core.Path.{_≡_, refl, sym, ap₂, _∙_}
 use lib.ListN.{drop}
 use lib.Dec.{leb, eqb}
 use Rattle.sheet.specs.Entries.{ConditionHead, conditionHead}
@@ -12,7 +12,7 @@ use Rattle.sheet.specs.Places.{ReadsTo, conditionOf}
 use Rattle.sheet.specs.declared.rule.ConditionHead.{ConditionHead as Head}
 use Rattle.definition.specs.Tree.{Schema, Value, constant, number, string, array, object, Values, noValues, value, Pairs, noPairs, pair, Condition, literal, many, negation, one, two, comparison, quantifier, Conditions, noConditions, condition}
 use Rattle.reference.specs.Setting.{Setting}
-use Rattle.rule.specs.Index.{startOf, sizeOfValue, sizeOfCondition, sizeOfConditions, ValueAt, ConditionsAt}
+use Rattle.rule.specs.Index.{startOf, sizeOfValue, sizeOfCondition, sizeOfConditions, ValueAt}
 use Rattle.validation.specs.Check.{Check, Literal, literalCheck, numbers, numbersOfValues, numbersOfPairs, literals, literalsOfConditions}
 use Rattle.validation.specs.Judge.{outcome}
 use Rattle.judge.specs.Leaves.{leaves, leavesOfValues, leavesOfPairs, saidIn, said-append, said-value}

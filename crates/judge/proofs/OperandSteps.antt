@@ -1,17 +1,14 @@
 -- Operands, step by step.
-use Prim.Native.Nat.{ℕ, _+_, _-_, _≤_, _<_}
-use Prim.Native.Char.{code}
+use Prim.Native.Nat.{ℕ, _+_, _-_, _≤_}
 use native.Mathlib.Omega.{arith}
-use mathlib.Core.Bool.{Bool, true, false, not, cond}
-use mathlib.Core.List.{List, [], _∷_, _++_, append-nil}
-use mathlib.Core.Option.{Option, none, some}
+use mathlib.Core.Bool.{true, false}
+use mathlib.Core.List.{List, [], _∷_}
+use mathlib.Core.Option.{none, some}
 use mathlib.Core.Path.{_≡_, refl, sym, ap, _∙_}
 use lib.ListN.{length, getD, drop}
-use lib.Dec.{leb, eqb}
+use lib.Dec.{leb}
 use borrow.Author.Tests.{eq-eqb, ne-eqb}
 use Rattle.timestamp.specs.Instant.{instant}
-use Rattle.timestamp.specs.Parses.{Parses}
-use Rattle.timestamp.specs.declared.Parsed.{Parsed}
 use Rattle.sheet.specs.Entries.{ValueHead, constantHead, numberHead, stringHead, arrayHead, objectHead, valueHead}
 use Rattle.sheet.specs.Places.{ReadsTo}
 use Rattle.sheet.specs.Parts.{partOf}
@@ -23,9 +20,8 @@ use Rattle.rule.specs.Index.{startOf, endOf, sizeOfValue, ValueAt}
 use Rattle.rule.specs.IndexLaws.{value-next}
 use Rattle.validation.specs.Check.{Binder, Question, settled, Check, check, failsIf, isNone, entryOf, isString, isHolder, references, instantText, instantForm, instantOperand, affixOperand, compareSide, operand}
 use Rattle.validation.specs.Judge.{Outcome, outcome, environment, answer, answerIn}
-use Rattle.judge.specs.Shown.{overOf}
-use Rattle.judge.specs.Nodes.{IsValue, Behind}
-use Rattle.judge.specs.Verdicts.{numberOf, detailOf, sideDetail, instantDetail, overBy, GoesOn, FailsWith, PassedOn, Failed}
+use Rattle.judge.specs.Nodes.{Behind}
+use Rattle.judge.specs.Verdicts.{numberOf, detailOf, instantDetail, GoesOn, PassedOn, Failed}
 use Rattle.judge.specs.Frames.{Frame, Stands, settingIn, ReferencesIn, OperandJudged, PairJudged, FormIs, formOf, side}
 use Rattle.judge.specs.declared.operand.Form.{Form}
 use Rattle.judge.specs.declared.operand.Form.the-variants as Form

@@ -1,20 +1,20 @@
 -- A quantifier, step by step.
-use Prim.Native.Nat.{ℕ, suc, _+_, _*_, _-_, _≤_, _<_, max}
+use Prim.Native.Nat.{ℕ, suc, _+_, _*_, _-_, _≤_, _<_}
 use Prim.Native.Char.{code}
 use native.Mathlib.Omega.{arith}
-use mathlib.Core.Bool.{Bool, true, false, not, cond, _&&_, _||_}
+use mathlib.Core.Bool.{Bool, true, false, _||_}
 use mathlib.Core.List.{List, [], _∷_, _++_, append-nil}
 use mathlib.Core.Option.{Option, none, some}
 use mathlib.Core.Path.{_≡_, refl, sym, ap, _∙_}
-use lib.Dec.{leb, eqb}
-use borrow.Author.Tests.{eq-eqb, ne-eqb, leb-true, leb-false}
+use lib.Dec.{leb}
+use borrow.Author.Tests.{ne-eqb, leb-true, leb-false}
 use Rattle.text.specs.Blank.{isBlank}
 use Rattle.sheet.specs.Parts.{partOf}
 use Rattle.sheet.specs.declared.part.Part.{Part}
-use Rattle.definition.specs.Tree.{Text, Field, Schema, Value, constant, number, string, array, object, Condition, Conditions, noConditions, condition}
+use Rattle.definition.specs.Tree.{Text, Field, Schema, Value, constant, number, string, array, object, Condition, noConditions, condition}
 use Rattle.reference.specs.Setting.{Setting, settingOf}
 use Rattle.reference.specs.Walk.{Reached, refused, unknown, known}
-use Rattle.reference.specs.Reference.{Bound, Environment, reference, collectionText, collection}
+use Rattle.reference.specs.Reference.{Environment, reference, collectionText, collection}
 use Rattle.reference.specs.CollectionLaws.{Reads, Listed, Explained, text-explained}
 use Rattle.rule.specs.Index.{endOf, sizeOfValue, sizeOfCondition, sizeOfConditions, ValueAt, ConditionAt}
 use Rattle.rule.specs.IndexLaws.{value-next}
@@ -22,12 +22,12 @@ use Rattle.walk.specs.Answers.{collectionDetail, CollectedIs}
 use Rattle.walk.specs.declared.answer.Collected.{Collected}
 use Rattle.walk.specs.declared.answer.Collected.the-variants as Collected
 use Rattle.walk.specs.declared.answer.CollectionFault.{CollectionFault}
-use Rattle.validation.specs.Check.{Binder, Question, walkable, readable, Check, check, failsIf, entryOf, referenceText, referenceCheck, references, hasDot, body, bodies, depth, depthOfConditions}
+use Rattle.validation.specs.Check.{Binder, walkable, readable, Check, check, failsIf, referenceText, referenceCheck, references, hasDot, body, bodies, depth, depthOfConditions}
 use Rattle.validation.specs.Judge.{Outcome, outcome, verdict, extend, enter, environment, answer, answerIn, decide, judgeFrom}
 use Rattle.judge.specs.Shown.{Shown, passes, fails, overOf, shownOf, goOn}
-use Rattle.judge.specs.Nodes.{IsValue, AreConditions, Behind}
+use Rattle.judge.specs.Nodes.{Behind}
 use Rattle.judge.specs.Verdicts.{numberOf, detailOf, overBy, shownBy, failed, GoesOn, PassedOn, Failed, Required}
-use Rattle.scope.specs.Scopes.{BoundElement, EnvironmentAt, ScopeAt, Binds}
+use Rattle.scope.specs.Scopes.{BoundElement, Binds}
 use Rattle.judge.specs.Frames.{Frame, frame, Stands, settingIn, ReferencesIn}
 use Rattle.judge.specs.Bodies.{CollectionOf, BodiesJudged, QuantifierJudged}
 use Rattle.scope.specs.declared.binder.Element.{Element}

@@ -1,14 +1,12 @@
 -- The references of a value, step by step.
-use Prim.Native.Nat.{ℕ, _+_, _-_, _≤_, _<_}
-use Prim.Native.Char.{code}
+use Prim.Native.Nat.{ℕ, _+_, _-_, _≤_}
 use native.Mathlib.Omega.{arith}
-use mathlib.Core.Bool.{Bool, true, false, not, cond, _&&_}
+use mathlib.Core.Bool.{true, false}
 use mathlib.Core.List.{List, [], _∷_, _++_}
 use mathlib.Core.Option.{Option, none, some}
 use mathlib.Core.Path.{_≡_, refl, sym, ap, ap₂, _∙_}
 use lib.ListN.{length, getD, take, drop, length-drop}
 use lib.Seq.{take-all}
-use lib.Dec.{eqb}
 use borrow.Author.Tests.{eq-eqb, ne-eqb}
 use Rattle.sheet.specs.Entries.{ValueHead, stringHead, valueHead}
 use Rattle.sheet.specs.Places.{ReadsTo}
@@ -17,16 +15,15 @@ use Rattle.reference.specs.Setting.{Setting}
 use Rattle.reference.specs.Walk.{Reached, refused, unknown, known}
 use Rattle.reference.specs.Reference.{Environment, reference}
 use Rattle.rule.specs.Index.{startOf, sizeOfValue}
-use Rattle.walk.specs.Answers.{referenceDetail, IsReached, ReadableIs}
+use Rattle.walk.specs.Answers.{IsReached, ReadableIs}
 use Rattle.walk.specs.declared.answer.ReferenceFault.{ReferenceFault}
 use Rattle.walk.specs.declared.answer.Readable.{Readable}
 use Rattle.walk.specs.declared.answer.Readable.the-variants.{Yes, No}
-use Rattle.validation.specs.Check.{Binder, Question, settled, readable, Check, check, referenceText, referenceCheck, references, referencesOfValues, referencesOfPairs}
-use Rattle.validation.specs.Judge.{Outcome, outcome, environment, verdict, answer, answerIn}
+use Rattle.validation.specs.Check.{Binder, readable, check, referenceText, referenceCheck, references, referencesOfValues, referencesOfPairs}
+use Rattle.validation.specs.Judge.{outcome, environment, verdict, answer, answerIn}
 use Rattle.judge.specs.Leaves.{leaves, leavesOfValues, leavesOfPairs, saidIn, said-value}
-use Rattle.judge.specs.Shown.{overOf}
 use Rattle.judge.specs.Nodes.{IsValue}
-use Rattle.judge.specs.Verdicts.{numberOf, detailOf, overBy, GoesOn, PassedOn, Failed}
+use Rattle.judge.specs.Verdicts.{numberOf, detailOf, GoesOn, PassedOn, Failed}
 use Rattle.scope.specs.References.{ReferenceReads}
 use Rattle.judge.specs.Frames.{Frame, Stands, settingIn, IsReference, referenceSays, ReferencesIn}
 use Rattle.judge.specs.declared.verdict.Fault.the-variants.{Reference}

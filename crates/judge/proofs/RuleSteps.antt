@@ -1,31 +1,28 @@
 -- A whole rule or template, step by step.
-use Prim.Native.Nat.{ℕ, zero, suc, _+_, _*_, _-_, _≤_, _<_, min}
+use Prim.Native.Nat.{ℕ, zero, suc, _-_, _≤_, _<_, min}
 use native.Mathlib.Omega.{arith}
-use mathlib.Core.Bool.{Bool, true, false, not, cond}
-use mathlib.Core.List.{List, [], _∷_, _++_, map, append-nil}
-use mathlib.Core.Option.{Option, none, some}
+use mathlib.Core.Bool.{Bool, true, false, not}
+use mathlib.Core.List.{List, [], _∷_, map, append-nil}
+use mathlib.Core.Option.{none, some}
 use mathlib.Core.Path.{_≡_, refl, sym, ap, _∙_}
 use lib.ListN.{drop}
-use lib.Dec.{leb, eqb}
+use lib.Dec.{leb}
 use borrow.Author.Tests.{le-leb, lt-leb}
-use Rattle.text.specs.Blank.{isBlank}
 use Rattle.sheet.specs.Entries.{RuleHead, ruleHead}
 use Rattle.sheet.specs.Entries as Entries
 use Rattle.sheet.specs.Places.{ReadsTo}
 use Rattle.sheet.specs.Parts.{optionalOf}
 use Rattle.sheet.specs.declared.part.OptionalPart.{OptionalPart}
-use Rattle.definition.specs.Tree.{Text, Schema, Value, Condition, Conditions, noConditions, condition, Rule, rule, template}
+use Rattle.definition.specs.Tree.{Schema, Condition, noConditions, condition, Rule, rule, template}
 use Rattle.reference.specs.Setting.{Setting, settingOf}
-use Rattle.reference.specs.Reference.{Environment}
-use Rattle.rule.specs.Index.{startOf, endOf, sizeOfValue, sizeOfCondition, sizeOfConditions, RuleAt}
-use Rattle.validation.specs.Check.{Check, check, failsIf, literalCheck, literals, literalsOfConditions, literalChecks, isBlankText, body, depth, references, checks}
-use Rattle.validation.specs.Judge.{Outcome, outcome, environment, judgeFrom, judge}
-use Rattle.scope.specs.Scopes.{chainOf, ChainAt, EnvironmentAt, ScopeAt}
+use Rattle.rule.specs.Index.{startOf, endOf, sizeOfConditions, RuleAt}
+use Rattle.validation.specs.Check.{Check, check, failsIf, literalCheck, literals, literalsOfConditions, literalChecks, isBlankText, depth, references, checks}
+use Rattle.validation.specs.Judge.{outcome, environment, judge}
+use Rattle.scope.specs.Scopes.{chainOf, ChainAt, ScopeAt}
 use Rattle.scope.specs.declared.binder.Binder.{Binder}
 use Rattle.scope.specs.declared.binder.Scope.{Scope}
-use Rattle.judge.specs.Nodes.{IsValue, IsCondition, AreConditions}
 use Rattle.judge.specs.Depth.{DepthIs}
-use Rattle.judge.specs.Shown.{Shown, overOf, shownOf, goOn}
+use Rattle.judge.specs.Shown.{overOf, shownOf, goOn}
 use Rattle.judge.specs.Verdicts.{numberOf, detailOf, overBy, shownWith, shownBy, failed, GoesOn, PassedOn, Failed, Required}
 use Rattle.judge.specs.Literals.{ConditionLiterals}
 use Rattle.judge.specs.Frames.{frame, Stands, ReferencesIn}
@@ -79,10 +76,10 @@ pass-service {sheet} {words} {service} {end} t p =
     record {
       atMost = p .atMost;
       goes =
-        λ setting tree c e w.
-        let m : setting .isService ≡ true = sym e ∙ t in
-        let g = p .goes setting tree (condition c noConditions) (record { stand = (w .stands, tt); ends = omega (arith, w .ends) }) in
-        rw (service-literals setting c m) (rw append-nil at g);
+          λ setting tree c e w.
+          let m : setting .isService ≡ true = sym e ∙ t in
+          let g = p .goes setting tree (condition c noConditions) (record { stand = (w .stands, tt); ends = omega (arith, w .ends) }) in
+          rw (service-literals setting c m) (rw append-nil at g);
     }
 
 pub pass-kernel : {sheet words : List ℕ} {service : Bool} {end : ℕ} {a : Answer} → service ≡ false → PassJudged sheet words service end a a
@@ -134,13 +131,13 @@ module _ {schema sheet words : List ℕ} {scope : Scope} {name message : Optiona
   definition-deep {n} {r} m h p =
       record {
         shows =
-          λ semantics tree assert s w.
-          let e : n ≡ min 33 (depth assert) = m .exact assert w in
-          let k : leb (depth assert) 32 ≡ false = lt-leb (depth assert) 32 (omega arith) in
-          begin-judges (settingOf (scope .kind) semantics) tree _ r
-          (goes-then (both-go sheet name message (settingOf (scope .kind) semantics) tree blank-name blank-message named told)
-          (p .goes (outcome (settingOf (scope .kind) semantics) tree) _ _ (record { numbered = refl; placed = refl; held = refl })
-          (settled-outcome (settingOf (scope .kind) semantics) tree [] [] 13 2 (not (leb (depth assert) 32)) 0 refl ∙ ap (λ (x : Bool). failed (not x) 0) k)));
+            λ semantics tree assert s w.
+            let e : n ≡ min 33 (depth assert) = m .exact assert w in
+            let k : leb (depth assert) 32 ≡ false = lt-leb (depth assert) 32 (omega arith) in
+            begin-judges (settingOf (scope .kind) semantics) tree _ r
+            (goes-then (both-go sheet name message (settingOf (scope .kind) semantics) tree blank-name blank-message named told)
+            (p .goes (outcome (settingOf (scope .kind) semantics) tree) _ _ (record { numbered = refl; placed = refl; held = refl })
+            (settled-outcome (settingOf (scope .kind) semantics) tree [] [] 13 2 (not (leb (depth assert) 32)) 0 refl ∙ ap (λ (x : Bool). failed (not x) 0) k)));
       }
 
   pub definition-judged : {n : ℕ} {d g r : Answer}
@@ -154,18 +151,18 @@ module _ {schema sheet words : List ℕ} {scope : Scope} {name message : Optiona
   definition-judged {n} {d} {g} {r} m h p l q =
       record {
         shows =
-          λ semantics tree assert s w.
-          let e : n ≡ min 33 (depth assert) = m .exact assert w in
-          let few : depth assert ≤ 32 = omega arith in
-          let k : leb (depth assert) 32 ≡ true = le-leb (depth assert) 32 few in
-          let z : scope .count ≡ 0 = no-binders schema sheet words (scope .count) (scope .binders) (s .binders .chain) in
-          begin-judges (settingOf (scope .kind) semantics) tree _ r
-          (goes-then (both-go sheet name message (settingOf (scope .kind) semantics) tree blank-name blank-message named told)
-          (goes-then
-          (p .goes (outcome (settingOf (scope .kind) semantics) tree) _
-          (settled-outcome (settingOf (scope .kind) semantics) tree [] [] 13 2 (not (leb (depth assert) 32)) 0 refl ∙ passes-if (leb (depth assert) 32) k))
-          (goes-then (l .goes (settingOf (scope .kind) semantics) tree assert (s .service) w)
-          (q .goes semantics tree [] [] assert (outermost s) w few (omega arith)))));
+            λ semantics tree assert s w.
+            let e : n ≡ min 33 (depth assert) = m .exact assert w in
+            let few : depth assert ≤ 32 = omega arith in
+            let k : leb (depth assert) 32 ≡ true = le-leb (depth assert) 32 few in
+            let z : scope .count ≡ 0 = no-binders schema sheet words (scope .count) (scope .binders) (s .binders .chain) in
+            begin-judges (settingOf (scope .kind) semantics) tree _ r
+            (goes-then (both-go sheet name message (settingOf (scope .kind) semantics) tree blank-name blank-message named told)
+            (goes-then
+            (p .goes (outcome (settingOf (scope .kind) semantics) tree) _
+            (settled-outcome (settingOf (scope .kind) semantics) tree [] [] 13 2 (not (leb (depth assert) 32)) 0 refl ∙ passes-if (leb (depth assert) 32) k))
+            (goes-then (l .goes (settingOf (scope .kind) semantics) tree assert (s .service) w)
+            (q .goes semantics tree [] [] assert (outermost s) w few (omega arith)))));
       }
     where
       passes-if : (x : Bool) → x ≡ true → failed (not x) 0 ≡ none
@@ -182,6 +179,7 @@ module _ {schema sheet words : List ℕ} {scope : Scope} {at end : ℕ} (start :
           let p : ruleHead (drop (startOf words 0) sheet) ≡ none = rw (sym start) r in
           let z : _≡_ {A = ℕ} 0 1 = cc in
           omega arith
+
       unread : (x : Rule) → RuleAt sheet words x → ⊥
       unread (rule name message assert) w = clash _ _ (w .0 .reads)
       unread (template v) w = clash _ _ (w .0 .reads)

@@ -1,6 +1,6 @@
 -- What the checks of a condition ask, by what the code has in hand.
 use Prim.Native.Nat.{ℕ, suc, _+_, _*_, _-_, _≤_}
-use mathlib.Core.Bool.{Bool, _||_}
+use mathlib.Core.Bool.{_||_}
 use mathlib.Core.List.{List, [], _∷_, _++_}
 use mathlib.Core.Path.{_≡_}
 use Rattle.text.specs.Blank.{isBlank}
@@ -13,7 +13,7 @@ use Rattle.reference.specs.Reference.{Environment, collection}
 use Rattle.rule.specs.Index.{sizeOfValue, sizeOfCondition, ValueAt, ConditionAt}
 use Rattle.walk.specs.Answers.{CollectedIs}
 use Rattle.walk.specs.declared.answer.Collected.{Collected}
-use Rattle.validation.specs.Check.{Binder, Check, check, failsIf, walkable, references, hasDot, operatorCheck, body, bodies, depth, depthOfConditions}
+use Rattle.validation.specs.Check.{Binder, check, failsIf, walkable, references, hasDot, operatorCheck, body, bodies, depth, depthOfConditions}
 use Rattle.validation.specs.Judge.{outcome}
 use Rattle.judge.specs.Nodes.{IsCondition, AreConditions}
 use Rattle.judge.specs.Verdicts.{GoesOn}

@@ -1,18 +1,17 @@
 -- What a judging function has in hand, and the trees that this stands for.
-use Prim.Native.Nat.{ℕ, _+_, _*_, _-_, _≤_, _<_}
+use Prim.Native.Nat.{ℕ, _+_, _-_, _≤_}
 use mathlib.Core.Bool.{Bool, true, false}
-use mathlib.Core.List.{List, [], _∷_, _++_}
-use mathlib.Core.Option.{Option, none, some}
+use mathlib.Core.List.{List, [], _++_}
+use mathlib.Core.Option.{none, some}
 use mathlib.Core.Path.{_≡_}
-use lib.ListN.{length, drop}
+use lib.ListN.{drop}
 use Rattle.sheet.specs.Entries.{ValueHead, constantHead, numberHead, stringHead, arrayHead, objectHead}
 use Rattle.sheet.specs.Parts.{partOf}
-use Rattle.definition.specs.Tree.{Text, Schema, Value, string, Condition, Conditions}
+use Rattle.definition.specs.Tree.{Text, Schema, Value, string}
 use Rattle.reference.specs.Setting.{Setting, settingOf}
 use Rattle.reference.specs.Reference.{Environment}
-use Rattle.rule.specs.Index.{ValueAt}
-use Rattle.validation.specs.Check.{Binder, Question, settled, Check, check, failsIf, entryOf, isString, isHolder, referenceText, referenceCheck, references, instantText, instantOperand, affixOperand, compareSide, operand}
-use Rattle.validation.specs.Judge.{Outcome, outcome, environment}
+use Rattle.validation.specs.Check.{Binder, Question, settled, Check, entryOf, isString, isHolder, referenceText, referenceCheck, references, compareSide}
+use Rattle.validation.specs.Judge.{outcome, environment}
 use Rattle.judge.specs.Leaves.{saidIn}
 use Rattle.judge.specs.Shown.{overOf}
 use Rattle.judge.specs.Nodes.{IsValue}
@@ -21,7 +20,6 @@ use Rattle.scope.specs.Scopes.{ScopeAt}
 use Rattle.scope.specs.declared.binder.Scope.{Scope}
 use Rattle.judge.specs.declared.verdict.Over.{Over}
 use Rattle.judge.specs.declared.verdict.Side.{Side}
-use Rattle.judge.specs.declared.verdict.InstantFault.{InstantFault}
 use Rattle.judge.specs.declared.verdict.Answer.{Answer}
 use Rattle.judge.specs.declared.operand.Form.{Form}
 use Rattle.judge.specs.declared.operand.Form.the-variants as Form

@@ -39,7 +39,13 @@ fn is_blank_text(rule: &[u8], text: OptionalPart) -> bool
 }
 
 // Literals are looked at under service alone.
-fn validate_condition_literals(a: Answer, rule: &[u8], words: &[u32], service: bool, end: usize) -> Answer
+fn validate_condition_literals(
+    a: Answer,
+    rule: &[u8],
+    words: &[u32],
+    service: bool,
+    end: usize,
+) -> Answer
     requires { ⌜ HasRoom a (end - 1) × (end ≤ 4096) ⌝ }
     ensures { λ r. ⌜ PassJudged (now (rule .entry)) (now (words .entry)) service end a r ⌝ }
 {
@@ -50,13 +56,30 @@ fn validate_condition_literals(a: Answer, rule: &[u8], words: &[u32], service: b
 }
 
 // A rule, whose condition ends at `end`: nothing goes down into a condition that is too deep.
-fn validate_rule_definition(schema: &[u8], rule: &[u8], words: &[u32], scope: Scope, name: OptionalPart, message: OptionalPart, end: usize) -> Answer
+fn validate_rule_definition(
+    schema: &[u8],
+    rule: &[u8],
+    words: &[u32],
+    scope: Scope,
+    name: OptionalPart,
+    message: OptionalPart,
+    end: usize,
+) -> Answer
     requires { ⌜ end < 4096 ⌝ }
     ensures { λ r. ⌜ DefinitionJudged (now (schema .entry)) (now (rule .entry)) (now (words .entry)) scope name message end r ⌝ }
 {
-    let a = Answer { passed: 0, verdict: Verdict::Pass };
+    let a = Answer {
+        passed: 0,
+        verdict: Verdict::Pass,
+    };
     let b = require(a, is_blank_text(rule, name), Fault::Name, 1, Over::Outside);
-    let c = require(b, is_blank_text(rule, message), Fault::Message, 1, Over::Outside);
+    let c = require(
+        b,
+        is_blank_text(rule, message),
+        Fault::Message,
+        1,
+        Over::Outside,
+    );
     if end <= 1 {
         return c;
     }
@@ -65,7 +88,17 @@ fn validate_rule_definition(schema: &[u8], rule: &[u8], words: &[u32], scope: Sc
         return fail(c, Fault::Deep, 2, Over::Outside);
     }
     let d = validate_condition_literals(pass(c), rule, words, scope.service, end);
-    validate_condition_body(d, schema, rule, words, scope, Over::Outside, 1, end, MAX_CONDITION_DEPTH)
+    validate_condition_body(
+        d,
+        schema,
+        rule,
+        words,
+        scope,
+        Over::Outside,
+        1,
+        end,
+        MAX_CONDITION_DEPTH,
+    )
 }
 
 // The rule or the template of a sheet, by its index. The scope has no binders.
@@ -73,7 +106,10 @@ pub fn judge(schema: &[u8], rule: &[u8], words: &[u32], scope: Scope) -> Answer
     ensures { λ r. ⌜ RuleJudged (now (schema .entry)) (now (rule .entry)) (now (words .entry)) scope r ⌝ }
 {
     let end = end_of(words, 0);
-    let a = Answer { passed: 0, verdict: Verdict::Pass };
+    let a = Answer {
+        passed: 0,
+        verdict: Verdict::Pass,
+    };
     let RuleRead::Is(head, _) = rule_head(rule, start_of(words, 0)) else {
         return a;
     };

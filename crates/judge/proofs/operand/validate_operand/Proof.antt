@@ -1,5 +1,4 @@
 -- `judge::operand::validate_operand` meets its contract, by the operator.
-use borrow.Author.Needs.{needs}
 use native.Mathlib.Omega.{arith}
 use borrow.Author.Tests.{le-leb, lt-leb}
 use Rattle.judge.proofs.OperandSteps.{operand-instant, operand-affix, operand-other}

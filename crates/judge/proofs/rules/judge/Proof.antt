@@ -1,7 +1,6 @@
 -- `judge::rules::judge` meets its contract, by the first entry of the sheet.
 use borrow.Author.Needs.{needs}
 use native.Mathlib.Omega.{arith}
-use mathlib.Core.Path.{refl}
 use Rattle.sheet.specs.Places.{ruleOf}
 use Rattle.judge.proofs.RuleSteps.{judge-bad, judge-rule, judge-template}
 use Rattle.judge.proofs.rules.judge.Statement.{statement}

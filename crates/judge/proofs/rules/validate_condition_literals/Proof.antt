@@ -1,5 +1,4 @@
 -- `judge::rules::validate_condition_literals` meets its contract: the literal pass, or nothing.
-use borrow.Author.Needs.{needs}
 use Rattle.judge.proofs.RuleSteps.{pass-service, pass-kernel}
 use Rattle.judge.proofs.rules.validate_condition_literals.Statement.{statement}
 use Rattle.judge.proofs.rules.validate_condition_literals.Tie as tie
