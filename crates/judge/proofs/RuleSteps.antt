@@ -1,0 +1,225 @@
+-- A whole rule or template, step by step.
+use Prim.Native.Nat.{ℕ, zero, suc, _-_, _≤_, _<_, min}
+use native.Mathlib.Omega.{arith}
+use mathlib.Core.Bool.{Bool, true, false, not}
+use mathlib.Core.List.{List, [], _∷_, map, append-nil}
+use mathlib.Core.Option.{none, some}
+use mathlib.Core.Path.{_≡_, refl, sym, ap, _∙_}
+use lib.ListN.{drop}
+use lib.Dec.{leb}
+use borrow.Author.Tests.{le-leb, lt-leb}
+use Rattle.sheet.specs.Entries.{RuleHead, ruleHead}
+use Rattle.sheet.specs.Entries as Entries
+use Rattle.sheet.specs.Places.{ReadsTo}
+use Rattle.sheet.specs.Parts.{optionalOf}
+use Rattle.sheet.specs.declared.part.OptionalPart.{OptionalPart}
+use Rattle.definition.specs.Tree.{Schema, Condition, noConditions, condition, Rule, rule, template}
+use Rattle.reference.specs.Setting.{Setting, settingOf}
+use Rattle.rule.specs.Index.{startOf, endOf, sizeOfConditions, RuleAt}
+use Rattle.validation.specs.Check.{Check, check, failsIf, literalCheck, literals, literalsOfConditions, literalChecks, isBlankText, depth, references, checks}
+use Rattle.validation.specs.Judge.{outcome, environment, judge}
+use Rattle.scope.specs.Scopes.{chainOf, ChainAt, ScopeAt}
+use Rattle.scope.specs.declared.binder.Binder.{Binder}
+use Rattle.scope.specs.declared.binder.Scope.{Scope}
+use Rattle.judge.specs.Depth.{DepthIs}
+use Rattle.judge.specs.Shown.{overOf, shownOf, goOn}
+use Rattle.judge.specs.Verdicts.{numberOf, detailOf, overBy, shownWith, shownBy, failed, GoesOn, PassedOn, Failed, Required}
+use Rattle.judge.specs.Literals.{ConditionLiterals}
+use Rattle.judge.specs.Frames.{frame, Stands, ReferencesIn}
+use Rattle.judge.specs.Bodies.{BodyJudged}
+use Rattle.judge.specs.Rules.{PassJudged, DefinitionJudged, RuleJudged}
+use Rattle.judge.specs.declared.verdict.Fault.{Fault}
+use Rattle.judge.specs.declared.verdict.Fault.the-variants.{Name, Message, Deep}
+use Rattle.judge.specs.declared.verdict.Over.the-variants.{Outside}
+use Rattle.judge.specs.declared.verdict.Verdict.the-variants.{Pass}
+use Rattle.judge.specs.declared.verdict.Answer.{Answer}
+use Rattle.judge.proofs.Going.{goes-nothing, goes-then}
+use Rattle.judge.proofs.NodeSteps.{same-head, condition-size}
+use Rattle.judge.proofs.LiteralSteps.{settled-outcome}
+use Rattle.judge.proofs.ReferenceSteps.{references-judged}
+
+-- before the first check
+abbrev pub begin : Answer
+begin = record { passed = 0; verdict = Pass }
+
+pub begin-judges : (setting : Setting) (tree : Schema) (cs : List Check) (r : Answer) → GoesOn (outcome setting tree) begin cs r → shownBy r ≡ shownOf (judge setting tree cs)
+unfolding shownBy shownWith goOn judge
+begin-judges setting tree cs r g = g .shows
+
+no-binders : (schema sheet words : List ℕ) (n : ℕ) (bs : List Binder) → ChainAt schema sheet words (chainOf n bs) [] → n ≡ 0
+unfolding chainOf
+no-binders schema sheet words zero bs c = refl
+no-binders schema sheet words (suc n) bs c = absurd c
+
+outermost : {schema sheet words : List ℕ} {scope : Scope} {semantics : ℕ} {tree : Schema}
+    → ScopeAt schema sheet words scope semantics tree []
+    → Stands (frame schema sheet words scope Outside) semantics tree [] []
+unfolding environment overOf overBy
+outermost s = record { scoped = s; bound = refl; held = refl }
+
+-- The literal pass.
+
+service-literals : (setting : Setting) (c : Condition) → setting .isService ≡ true → literalChecks setting c ≡ map literalCheck (literals c)
+unfolding literalChecks
+service-literals setting c m = rw m
+
+kernel-literals : (setting : Setting) (c : Condition) → setting .isService ≡ false → literalChecks setting c ≡ []
+unfolding literalChecks
+kernel-literals setting c m = rw m
+
+pub pass-service : {sheet words : List ℕ} {service : Bool} {end : ℕ} {a r : Answer}
+    → service ≡ true
+    → ConditionLiterals sheet words 1 end a r
+    → PassJudged sheet words service end a r
+unfolding literalsOfConditions sizeOfConditions
+pass-service {sheet} {words} {service} {end} t p =
+    record {
+      atMost = p .atMost;
+      goes =
+          λ setting tree c e w.
+          let m : setting .isService ≡ true = sym e ∙ t in
+          let g = p .goes setting tree (condition c noConditions) (record { stand = (w .stands, tt); ends = omega (arith, w .ends) }) in
+          rw (service-literals setting c m) (rw append-nil at g);
+    }
+
+pub pass-kernel : {sheet words : List ℕ} {service : Bool} {end : ℕ} {a : Answer} → service ≡ false → PassJudged sheet words service end a a
+pass-kernel t =
+    record {
+      atMost = omega arith;
+      goes = λ setting tree c e w. rw (kernel-literals setting c (sym e ∙ t)) goes-nothing;
+    }
+
+-- Checks outside all quantifiers.
+
+outside-required : {a r : Answer} {wrong : Bool} {fault : Fault} {place : ℕ} (n d : ℕ) (flag : Bool) (setting : Setting) (tree : Schema)
+    → Required a wrong fault place Outside r
+    → wrong ≡ flag
+    → n ≡ numberOf fault
+    → d ≡ detailOf fault
+    → GoesOn (outcome setting tree) a (check n place [] (failsIf flag d) ∷ []) r
+unfolding check overOf overBy environment
+outside-required {a} {r} {wrong} {fault} {place} n d flag setting tree p e m q =
+    p .goes (outcome setting tree) _ (record { numbered = m; placed = refl; held = refl })
+    (settled-outcome setting tree [] [] n place flag d refl ∙ ap (λ (x : Bool). failed x d) (sym e) ∙ ap (λ (x : ℕ). failed wrong x) q)
+
+both-go : (sheet : List ℕ) (name message : OptionalPart) {unnamed untold : Bool} {b c : Answer} (setting : Setting) (tree : Schema)
+    → unnamed ≡ isBlankText (optionalOf sheet name)
+    → untold ≡ isBlankText (optionalOf sheet message)
+    → Required begin unnamed Name 1 Outside b
+    → Required b untold Message 1 Outside c
+    → GoesOn (outcome setting tree) begin
+    (check 11 1 [] (failsIf (isBlankText (optionalOf sheet name)) 0)
+    ∷ check 12 1 [] (failsIf (isBlankText (optionalOf sheet message)) 0)
+    ∷ [])
+    c
+unfolding numberOf detailOf
+both-go sheet name message setting tree blank-name blank-message named told =
+    goes-then (outside-required 11 0 (isBlankText (optionalOf sheet name)) setting tree named blank-name refl refl)
+    (outside-required 12 0 (isBlankText (optionalOf sheet message)) setting tree told blank-message refl refl)
+
+module _ {schema sheet words : List ℕ} {scope : Scope} {name message : OptionalPart} {end : ℕ} {unnamed untold : Bool} {b c : Answer} (blank-name : unnamed ≡ isBlankText (optionalOf sheet name)) (blank-message : untold ≡ isBlankText (optionalOf sheet message)) (named : Required begin unnamed Name 1 Outside b) (told : Required b untold Message 1 Outside c) where
+  pub definition-none : end ≤ 1 → DefinitionJudged schema sheet words scope name message end c
+  definition-none h =
+      record { shows = λ semantics tree assert s w. absurd (omega (arith, w .ends, condition-size assert)) }
+
+  pub definition-deep : {n : ℕ} {r : Answer}
+      → DepthIs sheet words 1 end 33 n
+      → 32 < n
+      → Failed c Deep 2 Outside r
+      → DefinitionJudged schema sheet words scope name message end r
+  unfolding checks failsIf failed numberOf detailOf check overOf overBy environment
+  definition-deep {n} {r} m h p =
+      record {
+        shows =
+            λ semantics tree assert s w.
+            let e : n ≡ min 33 (depth assert) = m .exact assert w in
+            let k : leb (depth assert) 32 ≡ false = lt-leb (depth assert) 32 (omega arith) in
+            begin-judges (settingOf (scope .kind) semantics) tree _ r
+            (goes-then (both-go sheet name message (settingOf (scope .kind) semantics) tree blank-name blank-message named told)
+            (p .goes (outcome (settingOf (scope .kind) semantics) tree) _ _ (record { numbered = refl; placed = refl; held = refl })
+            (settled-outcome (settingOf (scope .kind) semantics) tree [] [] 13 2 (not (leb (depth assert) 32)) 0 refl ∙ ap (λ (x : Bool). failed (not x) 0) k)));
+      }
+
+  pub definition-judged : {n : ℕ} {d g r : Answer}
+      → DepthIs sheet words 1 end 33 n
+      → n ≤ 32
+      → PassedOn c d
+      → PassJudged sheet words (scope .service) end d g
+      → BodyJudged (frame schema sheet words scope Outside) 1 end 32 g r
+      → DefinitionJudged schema sheet words scope name message end r
+  unfolding checks environment settingOf failed
+  definition-judged {n} {d} {g} {r} m h p l q =
+      record {
+        shows =
+            λ semantics tree assert s w.
+            let e : n ≡ min 33 (depth assert) = m .exact assert w in
+            let few : depth assert ≤ 32 = omega arith in
+            let k : leb (depth assert) 32 ≡ true = le-leb (depth assert) 32 few in
+            let z : scope .count ≡ 0 = no-binders schema sheet words (scope .count) (scope .binders) (s .binders .chain) in
+            begin-judges (settingOf (scope .kind) semantics) tree _ r
+            (goes-then (both-go sheet name message (settingOf (scope .kind) semantics) tree blank-name blank-message named told)
+            (goes-then
+            (p .goes (outcome (settingOf (scope .kind) semantics) tree) _
+            (settled-outcome (settingOf (scope .kind) semantics) tree [] [] 13 2 (not (leb (depth assert) 32)) 0 refl ∙ passes-if (leb (depth assert) 32) k))
+            (goes-then (l .goes (settingOf (scope .kind) semantics) tree assert (s .service) w)
+            (q .goes semantics tree [] [] assert (outermost s) w few (omega arith)))));
+      }
+    where
+      passes-if : (x : Bool) → x ≡ true → failed (not x) 0 ≡ none
+      passes-if x e = rw e
+
+-- By the sheet's first entry.
+
+module _ {schema sheet words : List ℕ} {scope : Scope} {at end : ℕ} (start : at ≡ startOf words 0) (ends : end ≡ endOf words 0) where
+  pub judge-bad : ruleHead (drop at sheet) ≡ none → RuleJudged schema sheet words scope begin
+  judge-bad r = record { shows = λ semantics tree x s w. absurd (unread x w) }
+    where
+      clash : (h : RuleHead) (rest : List ℕ) → ruleHead (drop (startOf words 0) sheet) ≡ some (h, rest) → ⊥
+      clash h rest q =
+          let p : ruleHead (drop (startOf words 0) sheet) ≡ none = rw (sym start) r in
+          let z : _≡_ {A = ℕ} 0 1 = cc in
+          omega arith
+
+      unread : (x : Rule) → RuleAt sheet words x → ⊥
+      unread (rule name message assert) w = clash _ _ (w .0 .reads)
+      unread (template v) w = clash _ _ (w .0 .reads)
+
+  pub judge-rule : {next : ℕ} {name message : OptionalPart} {r : Answer}
+      → ReadsTo ruleHead sheet at (Entries.rule (optionalOf sheet name) (optionalOf sheet message)) next
+      → DefinitionJudged schema sheet words scope name message end r
+      → RuleJudged schema sheet words scope r
+  judge-rule {next} {name} {message} {r} reads p = record { shows = λ semantics tree x s w. shows semantics tree x s w }
+    where
+      shows : (semantics : ℕ) (tree : Schema) (x : Rule)
+          → ScopeAt schema sheet words scope semantics tree []
+          → RuleAt sheet words x
+          → shownBy r ≡ shownOf (judge (settingOf (scope .kind) semantics) tree (checks (settingOf (scope .kind) semantics) x))
+      shows semantics tree (rule n m assert) s w =
+          let q : Entries.rule (optionalOf sheet name) (optionalOf sheet message) ≡ Entries.rule n m = same-head start reads (w .0) in
+          let e : optionalOf sheet name ≡ n = cc in
+          let f : optionalOf sheet message ≡ m = cc in
+          let g = p .shows semantics tree assert s (record { stands = w .1; ends = ends ∙ w .0 .ends ∙ omega arith }) in
+          rw (e, f) at g
+      shows semantics tree (template v) s w =
+          let q : Entries.rule (optionalOf sheet name) (optionalOf sheet message) ≡ Entries.template = same-head start reads (w .0) in
+          let z : _≡_ {A = ℕ} 0 1 = cc in
+          absurd (omega arith)
+
+  pub judge-template : {next : ℕ} {r : Answer}
+      → ReadsTo ruleHead sheet at Entries.template next
+      → ReferencesIn (frame schema sheet words scope Outside) 1 (end - 1) begin r
+      → RuleJudged schema sheet words scope r
+  unfolding checks
+  judge-template {next} {r} reads p = record { shows = λ semantics tree x s w. shows semantics tree x s w }
+    where
+      shows : (semantics : ℕ) (tree : Schema) (x : Rule)
+          → ScopeAt schema sheet words scope semantics tree []
+          → RuleAt sheet words x
+          → shownBy r ≡ shownOf (judge (settingOf (scope .kind) semantics) tree (checks (settingOf (scope .kind) semantics) x))
+      shows semantics tree (rule n m assert) s w =
+          let q : Entries.template ≡ Entries.rule n m = same-head start reads (w .0) in
+          let z : _≡_ {A = ℕ} 0 1 = cc in
+          absurd (omega arith)
+      shows semantics tree (template v) s w =
+          begin-judges (settingOf (scope .kind) semantics) tree (references [] v) r
+          (references-judged p semantics tree [] [] v (outermost s) (record { stands = w .1; ends = ends ∙ w .0 .ends ∙ omega arith }))

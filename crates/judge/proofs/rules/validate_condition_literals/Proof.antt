@@ -1,0 +1,16 @@
+-- `judge::rules::validate_condition_literals` meets its contract: the literal pass, or nothing.
+use Rattle.judge.proofs.RuleSteps.{pass-service, pass-kernel}
+use Rattle.judge.proofs.rules.validate_condition_literals.Statement.{statement}
+use Rattle.judge.proofs.rules.validate_condition_literals.Tie as tie
+
+unobservable-condition-literals-requires : tie.Need-unobservable-condition-literals-requires
+unobservable-condition-literals-requires c κs = c .before .before .before .pre
+
+returns : tie.Need-returns
+returns c = pass-service (c .before .if1 .taken) (c .unobservable-condition-literals .ensures)
+
+returns-2 : tie.Need-returns-2
+returns-2 c = pass-kernel (c .if1 .left)
+
+pub validate-condition-literals-spec : {M : Type 1} → statement M
+validate-condition-literals-spec = tie.close (tie.spec unobservable-condition-literals-requires returns returns-2)

@@ -1,0 +1,53 @@
+-- Conditions and values as they stand in an index: a subtree from its first word up to the word behind its last.
+use Prim.Native.Nat.{ℕ, _+_, _≤_, _<_}
+use mathlib.Core.List.{List}
+use mathlib.Core.Path.{_≡_}
+use Rattle.sheet.specs.Entries.{ConditionHead, literalHead, manyHead, negationHead, oneHead, twoHead, comparisonHead, quantifierHead}
+use Rattle.sheet.specs.Places.{conditionOf}
+use Rattle.sheet.specs.declared.rule.ConditionHead.{ConditionHead as Head}
+use Rattle.definition.specs.Tree.{Value, Condition, literal, many, negation, one, two, comparison, quantifier, Conditions, noConditions, condition}
+use Rattle.rule.specs.Index.{endOf, sizeOfValue, sizeOfCondition, sizeOfConditions, ValueAt, ConditionAt, ConditionsAt}
+
+pub record IsValue (rule words : List ℕ) (i end : ℕ) (v : Value) : Type 0 where
+  pub stands : ValueAt rule words i v
+  pub ends : end ≡ i + sizeOfValue v
+
+pub record IsCondition (rule words : List ℕ) (i end : ℕ) (c : Condition) : Type 0 where
+  pub stands : ConditionAt rule words i c
+  pub ends : end ≡ i + sizeOfCondition c
+
+pub record AreConditions (rule words : List ℕ) (i end : ℕ) (cs : Conditions) : Type 0 where
+  pub stand : ConditionsAt rule words i cs
+  pub ends : end ≡ i + sizeOfConditions cs
+
+-- the word behind the subtree of word `i`, and `end` where the index has no such word up to there
+pub record Behind (words : List ℕ) (i end r : ℕ) : Type 0 where
+  pub most : r ≤ end
+  pub least : i ≤ end → i ≤ r
+  pub past : i < end → i < r
+  pub exact : i < endOf words i → endOf words i ≤ end → r ≡ endOf words i
+
+-- the conditions that a condition holds
+unfoldable pub childrenOf : Condition → Conditions
+childrenOf (literal e truth) = noConditions
+childrenOf (many e op children) = children
+childrenOf (negation e child) = condition child noConditions
+childrenOf (one e op v) = noConditions
+childrenOf (two e op left right) = noConditions
+childrenOf (comparison e which left right) = noConditions
+childrenOf (quantifier e op bind over body) = condition body noConditions
+
+-- the first word of a condition's children, which end where it ends, by its head
+abbrev pub ChildrenAt : (words : List ℕ) (i end r : ℕ) → ConditionHead → Type 0
+ChildrenAt words i end r (literalHead truth) = r ≡ end
+ChildrenAt words i end r (manyHead op count) = r ≡ i + 1
+ChildrenAt words i end r negationHead = r ≡ i + 1
+ChildrenAt words i end r (oneHead op) = r ≡ end
+ChildrenAt words i end r (twoHead op) = r ≡ end
+ChildrenAt words i end r (comparisonHead which) = r ≡ end
+ChildrenAt words i end r (quantifierHead op bind) = Behind words (i + 1) end r
+
+pub record ChildrenFrom (words : List ℕ) (h : Head) (i end r : ℕ) : Type 0 where
+  pub past : i < r
+  pub most : r ≤ end
+  pub first : (rule : List ℕ) → ChildrenAt words i end r (conditionOf rule h)

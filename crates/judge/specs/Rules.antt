@@ -1,0 +1,43 @@
+-- A whole rule or template: the code's answer shows what the check list's verdict shows.
+use Prim.Native.Nat.{ℕ, _+_, _-_, _≤_}
+use mathlib.Core.Bool.{Bool}
+use mathlib.Core.List.{List, []}
+use mathlib.Core.Path.{_≡_}
+use Rattle.sheet.specs.Parts.{optionalOf}
+use Rattle.sheet.specs.declared.part.OptionalPart.{OptionalPart}
+use Rattle.definition.specs.Tree.{Schema, Condition, Rule, rule}
+use Rattle.reference.specs.Setting.{Setting, settingOf}
+use Rattle.rule.specs.Index.{RuleAt}
+use Rattle.validation.specs.Check.{literalChecks, checks}
+use Rattle.validation.specs.Judge.{outcome, judge}
+use Rattle.scope.specs.Scopes.{ScopeAt}
+use Rattle.scope.specs.declared.binder.Scope.{Scope}
+use Rattle.judge.specs.Nodes.{IsCondition}
+use Rattle.judge.specs.Shown.{shownOf}
+use Rattle.judge.specs.Verdicts.{shownBy, GoesOn}
+use Rattle.judge.specs.declared.verdict.Answer.{Answer}
+
+-- the literal pass, which belongs to service
+pub record PassJudged (rule words : List ℕ) (isService : Bool) (end : ℕ) (a r : Answer) : Type 0 where
+  pub atMost : r .passed ≤ a .passed + (end - 1)
+  pub goes : (setting : Setting) (tree : Schema) (c : Condition)
+      → isService ≡ setting .isService
+      → IsCondition rule words 1 end c
+      → GoesOn (outcome setting tree) a (literalChecks setting c) r
+
+-- a rule with that name and that message, whose condition stands from word 1 on
+pub record DefinitionJudged (schema sheet words : List ℕ) (scope : Scope) (name message : OptionalPart) (end : ℕ) (r : Answer) : Type 0 where
+  pub shows : (semantics : ℕ) (tree : Schema) (assert : Condition)
+      → ScopeAt schema sheet words scope semantics tree []
+      → IsCondition sheet words 1 end assert
+      → shownBy r
+      ≡ shownOf
+      (judge (settingOf (scope .kind) semantics) tree
+      (checks (settingOf (scope .kind) semantics) (rule (optionalOf sheet name) (optionalOf sheet message) assert)))
+
+-- what the sheet holds, whatever it is
+pub record RuleJudged (schema sheet words : List ℕ) (scope : Scope) (r : Answer) : Type 0 where
+  pub shows : (semantics : ℕ) (tree : Schema) (x : Rule)
+      → ScopeAt schema sheet words scope semantics tree []
+      → RuleAt sheet words x
+      → shownBy r ≡ shownOf (judge (settingOf (scope .kind) semantics) tree (checks (settingOf (scope .kind) semantics) x))

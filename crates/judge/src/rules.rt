@@ -1,0 +1,120 @@
+// A whole rule or template.
+use crate::body::validate_condition_body;
+use crate::depth::condition_depth;
+use crate::literal::unobservable_condition_literals;
+use crate::references::validate_references;
+use crate::verdict::Answer;
+use crate::verdict::Fault;
+use crate::verdict::Over;
+use crate::verdict::Verdict;
+use crate::verdict::fail;
+use crate::verdict::pass;
+use crate::verdict::require;
+use rule::index::end_of;
+use rule::index::start_of;
+use scope::binder::Scope;
+use sheet::part::OptionalPart;
+use sheet::part::bytes_of;
+use sheet::rule::RuleHead;
+use sheet::rule::RuleRead;
+use sheet::rule::rule_head;
+ghost use mathlib.Core.Path.{_≡_};
+ghost use Prim.Native.Nat.{_-_, _<_, _≤_};
+ghost use Rattle.sheet.specs.Parts.{optionalOf};
+ghost use Rattle.validation.specs.Check.{isBlankText};
+ghost use Rattle.judge.specs.Verdicts.{HasRoom};
+ghost use Rattle.judge.specs.Rules.{PassJudged, DefinitionJudged, RuleJudged};
+
+// Conditions nest at most so deep.
+pub const MAX_CONDITION_DEPTH: usize = 32;
+
+// Whether a text is present but blank.
+fn is_blank_text(rule: &[u8], text: OptionalPart) -> bool
+    ensures { λ r. ⌜ r ≡ isBlankText (optionalOf (now (rule .entry)) text) ⌝ }
+{
+    let OptionalPart::Is(part) = text else {
+        return false;
+    };
+    text::is_blank(bytes_of(rule, part))
+}
+
+// Literals are looked at under service alone.
+fn validate_condition_literals(
+    a: Answer,
+    rule: &[u8],
+    words: &[u32],
+    service: bool,
+    end: usize,
+) -> Answer
+    requires { ⌜ HasRoom a (end - 1) × (end ≤ 4096) ⌝ }
+    ensures { λ r. ⌜ PassJudged (now (rule .entry)) (now (words .entry)) service end a r ⌝ }
+{
+    if service {
+        return unobservable_condition_literals(a, rule, words, 1, end);
+    }
+    a
+}
+
+// A rule, whose condition ends at `end`: nothing goes down into a condition that is too deep.
+fn validate_rule_definition(
+    schema: &[u8],
+    rule: &[u8],
+    words: &[u32],
+    scope: Scope,
+    name: OptionalPart,
+    message: OptionalPart,
+    end: usize,
+) -> Answer
+    requires { ⌜ end < 4096 ⌝ }
+    ensures { λ r. ⌜ DefinitionJudged (now (schema .entry)) (now (rule .entry)) (now (words .entry)) scope name message end r ⌝ }
+{
+    let a = Answer {
+        passed: 0,
+        verdict: Verdict::Pass,
+    };
+    let b = require(a, is_blank_text(rule, name), Fault::Name, 1, Over::Outside);
+    let c = require(
+        b,
+        is_blank_text(rule, message),
+        Fault::Message,
+        1,
+        Over::Outside,
+    );
+    if end <= 1 {
+        return c;
+    }
+    let depth = condition_depth(rule, words, 1, end, MAX_CONDITION_DEPTH + 1);
+    if MAX_CONDITION_DEPTH < depth {
+        return fail(c, Fault::Deep, 2, Over::Outside);
+    }
+    let d = validate_condition_literals(pass(c), rule, words, scope.service, end);
+    validate_condition_body(
+        d,
+        schema,
+        rule,
+        words,
+        scope,
+        Over::Outside,
+        1,
+        end,
+        MAX_CONDITION_DEPTH,
+    )
+}
+
+// The rule or the template of a sheet, by its index. The scope has no binders.
+pub fn judge(schema: &[u8], rule: &[u8], words: &[u32], scope: Scope) -> Answer
+    ensures { λ r. ⌜ RuleJudged (now (schema .entry)) (now (rule .entry)) (now (words .entry)) scope r ⌝ }
+{
+    let end = end_of(words, 0);
+    let a = Answer {
+        passed: 0,
+        verdict: Verdict::Pass,
+    };
+    let RuleRead::Is(head, _) = rule_head(rule, start_of(words, 0)) else {
+        return a;
+    };
+    let RuleHead::Rule(name, message) = head else {
+        return validate_references(a, schema, rule, words, scope, Over::Outside, 1, end);
+    };
+    validate_rule_definition(schema, rule, words, scope, name, message, end)
+}
