@@ -1,5 +1,6 @@
 pub mod Names
 pub mod Scopes
+pub mod ScopeLaws
 pub mod Roots
 pub mod References
 pub mod Collections
