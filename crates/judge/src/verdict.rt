@@ -16,7 +16,7 @@ pub enum InstantFault {
     Other,
 }
 
-// Why a check fails; docs/FORMAT.md, "Numbers", from 11 on, in its order.
+// Why a check fails; docs/FORMAT.md, "Answers", from 11 on, in its order.
 pub enum Fault {
     Name,
     Message,
