@@ -1,0 +1,66 @@
+// The whole call: one rule or template of a record against the record's schema.
+pub mod outcome; // outcome.rt: the seven numbers of a result
+mod settings; // settings.rt: settings, label and widths
+pub mod sheets; // sheets.rt: both sheets
+mod finding; // finding.rt: what a defect is called
+mod answer; // answer.rt: two sheets that are well formed
+
+use crate::answer::answer;
+use crate::outcome::Outcome;
+use crate::outcome::refused;
+use crate::settings::refused_settings;
+use crate::sheets::SheetsRead;
+use crate::sheets::Takes;
+use crate::sheets::read_sheets;
+ghost use Rattle.validation.specs.Result.{Meets};
+ghost use Rattle.validator.specs.Runs.{runOf};
+ghost use Rattle.validator.specs.declared.sheets.Takes.the-variants.{Any};
+
+// Checks a rule or template, whichever `takes` lets in: settings, label and widths first, then the sheets, then the check list.
+pub fn validate_taken(
+    takes: Takes,
+    kind: u32,
+    semantics: u32,
+    label: &[u8],
+    schema: &[u8],
+    rule: &[u8],
+    path: &mut [u8],
+    scratch: &mut [u32],
+) -> Outcome
+    ensures { λ r. ⌜ Meets (runOf takes kind semantics (now (label .entry)) (now (schema .entry)) (now (rule .entry)) (now (path .entry)) (now (scratch .entry)) r (now (path .exit)) (now (scratch .exit))) ⌝ }
+{
+    let number = refused_settings(kind, semantics, label, path.len(), scratch.len());
+    if number != 0 {
+        return refused(number);
+    }
+    let read = read_sheets(takes, schema, rule, scratch);
+    match read {
+        SheetsRead::BadSchema => refused(4),
+        SheetsRead::BadRule => refused(5),
+        SheetsRead::Good(s) => answer(kind, semantics, label, schema, rule, s, scratch, path),
+    }
+}
+
+// Checks a rule or template.
+pub fn validate(
+    kind: u32,
+    semantics: u32,
+    label: &[u8],
+    schema: &[u8],
+    rule: &[u8],
+    path: &mut [u8],
+    scratch: &mut [u32],
+) -> Outcome
+    ensures { λ r. ⌜ Meets (runOf Any kind semantics (now (label .entry)) (now (schema .entry)) (now (rule .entry)) (now (path .entry)) (now (scratch .entry)) r (now (path .exit)) (now (scratch .exit))) ⌝ }
+{
+    validate_taken(
+        Takes::Any,
+        kind,
+        semantics,
+        label,
+        schema,
+        rule,
+        path,
+        scratch,
+    )
+}

@@ -1,0 +1,51 @@
+// Settings, label and widths: what is asked before a sheet is read.
+ghost use mathlib.Core.Bool.{_&&_};
+ghost use mathlib.Core.Path.{_≡_};
+ghost use lib.Dec.{leb};
+ghost use lib.ListN.{length};
+ghost use Rattle.text.specs.Utf8.{isUtf8};
+ghost use Rattle.validation.specs.Result.{isWithin, maxLabelBytes, pathBytes, scratchWords};
+ghost use Rattle.validator.specs.Settings.{settingsRefusal};
+
+pub const MAX_LABEL_BYTES: usize = 256;
+
+pub const PATH_BYTES: usize = 32768;
+
+pub const SCRATCH_WORDS: usize = 8192;
+
+fn is_within(high: u32, n: u32) -> bool
+    ensures { λ r. ⌜ r ≡ isWithin 1 high n ⌝ }
+{
+    1 <= n && n <= high
+}
+
+fn are_settings(kind: u32, semantics: u32) -> bool
+    ensures { λ r. ⌜ r ≡ (isWithin 1 8 kind && isWithin 1 4 semantics) ⌝ }
+{
+    is_within(8, kind) && is_within(4, semantics)
+}
+
+fn is_label(label: &[u8]) -> bool
+    ensures { λ r. ⌜ r ≡ (leb (length (now (label .entry))) maxLabelBytes && isUtf8 (now (label .entry))) ⌝ }
+{
+    label.len() <= MAX_LABEL_BYTES && text::is_utf8(label)
+}
+
+fn is_room(path: usize, scratch: usize) -> bool
+    ensures { λ r. ⌜ r ≡ (leb pathBytes path && leb scratchWords scratch) ⌝ }
+{
+    PATH_BYTES <= path && SCRATCH_WORDS <= scratch
+}
+
+// The first of refusals 1 to 3 that is due, or 0. `path` and `scratch` are how many elements the lent buffers have.
+pub fn refused_settings(kind: u32, semantics: u32, label: &[u8], path: usize, scratch: usize) -> u32
+    ensures { λ r. ⌜ r ≡ settingsRefusal kind semantics (now (label .entry)) path scratch ⌝ }
+{
+    if !are_settings(kind, semantics) {
+        return 1;
+    }
+    if !is_label(label) {
+        return 2;
+    }
+    if is_room(path, scratch) { 0 } else { 3 }
+}
