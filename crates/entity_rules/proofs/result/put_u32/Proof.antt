@@ -43,7 +43,7 @@ same-length : tie.Need-same-length
 same-length c = simp length-set
 
 returns : tie.Need-returns
-returns c = number-written (c .args .bytes .now) _ _
+returns c = number-written (c .args .bytes .now) (c .args .at) (c .args .n)
 
 pub put-u32-spec : {M : Type 1} → statement M
 put-u32-spec =

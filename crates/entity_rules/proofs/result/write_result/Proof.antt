@@ -9,7 +9,7 @@ use Rattle.entity_rules.proofs.result.write_result.Statement.{statement
 use Rattle.entity_rules.proofs.result.write_result.Tie as tie
 
 returns : tie.Need-returns
-returns c = record { stands = search (result-short, needs); small = search (small-numbers, needs) }
+returns c = record { stands = result-short _ _ (omega arith); small = search (small-numbers, needs) }
 
 put-u32-requires : tie.Need-put-u32-requires
 put-u32-requires c κs = search needs
