@@ -31,8 +31,8 @@ fieldsOf n =
 unfoldable pub resultAfter : Numbers → List ℕ → List ℕ
 resultAfter n before = cond (leb resultBytes (length before)) (sets before 0 (bytesOf (fieldsOf n))) before
 
--- Both buffers have a width to keep, refusal 3. So a path buffer counts as empty where the result has no room:
--- refusals 1 and 2 come first, and none after 3.
+-- A result buffer under 28 bytes is refusal 3, as a path buffer under 32,768 bytes is. So the path buffer counts as empty there:
+-- 3 then falls due in its place, after 1 and 2 and before the sheets.
 unfoldable pub pathLent : (pathLength resultLength : ℕ) → ℕ
 pathLent pathLength resultLength = cond (leb resultBytes resultLength) pathLength 0
 
@@ -54,7 +54,7 @@ unfoldable pub entryAnswer : Takes → (kind semantics : ℕ) (label schema rule
 entryAnswer takes kind semantics label schema rule pathLength resultLength =
     resultOf (entryCall takes kind semantics label schema rule pathLength resultLength)
 
--- what is returned, and both buffers
+-- what is returned, and both buffers; since the numbers are small, they can be read back (EntryLaws, `field-of-result`)
 pub record Answered (answer : Answer) (pathBefore pathNow resultBefore resultNow : List ℕ) (r : ℕ) : Type 0 where
   pub number : r ≡ numbersOf answer .number
   pub path : pathNow ≡ pathAfter answer pathBefore
