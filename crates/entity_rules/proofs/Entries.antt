@@ -1,15 +1,15 @@
 -- The whole call as a C function makes it.
 use Prim.Native.Nat.{ℕ, _<_, _≤_, _-_, min}
 use native.Mathlib.Omega.{arith}
-use mathlib.Core.List.{List, [], _++_, append-nil}
-use mathlib.Core.Path.{_≡_, refl, ap, sym, _∙_}
+use mathlib.Core.List.{List, _++_, append-nil}
+use mathlib.Core.Path.{_≡_, ap, sym, _∙_}
 use lib.Dec.{leb}
 use lib.ListN.{length, take, drop, length-take, replicate, length-replicate}
 use lib.Seq.{take-length, drop-length}
 use borrow.Author.Tests.{le-leb, lt-leb, leb-true, leb-false}
 use Rattle.sheet.specs.ReaderLaws.{by-test}
 use Rattle.validation.specs.Result as Result
-use Rattle.validation.specs.Result.{Answer, Numbers, refused, resultOf, numbersOf, pathAfter, callOf, Meets, scratchWords}
+use Rattle.validation.specs.Result.{Answer, Numbers, resultOf, numbersOf, pathAfter, callOf, Meets, scratchWords}
 use Rattle.validator.specs.Runs.{runOf}
 use Rattle.validator.specs.Sheets.{takesOf}
 use Rattle.validator.specs.Outcomes.{numbersBy}
@@ -73,10 +73,6 @@ module _ (takes : Result.Takes) (kind semantics : ℕ) (label schema rule : List
       let nothing : lent - 0 ≡ 0 = omega arith in
       rw (w, nothing, short-result-refused takes kind semantics label schema rule (length path) (length result) short))
 
-named : (r : Outcome) (n : Numbers) → numbersBy r ≡ n → r .number ≡ n .number
-unfolding numbersBy
-named r n e = ap (λ (x : Numbers). x .number) e
-
 module _ (takes : Takes) (kind semantics : ℕ) (label schema rule path result : List ℕ) where
   -- a call with capped settings, a part of the path buffer and a fresh scratch is the entry's call
   made : (k s lent : ℕ) (r : Outcome) (last scratchNow : List ℕ)
@@ -85,7 +81,7 @@ module _ (takes : Takes) (kind semantics : ℕ) (label schema rule path result :
       → lent ≡ pathLent (length path) (length result)
       → resultOf (callOf (runOf takes k s label schema rule (take (lent - 0) path) (replicate scratchWords 0) r last scratchNow))
       ≡ entryAnswer (takesOf takes) kind semantics label schema rule (length path) (length result)
-  unfolding runOf callOf entryAnswer entryCall
+  unfolding callOf entryAnswer entryCall
   made k s lent r last scratchNow ek es el =
       let part : length (take (lent - 0) path) ≡ lent =
       simp length-take (omega (arith, lent-within (length path) (length result)))
@@ -100,13 +96,12 @@ module _ (takes : Takes) (kind semantics : ℕ) (label schema rule path result :
       → Meets (runOf takes k s label schema rule (take (lent - 0) path) (replicate scratchWords 0) r last scratchNow)
       → Written r result resultNow
       → Answered (entryAnswer (takesOf takes) kind semantics label schema rule (length path) (length result)) path (last ++ drop (lent - 0) path) result resultNow (r .number)
-  unfolding runOf
   answered {k} {s} {lent} r last scratchNow ek es el m w =
       let same = made k s lent r last scratchNow ek es el in
       let answer = entryAnswer (takesOf takes) kind semantics label schema rule (length path) (length result) in
       let numbers : numbersBy r ≡ numbersOf answer = m .result ∙ ap numbersOf same in
       record {
-        number = named r (numbersOf answer) numbers;
+        number = ap (λ (n : Numbers). n .number) numbers;
         path =
             path-home (takesOf takes) kind semantics label schema rule path result lent last el
             (m .path ∙ ap (λ (a : Answer). pathAfter a (take (lent - 0) path)) same);

@@ -1,11 +1,9 @@
 -- Four bytes for a number, and seven numbers for a result.
 use Prim.Native.Nat.{ℕ, suc, _+_, _*_, _/_, _%_, _^_, _≤_, _<_}
 use native.Mathlib.Omega.{arith}
-use mathlib.Core.Bool.{cond}
 use mathlib.Core.List.{List}
-use mathlib.Core.Path.{_≡_, refl, _∙_}
-use lib.Dec.{leb}
-use lib.ListN.{length, getD, set}
+use mathlib.Core.Path.{_≡_}
+use lib.ListN.{length, set}
 use lib.Seq.{sets}
 use borrow.Author.Tests.{le-leb, lt-leb}
 use Rattle.validator.specs.Outcomes.{numbersBy}
@@ -36,7 +34,7 @@ pub result-written : (o : Outcome) (l0 : List ℕ) {l1 l2 l3 l4 l5 l6 l7 : List 
     → l6 ≡ sets l5 20 (littleEndian (o .passed))
     → l7 ≡ sets l6 24 (littleEndian (o .«path_length»))
     → l7 ≡ resultAfter (numbersBy o) l0
-unfolding resultAfter fieldsOf bytesOf littleEndian numbersBy
+unfolding resultAfter fieldsOf bytesOf littleEndian
 result-written o l0 room w1 w2 w3 w4 w5 w6 w7 =
     rw (le-leb resultBytes (length l0) room, w7, w6, w5, w4, w3, w2, w1)
 
@@ -53,6 +51,6 @@ field-there index r l fits e =
 -- the code's numbers are of 32 bits
 pub small-numbers : (o : Outcome) → o .number < 2 ^ 32 → o .family < 2 ^ 32 → o .detail < 2 ^ 32 → o .place < 2 ^ 32 → o .«over_place» < 2 ^ 32
     → o .passed < 2 ^ 32 → o .«path_length» < 2 ^ 32 → Small (fieldsOf (numbersBy o))
-unfolding fieldsOf numbersBy
+unfolding fieldsOf
 small-numbers o number family detail place over passed size =
     one-more number (one-more family (one-more detail (one-more place (one-more over (one-more passed (one-more size no-more))))))

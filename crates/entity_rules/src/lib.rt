@@ -6,15 +6,13 @@ use crate::result::read_u32;
 use crate::result::write_result;
 use validator::sheets::Takes;
 use validator::validate_taken;
-ghost use mathlib.Core.Bool.{cond};
 ghost use mathlib.Core.Path.{_≡_};
 ghost use Prim.Native.Nat.{min};
-ghost use lib.Dec.{leb};
 ghost use lib.ListN.{length};
 ghost use Rattle.validation.specs.Result.{rules, templates};
 ghost use Rattle.validator.specs.Sheets.{takesOf};
 ghost use Rattle.entity_rules.specs.Bytes.{fieldAt};
-ghost use Rattle.entity_rules.specs.Entry.{resultBytes, pathLent, entryAnswer, Answered};
+ghost use Rattle.entity_rules.specs.Entry.{pathLent, entryAnswer, Answered};
 
 const SCRATCH_WORDS: usize = 8192;
 
