@@ -54,7 +54,7 @@ unfoldable pub entryAnswer : Takes → (kind semantics : ℕ) (label schema rule
 entryAnswer takes kind semantics label schema rule pathLength resultLength =
     resultOf (entryCall takes kind semantics label schema rule pathLength resultLength)
 
--- what is returned, and both buffers; since the numbers are small, they can be read back (EntryLaws, `field-of-result`)
+-- what is returned, and both buffers; since the numbers are small, they can be read back (EntryLaws, `field-of-answer`)
 pub record Answered (answer : Answer) (pathBefore pathNow resultBefore resultNow : List ℕ) (r : ℕ) : Type 0 where
   pub number : r ≡ numbersOf answer .number
   pub path : pathNow ≡ pathAfter answer pathBefore

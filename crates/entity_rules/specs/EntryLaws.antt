@@ -10,9 +10,9 @@ use lib.ListN.{length, drop, getD}
 use lib.Seq.{sets-eq, length-sets}
 use borrow.Author.Tests.{le-leb, lt-leb}
 use Rattle.text.specs.Utf8.{isUtf8}
-use Rattle.validation.specs.Result.{Takes, Call, Answer, refused, Numbers, isWithin, maxLabelBytes, resultOf, refusals, firstRefusal, refusedOr}
+use Rattle.validation.specs.Result.{Takes, Call, Answer, refused, Numbers, numbersOf, isWithin, maxLabelBytes, resultOf, refusals, firstRefusal, refusedOr}
 use Rattle.entity_rules.specs.Bytes.{littleEndian, bytesOf, Small, no-more, one-more, numberAt, fieldAt}
-use Rattle.entity_rules.specs.Entry.{resultBytes, fieldsOf, resultAfter, pathLent, entryCall, entryAnswer}
+use Rattle.entity_rules.specs.Entry.{resultBytes, fieldsOf, resultAfter, pathLent, entryCall, entryAnswer, Answered}
 
 whole : (n : ℕ) → n ≡ n / 256 * 256 + n % 256
 whole n = omega arith
@@ -65,6 +65,16 @@ field-of-result i n before less room small =
       sets-eq (bytesOf (fieldsOf n)) before 0,
     )
     (number-of-bytes (fieldsOf n) i (drop (0 + length (bytesOf (fieldsOf n))) before) less small)
+
+-- so `rulecheck_field` gives the numbers of the answer
+pub field-of-answer : {answer : Answer} {pathBefore pathNow resultBefore resultNow : List ℕ} {r : ℕ}
+    → Answered answer pathBefore pathNow resultBefore resultNow r
+    → (i : ℕ)
+    → i < 7
+    → resultBytes ≤ length resultBefore
+    → fieldAt i resultNow ≡ getD (fieldsOf (numbersOf answer)) i 0
+field-of-answer {answer} {pathBefore} {pathNow} {resultBefore} a i less room =
+    rw (a .result) (field-of-result i (numbersOf answer) resultBefore less room (a .small))
 
 beyond : (high n : ℕ) → high < n → isWithin 1 high n ≡ false
 unfolding isWithin
