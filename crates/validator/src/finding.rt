@@ -3,6 +3,7 @@ use judge::verdict::Fault;
 use judge::verdict::InstantFault;
 use judge::verdict::Over;
 use judge::verdict::Side;
+use scope::name::one_of;
 use walk::answer::CollectionFault;
 use walk::answer::ReferenceFault;
 ghost use mathlib.Core.Bool.{cond};
@@ -22,14 +23,11 @@ pub struct Finding {
     pub detail: u32,
 }
 
-// Kinds of rules, as the Rust has them: Invariant, Precondition, OutcomeSelector, CreateSelector.
-pub fn is_rule_kind(kind: u32) -> bool
+// Invariant, Precondition, OutcomeSelector and CreateSelector are kinds of rules, the others of templates.
+pub fn is_rule_kind(kind: usize) -> bool
     ensures { λ r. ⌜ r ≡ oneOf kind (1 ∷ 2 ∷ 5 ∷ 6 ∷ []) ⌝ }
 {
-    match kind {
-        1 | 2 | 5 | 6 => true,
-        _ => false,
-    }
+    one_of(kind, &[1, 2, 5, 6])
 }
 
 fn side_detail(side: Side) -> u32

@@ -1,0 +1,2 @@
+mod SettingSteps
+mod FindingSteps

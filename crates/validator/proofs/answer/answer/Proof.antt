@@ -1,0 +1,93 @@
+use native.Mathlib.Omega.{arith}
+use borrow.Author.Needs.{needs}
+use Rattle.validator.proofs.answer.answer.Statement.{statement}
+use Rattle.validator.proofs.answer.answer.Tie as tie
+use Rattle.validator.proofs.answer.answer.Reads as reads
+use Rattle.validator.proofs.answer.answer.Lts as lts
+use Rattle.judge.proofs.rules.judge.Reads as judge-reads
+use Rattle.location.proofs.write_path.Reads as write-path-reads
+use Rattle.scope.proofs.binder.unbound.Reads as unbound-reads
+use Rattle.validator.proofs.answer.narrow.Reads as narrow-reads
+use Rattle.validator.proofs.answer.wide.Reads as wide-reads
+use Rattle.validator.proofs.finding.family_in.Reads as family-in-reads
+use Rattle.validator.proofs.finding.find.Reads as find-reads
+use Rattle.validator.proofs.finding.is_rule_kind.Reads as is-rule-kind-reads
+use Rattle.validator.proofs.finding.over_place.Reads as over-place-reads
+use Rattle.validator.proofs.outcome.accepted.Reads as accepted-reads
+
+wide-requires : tie.Need-wide-requires
+wide-requires c κs = search needs
+
+unbound-requires : tie.Need-unbound-requires
+unbound-requires c κs = search needs
+
+judge-requires : tie.Need-judge-requires
+judge-requires c κs = search needs
+
+narrow-requires : tie.Need-narrow-requires
+narrow-requires c κs = search needs
+
+enum-known-verdict : tie.Need-enum-known-verdict
+enum-known-verdict c = search needs
+
+enum-told : tie.Need-enum-told
+enum-told c = search needs
+
+accepted-requires : tie.Need-accepted-requires
+accepted-requires c κs = search needs
+
+returns : tie.Need-returns
+returns c = search needs
+
+is-rule-kind-requires : tie.Need-is-rule-kind-requires
+is-rule-kind-requires c κs = search needs
+
+find-requires : tie.Need-find-requires
+find-requires c κs = search needs
+
+narrow-requires-2 : tie.Need-narrow-requires-2
+narrow-requires-2 c κs = search needs
+
+write-path-requires : tie.Need-write-path-requires
+write-path-requires c κs = search needs
+
+family-in-requires : tie.Need-family-in-requires
+family-in-requires c κs = search needs
+
+over-place-requires : tie.Need-over-place-requires
+over-place-requires c κs = search needs
+
+narrow-requires-3 : tie.Need-narrow-requires-3
+narrow-requires-3 c κs = search needs
+
+narrow-requires-4 : tie.Need-narrow-requires-4
+narrow-requires-4 c κs = search needs
+
+same-length : tie.Need-same-length
+same-length c = search needs
+
+returns-2 : tie.Need-returns-2
+returns-2 c = search needs
+
+pub answer-spec : {M : Type 1} → statement M
+answer-spec =
+    tie.close
+    (tie.spec
+    wide-requires
+    unbound-requires
+    judge-requires
+    narrow-requires
+    enum-known-verdict
+    enum-told
+    accepted-requires
+    returns
+    is-rule-kind-requires
+    find-requires
+    narrow-requires-2
+    write-path-requires
+    family-in-requires
+    over-place-requires
+    narrow-requires-3
+    narrow-requires-4
+    same-length
+    returns-2)
