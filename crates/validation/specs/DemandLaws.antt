@@ -1,5 +1,5 @@
 -- The laws that the demands cite.
-use Prim.Native.Nat.{ℕ, _+_, _≤_, _<_}
+use Prim.Native.Nat.{ℕ, _≤_, _<_}
 use native.Mathlib.Omega.{arith}
 use mathlib.Core.Bool.{Bool, true, false, cond}
 use mathlib.Core.List.{List, [], _∷_}
@@ -15,8 +15,9 @@ use Rattle.widening.specs.DistinctLaws.{schema-distinct}
 use Rattle.widening.specs.WalkLaws.{Details, equal, differ}
 use Rattle.widening.specs.ReferenceLaws.{GrownSchema}
 use Rattle.validation.specs.Check.{Binder, Question, Check, check, checks}
-use Rattle.validation.specs.Judge.{Outcome, outcome, Verdict, allPass, failsAt, decide, judgeFrom, judge}
-use Rattle.validation.specs.CheckLaws.{IsDefect, Every, every-check, sure-checks}
+use Rattle.validation.specs.Judge.{Verdict, allPass, failsAt}
+use Rattle.validation.specs.CheckLaws.{IsDefect, every-check, sure-checks}
+use Rattle.validation.specs.CountLaws.{VerdictIs, every-judged}
 use Rattle.validation.specs.WideningLaws.{VerdictFares, stillAccepted, sameDefect, later, passedOf, judge-fares}
 use Rattle.validation.specs.Result.{Call, Defect, Answer, refused, accepted, defect, answerOf, Refusal, refusals, firstRefusal, settingFor, checked, judged, refusedOr, resultOf}
 use Rattle.validation.specs.Growth.{against, Widens, NotRefused, passed, SameDefect}
@@ -132,24 +133,10 @@ unfolding firstRefusal
 first-due [] h = notDue
 first-due (r ∷ rs) h = due-if (r .isDue) (due (h .0) (h .1)) (first-due rs (h .2))
 
-abbrev FailsWith : (Check → Type 0) → Verdict → Type 0
-FailsWith P (allPass n) = Unit {0}
-FailsWith P (failsAt n c d) = P c
-
-decide-with : (P : Check → Type 0) (o : Outcome) (n : ℕ) (c : Check) (v : Verdict) → P c → FailsWith P v → FailsWith P (decide o n c v)
-unfolding decide
-decide-with P none n c v p h = h
-decide-with P (some d) n c v p h = p
-
-judge-with : (P : Check → Type 0) (ask : Check → Outcome) (n : ℕ) (cs : List Check) → Every P cs → FailsWith P (judgeFrom ask n cs)
-unfolding judgeFrom
-judge-with P ask n [] h = tt
-judge-with P ask n (c ∷ cs) h = decide-with P (ask c) n c (judgeFrom ask (n + 1) cs) (h .0) (judge-with P ask (n + 1) cs (h .1))
-
 abbrev Found : Check → Type 0
 Found c = IsDefect (c .number)
 
-heard-answer : (setting : Setting) (label : Text) (r : Rule) (v : Verdict) → FailsWith Found v → Heard (answerOf setting label r v)
+heard-answer : (setting : Setting) (label : Text) (r : Rule) (v : Verdict) → VerdictIs Found v → Heard (answerOf setting label r v)
 unfolding answerOf
 heard-answer setting label r (allPass n) h = acceptance
 heard-answer setting label r (failsAt n c d) h = finding h
@@ -159,11 +146,11 @@ unfolding check
 found n p bs q d = d
 
 heard-judged : (setting : Setting) (label : Text) (s : Option Schema) (r : Option Rule) → Heard (judged setting label s r)
-unfolding judged checked judge
+unfolding judged checked
 heard-judged setting label none r = refusal {n = 4} (omega arith) (omega arith)
 heard-judged setting label (some s) none = refusal {n = 5} (omega arith) (omega arith)
 heard-judged setting label (some s) (some r) =
-    heard-answer setting label r _ (judge-with Found (outcome setting s) 0 (checks setting r) (every-check Found found setting r))
+    heard-answer setting label r _ (every-judged Found setting s (checks setting r) (every-check Found found setting r))
 
 heard-or : {x : Option ℕ} {a : Answer} → Due x → Heard a → Heard (refusedOr x a)
 unfolding refusedOr
