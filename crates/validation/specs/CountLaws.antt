@@ -4,13 +4,12 @@ use native.Mathlib.Omega.{arith}
 use mathlib.Core.Bool.{Bool, true, false, cond, _&&_}
 use mathlib.Core.List.{List, [], _∷_, _++_, map}
 use mathlib.Core.Option.{Option, none, some}
-use mathlib.Core.Path.{_≡_}
 use lib.ListN.{length, length-append, length-map}
 use lib.Dec.{leb, eqb}
 use Rattle.definition.specs.Tree.{Text, Schema, Value, constant, number, string, array, object, Values, noValues, value, Pairs, noPairs, pair, Condition, literal, many, negation, one, two, comparison, quantifier, Conditions, noConditions, condition, Rule, rule, template}
 use Rattle.definition.specs.Within.{valueEntries, valuesEntries, pairsEntries, conditionEntries, conditionsEntries, ruleEntries, ValueFrom, ValuesFrom, PairsFrom, ConditionFrom, ConditionsFrom, RuleFrom}
 use Rattle.reference.specs.Setting.{Setting}
-use Rattle.validation.specs.Check.{Binder, Question, readable, Check, check, referenceText, referenceCheck, references, referencesOfValues, referencesOfPairs, Literal, numbers, numbersOfValues, numbersOfPairs, literals, literalsOfConditions, literalCheck, entryOf, instantOperand, affixOperand, compareSide, operand, operatorCheck, body, bodies, literalChecks, checks}
+use Rattle.validation.specs.Check.{Binder, Question, Check, check, referenceText, referenceCheck, references, referencesOfValues, referencesOfPairs, Literal, numbers, numbersOfValues, numbersOfPairs, literals, literalsOfConditions, literalCheck, entryOf, instantOperand, affixOperand, compareSide, operand, operatorCheck, body, bodies, literalChecks, checks}
 use Rattle.validation.specs.Judge.{Outcome, outcome, Verdict, allPass, failsAt, decide, judgeFrom, judge}
 use Rattle.validation.specs.CheckLaws.{Every, every-append, every-if}
 use Rattle.validation.specs.WideningLaws.{passedOf}
