@@ -35,3 +35,13 @@ place-body {family = family} h g = rw (h, eq-eqb family 1 g)
 pub place-none : {over : Over} {e family : ℕ} → over ≡ In e → (family ≡ 1 → ⊥) → 0 ≡ overPlaceOf (overBy over) family
 unfolding overPlaceOf overBy
 place-none {family = family} h g = rw (h, ne-eqb family 1 g)
+
+-- what the match on a fault says is right if it is right for that fault
+pub finding-of : {k : Bool} {x fault : Fault} {n m d : ℕ} {r : Finding}
+    → fault ≡ x
+    → r ≡ record { number = n; family = m; detail = d }
+    → n ≡ numberOf x
+    → ((setting : Setting) → k ≡ setting .isRuleKind → m ≡ ownFamily setting (numberOf x))
+    → d ≡ detailOf x
+    → FindingIs k fault r
+finding-of h e p q t = rw (h, e) (record { number = p; family = q; detail = t })

@@ -1,19 +1,7 @@
-use native.Mathlib.Omega.{arith}
 use borrow.Author.Needs.{needs}
+use Rattle.validator.proofs.AnswerSteps.{answer-accepted, answer-defect}
 use Rattle.validator.proofs.answer.answer.Statement.{statement}
 use Rattle.validator.proofs.answer.answer.Tie as tie
-use Rattle.validator.proofs.answer.answer.Reads as reads
-use Rattle.validator.proofs.answer.answer.Lts as lts
-use Rattle.judge.proofs.rules.judge.Reads as judge-reads
-use Rattle.location.proofs.write_path.Reads as write-path-reads
-use Rattle.scope.proofs.binder.unbound.Reads as unbound-reads
-use Rattle.validator.proofs.answer.narrow.Reads as narrow-reads
-use Rattle.validator.proofs.answer.wide.Reads as wide-reads
-use Rattle.validator.proofs.finding.family_in.Reads as family-in-reads
-use Rattle.validator.proofs.finding.find.Reads as find-reads
-use Rattle.validator.proofs.finding.is_rule_kind.Reads as is-rule-kind-reads
-use Rattle.validator.proofs.finding.over_place.Reads as over-place-reads
-use Rattle.validator.proofs.outcome.accepted.Reads as accepted-reads
 
 wide-requires : tie.Need-wide-requires
 wide-requires c κs = search needs
@@ -37,7 +25,10 @@ accepted-requires : tie.Need-accepted-requires
 accepted-requires c κs = search needs
 
 returns : tie.Need-returns
-returns c = search needs
+returns c = answer-accepted _ _ (c .before .before .before .before .before .before .wide .ensures) (c .before .before .before .before .before .unbound .ensures) (c .before .before .before .before .judge .ensures) (c .before .before .before .narrow .ensures) (c .before .enum-told .given .1) (c .accepted .ensures)
+
+wide-requires-2 : tie.Need-wide-requires-2
+wide-requires-2 c κs = search needs
 
 is-rule-kind-requires : tie.Need-is-rule-kind-requires
 is-rule-kind-requires c κs = search needs
@@ -67,7 +58,7 @@ same-length : tie.Need-same-length
 same-length c = search needs
 
 returns-2 : tie.Need-returns-2
-returns-2 c = search needs
+returns-2 c = answer-defect _ _ (c .before .before .before .before .before .before .before .before .before .before .before .before .before .before .before .before .before .before .wide .ensures) (c .before .before .before .before .before .before .before .before .before .before .before .before .before .before .before .before .before .unbound .ensures) (c .before .before .before .before .before .before .before .before .before .before .before .before .before .before .before .before .judge .ensures) (c .before .before .before .before .before .before .before .before .before .before .before .before .before .before .before .narrow .ensures) (c .before .before .before .before .before .before .before .before .before .before .before .before .before .verdict .given .1) (c .before .before .before .before .before .before .before .before .before .before .before .wide2 .ensures) (c .before .before .before .before .before .before .before .before .before .before .is-rule-kind .ensures) (c .before .before .before .before .before .before .before .before .before .find .ensures) (c .before .before .before .before .before .before .before .before .narrow2 .ensures) (c .before .before .before .before .before .before .write-path .ensures) (c .before .before .before .family-in .ensures) (c .before .before .over-place .ensures) (c .before .narrow3 .ensures) (c .narrow4 .ensures)
 
 pub answer-spec : {M : Type 1} → statement M
 answer-spec =
@@ -81,7 +72,7 @@ answer-spec =
     enum-told
     accepted-requires
     returns
-    is-rule-kind-requires
+    wide-requires-2 is-rule-kind-requires
     find-requires
     narrow-requires-2
     write-path-requires

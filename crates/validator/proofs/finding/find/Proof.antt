@@ -1,14 +1,12 @@
-use native.Mathlib.Omega.{arith}
 use borrow.Author.Needs.{needs}
+use mathlib.Core.Path.{refl, ap}
+use mathlib.Core.Bool.{Bool, cond}
+use Prim.Native.Nat.{ℕ}
+use Rattle.judge.specs.Verdicts.{numberOf, detailOf}
+use Rattle.validation.specs.Result.{ownFamily}
+use Rattle.validator.proofs.FindingSteps.{finding-of}
 use Rattle.validator.proofs.finding.find.Statement.{statement}
 use Rattle.validator.proofs.finding.find.Tie as tie
-use Rattle.validator.proofs.finding.find.Reads as reads
-use Rattle.validator.proofs.finding.find.Lts as lts
-use Rattle.validator.proofs.finding.collection_detail.Reads as collection-detail-reads
-use Rattle.validator.proofs.finding.found.Reads as found-reads
-use Rattle.validator.proofs.finding.instant_detail.Reads as instant-detail-reads
-use Rattle.validator.proofs.finding.reference_detail.Reads as reference-detail-reads
-use Rattle.validator.proofs.finding.side_detail.Reads as side-detail-reads
 
 enum-told : tie.Need-enum-told
 enum-told c = search needs
@@ -58,6 +56,9 @@ found-requires-7 c κs = search needs
 enum-known-fault-2 : tie.Need-enum-known-fault-2
 enum-known-fault-2 c = search needs
 
+reference-family-requires : tie.Need-reference-family-requires
+reference-family-requires c κs = search needs
+
 reference-detail-requires : tie.Need-reference-detail-requires
 reference-detail-requires c κs = search needs
 
@@ -95,40 +96,52 @@ found-requires-12 : tie.Need-found-requires-12
 found-requires-12 c κs = search needs
 
 returns : tie.Need-returns
-returns c = search needs
+unfolding numberOf detailOf ownFamily
+returns c = finding-of (c .before .enum-told .given .1) (c .found .ensures) refl (λ s e. refl) refl
 
 returns-2 : tie.Need-returns-2
-returns-2 c = search needs
+unfolding numberOf detailOf ownFamily
+returns-2 c = finding-of (c .before .enum-told2 .given .1) (c .found2 .ensures) refl (λ s e. refl) refl
 
 returns-3 : tie.Need-returns-3
-returns-3 c = search needs
+unfolding numberOf detailOf ownFamily
+returns-3 c = finding-of (c .before .enum-told3 .given .1) (c .found3 .ensures) refl (λ s e. refl) refl
 
 returns-4 : tie.Need-returns-4
-returns-4 c = search needs
+unfolding numberOf detailOf ownFamily
+returns-4 c = finding-of (c .before .enum-told4 .given .1) (c .found4 .ensures) refl (λ s e. refl) refl
 
 returns-5 : tie.Need-returns-5
-returns-5 c = search needs
+unfolding numberOf detailOf ownFamily
+returns-5 c = finding-of (c .before .enum-told5 .given .1) (c .found5 .ensures) refl (λ s e. refl) refl
 
 returns-6 : tie.Need-returns-6
-returns-6 c = search needs
+unfolding numberOf detailOf ownFamily
+returns-6 c = finding-of (c .before .enum-told6 .given .1) (c .found6 .ensures) refl (λ s e. refl) refl
 
 returns-7 : tie.Need-returns-7
-returns-7 c = search needs
+unfolding numberOf detailOf ownFamily
+returns-7 c = finding-of (c .before .before .before .fault .given .1) (c .found7 .ensures) refl (λ s e. refl) (c .before .side-detail .ensures)
 
 returns-8 : tie.Need-returns-8
-returns-8 c = search needs
+unfolding numberOf detailOf ownFamily
+returns-8 c = finding-of (c .before .before .before .before .fault2 .given .1) (c .found8 .ensures) refl (λ s e. rw e at (c .before .before .reference-family .ensures)) (c .before .reference-detail .ensures)
 
 returns-9 : tie.Need-returns-9
-returns-9 c = search needs
+unfolding numberOf detailOf ownFamily
+returns-9 c = finding-of (c .before .enum-told7 .given .1) (c .found9 .ensures) refl (λ s e. refl) refl
 
 returns-10 : tie.Need-returns-10
-returns-10 c = search needs
+unfolding numberOf detailOf ownFamily
+returns-10 c = finding-of (c .before .before .before .fault3 .given .1) (c .found10 .ensures) refl (λ s e. refl) (c .before .instant-detail .ensures)
 
 returns-11 : tie.Need-returns-11
-returns-11 c = search needs
+unfolding numberOf detailOf ownFamily
+returns-11 c = finding-of (c .before .enum-told8 .given .1) (c .found11 .ensures) refl (λ s e. refl) refl
 
 returns-12 : tie.Need-returns-12
-returns-12 c = search needs
+unfolding numberOf detailOf ownFamily
+returns-12 c = finding-of (c .before .before .before .fault4 .given .1) (c .found12 .ensures) refl (λ s e. refl) (c .before .collection-detail .ensures)
 
 pub find-spec : {M : Type 1} → statement M
 find-spec =
@@ -150,6 +163,7 @@ find-spec =
     side-detail-requires
     found-requires-7
     enum-known-fault-2
+    reference-family-requires
     reference-detail-requires
     found-requires-8
     enum-told-7

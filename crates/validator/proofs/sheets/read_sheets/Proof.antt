@@ -1,12 +1,7 @@
-use native.Mathlib.Omega.{arith}
 use borrow.Author.Needs.{needs}
+use Rattle.validator.proofs.SheetSteps.{schema-bad, rule-bad, rule-other, both-good}
 use Rattle.validator.proofs.sheets.read_sheets.Statement.{statement}
 use Rattle.validator.proofs.sheets.read_sheets.Tie as tie
-use Rattle.validator.proofs.sheets.read_sheets.Reads as reads
-use Rattle.validator.proofs.sheets.read_sheets.Lts as lts
-use Rattle.rule.proofs.read_rule.Reads as read-rule-reads
-use Rattle.schema.proofs.read.read_schema.Reads as read-schema-reads
-use Rattle.validator.proofs.sheets.is_let_in.Reads as is-let-in-reads
 
 read-schema-requires : tie.Need-read-schema-requires
 read-schema-requires c κs = search needs
@@ -21,7 +16,7 @@ same-length : tie.Need-same-length
 same-length c = search needs
 
 returns : tie.Need-returns
-returns c = search needs
+returns c = schema-bad (c .before .before .before .before .read-schema .ensures) (c .enum-told .given .1)
 
 read-rule-requires : tie.Need-read-rule-requires
 read-rule-requires c κs = search needs
@@ -36,7 +31,7 @@ same-length-2 : tie.Need-same-length-2
 same-length-2 c = search needs
 
 returns-2 : tie.Need-returns-2
-returns-2 c = search needs
+returns-2 c = rule-bad (c .before .before .before .before .before .before .before .before .before .before .before .read-schema .ensures) (c .before .before .before .before .before .before .before .s .given .1) (c .before .before .before .before .read-rule .ensures) (c .enum-told2 .given .1)
 
 is-let-in-requires : tie.Need-is-let-in-requires
 is-let-in-requires c κs = search needs
@@ -45,13 +40,13 @@ same-length-3 : tie.Need-same-length-3
 same-length-3 c = search needs
 
 returns-3 : tie.Need-returns-3
-returns-3 c = search needs
+returns-3 c = both-good (c .before .before .before .before .before .before .before .before .before .before .before .before .before .before .read-schema .ensures) (c .before .before .before .before .before .before .before .before .before .before .s .given .1) (c .before .before .before .before .before .before .before .read-rule .ensures) (c .before .before .before .r .given .1) (c .before .is-let-in .ensures) (c .if1 .taken)
 
 same-length-4 : tie.Need-same-length-4
 same-length-4 c = search needs
 
 returns-4 : tie.Need-returns-4
-returns-4 c = search needs
+returns-4 c = rule-other (c .before .before .before .before .before .before .before .before .before .before .before .before .before .before .read-schema .ensures) (c .before .before .before .before .before .before .before .before .before .before .s .given .1) (c .before .before .before .before .before .before .before .read-rule .ensures) (c .before .before .before .r .given .1) (c .before .is-let-in .ensures) (c .if1 .left)
 
 pub read-sheets-spec : {M : Type 1} → statement M
 read-sheets-spec =
