@@ -55,7 +55,7 @@ pub fn name_of(text: &[u8]) -> Named
     Named::Nothing
 }
 
-fn one_of(kind: usize, kinds: &[usize]) -> bool
+pub fn one_of(kind: usize, kinds: &[usize]) -> bool
     ensures { λ r. ⌜ r ≡ oneOf kind (now (kinds .entry)) ⌝ }
 {
     let mut i = 0;

@@ -6,7 +6,7 @@ use mathlib.Core.List.{List, [], _∷_}
 use mathlib.Core.Option.{Option, none, some}
 use mathlib.Core.Path.{_≡_, refl, ap, sym, _∙_}
 use lib.Dec.{eqb}
-use lib.ListN.{replicate, length-replicate}
+use lib.ListN.{replicate}
 use borrow.Author.Tests.{eqb-true, eqb-false}
 use Rattle.sheet.specs.Ascii.{ascii}
 use Rattle.definition.specs.Tree.{Text, noMembers, Schema, constant, literal, Rule, rule, template}
@@ -18,6 +18,7 @@ use Rattle.validation.specs.Result.{Takes, any, rules, templates, Call, 
 use Rattle.validation.specs.DemandLaws.{Heard, refusal, acceptance, finding, heard}
 use Rattle.validation.specs.Computing.{computing}
 use Rattle.validation.proofs.Calls.{ask}
+use Rattle.validation.proofs.Runs.{runWith, call-of-run}
 
 abbrev pub Program : Type 0
 Program = Call → Numbers
@@ -28,43 +29,12 @@ pub record Breaks (p : Program) : Type 0 where
   pub run : (r : Run) × (callOf r ≡ call) × (r .result ≡ p call)
   pub broken : (r : Run) → callOf r ≡ call → r .result ≡ p call → Meets r → ⊥
 
--- a run on buffers of zeros
-unfoldable pub runOf : Program → Call → Run
-runOf p c =
-    record {
-      takes = c .takes;
-      kind = c .kind;
-      semantics = c .semantics;
-      label = c .label;
-      schema = c .schema;
-      rule = c .rule;
-      pathBefore = replicate (c .pathLength) 0;
-      scratchBefore = replicate (c .scratchLength) 0;
-      result = p c;
-      path = replicate (c .pathLength) 0;
-      scratch = replicate (c .scratchLength) 0;
-    }
-
-call-of-run : (p : Program) (c : Call) → callOf (runOf p c) ≡ c
-unfolding callOf runOf
-call-of-run p c = λ i.
-    record {
-      takes = c .takes;
-      kind = c .kind;
-      semantics = c .semantics;
-      label = c .label;
-      schema = c .schema;
-      rule = c .rule;
-      pathLength = length-replicate {A = ℕ} (c .pathLength) 0 i;
-      scratchLength = length-replicate {A = ℕ} (c .scratchLength) 0 i;
-    }
-
 breaks : (p : Program) (c : Call) → (p c ≡ numbersOf (resultOf c) → ⊥) → Breaks p
-unfolding runOf
+unfolding runWith
 breaks p c h =
     record {
       call = c;
-      run = (runOf p c, call-of-run p c, refl);
+      run = (runWith (p c) (replicate (c .pathLength) 0) c, call-of-run (p c) (replicate (c .pathLength) 0) c, refl);
       broken = λ r same its m. h (sym its ∙ m .result ∙ ap (λ (c : Call). numbersOf (resultOf c)) same);
     }
 

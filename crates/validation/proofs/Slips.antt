@@ -1,5 +1,5 @@
 -- What is no widening, each with sheets on which demand 3 would fail: the first call accepts, and the second finds a defect.
-use Prim.Native.Nat.{ℕ, _+_, _≤_}
+use Prim.Native.Nat.{ℕ, suc, _+_, _≤_}
 use native.Mathlib.Omega.{arith}
 use mathlib.Core.Bool.{Bool, true, false}
 use mathlib.Core.List.{List}
@@ -9,20 +9,26 @@ use Rattle.sheet.specs.Ascii.{ascii}
 use Rattle.definition.specs.Tree.{Text, Field, field, Items, absent, element, Members, noMembers, member, Holder, Schema}
 use Rattle.definition.specs.Decode.{decodeSchema}
 use Rattle.widening.specs.Widening.{Level, MayGrow, closed, WiderField, wider, WiderItems, neither, both, WiderMembers, end, keep, more, WiderArguments, without, appear, stay, WiderSchema}
-use Rattle.validation.specs.Result.{Call, Numbers, Defect, Answer, accepted, defect, resultOf}
+use Rattle.validation.specs.Result.{Call, Numbers, numbersOf, resultOf}
 use Rattle.validation.specs.Growth.{against, Widens}
 use Rattle.validation.specs.Demands.{Demand3}
 use Rattle.validation.proofs.Calls.{ask, heard, accepts, finds}
+use Rattle.validation.proofs.Runs.{runOf}
 
 -- a call, and the same against another schema that is no widening, and to which the demand does not extend
 pub record Slips (c : Call) (schema′ : List ℕ) (passed : ℕ) (second : Numbers × Text) : Type 0 where
   pub before : heard c ≡ accepts passed
   pub after : heard (against c schema′ 32768 8192) ≡ second
-  pub noDemand : (l : Level) → Demand3 l (resultOf c) (resultOf (against c schema′ 32768 8192)) → ⊥
+  pub noDemand : (l : Level) → Demand3 l (runOf c) (runOf (against c schema′ 32768 8192)) → ⊥
   pub noWidening : (l : Level) → Widens l (c .schema) schema′ → ⊥
 
-no-demand : {l : Level} {a a′ : Answer} (n : ℕ) (d : Defect) → a ≡ accepted n → a′ ≡ defect d → Demand3 l a a′ → ⊥
-no-demand n d e e′ demand = let z : _≡_ {A = ℕ} 0 1 = cc (demand .accepts n e) in omega arith
+no-demand : {l : Level} (c c′ : Call) (k : ℕ)
+    → numbersOf (resultOf c) .number ≡ 0
+    → numbersOf (resultOf c′) .number ≡ suc k
+    → Demand3 l (runOf c) (runOf c′)
+    → ⊥
+unfolding runOf
+no-demand c c′ k e e′ demand = omega (arith, e′, demand .accepts e .0)
 
 no-widening : {l : Level} {sheet sheet′ : List ℕ} (s s′ : Schema)
     → decodeSchema sheet ≡ some s
@@ -107,7 +113,7 @@ to-json =
     record {
       before = refl;
       after = refl;
-      noDemand = λ l. no-demand 9 _ refl refl;
+      noDemand = λ l. no-demand _ _ _ refl refl;
       noWidening = λ l. no-widening _ _ refl refl (λ w. omega (arith, kind-kept (only-member (w .fields .members))));
     }
 
@@ -122,7 +128,7 @@ under-open =
     record {
       before = refl;
       after = refl;
-      noDemand = λ l. no-demand 5 _ refl refl;
+      noDemand = λ l. no-demand _ _ _ refl refl;
       noWidening = λ l. no-widening _ _ refl refl (λ w. omega (arith, open-keeps (w .fields .members) refl));
     }
 
@@ -137,7 +143,7 @@ added-items =
     record {
       before = refl;
       after = refl;
-      noDemand = λ l. no-demand 5 _ refl refl;
+      noDemand = λ l. no-demand _ _ _ refl refl;
       noWidening = λ l. no-widening _ _ refl refl (λ w. omega (arith, elements-kept (items-kept (only-member (w .fields .members)))));
     }
 
@@ -152,6 +158,6 @@ arguments-gone =
     record {
       before = refl;
       after = refl;
-      noDemand = λ l. no-demand 5 _ refl refl;
+      noDemand = λ l. no-demand _ _ _ refl refl;
       noWidening = λ l. no-widening _ _ refl refl (λ w. omega (arith, holders-stay (w .arguments)));
     }

@@ -11,13 +11,14 @@ use Rattle.validation.specs.Result.{Call, Numbers, resultOf}
 use Rattle.validation.specs.Growth.{against, Widens, NotRefused}
 use Rattle.validation.specs.Demands.{Demand3, demand-3}
 use Rattle.validation.proofs.Calls.{ask, heard, accepts, finds}
+use Rattle.validation.proofs.Runs.{runOf, run-meets, run-unrefused}
 
 -- a call, and the same with other buffers against a widening of its schema: what is heard of the two, and the demand on them
 pub record Shows (l : Level) (c : Call) (schema′ : List ℕ) (first second : Numbers × Text) : Type 0 where
   pub widens : Widens l (c .schema) schema′
   pub before : heard c ≡ first
   pub after : heard (against c schema′ 40000 9000) ≡ second
-  pub demand : Demand3 l (resultOf c) (resultOf (against c schema′ 40000 9000))
+  pub demand : Demand3 l (runOf c) (runOf (against c schema′ 40000 9000))
 
 shows : {l : Level} {c : Call} {schema′ : List ℕ} {first second : Numbers × Text} (s s′ : Schema)
     → decodeSchema (c .schema) ≡ some s
@@ -28,9 +29,21 @@ shows : {l : Level} {c : Call} {schema′ : List ℕ} {first second : Numbers ×
     → NotRefused (resultOf c)
     → NotRefused (resultOf (against c schema′ 40000 9000))
     → Shows l c schema′ first second
+unfolding runOf against
 shows {l} {c} {schema′} s s′ e e′ w before after n n′ =
     let widens : Widens l (c .schema) schema′ = record { first = s; second = s′; decodesFirst = e; decodesSecond = e′; isWider = w } in
-    record { widens = widens; before = before; after = after; demand = demand-3 c schema′ 40000 9000 widens n n′ }
+    let c′ = against c schema′ 40000 9000 in
+    record {
+      widens = widens;
+      before = before;
+      after = after;
+      demand =
+          demand-3 (runOf c) (runOf c′) (run-meets c) (run-meets c′)
+          (record { takes = refl; kind = refl; semantics = refl; label = refl; rule = refl })
+          widens
+          (run-unrefused c n)
+          (run-unrefused c′ n′);
+    }
 
 -- a rule that asks whether that is there finds it lacking
 unfoldable pub lacks : (detail : ℕ) → Numbers × Text

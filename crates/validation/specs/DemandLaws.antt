@@ -1,10 +1,10 @@
 -- The laws that the demands cite.
-use Prim.Native.Nat.{ℕ, _+_, _≤_, _<_}
+use Prim.Native.Nat.{ℕ, _≤_, _<_}
 use native.Mathlib.Omega.{arith}
 use mathlib.Core.Bool.{Bool, true, false, cond}
 use mathlib.Core.List.{List, [], _∷_}
 use mathlib.Core.Option.{Option, none, some}
-use mathlib.Core.Path.{_≡_, refl, ap, sym}
+use mathlib.Core.Path.{_≡_, refl, ap, sym, _∙_}
 use Rattle.definition.specs.Tree.{Text, Schema, Rule}
 use Rattle.definition.specs.Decode.{decodeSchema, decodeRule}
 use Rattle.definition.specs.RoundTrip.{schema-round-trip}
@@ -15,11 +15,12 @@ use Rattle.widening.specs.DistinctLaws.{schema-distinct}
 use Rattle.widening.specs.WalkLaws.{Details, equal, differ}
 use Rattle.widening.specs.ReferenceLaws.{GrownSchema}
 use Rattle.validation.specs.Check.{Binder, Question, Check, check, checks}
-use Rattle.validation.specs.Judge.{Outcome, outcome, Verdict, allPass, failsAt, decide, judgeFrom, judge}
-use Rattle.validation.specs.CheckLaws.{IsDefect, Every, every-check, sure-checks}
+use Rattle.validation.specs.Judge.{Verdict, allPass, failsAt}
+use Rattle.validation.specs.CheckLaws.{IsDefect, every-check, sure-checks}
+use Rattle.validation.specs.CountLaws.{VerdictIs, every-judged}
 use Rattle.validation.specs.WideningLaws.{VerdictFares, stillAccepted, sameDefect, later, passedOf, judge-fares}
-use Rattle.validation.specs.Result.{Call, Defect, Answer, refused, accepted, defect, answerOf, Refusal, refusals, firstRefusal, settingFor, checked, judged, refusedOr, resultOf}
-use Rattle.validation.specs.Growth.{against, Widens, NotRefused, passed, SameDefect}
+use Rattle.validation.specs.Result.{Call, Defect, Answer, refused, accepted, defect, answerOf, Refusal, refusals, firstRefusal, settingFor, checked, judged, refusedOr, resultOf, numbersOf, pathAfter, Run, callOf, Meets}
+use Rattle.validation.specs.Growth.{against, Widens, IsRefusal, NotRefused, passed, SameDefect, Writes, SameFinding}
 
 accepted-no-defect : (n : ℕ) (d : Defect) → accepted n ≡ defect d → ⊥
 accepted-no-defect n d e = let z : _≡_ {A = ℕ} 0 1 = cc in omega arith
@@ -63,7 +64,7 @@ sheets-fare setting label g (some n) refusal′ r h h′ = absurd h
 distinct-names : (sheet : List ℕ) (s : Schema) → decodeSchema sheet ≡ some s → DistinctSchema s
 distinct-names sheet s e = schema-distinct s (schema-round-trip sheet s .0 e .1 .rises)
 
-pub calls-fare : {l : Level} (c : Call) (schema′ : List ℕ) (pathLength′ scratchLength′ : ℕ)
+calls-fare : {l : Level} (c : Call) (schema′ : List ℕ) (pathLength′ scratchLength′ : ℕ)
     → Widens l (c .schema) schema′
     → NotRefused (resultOf c)
     → NotRefused (resultOf (against c schema′ pathLength′ scratchLength′))
@@ -77,19 +78,19 @@ calls-fare c schema′ p q w =
     (firstRefusal (refusals (against c schema′ p q)))
     (decodeRule (c .rule)))
 
-pub accepts-still : {l : Level} {a a′ : Answer} → Fared l a a′ → (n : ℕ) → a ≡ accepted n → a′ ≡ accepted n
+accepts-still : {l : Level} {a a′ : Answer} → Fared l a a′ → (n : ℕ) → a ≡ accepted n → a′ ≡ accepted n
 accepts-still bothAccept n e = e
 accepts-still (bothFail {d = d} s p details) n e = absurd (accepted-no-defect n d (sym e))
 accepts-still (passesMore {d = d} less) n e = absurd (accepted-no-defect n d (sym e))
 
-pub passes-as-many : {l : Level} {a a′ : Answer} → Fared l a a′ → (d : Defect) → a ≡ defect d → d .passed ≤ passed a′
+passes-as-many : {l : Level} {a a′ : Answer} → Fared l a a′ → (d : Defect) → a ≡ defect d → d .passed ≤ passed a′
 passes-as-many (bothAccept {n = n}) d e = absurd (accepted-no-defect n d e)
 passes-as-many (bothFail {d = x} {d′ = x′} s p details) d e =
     let same : x ≡ d = defect-injective x d e in rw (← same) (omega arith)
 passes-as-many (passesMore {d = x} {a′ = a′} less) d e =
     let same : x ≡ d = defect-injective x d e in rw (← same) (omega arith)
 
-pub fails-alike : {l : Level} {a a′ : Answer} → Fared l a a′ → (d : Defect) → a ≡ defect d → passed a′ ≡ d .passed → (d′ : Defect) × (a′ ≡ defect d′) × SameDefect d d′
+fails-alike : {l : Level} {a a′ : Answer} → Fared l a a′ → (d : Defect) → a ≡ defect d → passed a′ ≡ d .passed → (d′ : Defect) × (a′ ≡ defect d′) × SameDefect d d′
 fails-alike (bothAccept {n = n}) d e p = absurd (accepted-no-defect n d e)
 fails-alike (bothFail {d = x} {d′ = x′} s q details) d e p = rw (← (defect-injective x d e)) (x′, refl, s)
 fails-alike (passesMore {d = x} {a′ = a′} less) d e p =
@@ -100,7 +101,7 @@ details-equal : {d d′ : ℕ} (l : Level) → l ≡ marks → Details l d d′ 
 details-equal l e equal = refl
 details-equal l e differ = cc
 
-pub explains-alike : {l : Level} {a a′ : Answer} → Fared l a a′ → l ≡ marks → (d d′ : Defect) → a ≡ defect d → a′ ≡ defect d′ → d′ .passed ≡ d .passed → d′ .detail ≡ d .detail
+explains-alike : {l : Level} {a a′ : Answer} → Fared l a a′ → l ≡ marks → (d d′ : Defect) → a ≡ defect d → a′ ≡ defect d′ → d′ .passed ≡ d .passed → d′ .detail ≡ d .detail
 explains-alike (bothAccept {n = n}) m d d′ e e′ p = absurd (accepted-no-defect n d e)
 explains-alike (bothFail {l = l} {d = x} {d′ = x′} s q details) m d d′ e e′ p =
     rw (← (defect-injective x d e), ← (defect-injective x′ d′ e′)) (details-equal l m details)
@@ -108,6 +109,26 @@ explains-alike (passesMore {d = x} {a′ = a′} less) m d d′ e e′ p =
     let h : x .passed ≡ d .passed = ap (λ (y : Defect). y .passed) (defect-injective x d e) in
     let h′ : passed a′ ≡ d′ .passed = ap passed e′ in
     absurd (omega arith)
+
+-- how the answers of two calls compare, the second against a widened schema
+pub record AnswersFare (l : Level) (a a′ : Answer) : Type 0 where
+  pub accepts : (n : ℕ) → a ≡ accepted n → a′ ≡ accepted n
+  pub passes : (d : Defect) → a ≡ defect d → d .passed ≤ passed a′
+  pub repeats : (d : Defect) → a ≡ defect d → passed a′ ≡ d .passed → (d′ : Defect) × (a′ ≡ defect d′) × SameDefect d d′
+  pub explains : l ≡ marks → (d d′ : Defect) → a ≡ defect d → a′ ≡ defect d′ → d′ .passed ≡ d .passed → d′ .detail ≡ d .detail
+
+pub results-fare : {l : Level} (c : Call) (schema′ : List ℕ) (pathLength′ scratchLength′ : ℕ)
+    → Widens l (c .schema) schema′
+    → NotRefused (resultOf c)
+    → NotRefused (resultOf (against c schema′ pathLength′ scratchLength′))
+    → AnswersFare l (resultOf c) (resultOf (against c schema′ pathLength′ scratchLength′))
+results-fare c schema′ p q w n n′ =
+    record {
+      accepts = accepts-still (calls-fare c schema′ p q w n n′);
+      passes = passes-as-many (calls-fare c schema′ p q w n n′);
+      repeats = fails-alike (calls-fare c schema′ p q w n n′);
+      explains = explains-alike (calls-fare c schema′ p q w n n′);
+    }
 
 -- What a caller hears: one of refusals 1 to 5, acceptance, or a defect from 11 to 22
 pub data Heard : Answer → Type 0 where
@@ -132,24 +153,10 @@ unfolding firstRefusal
 first-due [] h = notDue
 first-due (r ∷ rs) h = due-if (r .isDue) (due (h .0) (h .1)) (first-due rs (h .2))
 
-abbrev FailsWith : (Check → Type 0) → Verdict → Type 0
-FailsWith P (allPass n) = Unit {0}
-FailsWith P (failsAt n c d) = P c
-
-decide-with : (P : Check → Type 0) (o : Outcome) (n : ℕ) (c : Check) (v : Verdict) → P c → FailsWith P v → FailsWith P (decide o n c v)
-unfolding decide
-decide-with P none n c v p h = h
-decide-with P (some d) n c v p h = p
-
-judge-with : (P : Check → Type 0) (ask : Check → Outcome) (n : ℕ) (cs : List Check) → Every P cs → FailsWith P (judgeFrom ask n cs)
-unfolding judgeFrom
-judge-with P ask n [] h = tt
-judge-with P ask n (c ∷ cs) h = decide-with P (ask c) n c (judgeFrom ask (n + 1) cs) (h .0) (judge-with P ask (n + 1) cs (h .1))
-
 abbrev Found : Check → Type 0
 Found c = IsDefect (c .number)
 
-heard-answer : (setting : Setting) (label : Text) (r : Rule) (v : Verdict) → FailsWith Found v → Heard (answerOf setting label r v)
+heard-answer : (setting : Setting) (label : Text) (r : Rule) (v : Verdict) → VerdictIs Found v → Heard (answerOf setting label r v)
 unfolding answerOf
 heard-answer setting label r (allPass n) h = acceptance
 heard-answer setting label r (failsAt n c d) h = finding h
@@ -159,11 +166,11 @@ unfolding check
 found n p bs q d = d
 
 heard-judged : (setting : Setting) (label : Text) (s : Option Schema) (r : Option Rule) → Heard (judged setting label s r)
-unfolding judged checked judge
+unfolding judged checked
 heard-judged setting label none r = refusal {n = 4} (omega arith) (omega arith)
 heard-judged setting label (some s) none = refusal {n = 5} (omega arith) (omega arith)
 heard-judged setting label (some s) (some r) =
-    heard-answer setting label r _ (judge-with Found (outcome setting s) 0 (checks setting r) (every-check Found found setting r))
+    heard-answer setting label r _ (every-judged Found setting s (checks setting r) (every-check Found found setting r))
 
 heard-or : {x : Option ℕ} {a : Answer} → Due x → Heard a → Heard (refusedOr x a)
 unfolding refusedOr
@@ -191,3 +198,77 @@ pub answers-by-checks : (c : Call) (s : Schema) (r : Rule)
     → resultOf c ≡ checked (settingFor c) (c .label) s r
 unfolding resultOf
 answers-by-checks c s r e e′ = rw (e, e′) (or-checked (firstRefusal (refusals c)) (settingFor c) (c .label) s r)
+
+-- What the seven numbers tell of an answer
+
+pub number-accepted : {a : Answer} → Heard a → numbersOf a .number ≡ 0 → (n : ℕ) × (a ≡ accepted n)
+unfolding numbersOf
+number-accepted (refusal p q) e = absurd (omega arith)
+number-accepted (acceptance {n = n}) e = (n, refl)
+number-accepted (finding f) e = absurd (omega (arith, f .low))
+
+pub number-defect : {a : Answer} → Heard a → 11 ≤ numbersOf a .number → (d : Defect) × (a ≡ defect d)
+unfolding numbersOf
+number-defect (refusal p q) h = absurd (omega arith)
+number-defect acceptance h = absurd (omega arith)
+number-defect (finding {d = d} f) h = (d, refl)
+
+pub number-unrefused : {a : Answer} → Heard a → (IsRefusal (numbersOf a .number) → ⊥) → NotRefused a
+unfolding numbersOf
+number-unrefused (refusal p q) h = h (omega arith)
+number-unrefused acceptance h = tt
+number-unrefused (finding f) h = tt
+
+pub passed-number : (a : Answer) → numbersOf a .passed ≡ passed a
+unfolding numbersOf
+passed-number (refused n) = refl
+passed-number (accepted n) = refl
+passed-number (defect d) = refl
+
+-- what the definitions say of a run, with its answer by itself
+pub record Gives (r : Run) (a : Answer) : Type 0 where
+  pub hears : Heard a
+  pub result : r .result ≡ numbersOf a
+  pub path : r .path ≡ pathAfter a (r .pathBefore)
+
+pub meets-gives : (r : Run) → Meets r → Gives r (resultOf (callOf r))
+meets-gives r m = record { hears = heard (callOf r); result = m .result; path = m .path }
+
+gives-writes : {a : Answer} (r : Run) (d : Defect) → Gives r a → a ≡ defect d → Writes (d .path) r
+unfolding numbersOf pathAfter
+gives-writes r d g e = record { bytes = rw e at (g .path); size = rw (g .result, e) }
+
+pub same-acceptance : {a a′ : Answer} (r r′ : Run) (n : ℕ)
+    → Gives r a
+    → Gives r′ a′
+    → a ≡ accepted n
+    → a′ ≡ accepted n
+    → (r′ .result .number ≡ 0) × (r′ .result .passed ≡ r .result .passed)
+unfolding numbersOf
+same-acceptance r r′ n g g′ e e′ = rw (g .result, g′ .result, e, e′) (refl, refl)
+
+pub same-finding : {a a′ : Answer} (r r′ : Run) (d d′ : Defect)
+    → Gives r a
+    → Gives r′ a′
+    → a ≡ defect d
+    → a′ ≡ defect d′
+    → SameDefect d d′
+    → SameFinding r r′
+unfolding numbersOf
+same-finding r r′ d d′ g g′ e e′ s =
+    record {
+      number = rw (g .result, g′ .result, e, e′) (s .number);
+      family = rw (g .result, g′ .result, e, e′) (s .family);
+      path = (d .path, gives-writes r d g e, rw (s .path) at (gives-writes r′ d′ g′ e′));
+      place = rw (g .result, g′ .result, e, e′) (s .place);
+      overPlace = rw (g .result, g′ .result, e, e′) (s .overPlace);
+    }
+
+pub same-passed : {a a′ : Answer} (r r′ : Run) (d : Defect)
+    → Gives r a
+    → Gives r′ a′
+    → a ≡ defect d
+    → r′ .result .passed ≡ r .result .passed
+    → passed a′ ≡ d .passed
+unfolding numbersOf
+same-passed {a′ = a′} r r′ d g g′ e p = sym (passed-number a′) ∙ (rw (g .result, g′ .result, e) at p)

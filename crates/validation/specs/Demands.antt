@@ -3,15 +3,15 @@
 use Prim.Native.Nat.{ℕ, _≤_}
 use native.Mathlib.Omega.{arith}
 use mathlib.Core.List.{List}
-use mathlib.Core.Option.{Option, none, some}
+use mathlib.Core.Option.{some}
 use mathlib.Core.Path.{_≡_, ap, sym, _∙_}
 use lib.ListN.{length}
 use Rattle.definition.specs.Tree.{Schema, Rule}
 use Rattle.definition.specs.Decode.{decodeSchema, decodeRule}
 use Rattle.widening.specs.Widening.{Level, marks}
-use Rattle.validation.specs.Result.{Call, Defect, Answer, refused, accepted, defect, settingFor, checked, resultOf, numbersOf, pathAfter, Run, callOf, Meets}
-use Rattle.validation.specs.Growth.{against, Widens, NotRefused, passed, SameDefect}
-use Rattle.validation.specs.DemandLaws.{Heard, refusal, acceptance, finding, heard, answers-by-checks, calls-fare, accepts-still, passes-as-many, fails-alike, explains-alike}
+use Rattle.validation.specs.Result.{Call, Defect, Answer, defect, settingFor, checked, resultOf, numbersOf, pathAfter, Run, callOf, Meets}
+use Rattle.validation.specs.Growth.{against, Widens, Unrefused, NotRefused, SameFinding}
+use Rattle.validation.specs.DemandLaws.{Heard, refusal, acceptance, finding, heard, answers-by-checks, AnswersFare, results-fare, number-accepted, number-defect, number-unrefused, passed-number, Gives, meets-gives, same-acceptance, same-finding, same-passed}
 
 -- Demand 1: whatever is handed over, the caller hears acceptance, a defect or one of refusals 1 to 5; a refusal leaves the path buffer
 -- unchanged, as acceptance does; and what the scratch held before never matters.
@@ -92,25 +92,85 @@ demand-2 r s t m e e′ n =
 -- Demand 3: one rule or template under the same settings, checked against two schemas of which the second is a widening of the first, with
 -- whatever buffers, neither call refused. `marks` stands for schemas that differ at most in open marks gone from 0 to 1, with arguments in both or in neither.
 
-pub record Demand3 (l : Level) (a a′ : Answer) : Type 0 where
-  -- if the first call accepts, so does the second, with the same passed count
-  pub accepts : (n : ℕ) → a ≡ accepted n → a′ ≡ accepted n
-  -- if the first finds a defect, the passed count of the second is at least that of the first
-  pub passes : (d : Defect) → a ≡ defect d → d .passed ≤ passed a′
-  -- if in this case the two counts are equal, the second finds a defect too, with the same number, family, path, place and over place
-  pub repeats : (d : Defect) → a ≡ defect d → passed a′ ≡ d .passed → (d′ : Defect) × (a′ ≡ defect d′) × SameDefect d d′
-  -- and its detail is the same as well where only open marks differ
-  pub explains : l ≡ marks → (d d′ : Defect) → a ≡ defect d → a′ ≡ defect d′ → d′ .passed ≡ d .passed → d′ .detail ≡ d .detail
+-- two runs that differ at most in the schema, and in what the buffers hold and how long they are
+pub record SameButSchema (r r′ : Run) : Type 0 where
+  pub takes : r .takes ≡ r′ .takes
+  pub kind : r .kind ≡ r′ .kind
+  pub semantics : r .semantics ≡ r′ .semantics
+  pub label : r .label ≡ r′ .label
+  pub rule : r .rule ≡ r′ .rule
 
-pub demand-3 : {l : Level} (c : Call) (schema′ : List ℕ) (pathLength′ scratchLength′ : ℕ)
-    → Widens l (c .schema) schema′
-    → NotRefused (resultOf c)
-    → NotRefused (resultOf (against c schema′ pathLength′ scratchLength′))
-    → Demand3 l (resultOf c) (resultOf (against c schema′ pathLength′ scratchLength′))
-demand-3 c schema′ p q w n n′ =
+pub record Demand3 (l : Level) (r r′ : Run) : Type 0 where
+  -- if the first call accepts, so does the second, with the same passed count
+  pub accepts : r .result .number ≡ 0 → (r′ .result .number ≡ 0) × (r′ .result .passed ≡ r .result .passed)
+  -- if the first finds a defect, the passed count of the second is at least that of the first
+  pub passes : 11 ≤ r .result .number → r .result .passed ≤ r′ .result .passed
+  -- if in this case the two counts are equal, the second finds a defect too, with the same number, family, path, place and over place
+  pub repeats : 11 ≤ r .result .number → r′ .result .passed ≡ r .result .passed → SameFinding r r′
+  -- and its detail is the same as well where only open marks differ
+  pub explains : l ≡ marks → 11 ≤ r .result .number → r′ .result .passed ≡ r .result .passed → r′ .result .detail ≡ r .result .detail
+
+runs-fare : {l : Level} {a a′ : Answer} (r r′ : Run) → Gives r a → Gives r′ a′ → AnswersFare l a a′ → Demand3 l r r′
+unfolding numbersOf
+runs-fare {l} {a} {a′} r r′ g g′ f = record { accepts = accepts; passes = passes; repeats = repeats; explains = explains }
+  where
+    found : 11 ≤ r .result .number → (d : Defect) × (a ≡ defect d)
+    found h = number-defect (g .hears) (rw (g .result) at h)
+
+    accepts : r .result .number ≡ 0 → (r′ .result .number ≡ 0) × (r′ .result .passed ≡ r .result .passed)
+    accepts e =
+        let (n, same) = number-accepted (g .hears) (rw (g .result) at e) in
+        same-acceptance r r′ n g g′ same (f .accepts n same)
+
+    passes : 11 ≤ r .result .number → r .result .passed ≤ r′ .result .passed
+    passes h =
+        let (d, same) = found h in
+        rw (g .result, g′ .result, passed-number a′, same) (f .passes d same)
+
+    repeats : 11 ≤ r .result .number → r′ .result .passed ≡ r .result .passed → SameFinding r r′
+    repeats h p =
+        let (d, same) = found h in
+        let (d′, same′, alike) = f .repeats d same (same-passed r r′ d g g′ same p) in
+        same-finding r r′ d d′ g g′ same same′ alike
+
+    explains : l ≡ marks → 11 ≤ r .result .number → r′ .result .passed ≡ r .result .passed → r′ .result .detail ≡ r .result .detail
+    explains m h p =
+        let (d, same) = found h in
+        let q = same-passed r r′ d g g′ same p in
+        let (d′, same′, alike) = f .repeats d same q in
+        rw (g .result, g′ .result, same, same′) (f .explains m d d′ same same′ (rw same′ at q))
+
+second-call : {r r′ : Run} → SameButSchema r r′ → callOf r′ ≡ against (callOf r) (r′ .schema) (length (r′ .pathBefore)) (length (r′ .scratchBefore))
+unfolding callOf against
+second-call {r′ = r′} s = λ i.
     record {
-      accepts = accepts-still (calls-fare c schema′ p q w n n′);
-      passes = passes-as-many (calls-fare c schema′ p q w n n′);
-      repeats = fails-alike (calls-fare c schema′ p q w n n′);
-      explains = explains-alike (calls-fare c schema′ p q w n n′);
+      takes = sym (s .takes) i;
+      kind = sym (s .kind) i;
+      semantics = sym (s .semantics) i;
+      label = sym (s .label) i;
+      schema = r′ .schema;
+      rule = sym (s .rule) i;
+      pathLength = length (r′ .pathBefore);
+      scratchLength = length (r′ .scratchBefore);
     }
+
+pub demand-3 : {l : Level} (r r′ : Run)
+    → Meets r
+    → Meets r′
+    → SameButSchema r r′
+    → Widens l (r .schema) (r′ .schema)
+    → Unrefused r
+    → Unrefused r′
+    → Demand3 l r r′
+unfolding callOf
+demand-3 r r′ m m′ s w n n′ =
+    runs-fare r r′ g g′
+    (results-fare (callOf r) (r′ .schema) (length (r′ .pathBefore)) (length (r′ .scratchBefore)) w
+    (number-unrefused (g .hears) (rw (g .result) at n))
+    (number-unrefused (g′ .hears) (rw (g′ .result) at n′)))
+  where
+    g : Gives r (resultOf (callOf r))
+    g = meets-gives r m
+
+    g′ : Gives r′ (resultOf (against (callOf r) (r′ .schema) (length (r′ .pathBefore)) (length (r′ .scratchBefore))))
+    g′ = rw (second-call s) at (meets-gives r′ m′)

@@ -1,12 +1,14 @@
 -- One rule or template checked against a schema and against a widening of it.
-use Prim.Native.Nat.{ℕ}
+use Prim.Native.Nat.{ℕ, _≤_}
 use mathlib.Core.List.{List}
 use mathlib.Core.Option.{Option, none, some}
 use mathlib.Core.Path.{_≡_}
+use lib.ListN.{length}
+use lib.Seq.{sets}
 use Rattle.definition.specs.Tree.{Schema}
 use Rattle.definition.specs.Decode.{decodeSchema}
 use Rattle.widening.specs.Widening.{Level, WiderSchema}
-use Rattle.validation.specs.Result.{Call, Defect, Answer, refused, accepted, defect}
+use Rattle.validation.specs.Result.{Call, Defect, Answer, refused, accepted, defect, Run}
 
 -- the same rule or template under the same settings, against another schema and with other buffers
 unfoldable pub against : Call → (schema : List ℕ) → (pathLength scratchLength : ℕ) → Call
@@ -30,6 +32,15 @@ pub record Widens (l : Level) (sheet sheet′ : List ℕ) : Type 0 where
   pub decodesSecond : decodeSchema sheet′ ≡ some second
   pub isWider : WiderSchema l first second
 
+pub record IsRefusal (n : ℕ) : Type 0 where
+  pub low : 1 ≤ n
+  pub high : n ≤ 5
+
+-- a call that met none of the refusals, by the number that its caller sees
+abbrev pub Unrefused : Run → Type 0
+Unrefused r = IsRefusal (r .result .number) → ⊥
+
+-- the same, by the answer
 abbrev pub NotRefused : Answer → Type 0
 NotRefused (refused n) = ⊥
 NotRefused (accepted n) = Unit {0}
@@ -47,3 +58,17 @@ pub record SameDefect (d d′ : Defect) : Type 0 where
   pub path : d′ .path ≡ d .path
   pub place : d′ .place ≡ d .place
   pub overPlace : d′ .overPlace ≡ d .overPlace
+
+-- the run wrote that path to the start of its buffer, kept all other bytes, and says how long the path is; that every path has room
+-- in a buffer that is not refused is a law of crate `location`
+pub record Writes (path : List ℕ) (r : Run) : Type 0 where
+  pub bytes : r .path ≡ sets (r .pathBefore) 0 path
+  pub size : r .result .pathLength ≡ length path
+
+-- what two callers see of the same defect
+pub record SameFinding (r r′ : Run) : Type 0 where
+  pub number : r′ .result .number ≡ r .result .number
+  pub family : r′ .result .family ≡ r .result .family
+  pub path : (p : List ℕ) × Writes p r × Writes p r′
+  pub place : r′ .result .place ≡ r .result .place
+  pub overPlace : r′ .result .overPlace ≡ r .result .overPlace

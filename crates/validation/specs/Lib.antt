@@ -4,6 +4,7 @@ pub mod Location
 pub mod Result
 pub mod CheckLaws
 pub mod WideningLaws
+pub mod CountLaws
 pub mod Growth
 pub mod DemandLaws
 pub mod Demands

@@ -2,7 +2,7 @@
 use Rattle.validation.specs.Result.{Numbers}
 use Rattle.validator.specs.declared.outcome.Outcome.{Outcome}
 
-unfoldable pub numbersBy : Outcome → Numbers
+abbrev pub numbersBy : Outcome → Numbers
 numbersBy o =
     record {
       number = o .number;

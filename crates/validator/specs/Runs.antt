@@ -8,7 +8,7 @@ use Rattle.validator.specs.declared.outcome.Outcome.{Outcome}
 use Rattle.validator.specs.Outcomes.{numbersBy}
 use Rattle.validator.specs.Sheets.{takesOf}
 
-unfoldable pub runOf : (takes : Takes) (kind semantics : ℕ) (label schema rule pathBefore scratchBefore : List ℕ) (r : Outcome) (path scratch : List ℕ) → Run
+abbrev pub runOf : (takes : Takes) (kind semantics : ℕ) (label schema rule pathBefore scratchBefore : List ℕ) (r : Outcome) (path scratch : List ℕ) → Run
 runOf takes kind semantics label schema rule pathBefore scratchBefore r path scratch =
     record {
       takes = takesOf takes;

@@ -46,7 +46,7 @@ pub fn answer(
     let Verdict::Defect(fault, entry, over) = verdict else {
         return accepted(passed);
     };
-    let f = find(is_rule_kind(kind), fault);
+    let f = find(is_rule_kind(wide(kind)), fault);
     let number = f.number;
     let place = narrow(entry);
     let length = write_path(label, rule, words, number, place, path);

@@ -3,12 +3,12 @@ use judge::verdict::Fault;
 use judge::verdict::InstantFault;
 use judge::verdict::Over;
 use judge::verdict::Side;
+use scope::name::one_of;
 use walk::answer::CollectionFault;
 use walk::answer::ReferenceFault;
 ghost use mathlib.Core.Bool.{cond};
 ghost use mathlib.Core.List.{[], _∷_};
 ghost use mathlib.Core.Path.{_≡_};
-ghost use lib.Dec.{eqb};
 ghost use Rattle.reference.specs.Setting.{oneOf};
 ghost use Rattle.walk.specs.Answers.{referenceDetail, collectionDetail};
 ghost use Rattle.judge.specs.Shown.{familyOf, overPlaceOf};
@@ -22,14 +22,11 @@ pub struct Finding {
     pub detail: u32,
 }
 
-// Kinds of rules, as the Rust has them: Invariant, Precondition, OutcomeSelector, CreateSelector.
-pub fn is_rule_kind(kind: u32) -> bool
+// Invariant, Precondition, OutcomeSelector and CreateSelector are kinds of rules, the others of templates.
+pub fn is_rule_kind(kind: usize) -> bool
     ensures { λ r. ⌜ r ≡ oneOf kind (1 ∷ 2 ∷ 5 ∷ 6 ∷ []) ⌝ }
 {
-    match kind {
-        1 | 2 | 5 | 6 => true,
-        _ => false,
-    }
+    one_of(kind, &[1, 2, 5, 6])
 }
 
 fn side_detail(side: Side) -> u32
@@ -81,6 +78,13 @@ fn collection_detail(fault: CollectionFault) -> u32
     }
 }
 
+// The family of a reference that cannot be read.
+fn reference_family(rule_kind: bool) -> u32
+    ensures { λ r. ⌜ r ≡ cond «rule_kind» 1 2 ⌝ }
+{
+    if rule_kind { 1 } else { 2 }
+}
+
 fn found(number: u32, family: u32, detail: u32) -> Finding
     ensures { λ r. ⌜ r ≡ record { number = number; family = family; detail = detail } ⌝ }
 {
@@ -102,7 +106,7 @@ pub fn find(rule_kind: bool, fault: Fault) -> Finding
         Fault::Operator => found(15, 3, 0),
         Fault::Empty => found(16, 1, 0),
         Fault::Operand(side) => found(17, 5, side_detail(side)),
-        Fault::Reference(f, _) => found(18, if rule_kind { 1 } else { 2 }, reference_detail(f)),
+        Fault::Reference(f, _) => found(18, reference_family(rule_kind), reference_detail(f)),
         Fault::Affix => found(19, 1, 0),
         Fault::Instant(f) => found(20, 1, instant_detail(f)),
         Fault::Bind => found(21, 6, 0),

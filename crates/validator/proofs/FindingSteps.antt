@@ -1,0 +1,47 @@
+-- Number, family and detail of a fault, and what a quantifier's body makes of them.
+use Prim.Native.Nat.{ℕ}
+use mathlib.Core.Bool.{Bool, true, false, cond}
+use mathlib.Core.Path.{_≡_, refl, sym, _∙_}
+use lib.Dec.{eqb}
+use borrow.Author.Tests.{eq-eqb, ne-eqb}
+use Rattle.reference.specs.Setting.{Setting}
+use Rattle.walk.specs.Answers.{referenceDetail, collectionDetail}
+use Rattle.walk.specs.declared.answer.ReferenceFault.{ReferenceFault}
+use Rattle.walk.specs.declared.answer.CollectionFault.{CollectionFault}
+use Rattle.validation.specs.Result.{ownFamily}
+use Rattle.judge.specs.Shown.{familyOf, overPlaceOf}
+use Rattle.judge.specs.Verdicts.{numberOf, detailOf, overBy, sideDetail, instantDetail}
+use Rattle.judge.specs.declared.verdict.Side.{Side}
+use Rattle.judge.specs.declared.verdict.InstantFault.{InstantFault}
+use Rattle.judge.specs.declared.verdict.Fault.{Fault}
+use Rattle.judge.specs.declared.verdict.Fault.the-variants.{Name, Message, Deep, Literal, Operator, Empty, Operand, Reference, Affix, Instant, Bind, Collection}
+use Rattle.judge.specs.declared.verdict.Over.{Over}
+use Rattle.judge.specs.declared.verdict.Over.the-variants.{In}
+use Rattle.validator.specs.Findings.{FindingIs}
+use Rattle.validator.specs.declared.finding.Finding.{Finding}
+
+pub family-body : {over : Over} {e family : ℕ} → over ≡ In e → family ≡ 1 → 8 ≡ familyOf (overBy over) family
+unfolding familyOf overBy
+family-body {family = family} h g = rw (h, eq-eqb family 1 g)
+
+pub family-own : {over : Over} {e family : ℕ} → over ≡ In e → (family ≡ 1 → ⊥) → family ≡ familyOf (overBy over) family
+unfolding familyOf overBy
+family-own {family = family} h g = rw (h, ne-eqb family 1 g)
+
+pub place-body : {over : Over} {e family : ℕ} → over ≡ In e → family ≡ 1 → e ≡ overPlaceOf (overBy over) family
+unfolding overPlaceOf overBy
+place-body {family = family} h g = rw (h, eq-eqb family 1 g)
+
+pub place-none : {over : Over} {e family : ℕ} → over ≡ In e → (family ≡ 1 → ⊥) → 0 ≡ overPlaceOf (overBy over) family
+unfolding overPlaceOf overBy
+place-none {family = family} h g = rw (h, ne-eqb family 1 g)
+
+-- what the match on a fault says is right if it is right for that fault
+pub finding-of : {k : Bool} {x fault : Fault} {n m d : ℕ} {r : Finding}
+    → fault ≡ x
+    → r ≡ record { number = n; family = m; detail = d }
+    → n ≡ numberOf x
+    → ((setting : Setting) → k ≡ setting .isRuleKind → m ≡ ownFamily setting (numberOf x))
+    → d ≡ detailOf x
+    → FindingIs k fault r
+finding-of h e p q t = rw (h, e) (record { number = p; family = q; detail = t })

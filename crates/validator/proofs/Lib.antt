@@ -1,0 +1,5 @@
+mod SettingSteps
+mod FindingSteps
+mod SheetSteps
+mod AnswerSteps
+mod WholeSteps
