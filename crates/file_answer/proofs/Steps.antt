@@ -36,7 +36,7 @@ module _ (p : Parts) (o : Outcome) (pathBefore scratchBefore path scratch : List
       → o .«over_place» < 2 ^ 32
       → o .passed < 2 ^ 32
       → Printed (answered (resultOf (callFor p))) before after next
-  unfolding runOf takesOf callOf callFor numbersBy answered
+  unfolding takesOf callOf callFor answered
   printed-run e f m w h1 h2 h3 h4 h5 h6 =
       let run = runOf Any (p .kind) (p .semantics) (p .label) (p .schema) (p .rule) pathBefore scratchBefore o path scratch in
       let call : callOf run ≡ callFor p = rw (e, f) in
