@@ -1,43 +1,44 @@
-// A line reader: one sheet, and where its next entry starts.
-use sheet::schema::SchemaRead;
+// A line reader (docs/FORMAT.md, "Sheets"): it borrows one sheet and keeps the place where the next entry starts. Few functions touch it; each
+// takes it apart and leaves the work to one on plain bytes and a place.
 ghost use mathlib.Core.Path.{_≡_};
-ghost use Rattle.sheet.specs.Places.{SchemaIs};
-ghost use Rattle.lines.specs.Ends.{schemaEnd};
+ghost use Rattle.lines.specs.Ends.{EndIs};
+
+pub mod schema_sheet; // schema_sheet.rt: the entries H and F
+pub mod rule_sheet; // rule_sheet.rt: the entries R, T, C, V and K
 
 pub struct Lines<'a> {
     pub sheet: &'a [u8],
+    // Where the next entry starts.
     pub at: usize,
 }
 
-pub fn new<'a>(sheet: &'a [u8]) -> Lines<'a>
-    ensures { λ r. ⌜ (r .sheet ≡ sheet .entry) × (r .at ≡ 0) ⌝ }
+// A reader whose next entry starts at `at`.
+pub fn new<'a>(sheet: &'a [u8], at: usize) -> Lines<'a>
+    ensures { λ r. ⌜ (r .sheet ≡ sheet .entry) × (r .at ≡ at) ⌝ }
 {
-    Lines { sheet, at: 0 }
+    Lines { sheet, at }
 }
 
-// Where the next entry starts: behind the head, or where the reader stood if there is none.
-fn schema_end(read: SchemaRead, at: usize) -> usize
-    ensures { λ r. ⌜ r ≡ schemaEnd read at ⌝ }
+// Whether no byte stands at `at` or behind it.
+fn is_end(s: &[u8], at: usize) -> bool
+    ensures { λ r. ⌜ EndIs (now (s .entry)) at r ⌝ }
 {
-    match read {
-        SchemaRead::Is(_, next) => next,
-        SchemaRead::Bad => at,
+    if s.len() <= at {
+        return true;
     }
+    false
 }
 
-pub fn next_schema<'s, 'a>(lines: &'s mut Lines<'a>) -> SchemaRead
-    ensures { λ r. ⌜ SchemaIs (now (now (lines .entry) .sheet)) (now (lines .entry) .at) r
-        × (now (lines .exit) .sheet ≡ now (lines .entry) .sheet)
-        × (now (lines .exit) .at ≡ schemaEnd r (now (lines .entry) .at)) ⌝ }
+// Whether the reader is behind the last entry.
+pub fn is_at_end<'a>(lines: Lines<'a>) -> bool
+    ensures { λ r. ⌜ EndIs (now (lines .entry .sheet)) (lines .entry .at) r ⌝ }
 {
-    let read = sheet::schema::schema_head(lines.sheet, lines.at);
-    lines.at = schema_end(read, lines.at);
-    read
+    is_end(lines.sheet, lines.at)
 }
 
-pub fn first_schema(sheet: &[u8]) -> SchemaRead
-    ensures { λ r. ⌜ SchemaIs (now (sheet .entry)) 0 r ⌝ }
+// The same of a sheet and a place, for callers without a reader.
+pub fn ends_at(sheet: &[u8], at: usize) -> bool
+    ensures { λ r. ⌜ EndIs (now (sheet .entry)) at r ⌝ }
 {
-    let mut lines = new(sheet);
-    next_schema(&mut lines)
+    is_at_end(new(sheet, at))
 }
