@@ -77,12 +77,12 @@ pub fn read_rule(s: &[u8], scratch: &mut [u32]) -> RuleRead
     };
     let end = next.at;
     let entries = next.word;
-    if end < s.len() {
-        return RuleRead::Bad;
+    if lines::ends_at(s, end) {
+        scratch[0] = word_of(0, entries);
+        return RuleRead::Good(RuleSheet {
+            is_template: template,
+            entries,
+        });
     }
-    scratch[0] = word_of(0, entries);
-    RuleRead::Good(RuleSheet {
-        is_template: template,
-        entries,
-    })
+    RuleRead::Bad
 }

@@ -120,8 +120,9 @@ pub fn read_schema(sheet: &[u8], scratch: &mut [u32]) -> SchemaRead
     else {
         return SchemaRead::Bad;
     };
-    if to.at < sheet.len() {
-        return SchemaRead::Bad;
+    let last = to.at;
+    if lines::ends_at(sheet, last) {
+        return SchemaRead::Good(Schema { fields, arguments });
     }
-    SchemaRead::Good(Schema { fields, arguments })
+    SchemaRead::Bad
 }
