@@ -13,12 +13,11 @@ use mir.Syntax.{Name, Ty, Fn, named, erased, imm, mut, w8, w64, tyInt, tyRef, ty
 use mir.Val.{Val, WT, hasTy, vint, vptr}
 use base.Logic.{SProp, ent, sep, wand, emp, via, fst∗, snd∗, exE, id⊢, apply∗}
 use base.Fml.{GName, Lft, Share, Fml, ftrue, fsep, fat, flft, fdead, flent}
-use prog.Memory.{Memory}
-use prog.Routine.{Routine}
 use prog.Wp.{Heap, Calls, Loops, WpFn, Tables}
 use ghost.Atoms.{Atoms, sem}
 use contract.BorrowLft.{meet-⊑-left, meet-⊑-right}
-use contract.Monad.{Fun, fact}
+use contract.Lifetimes.{Lfts}
+use contract.Monad.{fact}
 use types.Kit.{Given, ‵, raw, _⊛_, ⋆, some, later, _$_, _∵_, !, qed, by, move, drop, use1, use2, use3, split, split3, join, pick, fsplit, fjoin, fpick, fpack, suffices, frame, await, done}
 use types.Run.{look, init, forget, stop, from, load, addr, of-opd, and-then, no-more, assigns, land, returns, enter, alloc1, alloc0, params1, pass1, pass0, free1, free0}
 use types.SemTy.{Body}
@@ -31,23 +30,23 @@ use denote.Plain.{uint-vals, uint-tells, uint-makes}
 use denote.Builtin.{u8, usize}
 use denote.Lend.{lends-ref, ref-back}
 use denote.Ref.{RefT, NamedLft, MutRef, now}
-use denote.Signature.{plain}
+use denote.Signature.{plain, namedLft, shrSlice}
 use denote.Slice.{sliceVal, ShrSlice, slice-vals, shr-slice-tells, shr-slice-lawful, shr-slice-copy}
 use denote.Steps.{owned, peeks, heard, nothing}
 use denote.Struct.Laws as LL
 use denote.Struct.Steps.{spelt}
 use denote.Triple.Statement.{Contract, Triple}
 use denote.Triple.Call.{calls-at}
-use denote.Triple.Entry.{Vals, onEntry}
+use denote.Triple.Entry.{Args, Vals, onEntry}
 use denote.Triple.Spec.{Meets, tripleOf}
 use denote.Triple.Walked.{says, Stays, stay-none, stay-none-slice, walkOf, goes-none, goes-none-slice, Walks, ends-at, walked, walk-meets}
-use denote.Triple.Clauses.{closing, ensured, lasts}
+use denote.Triple.Clauses.{Ended, Clauses, AtExit, atExit, Lasts, closing, ensured, lasts}
+use denote.Triple.Weaken.{weaken}
 use denote.Exit.{yes}
 use Rattle.lines.specs.declared.Lines.{Lines}
 use Rattle.lines.proofs.Lines as T
 use Rattle.lines.proofs.Lines.Laws as T′
 use Rattle.lines.proofs.Passing.{headEnded, headClauses, nextEnded, nextClauses, Passed, Next}
-use Rattle.lines.proofs.new as new
 
 -- the struct's type as `new` returns it, as `next` takes it behind a reference, and as a local of a body has it
 abbrev B : Lft → RattleType
@@ -81,9 +80,18 @@ headFn τ #new #next = record {
       (seq (call #next (copy (place 5 []) ∷ []) (place 0 [])) return)));
 }
 
-module _ {M : Type 1} (𝓤 : URA M) (H : Heap 𝓤) (A : Atoms 𝓤) (mem : Memory → SProp 𝓤) (run : Routine → Fun 𝓤) where
-  abbrev pub New : Contract 𝓤
-  New = tripleOf 𝓤 H A new.signature (new.spec 𝓤 H A mem run)
+-- the contract of `new`
+abbrev newEnded : Ended
+newEnded = record {
+  signature = record { lifetimes = 1; outlives = []; params = shrSlice 0 tt (λ _. u8) ∷ plain (λ _. usize) ∷ []; result = plain (λ κs. T.the-row (namedLft 1 0 tt κs)) };
+  kept = (yes, (yes, tt));
+}
+
+abbrev newClauses : {M : Type 1} (𝓤 : URA M) → Clauses 𝓤 newEnded
+newClauses 𝓤 κs a = record { ghost = Unit {0}; requires = λ _. emp 𝓤; ensures = λ _ r _. fact 𝓤 ((r .sheet ≡ a .0) × (r .at ≡ a .1 .0)) }
+
+abbrev pub New : {M : Type 1} (𝓤 : URA M) (H : Heap 𝓤) (A : Atoms 𝓤) → Contract 𝓤
+New 𝓤 H A = tripleOf 𝓤 H A (newEnded .signature) (closing 𝓤 H A newEnded (newClauses 𝓤))
 
 -- the loan: tokens, and the struct in a local
 module _ {M : Type 1} (𝓤 : URA M) (H : Heap 𝓤) (A : Atoms 𝓤) (W : Given 𝓤 H A) (κ : Lft) (q : Share) where
@@ -115,14 +123,14 @@ module _ {M : Type 1} (𝓤 : URA M) (H : Heap 𝓤) (A : Atoms 𝓤) (W : Given
       move ! (1 ∷ []) $ drop ! $ use1 W (‵ (fat fullShare (T′.mir erased) l 0 (T′.lowered r))) (W .laws .raw-at fullShare (T′.mir erased) l 0 (T′.lowered r)) $ done !)
 
 module _ (E : RattleType) (Reads : List ℕ → ℕ → E .Denot → Type 0) (stands : E .Denot → ℕ → ℕ) where
-  abbrev ended : denote.Triple.Clauses.Ended
+  abbrev ended : Ended
   ended = headEnded E Reads stands
 
   abbrev stayed : Stays (ended .signature .params) (ended .kept)
   stayed = (stay-none-slice (0 ∷ []) tt (plain (λ _. u8)) yes, (stay-none (λ _. usize) yes, tt))
 
-  module _ {M : Type 1} (𝓤 : URA M) (H : Heap 𝓤) (A : Atoms 𝓤) (W : Given 𝓤 H A) (at-mem : Memory → SProp 𝓤) (run : Routine → Fun 𝓤) (κ : Lft) (q : Share) (s : RefT (List ℕ)) (n : ℕ) (ok : n < 2 ^ 64) where
-    abbrev clauses : denote.Triple.Clauses.Clauses 𝓤 ended
+  module _ {M : Type 1} (𝓤 : URA M) (H : Heap 𝓤) (A : Atoms 𝓤) (W : Given 𝓤 H A) (κ : Lft) (q : Share) (s : RefT (List ℕ)) (n : ℕ) (ok : n < 2 ^ 64) where
+    abbrev clauses : Clauses 𝓤 ended
     clauses = headClauses E Reads stands 𝓤
 
     -- the machine value that s has
@@ -139,20 +147,20 @@ module _ (E : RattleType) (Reads : List ℕ → ℕ → E .Denot → Type 0) (st
     Own = ShrSlice (named 0) κ u8 .own s (v ∷ [])
 
     -- the call of `new`: what it is passed, what it asks, and what is known of its result
-    abbrev to-new : New 𝓤 H A at-mem run .Ghost
+    abbrev to-new : New 𝓤 H A .Ghost
     to-new = (((κ, tt), (q, tt), tt, (s, (n, tt)), at), tt)
 
-    goes-new : ent 𝓤 (onEntry 𝓤 H A (ended .signature) (κ, tt) (q, tt) (s, (n, tt)) at) (sep 𝓤 (New 𝓤 H A at-mem run .pre to-new) (sem 𝓤 H A Own))
+    goes-new : ent 𝓤 (onEntry 𝓤 H A (ended .signature) (κ, tt) (q, tt) (s, (n, tt)) at) (sep 𝓤 (New 𝓤 H A .pre to-new) (sem 𝓤 H A Own))
     goes-new =
         qed W ((‵ (flft κ q) ⊛ ‵ ftrue) ∷ ‵ (owns (ShrSlice (named 0) κ u8 ∷ usize ∷ []) (s, (n, tt)) at) ∷ []) ∵
         move ! (1 ∷ []) $ fsplit ! $ use1 W (‵ Own ⊛ ‵ Own) (shr-slice-copy 𝓤 H A W (named 0) κ u8 .twice s (v ∷ [])) $ split ! $
-        move ! (0 ∷ 2 ∷ []) $ fjoin ! $ move ! (2 ∷ 0 ∷ []) $ use2 W (raw (New 𝓤 H A at-mem run .pre to-new)) (qed W ((‵ (flft κ q) ⊛ ‵ ftrue) ∷ ‵ (owns (ShrSlice (named 0) κ u8 ∷ usize ∷ []) (s, (n, tt)) at) ∷ []) ∵ join ! $ frame ! $ done !) $ frame ! $ done !
+        move ! (0 ∷ 2 ∷ []) $ fjoin ! $ move ! (2 ∷ 0 ∷ []) $ use2 W (raw (New 𝓤 H A .pre to-new)) (qed W ((‵ (flft κ q) ⊛ ‵ ftrue) ∷ ‵ (owns (ShrSlice (named 0) κ u8 ∷ usize ∷ []) (s, (n, tt)) at) ∷ []) ∵ join ! $ frame ! $ done !) $ frame ! $ done !
 
     abbrev Made : Lines → Type 0
     Made r = (r .sheet ≡ s) × (r .at ≡ n)
 
-    new-said : (r : Lines) → ent 𝓤 (ensured 𝓤 H A new.ended (new.clauses 𝓤 H A at-mem run) (κ, tt) (s, (n, tt)) tt r) (fact 𝓤 (Made r))
-    new-said r = exE 𝓤 _ (λ ws. snd∗ 𝓤 (sem 𝓤 H A (lasts new.ended (κ, tt) (s, (n, tt)) ws)) (fact 𝓤 (Made r)))
+    new-said : (r : Lines) → ent 𝓤 (ensured 𝓤 H A newEnded (newClauses 𝓤) (κ, tt) (s, (n, tt)) tt r) (fact 𝓤 (Made r))
+    new-said r = exE 𝓤 _ (λ ws. snd∗ 𝓤 (sem 𝓤 H A (lasts newEnded (κ, tt) (s, (n, tt)) ws)) (fact 𝓤 (Made r)))
 
     -- the call of `next`, at the struct r that lies in l, lent within ν under the name δ
     abbrev lent : Lines → ℕ → GName → RefT Lines × Unit {0}
@@ -177,14 +185,14 @@ module _ (E : RattleType) (Reads : List ℕ → ℕ → E .Denot → Type 0) (st
     read-there r t e h = subst (λ (i : ℕ). Reads (now s) i t) (e .1) (subst (λ (z : RefT (List ℕ)). Reads (now z) (r .at) t) (e .0) h)
 
     module _ (τ : Ty) (#new #next : Name) (typed : (r : E .Denot) (u : Val) → Is E r (u ∷ []) → Holds (hasTy τ u) × WT u) (C : Calls 𝓤 H) (Λ : Loops 𝓤 H) (fm : FmC 𝓤 H (W .laws) C)
-        (known-new : Triple 𝓤 (C #new) (New 𝓤 H A at-mem run)) (known-next : Triple 𝓤 (C #next) (Next E Reads stands 𝓤 H A)) where
+        (known-new : Triple 𝓤 (C #new) (New 𝓤 H A)) (known-next : Triple 𝓤 (C #next) (Next E Reads stands 𝓤 H A)) where
       walk : Is (ShrSlice (named 0) κ u8) s (v ∷ []) → ent 𝓤 (onEntry 𝓤 H A (ended .signature) (κ, tt) (q, tt) (s, (n, tt)) at) (WpFn 𝓤 H C Λ (headFn τ #new #next) (v ∷ vint w64 n ∷ []) Post)
       walk p =
           qed W (raw (onEntry 𝓤 H A (ended .signature) (κ, tt) (q, tt) (s, (n, tt)) at) ∷ []) ∵ enter ! C Λ (headFn τ #new #next) (v ∷ vint w64 n ∷ []) _ $
           alloc1 ! (λ l₀. alloc1 ! (λ l₁. alloc1 ! (λ l₂. alloc1 ! (λ l₃. alloc1 ! (λ l₄. alloc1 ! (λ l₅. alloc0 ! $ params1 ! $ pass1 ! (init ! 8 refl (shr-slice-lawful 𝓤 H A W (named 0) κ u8 .typed s (v ∷ []) p .0)) $ pass1 ! (init ! 6 refl (tt, record { fits = ok })) $ pass0 ! $
-          move ! (12 ∷ []) $ use1 W (raw (New 𝓤 H A at-mem run .pre to-new) ⊛ ‵ Own) goes-new $ split ! $
-          calls-at ! fm (New 𝓤 H A at-mem run) known-new to-new (and-then ! (load ! (from ! (stop !)) (look ! 10 refl)) (and-then ! (load ! (from ! (stop !)) (look ! 8 refl)) (no-more !))) (λ u.
-          use1 W (later (some (λ (r : Lines). ((‵ (flft κ q) ⊛ ‵ ftrue) ⊛ ‵ (B κ .own r (u ∷ []))) ⊛ raw (ensured 𝓤 H A new.ended (new.clauses 𝓤 H A at-mem run) (κ, tt) (s, (n, tt)) tt r)))) (id⊢ 𝓤 _) $ await ! tt $ pick ! (λ r.
+          move ! (12 ∷ []) $ use1 W (raw (New 𝓤 H A .pre to-new) ⊛ ‵ Own) goes-new $ split ! $
+          calls-at ! fm (New 𝓤 H A) known-new to-new (and-then ! (load ! (from ! (stop !)) (look ! 10 refl)) (and-then ! (load ! (from ! (stop !)) (look ! 8 refl)) (no-more !))) (λ u.
+          use1 W (later (some (λ (r : Lines). ((‵ (flft κ q) ⊛ ‵ ftrue) ⊛ ‵ (B κ .own r (u ∷ []))) ⊛ raw (ensured 𝓤 H A newEnded (newClauses 𝓤) (κ, tt) (s, (n, tt)) tt r)))) (id⊢ 𝓤 _) $ await ! tt $ pick ! (λ r.
           split ! $ move ! (1 ∷ []) $ use1 W (raw (fact 𝓤 (Made r))) (new-said r) $ heard ! (Made r) (λ e. split ! $ move ! (1 ∷ []) $
           -- [what the struct owns; the token; what s owns; room for _5; …; room for _4; …; room for _3; …; _2; …; _1; …; room for _0; …]
           peeks ! (B κ) (Is (B κ)) (shows 𝓤 H A (B κ)) r (u ∷ []) (λ is.
@@ -213,13 +221,18 @@ module _ (E : RattleType) (Reads : List ℕ → ℕ → E .Denot → Type 0) (st
           move ! (14 ∷ 15 ∷ []) $ free1 ! $ move ! (12 ∷ 13 ∷ []) $ free1 ! $ move ! (10 ∷ 11 ∷ []) $ free1 ! $ move ! (0 ∷ 9 ∷ []) $ free1 ! $ move ! (6 ∷ 7 ∷ []) $ free1 ! $ move ! (4 ∷ 5 ∷ []) $ free1 ! $ free0 ! $
           join ! $ move ! (1 ∷ 0 ∷ []) $ by ! (exits t u′ (read-there r t e (e′ .0))))))))))))))))))))
 
-  module _ {M : Type 1} (𝓤 : URA M) (H : Heap 𝓤) (A : Atoms 𝓤) (W : Given 𝓤 H A) (mem : Memory → SProp 𝓤) (run : Routine → Fun 𝓤) (τ : Ty) (#new #next : Name) (typed : (r : E .Denot) (u : Val) → Is E r (u ∷ []) → Holds (hasTy τ u) × WT u) where
-    head-walks : (C : Calls 𝓤 H) (Λ : Loops 𝓤 H) → FmC 𝓤 H (W .laws) C → Triple 𝓤 (C #new) (New 𝓤 H A mem run) → Triple 𝓤 (C #next) (Next E Reads stands 𝓤 H A)
+  module _ {M : Type 1} (𝓤 : URA M) (H : Heap 𝓤) (A : Atoms 𝓤) (W : Given 𝓤 H A) (τ : Ty) (#new #next : Name) (typed : (r : E .Denot) (u : Val) → Is E r (u ∷ []) → Holds (hasTy τ u) × WT u) where
+    head-walks : (C : Calls 𝓤 H) (Λ : Loops 𝓤 H) → FmC 𝓤 H (W .laws) C → Triple 𝓤 (C #new) (New 𝓤 H A) → Triple 𝓤 (C #next) (Next E Reads stands 𝓤 H A)
         → Walks 𝓤 H A ended stayed (WpFn 𝓤 H C Λ (headFn τ #new #next)) (headClauses E Reads stands 𝓤)
     head-walks C Λ fm known-new known-next = walked 𝓤 H A ended stayed (headClauses E Reads stands 𝓤) (WpFn 𝓤 H C Λ (headFn τ #new #next)) (λ κs. (slice-vals, (uint-vals w64, tt))) (λ κs. (shr-slice-tells (named 0) (κs .0) u8, (uint-tells w64, tt)))
-        (λ κs qs bounds a g are. via 𝓤 _ (fst∗ 𝓤 _ (emp 𝓤)) (walk 𝓤 H A W mem run (κs .0) (qs .0) (a .0) (a .1 .0) (are .1 .0 .1) τ #new #next typed C Λ fm known-new known-next (are .0)))
+        (λ κs qs bounds a g are. via 𝓤 _ (fst∗ 𝓤 _ (emp 𝓤)) (walk 𝓤 H A W (κs .0) (qs .0) (a .0) (a .1 .0) (are .1 .0 .1) τ #new #next typed C Λ fm known-new known-next (are .0)))
 
-    pub head-meets : (𝓣 : Tables 𝓤 H) → Triple 𝓤 (𝓣 .C #new) (New 𝓤 H A mem run) → Triple 𝓤 (𝓣 .C #next) (Next E Reads stands 𝓤 H A)
-        → Meets 𝓤 H A (ended .signature) (WpFn 𝓤 H (𝓣 .C) (𝓣 .Λ) (headFn τ #new #next)) (closing 𝓤 H A ended (headClauses E Reads stands 𝓤))
-    head-meets 𝓣 known-new known-next = walk-meets 𝓤 H A ended stayed W (goes-none-slice 𝓤 H A W 1 (0 ∷ []) tt (plain (λ _. u8)) yes, (goes-none 𝓤 H A W 1 (λ _. usize) yes (λ κs x f. refl), tt)) (headClauses E Reads stands 𝓤) (WpFn 𝓤 H (𝓣 .C) (𝓣 .Λ) (headFn τ #new #next)) (WpFn-mono 𝓤 H (W .laws) 𝓣 (headFn τ #new #next))
-        (head-walks (𝓣 .C) (𝓣 .Λ) (fmOf 𝓤 H (W .laws) 𝓣) known-new known-next)
+    -- to any clause that follows from what the walk shows
+    pub head-meets : (Says : (κs : Lfts 1) (a : Args (ended .signature) κs) → Unit {0} → E .Denot → AtExit ended κs → SProp 𝓤)
+        → ((κs : Lfts 1) (a : Args (ended .signature) κs) (g : Unit {0}) (r : E .Denot) (ws : Lasts ended κs a) → ent 𝓤 (fact 𝓤 (Reads (now (a .0)) (a .1 .0) r)) (Says κs a g r (atExit ended κs a ws)))
+        → (𝓣 : Tables 𝓤 H) → Triple 𝓤 (𝓣 .C #new) (New 𝓤 H A) → Triple 𝓤 (𝓣 .C #next) (Next E Reads stands 𝓤 H A)
+        → Meets 𝓤 H A (ended .signature) (WpFn 𝓤 H (𝓣 .C) (𝓣 .Λ) (headFn τ #new #next)) (closing 𝓤 H A ended (λ κs a. record { ghost = Unit {0}; requires = λ _. emp 𝓤; ensures = Says κs a }))
+    head-meets Says so 𝓣 known-new known-next =
+        weaken 𝓤 H A ended W (headClauses E Reads stands 𝓤) Says so (WpFn 𝓤 H (𝓣 .C) (𝓣 .Λ) (headFn τ #new #next)) (WpFn-mono 𝓤 H (W .laws) 𝓣 (headFn τ #new #next))
+        (walk-meets 𝓤 H A ended stayed W (goes-none-slice 𝓤 H A W 1 (0 ∷ []) tt (plain (λ _. u8)) yes, (goes-none 𝓤 H A W 1 (λ _. usize) yes (λ κs x f. refl), tt)) (headClauses E Reads stands 𝓤) (WpFn 𝓤 H (𝓣 .C) (𝓣 .Λ) (headFn τ #new #next)) (WpFn-mono 𝓤 H (W .laws) 𝓣 (headFn τ #new #next))
+        (head-walks (𝓣 .C) (𝓣 .Λ) (fmOf 𝓤 H (W .laws) 𝓣) known-new known-next))

@@ -15,7 +15,7 @@ use base.Logic.{SProp, ent, sep, emp, via, fst∗, snd∗, exE, id⊢}
 use base.Fml.{GName, Lft, Share, Fml, ftrue, fat, flft, fobs, fbor}
 use prog.Wp.{Heap, Calls, Loops, WpFn, Tables}
 use ghost.Atoms.{Atoms, sem}
-use contract.Lifetimes.{AllOutlive}
+use contract.Lifetimes.{Lfts, AllOutlive}
 use contract.Monad.{fact}
 use types.Kit.{Given, ‵, raw, _⊛_, given, ⋆, some, later, _$_, _∵_, !, qed, by, move, keep, drop, use1, use2, split, join, learn, pick, rewrite, fsplit, fsplit3, fjoin, fjoin3, feqI, suffices, frame, await, done}
 use types.Part.{whole, sub, look-in, store-in}
@@ -38,10 +38,11 @@ use denote.Struct.Steps.{spelt}
 use denote.Struct.Values.{Values}
 use denote.Triple.Statement.{Contract, Triple}
 use denote.Triple.Call.{calls-at}
-use denote.Triple.Entry.{Vals, onEntry}
+use denote.Triple.Entry.{Args, Vals, onEntry}
 use denote.Triple.Spec.{Meets, tripleOf}
 use denote.Triple.Walked.{says, Stays, stay-ref, walkOf, goes-ref, Walks, ends-at, walked, walk-meets}
-use denote.Triple.Clauses.{Ended, Clauses, closing, ensured, lasts}
+use denote.Triple.Clauses.{Ended, Clauses, AtExit, atExit, Lasts, closing, ensured, lasts}
+use denote.Triple.Weaken.{weaken}
 use denote.Exit.{yes}
 use Rattle.lines.specs.declared.Lines.{Lines}
 use Rattle.lines.proofs.Lines as T
@@ -262,7 +263,12 @@ module _ (E : RattleType) (Reads : List ℕ → ℕ → E .Denot → Type 0) (st
     next-walks C Λ fm known-head known-end = walked 𝓤 H A nextEnded stayed (nextClauses 𝓤) (WpFn 𝓤 H C Λ (nextFn τ #head #end)) (λ κs. (ptr-vals, tt)) (λ κs. (mut-tells (named 0) (κs .0) (B (κs .1 .0)), tt))
         (λ κs qs bounds a g are. via 𝓤 _ (fst∗ 𝓤 _ (emp 𝓤)) (walk 𝓤 H A W (κs .0) (κs .1 .0) (qs .0) (qs .1 .0) bounds (a .0 .ptr .0) (a .0 .ptr .1) (a .0 .name) (a .0 .now) τ #head #end typed copies C Λ fm known-head known-end))
 
-    pub next-meets : (𝓣 : Tables 𝓤 H) → Triple 𝓤 (𝓣 .C #head) (Head 𝓤 H A) → Triple 𝓤 (𝓣 .C #end) (End 𝓤 H A)
-        → Meets 𝓤 H A (nextEnded .signature) (WpFn 𝓤 H (𝓣 .C) (𝓣 .Λ) (nextFn τ #head #end)) (closing 𝓤 H A nextEnded (nextClauses 𝓤))
-    next-meets 𝓣 known-head known-end = walk-meets 𝓤 H A nextEnded stayed W (goes-ref 𝓤 H A W 2 0 tt behind, tt) (nextClauses 𝓤) (WpFn 𝓤 H (𝓣 .C) (𝓣 .Λ) (nextFn τ #head #end)) (WpFn-mono 𝓤 H (W .laws) 𝓣 (nextFn τ #head #end))
-        (next-walks (𝓣 .C) (𝓣 .Λ) (fmOf 𝓤 H (W .laws) 𝓣) known-head known-end)
+    -- to any clause that follows from what the walk shows
+    pub next-meets : (Says : (κs : Lfts 2) (a : Args (nextEnded .signature) κs) → Unit {0} → E .Denot → AtExit nextEnded κs → SProp 𝓤)
+        → ((κs : Lfts 2) (a : Args (nextEnded .signature) κs) (g : Unit {0}) (r : E .Denot) (ws : Lasts nextEnded κs a) → ent 𝓤 (fact 𝓤 (Passed (now (a .0)) (ws .0) r)) (Says κs a g r (atExit nextEnded κs a ws)))
+        → (𝓣 : Tables 𝓤 H) → Triple 𝓤 (𝓣 .C #head) (Head 𝓤 H A) → Triple 𝓤 (𝓣 .C #end) (End 𝓤 H A)
+        → Meets 𝓤 H A (nextEnded .signature) (WpFn 𝓤 H (𝓣 .C) (𝓣 .Λ) (nextFn τ #head #end)) (closing 𝓤 H A nextEnded (λ κs a. record { ghost = Unit {0}; requires = λ _. emp 𝓤; ensures = Says κs a }))
+    next-meets Says so 𝓣 known-head known-end =
+        weaken 𝓤 H A nextEnded W (nextClauses 𝓤) Says so (WpFn 𝓤 H (𝓣 .C) (𝓣 .Λ) (nextFn τ #head #end)) (WpFn-mono 𝓤 H (W .laws) 𝓣 (nextFn τ #head #end))
+        (walk-meets 𝓤 H A nextEnded stayed W (goes-ref 𝓤 H A W 2 0 tt behind, tt) (nextClauses 𝓤) (WpFn 𝓤 H (𝓣 .C) (𝓣 .Λ) (nextFn τ #head #end)) (WpFn-mono 𝓤 H (W .laws) 𝓣 (nextFn τ #head #end))
+        (next-walks (𝓣 .C) (𝓣 .Λ) (fmOf 𝓤 H (W .laws) 𝓣) known-head known-end))
