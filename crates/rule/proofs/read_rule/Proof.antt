@@ -65,7 +65,7 @@ returns-4 c =
     let head = rw (c .before .before .before .before .before .before .before .before .before .before .before .before .head .given .1) at (c .before .before .before .before .before .before .before .before .before .before .before .before .before .before .rule-head .ensures) in
     let answer = rw (c .before .before .before .before .before .before .before .before .before .before .is-template .ensures) at (rw (c .before .before .before .before .next .given .1) at (c .before .before .before .before .before .before .before .before .read-tree .ensures)) in
     rw (c .before .before .before .before .before .before .before .before .before .before .is-template .ensures)
-    (rule-answer (now (c .before .before .before .before .before .before .before .before .before .before .before .before .before .before .before .before .before .before .args .s)) (now (c .before .before .before .before .before .before .before .before .before .before .before .before .before .before .before .before .before .before .args .scratch)) (c .before .before .before .before .before .before .before .before .read-tree .last .1 .0) (c .before .before .before .before .before .before .before .before .before .before .before .before .head .given .0 .1 .0) (c .before .before .before .before .before .before .before .before .before .before .before .before .before .before .before .if1 .left) (c .before .before .before .before .before .before .before .before .before .before .before .before .head .given .0 .0) (c .before .before .before .before .next .given .0 .0) (head .reads) (omega (arith, c .before .before .before .before .before .before .before .before .read-tree .kept .1 .0, c .before .before .before .before .before .before .before .before .before .before .before .before .before .before .before .before .before .before .pre)) answer (rw (c .before .if2 .taken) at (c .before .before .ends-at .ensures)) (c .word-of .ensures))
+    (rule-answer (now (c .before .before .before .before .before .before .before .before .before .before .before .before .before .before .before .before .before .before .args .s)) (now (c .before .before .before .before .before .before .before .before .before .before .before .before .before .before .before .before .before .before .args .scratch)) (c .before .before .before .before .before .before .before .before .read-tree .last .1 .0) (c .before .before .before .before .before .before .before .before .before .before .before .before .head .given .0 .1 .0) (c .before .before .before .before .before .before .before .before .before .before .before .before .before .before .before .if1 .left) (c .before .before .before .before .before .before .before .before .before .before .before .before .head .given .0 .0) (c .before .before .before .before .next .given .0 .0) (head .reads) (omega (arith, c .before .before .before .before .before .before .before .before .read-tree .kept .1 .0, c .before .before .before .before .before .before .before .before .before .before .before .before .before .before .before .before .before .before .pre)) answer (omega (arith, rw (c .before .if2 .taken) at (c .before .before .ends-at .ensures))) (c .word-of .ensures))
 
 same-length-3 : tie.Need-same-length-3
 same-length-3 c = c .before .before .before .before .before .before .before .read-tree .kept .1 .0
@@ -74,7 +74,7 @@ returns-5 : tie.Need-returns-5
 returns-5 c =
     let head = rw (c .before .before .before .before .before .before .before .before .before .before .before .head .given .1) at (c .before .before .before .before .before .before .before .before .before .before .before .before .before .rule-head .ensures) in
     let answer = rw (c .before .before .before .before .before .before .before .before .before .is-template .ensures) at (rw (c .before .before .before .next .given .1) at (c .before .before .before .before .before .before .before .read-tree .ensures)) in
-    rule-unended-answer (now (c .before .before .before .before .before .before .before .before .before .before .before .before .before .before .before .before .before .args .s)) (now (c .before .before .before .before .before .before .before .before .before .before .before .before .before .before .before .before .before .args .scratch)) (c .before .before .before .before .before .before .before .read-tree .last .1 .0) (c .before .before .before .before .before .before .before .before .before .before .before .head .given .0 .1 .0) (c .before .before .before .before .before .before .before .before .before .before .before .before .before .before .if1 .left) (c .before .before .before .before .before .before .before .before .before .before .before .head .given .0 .0) (c .before .before .before .next .given .0 .0) (head .reads) answer (rw (c .if2 .left) at (c .before .ends-at .ensures))
+    rule-unended-answer (now (c .before .before .before .before .before .before .before .before .before .before .before .before .before .before .before .before .before .args .s)) (now (c .before .before .before .before .before .before .before .before .before .before .before .before .before .before .before .before .before .args .scratch)) (c .before .before .before .before .before .before .before .read-tree .last .1 .0) (c .before .before .before .before .before .before .before .before .before .before .before .head .given .0 .1 .0) (c .before .before .before .before .before .before .before .before .before .before .before .before .before .before .if1 .left) (c .before .before .before .before .before .before .before .before .before .before .before .head .given .0 .0) (c .before .before .before .next .given .0 .0) (head .reads) answer (omega (arith, rw (c .if2 .left) at (c .before .ends-at .ensures)))
 
 pub read-rule-spec : {M : Type 1} → statement M
 read-rule-spec =

@@ -109,7 +109,7 @@ returns-5 c =
     let c21 = c20 .before in
     let c24 = c21 .before .before .before in
     let e = rw (c18 .head .given .1) at (c20 .schema-head .ensures) in
-    record { kept = kept-more (c14 .read-holder .ensures .kept) (c7 .read-arguments .ensures .kept); answer = schema-good (c24 .args .sheet .now) (c21 .if1 .left) (schemaOf (c18 .head .given .0 .0)) (c18 .head .given .0 .1 .0) (e .0 .reads) (c24 .args .scratch .now) _ _ _ (rw (c10 .fields .given .1) at (c14 .read-holder .ensures .answer)) _ _ _ (rw (c3 .arguments .given .1) at (c7 .read-arguments .ensures .answer)) (rw (c .if2 .taken) at (c .before .ends-at .ensures)) }
+    record { kept = kept-more (c14 .read-holder .ensures .kept) (c7 .read-arguments .ensures .kept); answer = schema-good (c24 .args .sheet .now) (c21 .if1 .left) (schemaOf (c18 .head .given .0 .0)) (c18 .head .given .0 .1 .0) (e .0 .reads) (c24 .args .scratch .now) _ _ _ (rw (c10 .fields .given .1) at (c14 .read-holder .ensures .answer)) _ _ _ (rw (c3 .arguments .given .1) at (c7 .read-arguments .ensures .answer)) (omega (arith, rw (c .if2 .taken) at (c .before .ends-at .ensures))) }
 
 same-length-4 : tie.Need-same-length-4
 same-length-4 c = search needs
@@ -126,7 +126,7 @@ returns-6 c =
     let c21 = c20 .before in
     let c24 = c21 .before .before .before in
     let e = rw (c18 .head .given .1) at (c20 .schema-head .ensures) in
-    record { kept = kept-more (c14 .read-holder .ensures .kept) (c7 .read-arguments .ensures .kept); answer = schema-unended (c24 .args .sheet .now) (c21 .if1 .left) (schemaOf (c18 .head .given .0 .0)) (c18 .head .given .0 .1 .0) (e .0 .reads) (c24 .args .scratch .now) _ _ _ (rw (c10 .fields .given .1) at (c14 .read-holder .ensures .answer)) _ _ _ (rw (c3 .arguments .given .1) at (c7 .read-arguments .ensures .answer)) (rw (c .if2 .left) at (c .before .ends-at .ensures)) }
+    record { kept = kept-more (c14 .read-holder .ensures .kept) (c7 .read-arguments .ensures .kept); answer = schema-unended (c24 .args .sheet .now) (c21 .if1 .left) (schemaOf (c18 .head .given .0 .0)) (c18 .head .given .0 .1 .0) (e .0 .reads) (c24 .args .scratch .now) _ _ _ (rw (c10 .fields .given .1) at (c14 .read-holder .ensures .answer)) _ _ _ (rw (c3 .arguments .given .1) at (c7 .read-arguments .ensures .answer)) (omega (arith, rw (c .if2 .left) at (c .before .ends-at .ensures))) }
 
 pub read-schema-spec : {M : Type 1} → statement M
 read-schema-spec =
