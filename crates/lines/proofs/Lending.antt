@@ -43,10 +43,11 @@ use denote.Triple.Walked.{says, Stays, stay-none, stay-none-slice, walkOf, goes-
 use denote.Triple.Clauses.{Ended, Clauses, AtExit, atExit, Lasts, closing, ensured, lasts}
 use denote.Triple.Weaken.{weaken}
 use denote.Exit.{yes}
+use Rattle.lines.specs.Passed.{Passed}
 use Rattle.lines.specs.declared.Lines.{Lines}
 use Rattle.lines.proofs.Lines as T
 use Rattle.lines.proofs.Lines.Laws as T′
-use Rattle.lines.proofs.Passing.{headEnded, headClauses, nextEnded, nextClauses, Passed, Next}
+use Rattle.lines.proofs.Passing.{headEnded, headClauses, nextEnded, nextClauses, Next}
 
 -- the struct's type as `new` returns it, as `next` takes it behind a reference, and as a local of a body has it
 abbrev B : Lft → RattleType
@@ -206,8 +207,8 @@ module _ (E : RattleType) (Reads : List ℕ → ℕ → E .Denot → Type 0) (st
           move ! (2 ∷ 3 ∷ 0 ∷ []) $ use3 W (raw (Next E Reads stands 𝓤 H A .pre (to-next r l₃ ν δ))) (goes-next r l₃ ν δ) $
           calls-at ! fm (Next E Reads stands 𝓤 H A) known-next (to-next r l₃ ν δ) (and-then ! (load ! (from ! (stop !)) (look ! 4 refl)) (no-more !)) (λ u′.
           use1 W (later (some (λ (t : E .Denot). ((‵ (flft (ν ∷ κ) (PosShare·right q)) ⊛ ‵ (flft κ (PosShare·left q)) ⊛ ‵ ftrue) ⊛ ‵ (E .own t (u′ ∷ []))) ⊛ raw (ensured 𝓤 H A (nextEnded E Reads stands) (nextClauses E Reads stands 𝓤) (ν ∷ κ, (κ, tt)) (lent r l₃ δ) tt t)))) (id⊢ 𝓤 _) $ await ! tt $ pick ! (λ t.
-          split ! $ move ! (1 ∷ []) $ use1 W (some (λ (ws : Lines × Unit {0}). ‵ (lasts (nextEnded E Reads stands) (ν ∷ κ, (κ, tt)) (lent r l₃ δ) ws) ⊛ raw (fact 𝓤 (Passed E Reads stands r (ws .0) t)))) (id⊢ 𝓤 _) $ pick ! (λ ws.
-          split ! $ move ! (1 ∷ []) $ heard ! (Passed E Reads stands r (ws .0) t) (λ e′. fsplit ! $ move ! (1 ∷ []) $ drop ! $ move ! (1 ∷ []) $ split ! $ move ! (1 ∷ []) $
+          split ! $ move ! (1 ∷ []) $ use1 W (some (λ (ws : Lines × Unit {0}). ‵ (lasts (nextEnded E Reads stands) (ν ∷ κ, (κ, tt)) (lent r l₃ δ) ws) ⊛ raw (fact 𝓤 (Passed Reads stands r (ws .0) t)))) (id⊢ 𝓤 _) $ pick ! (λ ws.
+          split ! $ move ! (1 ∷ []) $ heard ! (Passed Reads stands r (ws .0) t) (λ e′. fsplit ! $ move ! (1 ∷ []) $ drop ! $ move ! (1 ∷ []) $ split ! $ move ! (1 ∷ []) $
           -- [the result; the tokens; the reader's last value; the lender's part; the rest of ν's token; what s owns; _5; …; _4; …; …; _2; …; _1; …; room for _0; …]
           peeks ! E (Is E) (shows 𝓤 H A E) t (u′ ∷ []) (λ is′.
           land ! (from ! (stop !)) (init ! 15 refl (typed t u′ is′)) $

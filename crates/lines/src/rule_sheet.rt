@@ -8,6 +8,7 @@ use sheet::rule::ValueRead;
 ghost use mathlib.Core.Path.{_≡_};
 ghost use Rattle.sheet.specs.Places.{RuleIs, ConditionIs, ValueIs, KeyIs};
 ghost use Rattle.lines.specs.Ends.{ruleEnd, conditionEnd, valueEnd, keyEnd};
+ghost use Rattle.lines.specs.Passed.{Passed};
 
 // Where the entry behind the sheet's first entry starts; a reader that finds none stays where it is.
 fn rule_end(read: RuleRead, at: usize) -> usize
@@ -21,9 +22,7 @@ fn rule_end(read: RuleRead, at: usize) -> usize
 
 // The next entry's head, with the reader moved past it.
 pub fn next_rule<'s, 'a>(lines: &'s mut Lines<'a>) -> RuleRead
-    ensures { λ r. ⌜ RuleIs (now (now (lines .entry) .sheet)) (now (lines .entry) .at) r
-        × (now (lines .exit) .sheet ≡ now (lines .entry) .sheet)
-        × (now (lines .exit) .at ≡ ruleEnd r (now (lines .entry) .at)) ⌝ }
+    ensures { λ r. ⌜ Passed RuleIs ruleEnd (now (lines .entry)) (now (lines .exit)) r ⌝ }
 {
     let read = sheet::rule::rule_head(lines.sheet, lines.at);
     lines.at = rule_end(read, lines.at);
@@ -50,9 +49,7 @@ fn condition_end(read: ConditionRead, at: usize) -> usize
 
 // The next entry's head, with the reader moved past it.
 pub fn next_condition<'s, 'a>(lines: &'s mut Lines<'a>) -> ConditionRead
-    ensures { λ r. ⌜ ConditionIs (now (now (lines .entry) .sheet)) (now (lines .entry) .at) r
-        × (now (lines .exit) .sheet ≡ now (lines .entry) .sheet)
-        × (now (lines .exit) .at ≡ conditionEnd r (now (lines .entry) .at)) ⌝ }
+    ensures { λ r. ⌜ Passed ConditionIs conditionEnd (now (lines .entry)) (now (lines .exit)) r ⌝ }
 {
     let read = sheet::rule::condition_head(lines.sheet, lines.at);
     lines.at = condition_end(read, lines.at);
@@ -79,9 +76,7 @@ fn value_end(read: ValueRead, at: usize) -> usize
 
 // The next entry's head, with the reader moved past it.
 pub fn next_value<'s, 'a>(lines: &'s mut Lines<'a>) -> ValueRead
-    ensures { λ r. ⌜ ValueIs (now (now (lines .entry) .sheet)) (now (lines .entry) .at) r
-        × (now (lines .exit) .sheet ≡ now (lines .entry) .sheet)
-        × (now (lines .exit) .at ≡ valueEnd r (now (lines .entry) .at)) ⌝ }
+    ensures { λ r. ⌜ Passed ValueIs valueEnd (now (lines .entry)) (now (lines .exit)) r ⌝ }
 {
     let read = sheet::rule::value_head(lines.sheet, lines.at);
     lines.at = value_end(read, lines.at);
@@ -108,9 +103,7 @@ fn key_end(read: KeyRead, at: usize) -> usize
 
 // The next entry's head, with the reader moved past it.
 pub fn next_key<'s, 'a>(lines: &'s mut Lines<'a>) -> KeyRead
-    ensures { λ r. ⌜ KeyIs (now (now (lines .entry) .sheet)) (now (lines .entry) .at) r
-        × (now (lines .exit) .sheet ≡ now (lines .entry) .sheet)
-        × (now (lines .exit) .at ≡ keyEnd r (now (lines .entry) .at)) ⌝ }
+    ensures { λ r. ⌜ Passed KeyIs keyEnd (now (lines .entry)) (now (lines .exit)) r ⌝ }
 {
     let read = sheet::rule::key_head(lines.sheet, lines.at);
     lines.at = key_end(read, lines.at);

@@ -6,6 +6,7 @@ use sheet::schema::SchemaRead;
 ghost use mathlib.Core.Path.{_≡_};
 ghost use Rattle.sheet.specs.Places.{SchemaIs, FieldIs};
 ghost use Rattle.lines.specs.Ends.{schemaEnd, fieldEnd};
+ghost use Rattle.lines.specs.Passed.{Passed};
 
 // Where the entry behind the sheet's first entry starts; a reader that finds none stays where it is.
 fn schema_end(read: SchemaRead, at: usize) -> usize
@@ -19,9 +20,7 @@ fn schema_end(read: SchemaRead, at: usize) -> usize
 
 // The next entry's head, with the reader moved past it.
 pub fn next_schema<'s, 'a>(lines: &'s mut Lines<'a>) -> SchemaRead
-    ensures { λ r. ⌜ SchemaIs (now (now (lines .entry) .sheet)) (now (lines .entry) .at) r
-        × (now (lines .exit) .sheet ≡ now (lines .entry) .sheet)
-        × (now (lines .exit) .at ≡ schemaEnd r (now (lines .entry) .at)) ⌝ }
+    ensures { λ r. ⌜ Passed SchemaIs schemaEnd (now (lines .entry)) (now (lines .exit)) r ⌝ }
 {
     let read = sheet::schema::schema_head(lines.sheet, lines.at);
     lines.at = schema_end(read, lines.at);
@@ -48,9 +47,7 @@ fn field_end(read: FieldRead, at: usize) -> usize
 
 // The next entry's head, with the reader moved past it.
 pub fn next_field<'s, 'a>(lines: &'s mut Lines<'a>) -> FieldRead
-    ensures { λ r. ⌜ FieldIs (now (now (lines .entry) .sheet)) (now (lines .entry) .at) r
-        × (now (lines .exit) .sheet ≡ now (lines .entry) .sheet)
-        × (now (lines .exit) .at ≡ fieldEnd r (now (lines .entry) .at)) ⌝ }
+    ensures { λ r. ⌜ Passed FieldIs fieldEnd (now (lines .entry)) (now (lines .exit)) r ⌝ }
 {
     let read = sheet::schema::field_head(lines.sheet, lines.at);
     lines.at = field_end(read, lines.at);
