@@ -19,7 +19,7 @@ struct Case<'a> {
     path: &'a [u8],
 }
 
-fn numeral<'a>(bytes: &mut &'a [u8], end: u8) -> u64 {
+fn numeral(bytes: &mut &[u8], end: u8) -> u64 {
     let at = bytes
         .iter()
         .position(|&byte| byte == end)
