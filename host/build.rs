@@ -50,7 +50,7 @@ fn of_the_repository() -> PathBuf {
 
 fn build(root: &Path, folder: &Path) {
     let other_ways = format!(
-        "Set {VARIABLE} to the folder of an {ARCHIVE}, or run `rt staticlib entity_rules` in {}.",
+        "Set {VARIABLE} to the folder of a {ARCHIVE}, or run `rt staticlib entity_rules` in {}.",
         root.display()
     );
     println!("cargo:rerun-if-env-changed=PATH");

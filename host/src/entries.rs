@@ -16,14 +16,18 @@
 //! # Ok::<(), entity_rules::entries::Malformed>(())
 //! ```
 
+mod number;
 mod reader;
+mod rule;
+mod schema;
 
 use crate::build::{CompareOp, FieldKind};
 use crate::numbered::numbered;
 use std::fmt;
 
-pub(crate) use reader::is_number;
-pub use reader::{read_rule, read_schema};
+pub(crate) use number::is_number;
+pub use rule::read_rule;
+pub use schema::read_schema;
 
 numbered! {
     /// The operator of a condition.

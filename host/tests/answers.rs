@@ -184,7 +184,7 @@ fn the_c_functions_answer_every_case_and_keep_the_other_bytes() {
         assert_eq!(raw::field(&result, 6) as usize, case.path.len());
         let (written, kept) = path.split_at(case.path.len());
         assert_eq!(written, case.path);
-        assert!(kept.iter().all(|&byte| byte == 0xAA));
+        assert!(kept == &vec![0xAA; kept.len()]);
         assert_eq!(result[RESULT_BYTES..], [0xBB; 9]);
     });
 }
@@ -217,7 +217,7 @@ fn short_buffers_are_refused_and_kept() {
                     3
                 }
             );
-            assert!(path.iter().all(|&byte| byte == 0xAA));
+            assert!(path == vec![0xAA; path_bytes]);
             assert!(result_bytes >= RESULT_BYTES || result.iter().all(|&byte| byte == 0xBB));
         }
     });

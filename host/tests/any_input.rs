@@ -69,7 +69,8 @@ fn is_an_answer(number: u32) -> bool {
 fn the_c_functions_answer_anything() {
     let mut random = Random(0x5EED_0005);
     let mut seen = [0; 23];
-    for _ in 0..20_000 {
+    let kept = vec![0xAA; PATH_BYTES + 7];
+    for _ in 0..5_000 {
         let any = random.next();
         let (kind, semantics) = (
             random.pick(&[1, 2, 3, 4, 5, 6, 7, 8, 0, any]),
@@ -112,16 +113,16 @@ fn the_c_functions_answer_anything() {
         } else {
             0
         };
-        assert!(path[written..].iter().all(|&byte| byte == 0xAA));
+        assert!(path[written..] == kept[written..path.len()]);
         assert!(result.iter().skip(RESULT_BYTES).all(|&byte| byte == 0xBB));
     }
-    assert!(seen[..=5].iter().all(|&count| count > 100), "{seen:?}");
+    assert!(seen[..=5].iter().all(|&count| count > 50), "{seen:?}");
 }
 
 #[test]
 fn the_typed_functions_answer_anything() {
     let mut random = Random(0x5EED_0006);
-    for _ in 0..20_000 {
+    for _ in 0..5_000 {
         let (kind, semantics) = (random.pick(Kind::ALL), random.pick(Semantics::ALL));
         let (label, schema, rule) = (random.bytes(), random.sheet(&SCHEMAS), random.sheet(&RULES));
         for function in [check, check_rule, check_template] {

@@ -89,7 +89,7 @@ pairs! {
     lte: Lte;
     /// The left one is among the members of the right one.
     is_in: In;
-    /// The left one has the right one among its members.
+    /// The left one contains the right one, as an element, a key or a part of its text.
     contains: Contains;
     /// The left string begins with the right one.
     starts_with: StartsWith;

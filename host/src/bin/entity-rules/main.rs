@@ -56,24 +56,25 @@ fn run(command: &Command) -> io::Result<u8> {
 }
 
 fn check(arguments: &Arguments, out: &mut impl Write) -> io::Result<u8> {
-    let schema = match read_sheet(&arguments.schema) {
-        Ok(schema) => schema,
+    match read_sheet(&arguments.schema) {
+        Ok(schema) => check_all(arguments, &schema, out),
         Err(error) => {
             let file = visible(&arguments.schema.to_string_lossy());
-            return Ok(complain(&format!(
+            Ok(complain(&format!(
                 "{file}: expected a schema sheet, but it cannot be read: {error}"
-            )));
+            )))
         }
-    };
+    }
+}
+
+/// Checks every rule, and prints what comes of it.
+fn check_all(arguments: &Arguments, schema: &[u8], out: &mut impl Write) -> io::Result<u8> {
+    let total = arguments.rules.len();
     let palette = Palette::new(io::stdout().is_terminal());
-    let mut progress = Progress::new(
-        io::stderr(),
-        io::stderr().is_terminal(),
-        arguments.rules.len(),
-    );
+    let mut progress = Progress::new(io::stderr(), io::stderr().is_terminal(), total);
     let mut tally = Tally::default();
     for rule in &arguments.rules {
-        let checked = Checked::new(arguments, &schema, rule);
+        let checked = Checked::new(arguments, schema, rule);
         tally.count(&checked.outcome);
         if arguments.shows(&checked.outcome) {
             progress.clear();
@@ -85,8 +86,8 @@ fn check(arguments: &Arguments, out: &mut impl Write) -> io::Result<u8> {
         }
     }
     progress.clear();
-    if !arguments.json && arguments.rules.len() > 1 {
-        writeln!(out, "{}", tally.summary(arguments.rules.len()))?;
+    if !arguments.json && total > 1 {
+        writeln!(out, "{}", tally.summary(total))?;
     }
     out.flush()?;
     Ok(tally.status())
