@@ -184,7 +184,7 @@ fn the_c_functions_answer_every_case_and_keep_the_other_bytes() {
         assert_eq!(raw::field(&result, 6) as usize, case.path.len());
         let (written, kept) = path.split_at(case.path.len());
         assert_eq!(written, case.path);
-        assert!(kept == &vec![0xAA; kept.len()]);
+        assert!(kept == vec![0xAA; kept.len()]);
         assert_eq!(result[RESULT_BYTES..], [0xBB; 9]);
     });
 }

@@ -22,6 +22,15 @@ impl Random {
         all[self.below(all.len())]
     }
 
+    /// A setting from 1 to `most`, or any number.
+    fn setting(&mut self, most: usize) -> u64 {
+        match self.below(12) {
+            0 => self.next(),
+            1 => 0,
+            _ => self.below(most) as u64 + 1,
+        }
+    }
+
     /// Bytes of all sorts, most of them such as sheets are made of.
     fn bytes(&mut self) -> Vec<u8> {
         let length = self.pick(&[0, 1, 10, 60, 300]);
@@ -70,13 +79,16 @@ fn the_c_functions_answer_anything() {
     let mut random = Random(0x5EED_0005);
     let mut seen = [0; 23];
     let kept = vec![0xAA; PATH_BYTES + 7];
-    for _ in 0..5_000 {
-        let any = random.next();
-        let (kind, semantics) = (
-            random.pick(&[1, 2, 3, 4, 5, 6, 7, 8, 0, any]),
-            random.pick(&[1, 2, 3, 4, any]),
-        );
-        let label = random.pick(&[&b""[..], b"label", b"\xC0\x80", &[b'l'; 256], &[b'l'; 257]]);
+    for _ in 0..10_000 {
+        let (kind, semantics) = (random.setting(8), random.setting(4));
+        let label = random.pick(&[
+            &b""[..],
+            b"label",
+            b"\xC3\xA9",
+            &[b'l'; 256],
+            &[b'l'; 257],
+            b"\xC0\x80",
+        ]);
         let (schema, rule) = (random.sheet(&SCHEMAS), random.sheet(&RULES));
         let mut path =
             vec![0xAA; random.pick(&[PATH_BYTES, PATH_BYTES, PATH_BYTES + 7, PATH_BYTES - 1, 0])];
