@@ -1,60 +1,42 @@
 //! Whatever is handed over, the answer is one of the format's, and buffers keep what they should.
 
+mod support;
+
 use entity_rules::limits::{PATH_BYTES, RESULT_BYTES};
 use entity_rules::{Kind, Refusal, Semantics, check, check_rule, check_template, raw};
+use support::Random;
 
-/// A small generator of numbers (xorshift), the same on every machine.
-struct Random(u64);
-
-impl Random {
-    fn next(&mut self) -> u64 {
-        self.0 ^= self.0 << 13;
-        self.0 ^= self.0 >> 7;
-        self.0 ^= self.0 << 17;
-        self.0
+/// A setting from 1 to `most`, or any number.
+fn setting(random: &mut Random, most: usize) -> u64 {
+    match random.below(12) {
+        0 => random.next(),
+        1 => 0,
+        _ => random.below(most) as u64 + 1,
     }
+}
 
-    fn below(&mut self, bound: usize) -> usize {
-        (self.next() >> 33) as usize % bound
-    }
+/// Bytes of all sorts, most of them such as sheets are made of.
+fn bytes(random: &mut Random) -> Vec<u8> {
+    let length = random.pick(&[0, 1, 10, 60, 300]);
+    let byte = |_| match random.below(8) {
+        0 => random.below(256) as u8,
+        _ => random.pick(b"HFRTCVK,,,,0123-\n\n$ab."),
+    };
+    (0..length).map(byte).collect()
+}
 
-    fn pick<T: Copy>(&mut self, all: &[T]) -> T {
-        all[self.below(all.len())]
-    }
-
-    /// A setting from 1 to `most`, or any number.
-    fn setting(&mut self, most: usize) -> u64 {
-        match self.below(12) {
-            0 => self.next(),
-            1 => 0,
-            _ => self.below(most) as u64 + 1,
+/// A sheet that is well formed, or damaged at some byte, or no sheet at all.
+fn sheet(random: &mut Random, good: &[&str]) -> Vec<u8> {
+    let mut sheet = random.pick(good).as_bytes().to_vec();
+    match random.below(4) {
+        0 | 1 => {}
+        2 => {
+            let at = random.below(sheet.len());
+            sheet[at] = random.below(256) as u8;
         }
+        _ => sheet = bytes(random),
     }
-
-    /// Bytes of all sorts, most of them such as sheets are made of.
-    fn bytes(&mut self) -> Vec<u8> {
-        let length = self.pick(&[0, 1, 10, 60, 300]);
-        (0..length)
-            .map(|_| match self.below(8) {
-                0 => self.below(256) as u8,
-                _ => self.pick(b"HFRTCVK,,,,0123-\n\n$ab."),
-            })
-            .collect()
-    }
-
-    /// A sheet that is well formed, or damaged at some byte, or no sheet at all.
-    fn sheet(&mut self, good: &[&str]) -> Vec<u8> {
-        let mut sheet = self.pick(good).as_bytes().to_vec();
-        match self.below(4) {
-            0 | 1 => {}
-            2 => {
-                let at = self.below(sheet.len());
-                sheet[at] = self.below(256) as u8;
-            }
-            _ => sheet = self.bytes(),
-        }
-        sheet
-    }
+    sheet
 }
 
 const SCHEMAS: [&str; 3] = [
@@ -70,54 +52,67 @@ const RULES: [&str; 4] = [
     "T\nV,5,6,$state\n",
 ];
 
-fn is_an_answer(number: u32) -> bool {
-    matches!(number, 0..=5 | 11..=22)
+/// What a call to a C function is given.
+struct Call {
+    kind: u64,
+    semantics: u64,
+    label: &'static [u8],
+    schema: Vec<u8>,
+    rule: Vec<u8>,
+    path: Vec<u8>,
+    result: Vec<u8>,
+}
+
+impl Call {
+    fn any(random: &mut Random) -> Self {
+        let (path, result) = (PATH_BYTES, RESULT_BYTES);
+        Self {
+            kind: setting(random, 8),
+            semantics: setting(random, 4),
+            label: random.pick(&[
+                b"",
+                b"label",
+                b"\xC3\xA9",
+                &[b'l'; 256],
+                &[b'l'; 257],
+                b"\xC0\x80",
+            ]),
+            schema: sheet(random, &SCHEMAS),
+            rule: sheet(random, &RULES),
+            path: vec![0xAA; random.pick(&[path, path, path + 7, path - 1, 0])],
+            result: vec![0xBB; random.pick(&[result, result, result + 1, result - 1, 0])],
+        }
+    }
+
+    fn run(&mut self, random: &mut Random) -> u32 {
+        let Self {
+            kind,
+            semantics,
+            label,
+            schema,
+            rule,
+            path,
+            result,
+        } = self;
+        let function = random.pick(&[raw::rule, raw::template]);
+        function(*kind, *semantics, label, schema, rule, path, result)
+    }
 }
 
 #[test]
 fn the_c_functions_answer_anything() {
     let mut random = Random(0x5EED_0005);
-    let mut seen = [0; 23];
     let kept = vec![0xAA; PATH_BYTES + 7];
+    let mut seen = [0; 23];
     for _ in 0..10_000 {
-        let (kind, semantics) = (random.setting(8), random.setting(4));
-        let label = random.pick(&[
-            &b""[..],
-            b"label",
-            b"\xC3\xA9",
-            &[b'l'; 256],
-            &[b'l'; 257],
-            b"\xC0\x80",
-        ]);
-        let (schema, rule) = (random.sheet(&SCHEMAS), random.sheet(&RULES));
-        let mut path =
-            vec![0xAA; random.pick(&[PATH_BYTES, PATH_BYTES, PATH_BYTES + 7, PATH_BYTES - 1, 0])];
-        let mut result = vec![
-            0xBB;
-            random.pick(&[
-                RESULT_BYTES,
-                RESULT_BYTES,
-                RESULT_BYTES + 1,
-                RESULT_BYTES - 1,
-                0
-            ])
-        ];
-        let function = random.pick(&[raw::rule, raw::template]);
+        let mut call = Call::any(&mut random);
+        let number = call.run(&mut random);
+        let Call { path, result, .. } = call;
 
-        let number = function(
-            kind,
-            semantics,
-            label,
-            &schema,
-            &rule,
-            &mut path,
-            &mut result,
-        );
-
-        assert!(is_an_answer(number), "{number}");
+        assert!(matches!(number, 0..=5 | 11..=22), "{number}");
         seen[number as usize] += 1;
         match result.len() < RESULT_BYTES {
-            true => assert!((1..=3).contains(&number) && result.iter().all(|&byte| byte == 0xBB)),
+            true => assert!((1..=3).contains(&number) && result == vec![0xBB; result.len()]),
             false => assert_eq!(raw::field(&result, 0), number),
         }
         let written = if number > 5 {
@@ -136,7 +131,11 @@ fn the_typed_functions_answer_anything() {
     let mut random = Random(0x5EED_0006);
     for _ in 0..5_000 {
         let (kind, semantics) = (random.pick(Kind::ALL), random.pick(Semantics::ALL));
-        let (label, schema, rule) = (random.bytes(), random.sheet(&SCHEMAS), random.sheet(&RULES));
+        let (label, schema, rule) = (
+            bytes(&mut random),
+            sheet(&mut random, &SCHEMAS),
+            sheet(&mut random, &RULES),
+        );
         for function in [check, check_rule, check_template] {
             match function(kind, semantics, &label, &schema, &rule) {
                 Ok(verdict) => assert!(verdict.defect().is_none_or(|defect| defect.place > 0)),
@@ -153,7 +152,7 @@ fn the_typed_functions_answer_anything() {
 fn a_field_lies_in_the_result_or_is_0() {
     let mut random = Random(0x5EED_0007);
     for _ in 0..10_000 {
-        let result = random.bytes();
+        let result = bytes(&mut random);
         let any = random.next() as u32;
         let index = random.pick(&[0, 1, 6, 7, 15, 1 << 30, u32::MAX, any]);
         let start = index as usize * 4;

@@ -20,6 +20,9 @@ usage: entity-rules check SCHEMA RULE.. --kind KIND --semantics SEMANTICS [OPTIO
   --                  all words after this are files
   --help, --version
 
+Example, in the crate's folder examples/mill:
+  entity-rules check pattern.schema release.rule --kind precondition --semantics service/1
+
 Exit status: 0 all are accepted; 1 one has a defect; 2 one is refused or cannot be read, or the
 command line is wrong.
 ";

@@ -3,7 +3,6 @@
 use crate::checked::{Checked, Fault, Outcome, Spot};
 use entity_rules::{Defect, Refusal};
 use std::env;
-use std::fmt::Write;
 
 /// The colours, or none.
 pub struct Palette {
@@ -69,40 +68,34 @@ fn defect_text(
     over: Option<&Spot>,
 ) -> String {
     let line = at.map_or_else(String::new, |spot| format!(":{}", spot.line));
-    let word = palette.paint(
-        Colour::Red,
-        &format!(
-            "defect {} ({})",
-            defect.number.number(),
-            defect.number.word()
-        ),
+    let number = format!(
+        "defect {} ({})",
+        defect.number.number(),
+        defect.number.word()
     );
+    let word = palette.paint(Colour::Red, &number);
     let mut text = format!("{file}{line}: {word}: {}\n", defect.explanation());
-    let mut row = |name: &str, value: &str| {
-        // A string takes whatever is written to it.
-        let _ = writeln!(text, "  {name:<8}{value}");
-    };
-    row("path", &visible(&defect.path));
-    if let Some(spot) = at {
-        row("at", &spot_text(spot));
+    for (name, value) in rows(defect, at, over) {
+        text.push_str(&format!("  {name:<8}{value}\n"));
     }
-    if let Some(spot) = over {
-        row("over", &spot_text(spot));
-    }
-    row(
-        "family",
-        &format!(
-            "{} {}, {}",
-            defect.family.number(),
-            defect.family.name(),
-            defect.family
-        ),
-    );
-    row(
-        "passed",
-        &format!("{} checks before this one", defect.passed),
-    );
     text
+}
+
+/// The rows under a defect: their names and what they say.
+fn rows(defect: &Defect, at: Option<&Spot>, over: Option<&Spot>) -> Vec<(&'static str, String)> {
+    let family = defect.family;
+    let mut rows = vec![("path", visible(&defect.path))];
+    rows.extend(at.map(|spot| ("at", spot_text(spot))));
+    rows.extend(over.map(|spot| ("over", spot_text(spot))));
+    rows.push((
+        "family",
+        format!("{} {}, {family}", family.number(), family.name()),
+    ));
+    rows.push((
+        "passed",
+        format!("{} checks before this one", defect.passed),
+    ));
+    rows
 }
 
 fn spot_text(spot: &Spot) -> String {
