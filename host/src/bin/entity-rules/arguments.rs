@@ -137,31 +137,24 @@ impl Options {
                 "check: expected at least one file RULE after {schema:?}"
             ));
         }
-        let missing = |option: &str, names: Vec<&str>| {
-            format!("check: expected {option}, one of {}", names.join(", "))
-        };
-        let kinds = || {
-            missing(
-                "--kind KIND",
-                Kind::ALL.iter().map(|kind| kind.text()).collect(),
-            )
-        };
-        let all_semantics = || {
-            missing(
-                "--semantics NAME",
-                Semantics::ALL.iter().map(|one| one.text()).collect(),
-            )
-        };
         Ok(Arguments {
             schema,
             rules,
-            kind: self.kind.ok_or_else(kinds)?,
-            semantics: self.semantics.ok_or_else(all_semantics)?,
+            kind: self.kind.ok_or_else(|| missing("--kind KIND", Kind::ALL))?,
+            semantics: self
+                .semantics
+                .ok_or_else(|| missing("--semantics NAME", Semantics::ALL))?,
             label: self.label,
             json: self.json,
             quiet: self.quiet,
         })
     }
+}
+
+/// That an option is missing, and what it could be.
+fn missing(option: &str, all: &[impl ToString]) -> String {
+    let names: Vec<String> = all.iter().map(ToString::to_string).collect();
+    format!("check: expected {option}, one of {}", names.join(", "))
 }
 
 fn text(option: &str, value: Option<OsString>) -> Result<String, String> {
