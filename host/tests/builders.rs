@@ -117,6 +117,32 @@ fn nesting_has_limits() {
 }
 
 #[test]
+fn the_deepest_of_several_counts() {
+    let conditions = Condition::all([
+        nested_condition(MAX_CONDITION_NESTING),
+        Condition::literal(true),
+    ]);
+    assert_eq!(
+        Rule::new(conditions).sheet(),
+        Err(BuildError::TooDeep(Nesting::Conditions))
+    );
+
+    let values = Value::array([nested_value(MAX_VALUE_NESTING), Value::null()]);
+    assert_eq!(
+        Template::new(values).sheet(),
+        Err(BuildError::TooDeep(Nesting::Values))
+    );
+
+    let fields = nested_field(1)
+        .property(nested_field(MAX_FIELD_NESTING))
+        .property(Field::new("z", FieldKind::Json));
+    assert_eq!(
+        Schema::new().field(fields).sheet(),
+        Err(BuildError::TooDeep(Nesting::Fields))
+    );
+}
+
+#[test]
 fn the_deepest_towers_cost_no_stack() {
     let deep = 200_000;
     assert!(Rule::new(nested_condition(deep)).sheet().is_err());
