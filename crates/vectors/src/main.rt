@@ -18,7 +18,7 @@ const BUFFER_BYTES: usize = 262144;
 const CASE_BYTES: usize = 131072;
 
 // More than any list has.
-const MAX_CASES: u64 = 1000000;
+const MAX_CASES: u64 = 65536;
 
 // Room enough for every line that is printed.
 const LINE_BYTES: usize = 32835;
@@ -219,7 +219,7 @@ fn tallied(agrees: bool, number: u64) -> u64
 }
 
 fn report(cases: u64, agreed: u64, all_read: bool)
-    requires { ⌜ cases ≤ 1000000 ⌝ }
+    requires { ⌜ cases ≤ 65536 ⌝ }
 {
     if !all_read {
         say_case(cases + 1, b" cannot be read\n");

@@ -9,10 +9,10 @@ use Rattle.vectors.proofs.run.Statement.{statement}
 use Rattle.vectors.proofs.run.Tie as tie
 
 abbrev Inv-loop : tie.InvT-loop
-Inv-loop buffer₀ w₀ cases₀ agreed₀ buffer w cases agreed = Within buffer w × (agreed ≤ cases) × (cases ≤ 1000000) × (length buffer ≡ length buffer₀)
+Inv-loop buffer₀ w₀ cases₀ agreed₀ buffer w cases agreed = Within buffer w × (agreed ≤ cases) × (cases ≤ 65536) × (length buffer ≡ length buffer₀)
 
 abbrev μ-loop : tie.MeasureT-loop
-μ-loop buffer₀ w₀ cases₀ agreed₀ buffer w cases agreed = 1000000 - cases
+μ-loop buffer₀ w₀ cases₀ agreed₀ buffer w cases agreed = 65536 - cases
 
 loop-holds : tie.Need-loop-holds Inv-loop μ-loop
 loop-holds c = search needs
