@@ -96,13 +96,8 @@ fn all(counting: bool) -> Result<Figures, String> {
 fn row(group: &'static Group, counting: bool) -> Result<Row, String> {
     let listed = (group.make)(group.listed);
     let points = group.sizes.iter().map(|&size| (group.make)(size)).map(|sample| point(group.name, &sample)).collect::<Result<_, _>>()?;
-    let count = |side| measure::instructions(&["once", group.name, side]).filter(|_| counting);
-    Ok(Row {
-        group,
-        bytes: listed.bytes(),
-        instructions: counting.then(|| Side::ALL.map(|(side, _)| count(side))),
-        points,
-    })
+    let count = |(side, _)| measure::instructions(&["once", group.name, side]);
+    Ok(Row { group, bytes: listed.bytes(), instructions: counting.then(|| Side::ALL.map(count)), points })
 }
 
 /// The bytes of a sample and the times of the three sides, after a look whether they are measured on the same thing.

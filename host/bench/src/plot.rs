@@ -12,11 +12,17 @@ const SIDES: [(&str, &str); 3] = [("library", "#0b6e4f"), ("Rust pre-built", "#8
 pub fn svg(rows: &[Row]) -> String {
     let lines = rows.len().div_ceil(COLUMNS) as f64;
     let (width, height) = (PANEL.0 * COLUMNS as f64, PANEL.1 * lines + 28.0);
-    let mut out = format!("<svg xmlns=\"http://www.w3.org/2000/svg\" viewBox=\"0 0 {width} {height}\" font-family=\"sans-serif\" font-size=\"11\">\n");
+    let mut out = format!(
+        "<svg xmlns=\"http://www.w3.org/2000/svg\" viewBox=\"0 0 {width} {height}\" font-family=\"sans-serif\" font-size=\"11\">\n"
+    );
     let _ = writeln!(out, "<rect width=\"{width}\" height=\"{height}\" fill=\"white\"/>");
     for (i, (name, colour)) in SIDES.iter().enumerate() {
         let x = 20.0 + 150.0 * i as f64;
-        let _ = writeln!(out, "<rect x=\"{x}\" y=\"10\" width=\"14\" height=\"4\" fill=\"{colour}\"/><text x=\"{}\" y=\"16\">{name}</text>", x + 20.0);
+        let _ = writeln!(
+            out,
+            "<rect x=\"{x}\" y=\"10\" width=\"14\" height=\"4\" fill=\"{colour}\"/><text x=\"{}\" y=\"16\">{name}</text>",
+            x + 20.0
+        );
     }
     for (i, row) in rows.iter().enumerate() {
         let (x, y) = (PANEL.0 * (i % COLUMNS) as f64, 28.0 + PANEL.1 * (i / COLUMNS) as f64);
@@ -33,7 +39,13 @@ fn panel(row: &Row) -> String {
     let y = |time: f64| MARGIN.2 + (1.0 - time / most_time) * inner_height;
     let mut out = format!("<text x=\"{}\" y=\"20\" font-weight=\"bold\">{}</text>\n", MARGIN.0, row.group.name);
     for tick in ticks(most_time) {
-        let _ = writeln!(out, "<line x1=\"{0}\" x2=\"{1}\" y1=\"{2:.1}\" y2=\"{2:.1}\" stroke=\"#ddd\"/>", MARGIN.0, PANEL.0 - MARGIN.1, y(tick));
+        let _ = writeln!(
+            out,
+            "<line x1=\"{0}\" x2=\"{1}\" y1=\"{2:.1}\" y2=\"{2:.1}\" stroke=\"#ddd\"/>",
+            MARGIN.0,
+            PANEL.0 - MARGIN.1,
+            y(tick)
+        );
         let _ = writeln!(out, "<text x=\"{}\" y=\"{:.1}\" text-anchor=\"end\">{tick}</text>", MARGIN.0 - 5.0, y(tick) + 4.0);
     }
     for tick in ticks(most_bytes) {
@@ -42,7 +54,8 @@ fn panel(row: &Row) -> String {
     let _ = writeln!(out, "<text x=\"{}\" y=\"{}\" text-anchor=\"end\">bytes</text>", PANEL.0 - MARGIN.1, PANEL.1 - 8.0);
     let _ = writeln!(out, "<text x=\"{}\" y=\"{}\" text-anchor=\"end\">µs</text>", MARGIN.0 - 5.0, 20.0);
     for (side, (_, colour)) in SIDES.iter().enumerate() {
-        let line: Vec<String> = row.points.iter().map(|point| format!("{:.1},{:.1}", x(point.bytes as f64), y(point.times[side] / 1e3))).collect();
+        let line: Vec<String> =
+            row.points.iter().map(|point| format!("{:.1},{:.1}", x(point.bytes as f64), y(point.times[side] / 1e3))).collect();
         let _ = writeln!(out, "<polyline points=\"{}\" fill=\"none\" stroke=\"{colour}\" stroke-width=\"1.6\"/>", line.join(" "));
         for mark in line {
             let (x, y) = mark.split_once(',').expect("written above");

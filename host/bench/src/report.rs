@@ -54,8 +54,13 @@ impl Figures {
     pub fn write(&self, document: &str) -> Result<(), String> {
         let path = Path::new(document);
         let mut text = fs::read_to_string(path).map_err(|error| format!("{document}: {error}"))?;
-        let parts =
-            [("processor", processor()), ("checks", self.checks()), ("counts", self.counts()), ("acceptance", self.acceptances()), ("stack", self.stacks())];
+        let parts = [
+            ("processor", processor()),
+            ("checks", self.checks()),
+            ("counts", self.counts()),
+            ("acceptance", self.acceptances()),
+            ("stack", self.stacks()),
+        ];
         for (name, part) in parts {
             text = placed(&text, name, &part).ok_or_else(|| format!("{document} has no place for {name}"))?;
         }
@@ -85,9 +90,11 @@ impl Figures {
     }
 
     fn counts(&self) -> String {
-        let head = "| group | library | Rust pre-built | Rust building and validating | ratio | library, a byte |\n|---|---|---|---|---|---|\n";
+        let head =
+            "| group | library | Rust pre-built | Rust building and validating | ratio | library, a byte |\n|---|---|---|---|---|---|\n";
         let line = |row: &Row| {
-            let [library, validating, building] = row.instructions.unwrap_or_default().map(|count| count.map_or(f64::NAN, |count| count as f64));
+            let [library, validating, building] =
+                row.instructions.unwrap_or_default().map(|count| count.map_or(f64::NAN, |count| count as f64));
             format!(
                 "| {} | {library:.0} | {validating:.0} | {building:.0} | {:.2} | {:.1} |\n",
                 row.group.name,
@@ -102,7 +109,14 @@ impl Figures {
         let head = "| sheet | bytes | library, ns a byte | Rust building, ns a byte | ratio |\n|---|---|---|---|---|\n";
         let line = |row: &Acceptance| {
             let bytes = row.bytes as f64;
-            format!("| {} | {} | {:.2} | {:.2} | {:.2} |\n", row.name, row.bytes, row.library / bytes, row.building / bytes, row.library / row.building)
+            format!(
+                "| {} | {} | {:.2} | {:.2} | {:.2} |\n",
+                row.name,
+                row.bytes,
+                row.library / bytes,
+                row.building / bytes,
+                row.library / row.building
+            )
         };
         head.to_owned() + &self.acceptance.iter().map(line).collect::<String>()
     }

@@ -35,9 +35,21 @@ pub const GROUPS: [Group; 7] = [
     Group { name: "typical", unit: "schema entries", sizes: &[51, 101, 201, 301, 401, 511, 611], listed: 611, make: typical },
     Group { name: "wide", unit: "siblings", sizes: &[100, 200, 400, 700, 1_000, 1_300, 1_700], listed: 1_700, make: wide },
     Group { name: "deep", unit: "levels", sizes: &[8, 16, 24, 32, 40, 52, 64], listed: 64, make: deep },
-    Group { name: "long texts", unit: "texts of 500 bytes in each sheet", sizes: &[4, 8, 16, 24, 32, 44, 56], listed: 56, make: long_texts },
+    Group {
+        name: "long texts",
+        unit: "texts of 500 bytes in each sheet",
+        sizes: &[4, 8, 16, 24, 32, 44, 56],
+        listed: 56,
+        make: long_texts,
+    },
     Group { name: "many references", unit: "references", sizes: &[50, 100, 200, 350, 500, 700, 900], listed: 900, make: many_references },
-    Group { name: "large rules", unit: "rule entries", sizes: &[100, 200, 400, 800, 1_200, 1_600, 2_048], listed: 2_048, make: large_rules },
+    Group {
+        name: "large rules",
+        unit: "rule entries",
+        sizes: &[100, 200, 400, 800, 1_200, 1_600, 2_048],
+        listed: 2_048,
+        make: large_rules,
+    },
 ];
 
 fn text(value: &str) -> String {
@@ -79,7 +91,12 @@ fn typical(entries: usize) -> Sample {
     let parts = each(blocks, |i| {
         let inner = ["amount", "batch", "grade", "weight"].map(|name| plain(2, name)).concat();
         let element = format!("F,7,0,0,2,0,-,\n{}{}", plain(3, "length"), plain(1, "steel"));
-        format!("{}{inner}{}{element}{}", object(&format!("lot_{i:02}"), 4), array(&format!("lot_{i:02}_bars")), plain(1, &format!("lot_{i:02}_note")))
+        format!(
+            "{}{inner}{}{element}{}",
+            object(&format!("lot_{i:02}"), 4),
+            array(&format!("lot_{i:02}_bars")),
+            plain(1, &format!("lot_{i:02}_note"))
+        )
     });
     let conditions = each(blocks, |i| {
         let bound = format!("C,10,0,\n{}{}", text(&format!("$fields.lot_{i:02}.weight")), number("0"));
@@ -190,7 +207,10 @@ pub fn deepest() -> Vec<(&'static str, Sample)> {
         ("64 levels of fields", Sample::new(deep_schema(64), "R,-,-,\nC,1,1,\n".to_owned())),
         ("256 levels of conditions", Sample::new(empty(), format!("R,-,-,\n{}C,1,1,\n", "C,4,0,\n".repeat(255)))),
         ("64 levels of values", Sample::new(empty(), format!("T\n{}V,1,0,\n", "V,6,1,\n".repeat(63)))),
-        ("31 quantifiers, one in another", Sample::new(format!("H,0,1,-,0\n{}{below}", array("a")), format!("R,-,-,\n{quantifiers}C,18,1,\n{reference}{reference}"))),
+        (
+            "31 quantifiers, one in another",
+            Sample::new(format!("H,0,1,-,0\n{}{below}", array("a")), format!("R,-,-,\n{quantifiers}C,18,1,\n{reference}{reference}")),
+        ),
         (
             "256 levels of conditions and 64 of values",
             Sample::new(empty(), format!("R,-,-,\n{}C,8,0,\n{arrays}{arrays}", "C,4,0,\n".repeat(255))),
