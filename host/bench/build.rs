@@ -1,8 +1,17 @@
-//! Links the static library that `run` has built.
+//! Links the static libraries: those that `run` has built, or those of the folder ENTITY_RULES_LIB_DIR.
+
+use std::path::{Path, PathBuf};
 
 fn main() {
-    let root = std::path::Path::new(env!("CARGO_MANIFEST_DIR")).join("../..");
-    println!("cargo:rustc-link-search=native={}", root.join("target/staticlib").display());
-    println!("cargo:rustc-link-lib=static=acceptance");
-    println!("cargo:rerun-if-changed={}", root.join("target/staticlib/libacceptance.a").display());
+    println!("cargo:rerun-if-env-changed=ENTITY_RULES_LIB_DIR");
+    let built = Path::new(env!("CARGO_MANIFEST_DIR")).join("../../target/staticlib");
+    let given = std::env::var_os("ENTITY_RULES_LIB_DIR").map(PathBuf::from);
+    link("entity_rules", given.as_deref().unwrap_or(&built));
+    link("acceptance", &built);
+}
+
+fn link(name: &str, folder: &Path) {
+    println!("cargo:rustc-link-search=native={}", folder.display());
+    println!("cargo:rustc-link-lib=static={name}");
+    println!("cargo:rerun-if-changed={}", folder.join(format!("lib{name}.a")).display());
 }

@@ -77,6 +77,11 @@ unfolding toCount
 toCount-small false = omega arith
 toCount-small true = omega arith
 
+pub toCount-none : (b : Bool) → toCount b ≡ 0 → b ≡ false
+unfolding toCount
+toCount-none false e = refl
+toCount-none true e = absurd (omega arith)
+
 -- Below a field, its announced children have their slots
 
 pub inner-ready : {s a b : List ℕ} {from : Cursor} {slot : ℕ} (has : Bool) (elems count end : ℕ) → Ready s a from slot 1 → Kept a b → end ≤ length s

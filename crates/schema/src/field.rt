@@ -57,6 +57,11 @@ fn read_field(sheet: &[u8], words: &mut [u32], depth: usize, slot: usize, from: 
         used: low + announced,
         at: end,
     };
+    // Most fields have nothing below them: these need no call.
+    if announced == 0 {
+        let name = head.name;
+        return OneRead::Good(name, inner);
+    }
     let ManyRead::Good(behind) = read_element(sheet, words, depth - 1, head.items, low, inner)
     else {
         return OneRead::Bad;

@@ -15,10 +15,21 @@ use Rattle.text.proofs.Points.{utf8-empty, utf8-none, utf8-some, blank-
 more-left : (s : List ℕ) (at : ℕ) → at < length s → 0 < length (drop at s)
 more-left s at h = rw (length-drop at s) (omega arith)
 
+pub ascii-step
+    : (s : List ℕ) (at next : ℕ)
+    → next ≡ at + 1
+    → at < length s
+    → getD s at 0 ≤ 0x7F
+    → isUtf8 (drop next s) ≡ isUtf8 (drop at s)
+ascii-step s at next e h l = rw e (sym (utf8-some (drop at s) (one-byte s at h l refl)))
+
 module _ (s : List ℕ) (at : ℕ) where
   module _ (kept : isUtf8 (drop at s) ≡ isUtf8 s) where
     pub utf8-ascii : at < length s → getD s at 0 ≤ 0x7F → isUtf8 (drop (at + 1) s) ≡ isUtf8 s
-    utf8-ascii h l = sym (utf8-some (drop at s) (one-byte s at h l refl)) ∙ kept
+    utf8-ascii h l = ascii-step s at (at + 1) refl h l ∙ kept
+
+    pub utf8-skipped : (next : ℕ) → isUtf8 (drop next s) ≡ isUtf8 (drop at s) → isUtf8 (drop next s) ≡ isUtf8 s
+    utf8-skipped next e = e ∙ kept
 
     pub utf8-again : {c : ℕ} (next : ℕ) → decodeOne (drop at s) ≡ some (c, drop next s) → isUtf8 (drop next s) ≡ isUtf8 s
     utf8-again next e = sym (utf8-some (drop at s) e) ∙ kept

@@ -1,5 +1,8 @@
 // Text as bytes: UTF-8, White_Space, blank text, and text trimmed at both ends. Every function takes any bytes.
 ghost use mathlib.Core.Path.{_≡_};
+ghost use mathlib.Core.Bool.{true};
+ghost use Prim.Native.Nat.{_+_, _≤_};
+ghost use lib.ListN.{length, drop};
 ghost use Rattle.text.specs.Utf8.{between, isTail, isUtf8-2, isSecondOf3, isUtf8-3, isSecondOf4, isUtf8-4, isUtf8};
 ghost use Rattle.text.specs.Utf8.{codeOf2, codeOf3, codeOf4};
 ghost use Rattle.text.specs.WhiteSpace.{isWhiteSpace};
@@ -151,13 +154,38 @@ pub fn is_white_space(c: u32) -> bool
     }
 }
 
+// 0 for an ASCII byte, 1 for any other.
+fn high_bit(b: u8) -> u8
+    ensures { λ r. ⌜ (r ≤ 1) × (r ≡ 0 → b ≤ 0x7F) ⌝ }
+{
+    if b <= 0x7F { 0 } else { 1 }
+}
+
+// Whether eight bytes are ASCII, and so may be passed over. A sum takes no branch: the machine looks at all eight at once.
+fn is_ascii_8(s: &[u8], at: usize) -> bool
+    requires { ⌜ at + 8 ≤ length (now s) ⌝ }
+    ensures { λ r. ⌜ (r ≡ true → isUtf8 (drop (at + 8) (now (s .entry))) ≡ isUtf8 (drop at (now (s .entry)))) ⌝ }
+{
+    let a = high_bit(s[at]) + high_bit(s[at + 1]);
+    let b = a + high_bit(s[at + 2]) + high_bit(s[at + 3]);
+    let c = b + high_bit(s[at + 4]) + high_bit(s[at + 5]);
+    let d = c + high_bit(s[at + 6]) + high_bit(s[at + 7]);
+    d == 0
+}
+
 // Whether a text is UTF-8.
 pub fn is_utf8(s: &[u8]) -> bool
     ensures { λ r. ⌜ r ≡ isUtf8 (now (s .entry)) ⌝ }
 {
     let mut at = 0;
     while at < s.len() {
-        // Most text is ASCII: such a byte needs no call.
+        // Most text is ASCII: such bytes need no call.
+        if 8 <= s.len() - at {
+            if is_ascii_8(s, at) {
+                at += 8;
+                continue;
+            }
+        }
         if s[at] <= 0x7F {
             at += 1;
             continue;

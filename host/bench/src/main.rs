@@ -1,95 +1,128 @@
-//! Measures how long it takes to say whether a sheet is well formed: the library through its C functions, and the model, which builds the
-//! sheet's tree in Rust from the same bytes. Both are built for release. The library clears its scratch of 32,768 bytes in each call.
+//! Measures the library beside the Rust on the same sheets and writes the figures, and a plot, into a document: `bench DOCUMENT`.
+//! `bench once GROUP SIDE` makes a single call for valgrind to count; `bench plain` prints the figures only, without counting.
+
+mod library;
+mod measure;
+mod plot;
+mod reader;
+mod report;
+mod rust;
+mod sheets;
+mod stack;
+
+#[path = "../../differential/harness/src/oracle/convert.rs"]
+mod convert;
 
 use differential::model::{decode_rule, decode_schema};
-use std::{hint::black_box, time::Instant};
+use differential::trees;
+use library::Buffers;
+use report::{Acceptance, Figures, Row};
+use sheets::{Group, Sample, GROUPS};
+use std::process::ExitCode;
 
-extern "C" {
-    fn acceptance_schema(sheet: *const u8, length: usize) -> u32;
-    fn acceptance_rule(sheet: *const u8, length: usize) -> u32;
+/// Who answers.
+#[derive(Clone, Copy)]
+pub enum Side {
+    Library,
+    /// The Rust on types that were built before.
+    Validating,
+    /// The Rust building its types from the bytes, validating and dropping them.
+    Building,
 }
 
-/// Whether the library accepts a schema sheet (`S`) or a rule sheet (`R`).
-fn library(letter: u8, sheet: &[u8]) -> bool {
-    // SAFETY: the pointer and the length are those of a slice, which both functions only read.
-    let answer = unsafe {
-        match letter {
-            b'S' => acceptance_schema(sheet.as_ptr(), sheet.len()),
-            _ => acceptance_rule(sheet.as_ptr(), sheet.len()),
-        }
+impl Side {
+    const ALL: [(&'static str, Side); 3] = [("library", Side::Library), ("validating", Side::Validating), ("building", Side::Building)];
+
+    fn named(name: &str) -> Option<Self> {
+        Self::ALL.iter().find(|(known, _)| *known == name).map(|(_, side)| *side)
+    }
+}
+
+fn main() -> ExitCode {
+    let words: Vec<String> = std::env::args().skip(1).collect();
+    let words: Vec<&str> = words.iter().map(String::as_str).collect();
+    let done = match words[..] {
+        ["once", group, side] => once(group, side),
+        ["plain"] => all(false).map(|figures| println!("{}", figures.tables())),
+        [document] => all(true).and_then(|figures| figures.write(document)),
+        _ => Err("usage: bench DOCUMENT | bench plain | bench once GROUP SIDE".to_owned()),
     };
-    answer == 1
-}
-
-fn model(letter: u8, sheet: &[u8]) -> bool {
-    match letter {
-        b'S' => black_box(decode_schema(sheet)).is_some(),
-        _ => black_box(decode_rule(sheet)).is_some(),
+    match done {
+        Ok(()) => ExitCode::SUCCESS,
+        Err(problem) => {
+            eprintln!("bench: {problem}");
+            ExitCode::FAILURE
+        }
     }
 }
 
-/// The best of several rounds, in nanoseconds for one call.
-fn time(call: impl Fn() -> bool) -> f64 {
-    const CALLS: u32 = 200;
-    (0..20)
-        .map(|_| {
-            let start = Instant::now();
-            for _ in 0..CALLS {
-                assert!(black_box(call()), "a measured sheet is accepted");
-            }
-            start.elapsed().as_nanos() as f64 / f64::from(CALLS)
-        })
-        .fold(f64::INFINITY, f64::min)
+fn once(group: &str, side: &str) -> Result<(), String> {
+    let group = GROUPS.iter().find(|known| known.name == group).ok_or("no such group")?;
+    let side = Side::named(side).ok_or("no such side")?;
+    let sample = (group.make)(group.listed);
+    with_call(&sample, side, |call| measure::counted_call(call));
+    Ok(())
 }
 
-/// Siblings with rising names of two letters.
-fn wide_schema(fields: usize) -> String {
-    let letters: Vec<char> = ('0'..='9').chain('A'..='Z').chain('a'..='z').collect();
-    let row = |i: usize| format!("F,2,0,0,0,2,-,{}{}\n", letters[i / letters.len()], letters[i % letters.len()]);
-    format!("H,0,{fields},-,0\n{}", (0..fields).map(row).collect::<String>())
+/// Hands on the call of one side, after a first one.
+fn with_call<T>(sample: &Sample, side: Side, measured: impl FnOnce(&mut dyn FnMut() -> bool) -> T) -> T {
+    let mut buffers = Buffers::new();
+    let built = rust::build(sample).expect("a measured sheet is well formed");
+    let mut call = || match side {
+        Side::Library => library::check(sample, &mut buffers) == 0,
+        Side::Validating => rust::validate(sample, &built),
+        Side::Building => rust::build_and_validate(sample),
+    };
+    assert!(call(), "a measured sheet is accepted");
+    measured(&mut call)
 }
 
-fn long_names() -> String {
-    let rows: String = (0..56).map(|i| format!("F,1,0,0,0,512,-,{i:02}{}\n", "n".repeat(510))).collect();
-    format!("H,0,56,-,0\n{rows}")
+fn time(sample: &Sample, side: Side) -> f64 {
+    with_call(sample, side, |call| measure::time(call))
 }
 
-fn deep_schema() -> String {
-    let rows: String = (1..=64).map(|level| format!("F,7,0,0,{},1,-,n\n", u8::from(level < 64))).collect();
-    format!("H,0,1,-,0\n{rows}")
-}
-
-fn array(value: &str, count: usize) -> String {
-    format!("T\nV,6,{count},\n{}", value.repeat(count))
-}
-
-fn conditions(count: usize) -> String {
-    let one = "C,8,0,\nV,5,12,$fields.bars\nV,4,4,12.5\n";
-    format!("R,-,-,\nC,2,{count},\n{}", one.repeat(count))
-}
-
-fn deep_rule() -> String {
-    format!("R,-,-,\n{}C,1,1,\n", "C,4,0,\n".repeat(255))
-}
-
-fn main() {
-    let groups = [
-        ("schema, 1,700 siblings", b'S', wide_schema(1_700)),
-        ("schema, 611 entries", b'S', wide_schema(610)),
-        ("schema, names of 512 bytes", b'S', long_names()),
-        ("schema, 64 levels", b'S', deep_schema()),
-        ("template, 2,046 constants", b'R', array("V,1,0,\n", 2_046)),
-        ("template, 1,900 numbers", b'R', array("V,4,7,12.5e10\n", 1_900)),
-        ("template, strings of 512 bytes", b'R', array(&format!("V,5,512,{}\n", "s".repeat(512)), 57)),
-        ("rule, 600 pairs", b'R', conditions(600)),
-        ("rule, 256 levels", b'R', deep_rule()),
-    ];
-    println!("| sheet | bytes | library, ns a byte | Rust building the tree, ns a byte | ratio |");
-    println!("|---|---|---|---|---|");
-    for (name, letter, sheet) in &groups {
-        let bytes = sheet.as_bytes();
-        let here = time(|| library(*letter, bytes)) / bytes.len() as f64;
-        let there = time(|| model(*letter, bytes)) / bytes.len() as f64;
-        println!("| {name} | {} | {here:.2} | {there:.2} | {:.2} |", bytes.len(), here / there);
+fn all(counting: bool) -> Result<Figures, String> {
+    let mut rows = Vec::new();
+    for group in &GROUPS {
+        eprintln!("bench: {}", group.name);
+        rows.push(row(group, counting)?);
     }
+    eprintln!("bench: acceptance and stack");
+    let acceptance = sheets::sheets().into_iter().map(acceptance).collect();
+    let stack = sheets::deepest().into_iter().map(|(name, sample)| (name, stack::depth(&sample).0)).collect();
+    Ok(Figures { rows, acceptance, stack })
+}
+
+fn row(group: &'static Group, counting: bool) -> Result<Row, String> {
+    let listed = (group.make)(group.listed);
+    let points = group.sizes.iter().map(|&size| (group.make)(size)).map(|sample| point(group.name, &sample)).collect::<Result<_, _>>()?;
+    let count = |(side, _)| measure::instructions(&["once", group.name, side]);
+    Ok(Row { group, bytes: listed.bytes(), instructions: counting.then(|| Side::ALL.map(count)), points })
+}
+
+/// The bytes of a sample and the times of the three sides, after a look whether they are measured on the same thing.
+fn point(group: &str, sample: &Sample) -> Result<report::Point, String> {
+    if rust::build(sample).as_ref() != modelled(sample).as_ref() {
+        return Err(format!("{group}: what is built differs from what the model reads"));
+    }
+    Ok(report::Point { bytes: sample.bytes(), times: Side::ALL.map(|(_, side)| time(sample, side)) })
+}
+
+/// What the model reads, in the Rust's types.
+fn modelled(sample: &Sample) -> Option<rust::Built> {
+    let schemas = convert::schemas(&decode_schema(&sample.schema)?);
+    let rule = match decode_rule(&sample.rule)? {
+        trees::Sheet::Rule(rule) => reader::Rule::Rule(convert::rule(&rule)),
+        trees::Sheet::Template(value) => reader::Rule::Template(convert::value(&value)),
+    };
+    Some(rust::Built { schemas: reader::Schemas { fields: schemas.fields, args: schemas.args }, rule })
+}
+
+fn acceptance(sheet: sheets::Sheet) -> Acceptance {
+    let library = measure::time(|| library::accepts(&sheet.bytes));
+    let building = measure::time(|| match sheet.bytes.first() {
+        Some(b'H') => std::hint::black_box(reader::schemas(&sheet.bytes)).is_some(),
+        _ => std::hint::black_box(reader::rule(&sheet.bytes)).is_some(),
+    });
+    Acceptance { name: sheet.name, bytes: sheet.bytes.len(), library, building }
 }

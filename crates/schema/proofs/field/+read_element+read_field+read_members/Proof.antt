@@ -1,6 +1,6 @@
 -- The readers of a field, of its element and of siblings meet their contracts. The depth that is left falls from a field to its children;
 -- siblings are read in a loop, whose invariant says what was read so far and what the whole reads once the rest is known.
-use Prim.Native.Nat.{ℕ, suc, _+_, _-_, _*_, _<_}
+use Prim.Native.Nat.{ℕ, suc, _+_, _-_, _*_, _<_, _≤_}
 use mathlib.Core.Path.{_≡_, sym, ap, _∙_}
 use native.Mathlib.Omega.{arith}
 use lib.ListN.{length}
@@ -12,8 +12,10 @@ use Rattle.sheet.proofs.part.bytes_of.Reads as bytes-of-reads
 use Rattle.sheet.proofs.schema.field_head.Reads as field-head-reads
 use Rattle.definition.specs.Decode.{toCount}
 use Rattle.schema.specs.Fields.{ahead}
+use Rattle.schema.specs.Index.{maxSlots}
+use Rattle.schema.specs.declared.field.Cursor.{Cursor}
 use Rattle.schema.proofs.Slots.{kept-all, kept-more}
-use Rattle.schema.proofs.FieldSteps.{field-too-deep, field-headless, field-crowded, field-elementless, field-memberless, field-good, toCount-small, inner-ready, behind-ready}
+use Rattle.schema.proofs.FieldSteps.{toCount-none, field-too-deep, field-headless, field-crowded, field-elementless, field-memberless, field-good, toCount-small, inner-ready, behind-ready}
 use Rattle.schema.proofs.MemberSteps.{Sofar, element-absent, element-none, element-named, element-good, sofar-none, sofar-all, sofar-bad, sofar-fallen, sofar-more}
 use Rattle.schema.proofs.field.+read_element+read_field+read_members.{statement}
 use Rattle.schema.proofs.field.+read_element+read_field+read_members.Tie.{close}
@@ -202,19 +204,42 @@ read-field-add-read-element t c = search needs
 read-field-add-read-members : (t : ℕ) → read-field-lts.Need-add-read-members (cs-read-field t) (read-field-at t) read-field.Post
 read-field-add-read-members t c = search needs
 
+read-field-same-length : (t : ℕ) → read-field-lts.Need-same-length (cs-read-field t) (read-field-at t) read-field.Post
+read-field-same-length t c = search needs
+
+read-field-returns-4 : (t : ℕ) → read-field-lts.Need-returns-4 (cs-read-field t) (read-field-at t) read-field.Post
+unfolding fieldOf
+read-field-returns-4 t c =
+    let c5 = c .before .before .before .before .before in
+    let c7 = c5 .before .before in
+    let c9 = c7 .before .before in
+    let c11 = c9 .before .before in
+    let c13 = c11 .before .before in
+    let c14 = c13 .before in
+    let c17 = c14 .before .before .before in
+    let s = c17 .args .sheet .now in
+    let e = rw (c11 .head .given .1) at (c13 .field-head .ensures) in
+    let deeper : c17 .args .depth ≡ suc (c17 .args .depth - 1) = omega (arith, c14 .if1 .left) in
+    let none-here : c9 .to-count .result ≡ 0 = omega (arith, c .before .if3 .taken) in
+    let inner : Cursor = record { next = c17 .args .from .next + 1; used = c17 .args .from .used + (c9 .to-count .result + c11 .head .given .0 .0 .count); at = c11 .head .given .0 .1 .0 } in
+    let used : inner .used ≤ maxSlots = omega (arith, c7 .if2 .left, c17 .pre .1 .used) in
+    let one = element-absent s _ (c17 .args .depth - 1) (c11 .head .given .0 .0 .items) (c17 .args .from .used) inner (toCount-none _ (sym (c9 .to-count .ensures) ∙ none-here)) (e .0 .within) used in
+    let many = sofar-all s _ _ (c17 .args .depth - 1) (c17 .args .from .used + c9 .to-count .result) (c11 .head .given .0 .0 .count) inner inner _ 0 (sofar-none s _ (c17 .args .depth - 1) _ _ inner (c11 .head .given .0 .0 .name) (e .0 .within) used) (omega (arith, c .before .if3 .taken)) in
+    record { kept = c5 .put-slot .ensures .kept; answer = field-good s (c17 .args .from) (fieldOf s (c11 .head .given .0 .0)) (c11 .head .given .0 .1 .0) (c9 .to-count .result) (e .0 .reads) (c9 .to-count .ensures) (c17 .args .depth) (c17 .args .depth - 1) deeper (c7 .if2 .left) (c17 .args .slot) (c17 .args .words .now) _ _ _ (c17 .pre .1) (c5 .put-slot .ensures) _ _ one many }
+
 read-field-sub-read-element : (t : ℕ) → read-field-lts.Need-sub-read-element (cs-read-field t) (read-field-at t) read-field.Post
 read-field-sub-read-element t c = search needs
 
 read-field-read-element-requires : (t : ℕ) → read-field-lts.Need-read-element-requires (cs-read-field t) (read-field-at t) read-field.Post
 read-field-read-element-requires t c κs =
-    let c4 = c .before .before .before .before in
-    let c6 = c4 .before .before in
-    let c8 = c6 .before .before in
-    let c10 = c8 .before .before in
-    let c12 = c10 .before .before in
-    let c16 = c12 .before .before .before .before in
-    let e = rw (c10 .head .given .1) at (c12 .field-head .ensures) in
-    (omega arith, inner-ready (c10 .head .given .0 .0 .items) (c8 .to-count .result) (c10 .head .given .0 .0 .count) _ (c16 .pre .1) (c4 .put-slot .ensures .kept) (e .0 .within) (c8 .to-count .ensures) (c6 .if2 .left))
+    let c5 = c .before .before .before .before .before in
+    let c7 = c5 .before .before in
+    let c9 = c7 .before .before in
+    let c11 = c9 .before .before in
+    let c13 = c11 .before .before in
+    let c17 = c13 .before .before .before .before in
+    let e = rw (c11 .head .given .1) at (c13 .field-head .ensures) in
+    (omega arith, inner-ready (c11 .head .given .0 .0 .items) (c9 .to-count .result) (c11 .head .given .0 .0 .count) _ (c17 .pre .1) (c5 .put-slot .ensures .kept) (e .0 .within) (c9 .to-count .ensures) (c7 .if2 .left))
 
 read-field-enum-known-behind : (t : ℕ) → read-field-lts.Need-enum-known-behind (cs-read-field t) (read-field-at t) read-field.Post
 read-field-enum-known-behind t c = search needs
@@ -222,23 +247,23 @@ read-field-enum-known-behind t c = search needs
 read-field-enum-told-2 : (t : ℕ) → read-field-lts.Need-enum-told-2 (cs-read-field t) (read-field-at t) read-field.Post
 read-field-enum-told-2 t c = search needs
 
-read-field-same-length : (t : ℕ) → read-field-lts.Need-same-length (cs-read-field t) (read-field-at t) read-field.Post
-read-field-same-length t c = search needs
+read-field-same-length-2 : (t : ℕ) → read-field-lts.Need-same-length-2 (cs-read-field t) (read-field-at t) read-field.Post
+read-field-same-length-2 t c = search needs
 
-read-field-returns-4 : (t : ℕ) → read-field-lts.Need-returns-4 (cs-read-field t) (read-field-at t) read-field.Post
+read-field-returns-5 : (t : ℕ) → read-field-lts.Need-returns-5 (cs-read-field t) (read-field-at t) read-field.Post
 unfolding fieldOf
-read-field-returns-4 t c =
+read-field-returns-5 t c =
     let c4 = c .before .before .before .before in
-    let c9 = c4 .before .before .before .before .before in
-    let c11 = c9 .before .before in
-    let c13 = c11 .before .before in
-    let c15 = c13 .before .before in
-    let c17 = c15 .before .before in
-    let c18 = c17 .before in
-    let c21 = c18 .before .before .before in
-    let e = rw (c15 .head .given .1) at (c17 .field-head .ensures) in
-    let deeper : c21 .args .depth ≡ suc (c21 .args .depth - 1) = omega (arith, c18 .if1 .left) in
-    record { kept = kept-more (c9 .put-slot .ensures .kept) (c4 .read-element .ensures .kept); answer = field-elementless (c21 .args .sheet .now) (c21 .args .from) (fieldOf (c21 .args .sheet .now) (c15 .head .given .0 .0)) (c15 .head .given .0 .1 .0) (c13 .to-count .result) (e .0 .reads) (c13 .to-count .ensures) (c21 .args .depth) (c21 .args .depth - 1) deeper (c11 .if2 .left) (rw (c .enum-told2 .given .1) at (c4 .read-element .ensures .answer)) }
+    let c10 = c4 .before .before .before .before .before .before in
+    let c12 = c10 .before .before in
+    let c14 = c12 .before .before in
+    let c16 = c14 .before .before in
+    let c18 = c16 .before .before in
+    let c19 = c18 .before in
+    let c22 = c19 .before .before .before in
+    let e = rw (c16 .head .given .1) at (c18 .field-head .ensures) in
+    let deeper : c22 .args .depth ≡ suc (c22 .args .depth - 1) = omega (arith, c19 .if1 .left) in
+    record { kept = kept-more (c10 .put-slot .ensures .kept) (c4 .read-element .ensures .kept); answer = field-elementless (c22 .args .sheet .now) (c22 .args .from) (fieldOf (c22 .args .sheet .now) (c16 .head .given .0 .0)) (c16 .head .given .0 .1 .0) (c14 .to-count .result) (e .0 .reads) (c14 .to-count .ensures) (c22 .args .depth) (c22 .args .depth - 1) deeper (c12 .if2 .left) (rw (c .enum-told2 .given .1) at (c4 .read-element .ensures .answer)) }
 
 read-field-sub-read-members : (t : ℕ) → read-field-lts.Need-sub-read-members (cs-read-field t) (read-field-at t) read-field.Post
 read-field-sub-read-members t c = search needs
@@ -250,16 +275,16 @@ read-field-read-members-requires : (t : ℕ) → read-field-lts.Need-read-member
 read-field-read-members-requires t c κs =
     let c2 = c .before .before in
     let c6 = c2 .before .before .before .before in
-    let c11 = c6 .before .before .before .before .before in
-    let c13 = c11 .before .before in
-    let c15 = c13 .before .before in
-    let c17 = c15 .before .before in
-    let c19 = c17 .before .before in
-    let c20 = c19 .before in
-    let c23 = c20 .before .before .before in
-    let e = rw (c17 .head .given .1) at (c19 .field-head .ensures) in
+    let c12 = c6 .before .before .before .before .before .before in
+    let c14 = c12 .before .before in
+    let c16 = c14 .before .before in
+    let c18 = c16 .before .before in
+    let c20 = c18 .before .before in
+    let c21 = c20 .before in
+    let c24 = c21 .before .before .before in
+    let e = rw (c18 .head .given .1) at (c20 .field-head .ensures) in
     let one = rw (c2 .behind .given .1) at (c6 .read-element .ensures .answer) in
-    (omega (arith, c23 .pre .0, c20 .if1 .left), behind-ready (c17 .head .given .0 .0 .items) (c15 .to-count .result) (c17 .head .given .0 .0 .count) (c17 .head .given .0 .1 .0) (c23 .pre .1) (c11 .put-slot .ensures .kept) (c6 .read-element .ensures .kept) (c15 .to-count .ensures) (c13 .if2 .left) one)
+    (omega (arith, c24 .pre .0, c21 .if1 .left), behind-ready (c18 .head .given .0 .0 .items) (c16 .to-count .result) (c18 .head .given .0 .0 .count) (c18 .head .given .0 .1 .0) (c24 .pre .1) (c12 .put-slot .ensures .kept) (c6 .read-element .ensures .kept) (c16 .to-count .ensures) (c14 .if2 .left) one)
 
 read-field-enum-known-to : (t : ℕ) → read-field-lts.Need-enum-known-to (cs-read-field t) (read-field-at t) read-field.Post
 read-field-enum-known-to t c = search needs
@@ -267,49 +292,49 @@ read-field-enum-known-to t c = search needs
 read-field-enum-told-3 : (t : ℕ) → read-field-lts.Need-enum-told-3 (cs-read-field t) (read-field-at t) read-field.Post
 read-field-enum-told-3 t c = search needs
 
-read-field-same-length-2 : (t : ℕ) → read-field-lts.Need-same-length-2 (cs-read-field t) (read-field-at t) read-field.Post
-read-field-same-length-2 t c = search needs
-
-read-field-returns-5 : (t : ℕ) → read-field-lts.Need-returns-5 (cs-read-field t) (read-field-at t) read-field.Post
-unfolding fieldOf
-read-field-returns-5 t c =
-    let c4 = c .before .before .before .before in
-    let c7 = c4 .before .before .before in
-    let c11 = c7 .before .before .before .before in
-    let c16 = c11 .before .before .before .before .before in
-    let c18 = c16 .before .before in
-    let c20 = c18 .before .before in
-    let c22 = c20 .before .before in
-    let c24 = c22 .before .before in
-    let c25 = c24 .before in
-    let c28 = c25 .before .before .before in
-    let e = rw (c22 .head .given .1) at (c24 .field-head .ensures) in
-    let deeper : c28 .args .depth ≡ suc (c28 .args .depth - 1) = omega (arith, c25 .if1 .left) in
-    let one = rw (c7 .behind .given .1) at (c11 .read-element .ensures .answer) in
-    record { kept = kept-more (c16 .put-slot .ensures .kept) (kept-more (c11 .read-element .ensures .kept) (c4 .read-members .ensures .kept)); answer = field-memberless (c28 .args .sheet .now) (c28 .args .from) (fieldOf (c28 .args .sheet .now) (c22 .head .given .0 .0)) (c22 .head .given .0 .1 .0) (c20 .to-count .result) (e .0 .reads) (c20 .to-count .ensures) (c28 .args .depth) (c28 .args .depth - 1) deeper (c18 .if2 .left) _ _ (one .reads) (rw (c .enum-told3 .given .1) at (c4 .read-members .ensures .answer)) }
-
 read-field-same-length-3 : (t : ℕ) → read-field-lts.Need-same-length-3 (cs-read-field t) (read-field-at t) read-field.Post
 read-field-same-length-3 t c = search needs
 
 read-field-returns-6 : (t : ℕ) → read-field-lts.Need-returns-6 (cs-read-field t) (read-field-at t) read-field.Post
 unfolding fieldOf
 read-field-returns-6 t c =
+    let c4 = c .before .before .before .before in
+    let c7 = c4 .before .before .before in
+    let c11 = c7 .before .before .before .before in
+    let c17 = c11 .before .before .before .before .before .before in
+    let c19 = c17 .before .before in
+    let c21 = c19 .before .before in
+    let c23 = c21 .before .before in
+    let c25 = c23 .before .before in
+    let c26 = c25 .before in
+    let c29 = c26 .before .before .before in
+    let e = rw (c23 .head .given .1) at (c25 .field-head .ensures) in
+    let deeper : c29 .args .depth ≡ suc (c29 .args .depth - 1) = omega (arith, c26 .if1 .left) in
+    let one = rw (c7 .behind .given .1) at (c11 .read-element .ensures .answer) in
+    record { kept = kept-more (c17 .put-slot .ensures .kept) (kept-more (c11 .read-element .ensures .kept) (c4 .read-members .ensures .kept)); answer = field-memberless (c29 .args .sheet .now) (c29 .args .from) (fieldOf (c29 .args .sheet .now) (c23 .head .given .0 .0)) (c23 .head .given .0 .1 .0) (c21 .to-count .result) (e .0 .reads) (c21 .to-count .ensures) (c29 .args .depth) (c29 .args .depth - 1) deeper (c19 .if2 .left) _ _ (one .reads) (rw (c .enum-told3 .given .1) at (c4 .read-members .ensures .answer)) }
+
+read-field-same-length-4 : (t : ℕ) → read-field-lts.Need-same-length-4 (cs-read-field t) (read-field-at t) read-field.Post
+read-field-same-length-4 t c = search needs
+
+read-field-returns-7 : (t : ℕ) → read-field-lts.Need-returns-7 (cs-read-field t) (read-field-at t) read-field.Post
+unfolding fieldOf
+read-field-returns-7 t c =
     let c2 = c .before .before in
     let c6 = c2 .before .before .before .before in
     let c9 = c6 .before .before .before in
     let c13 = c9 .before .before .before .before in
-    let c18 = c13 .before .before .before .before .before in
-    let c20 = c18 .before .before in
-    let c22 = c20 .before .before in
-    let c24 = c22 .before .before in
-    let c26 = c24 .before .before in
-    let c27 = c26 .before in
-    let c30 = c27 .before .before .before in
-    let e = rw (c24 .head .given .1) at (c26 .field-head .ensures) in
-    let deeper : c30 .args .depth ≡ suc (c30 .args .depth - 1) = omega (arith, c27 .if1 .left) in
+    let c19 = c13 .before .before .before .before .before .before in
+    let c21 = c19 .before .before in
+    let c23 = c21 .before .before in
+    let c25 = c23 .before .before in
+    let c27 = c25 .before .before in
+    let c28 = c27 .before in
+    let c31 = c28 .before .before .before in
+    let e = rw (c25 .head .given .1) at (c27 .field-head .ensures) in
+    let deeper : c31 .args .depth ≡ suc (c31 .args .depth - 1) = omega (arith, c28 .if1 .left) in
     let one = rw (c9 .behind .given .1) at (c13 .read-element .ensures .answer) in
     let many = rw (c2 .to .given .1) at (c6 .read-members .ensures .answer) in
-    record { kept = kept-more (c18 .put-slot .ensures .kept) (kept-more (c13 .read-element .ensures .kept) (c6 .read-members .ensures .kept)); answer = field-good (c30 .args .sheet .now) (c30 .args .from) (fieldOf (c30 .args .sheet .now) (c24 .head .given .0 .0)) (c24 .head .given .0 .1 .0) (c22 .to-count .result) (e .0 .reads) (c22 .to-count .ensures) (c30 .args .depth) (c30 .args .depth - 1) deeper (c20 .if2 .left) (c30 .args .slot) (c30 .args .words .now) _ _ _ (c30 .pre .1) (c18 .put-slot .ensures) _ _ one many }
+    record { kept = kept-more (c19 .put-slot .ensures .kept) (kept-more (c13 .read-element .ensures .kept) (c6 .read-members .ensures .kept)); answer = field-good (c31 .args .sheet .now) (c31 .args .from) (fieldOf (c31 .args .sheet .now) (c25 .head .given .0 .0)) (c25 .head .given .0 .1 .0) (c23 .to-count .result) (e .0 .reads) (c23 .to-count .ensures) (c31 .args .depth) (c31 .args .depth - 1) deeper (c21 .if2 .left) (c31 .args .slot) (c31 .args .words .now) _ _ _ (c31 .pre .1) (c19 .put-slot .ensures) _ _ one many }
 
 abbrev read-members-Inv-loop : read-members-lts.InvT-loop
 read-members-Inv-loop sheet words₀ depth first count to₀ before₀ i₀ words to before i = Sofar sheet words₀ words depth first count to₀ to before i
@@ -413,23 +438,25 @@ pub +read-element+read-field+read-members-spec : {M : Type 1} → statement M
     (read-field-sub-if2 t)
     (read-field-returns-3 t)
     (read-field-put-slot-requires t)
-    (read-field-add-read-element t)
     (read-field-add-read-members t)
+    (read-field-add-read-element t)
+    (read-field-same-length t)
+    (read-field-returns-4 t)
     (read-field-sub-read-element t)
     (read-field-read-element-requires t)
     (read-field-enum-known-behind t)
     (read-field-enum-told-2 t)
-    (read-field-same-length t)
-    (read-field-returns-4 t)
+    (read-field-same-length-2 t)
+    (read-field-returns-5 t)
     (read-field-sub-read-members t)
     (read-field-add-read-members-2 t)
     (read-field-read-members-requires t)
     (read-field-enum-known-to t)
     (read-field-enum-told-3 t)
-    (read-field-same-length-2 t)
-    (read-field-returns-5 t)
     (read-field-same-length-3 t)
-    (read-field-returns-6 t))
+    (read-field-returns-6 t)
+    (read-field-same-length-4 t)
+    (read-field-returns-7 t))
     λ t. read-members-lts.spec
     (read-field-below t, read-field.Post, rises-reads.Asked, rises-reads.Learnt)
     (read-members-at t)

@@ -1,0 +1,100 @@
+//! The library through its C functions.
+
+use crate::sheets::Sample;
+
+/// What a caller lends for a path, and where the seven numbers go.
+pub struct Buffers {
+    path: Vec<u8>,
+    result: [u8; 28],
+}
+
+impl Buffers {
+    pub fn new() -> Self {
+        Self { path: vec![0; 32_768], result: [0; 28] }
+    }
+}
+
+type Entry = unsafe extern "C" fn(
+    kind: u64,
+    semantics: u64,
+    label: *const u8,
+    label_length: usize,
+    schema: *const u8,
+    schema_length: usize,
+    rule: *const u8,
+    rule_length: usize,
+    path: *mut u8,
+    path_length: usize,
+    result: *mut u8,
+    result_length: usize,
+) -> u32;
+
+extern "C" {
+    fn rulecheck_rule(
+        kind: u64,
+        semantics: u64,
+        label: *const u8,
+        label_length: usize,
+        schema: *const u8,
+        schema_length: usize,
+        rule: *const u8,
+        rule_length: usize,
+        path: *mut u8,
+        path_length: usize,
+        result: *mut u8,
+        result_length: usize,
+    ) -> u32;
+    fn rulecheck_template(
+        kind: u64,
+        semantics: u64,
+        label: *const u8,
+        label_length: usize,
+        schema: *const u8,
+        schema_length: usize,
+        rule: *const u8,
+        rule_length: usize,
+        path: *mut u8,
+        path_length: usize,
+        result: *mut u8,
+        result_length: usize,
+    ) -> u32;
+    fn acceptance_schema(sheet: *const u8, length: usize) -> u32;
+    fn acceptance_rule(sheet: *const u8, length: usize) -> u32;
+}
+
+/// One whole check; the answer is the number.
+pub fn check(sample: &Sample, buffers: &mut Buffers) -> u32 {
+    let entry: Entry = if sample.rule.starts_with(b"R") { rulecheck_rule } else { rulecheck_template };
+    let (schema, rule) = (&sample.schema, &sample.rule);
+    let (path, result) = (&mut buffers.path, &mut buffers.result);
+    // SAFETY: each pointer and length are those of a slice; the library reads the first three and writes the last two, none of them beyond
+    // its length, and as slices lent mutably the last two overlap nothing.
+    unsafe {
+        entry(
+            sample.kind,
+            sample.semantics,
+            b"rule".as_ptr(),
+            4,
+            schema.as_ptr(),
+            schema.len(),
+            rule.as_ptr(),
+            rule.len(),
+            path.as_mut_ptr(),
+            path.len(),
+            result.as_mut_ptr(),
+            result.len(),
+        )
+    }
+}
+
+/// Whether a schema sheet, or a rule sheet, is well formed.
+pub fn accepts(sheet: &[u8]) -> bool {
+    // SAFETY: the pointer and the length are those of a slice, which both functions only read.
+    let answer = unsafe {
+        match sheet.first() {
+            Some(b'H') => acceptance_schema(sheet.as_ptr(), sheet.len()),
+            _ => acceptance_rule(sheet.as_ptr(), sheet.len()),
+        }
+    };
+    answer == 1
+}

@@ -1,0 +1,52 @@
+//! Times and instruction counts of one call.
+
+use std::hint::black_box;
+use std::process::Command;
+use std::time::{Duration, Instant};
+
+/// The best of many short rounds, in nanoseconds for one call. Short rounds are seldom interrupted by other work on the machine.
+pub fn time(mut call: impl FnMut() -> bool) -> f64 {
+    const ROUND: Duration = Duration::from_micros(400);
+    const ROUNDS: usize = 300;
+    let calls = calls_in(ROUND, &mut call);
+    let round = |_| {
+        let start = Instant::now();
+        for _ in 0..calls {
+            assert!(black_box(call()), "a measured sheet is accepted");
+        }
+        start.elapsed().as_nanos() as f64 / f64::from(calls)
+    };
+    (0..ROUNDS).map(round).fold(f64::INFINITY, f64::min)
+}
+
+/// How many calls fill a round, at least one.
+fn calls_in(round: Duration, call: &mut impl FnMut() -> bool) -> u32 {
+    let start = Instant::now();
+    let mut calls = 0;
+    while start.elapsed() < round {
+        black_box(call());
+        calls += 1;
+    }
+    calls.max(1)
+}
+
+/// Runs a call where valgrind counts: only what happens in here is counted.
+#[inline(never)]
+#[no_mangle]
+pub fn counted_call(call: &mut dyn FnMut() -> bool) {
+    assert!(black_box(call()), "a measured sheet is accepted");
+}
+
+/// The instructions of the one call that this program makes when it is started with `words`, or none without valgrind.
+pub fn instructions(words: &[&str]) -> Option<u64> {
+    let program = std::env::current_exe().ok()?;
+    let output = Command::new("valgrind")
+        .args(["--tool=callgrind", "--toggle-collect=counted_call", "--callgrind-out-file=/dev/null"])
+        .arg(program)
+        .args(words)
+        .output()
+        .ok()?;
+    let log = String::from_utf8_lossy(&output.stderr).into_owned();
+    let line = log.lines().find(|line| line.contains("Collected :"))?;
+    line.rsplit(' ').next()?.parse().ok()
+}

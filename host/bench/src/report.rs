@@ -1,0 +1,142 @@
+//! The figures as tables, and the document that they go into.
+
+use crate::plot;
+use crate::sheets::Group;
+use std::fs;
+use std::path::Path;
+
+/// One size of a group: the library, the Rust validating, the Rust building and validating, in nanoseconds.
+pub struct Point {
+    pub bytes: usize,
+    pub times: [f64; 3],
+}
+
+pub struct Row {
+    pub group: &'static Group,
+    /// Of the size in the table.
+    pub bytes: usize,
+    pub instructions: Option<[Option<u64>; 3]>,
+    pub points: Vec<Point>,
+}
+
+impl Row {
+    fn listed(&self) -> &Point {
+        self.points.iter().find(|point| point.bytes == self.bytes).expect("the size in the table is one of the plot's")
+    }
+
+    /// How the library's time grows from the middle size to the largest: 1 is with the bytes, 2 with their square.
+    fn growth(&self) -> f64 {
+        let (middle, last) = (&self.points[self.points.len() / 2], &self.points[self.points.len() - 1]);
+        (last.times[0] / middle.times[0]).ln() / (last.bytes as f64 / middle.bytes as f64).ln()
+    }
+}
+
+pub struct Acceptance {
+    pub name: &'static str,
+    pub bytes: usize,
+    pub library: f64,
+    pub building: f64,
+}
+
+pub struct Figures {
+    pub rows: Vec<Row>,
+    pub acceptance: Vec<Acceptance>,
+    /// What a call takes of the stack, in bytes.
+    pub stack: Vec<(&'static str, usize)>,
+}
+
+impl Figures {
+    pub fn tables(&self) -> String {
+        [self.checks(), self.counts(), self.acceptances(), self.stacks()].join("\n")
+    }
+
+    /// Puts each table, the processor's name and the plot where the document has a place for them.
+    pub fn write(&self, document: &str) -> Result<(), String> {
+        let path = Path::new(document);
+        let mut text = fs::read_to_string(path).map_err(|error| format!("{document}: {error}"))?;
+        let parts = [
+            ("processor", processor()),
+            ("checks", self.checks()),
+            ("counts", self.counts()),
+            ("acceptance", self.acceptances()),
+            ("stack", self.stacks()),
+        ];
+        for (name, part) in parts {
+            text = placed(&text, name, &part).ok_or_else(|| format!("{document} has no place for {name}"))?;
+        }
+        let plot = path.with_file_name("benchmarks.svg");
+        fs::write(plot, plot::svg(&self.rows)).and_then(|()| fs::write(path, text)).map_err(|error| error.to_string())
+    }
+
+    fn checks(&self) -> String {
+        let head = "| group | size | bytes | library, µs | Rust pre-built, µs | Rust building and validating, µs | ratio | library, ns a byte | growth |\n|---|---|---|---|---|---|---|---|---|\n";
+        let line = |row: &Row| {
+            let [library, validating, building] = row.listed().times;
+            format!(
+                "| {} | {} {} | {} | {:.1} | {:.1} | {:.1} | {:.2} | {:.2} | {:.2} |\n",
+                row.group.name,
+                row.group.listed,
+                row.group.unit,
+                row.bytes,
+                library / 1e3,
+                validating / 1e3,
+                building / 1e3,
+                library / building,
+                library / row.bytes as f64,
+                row.growth()
+            )
+        };
+        head.to_owned() + &self.rows.iter().map(line).collect::<String>()
+    }
+
+    fn counts(&self) -> String {
+        let head =
+            "| group | library | Rust pre-built | Rust building and validating | ratio | library, a byte |\n|---|---|---|---|---|---|\n";
+        let line = |row: &Row| {
+            let [library, validating, building] =
+                row.instructions.unwrap_or_default().map(|count| count.map_or(f64::NAN, |count| count as f64));
+            format!(
+                "| {} | {library:.0} | {validating:.0} | {building:.0} | {:.2} | {:.1} |\n",
+                row.group.name,
+                library / building,
+                library / row.bytes as f64
+            )
+        };
+        head.to_owned() + &self.rows.iter().map(line).collect::<String>()
+    }
+
+    fn acceptances(&self) -> String {
+        let head = "| sheet | bytes | library, ns a byte | Rust building, ns a byte | ratio |\n|---|---|---|---|---|\n";
+        let line = |row: &Acceptance| {
+            let bytes = row.bytes as f64;
+            format!(
+                "| {} | {} | {:.2} | {:.2} | {:.2} |\n",
+                row.name,
+                row.bytes,
+                row.library / bytes,
+                row.building / bytes,
+                row.library / row.building
+            )
+        };
+        head.to_owned() + &self.acceptance.iter().map(line).collect::<String>()
+    }
+
+    fn stacks(&self) -> String {
+        let head = "| sheets | stack, bytes |\n|---|---|\n";
+        head.to_owned() + &self.stack.iter().map(|(name, bytes)| format!("| {name} | {bytes} |\n")).collect::<String>()
+    }
+}
+
+/// The text with a part between the two comments that bear its name.
+fn placed(text: &str, name: &str, part: &str) -> Option<String> {
+    let (begin, end) = (format!("<!-- {name} -->\n"), format!("<!-- end of {name} -->"));
+    let (before, rest) = text.split_once(&begin)?;
+    let (_, after) = rest.split_once(&end)?;
+    Some(format!("{before}{begin}{part}{end}{after}"))
+}
+
+fn processor() -> String {
+    let info = fs::read_to_string("/proc/cpuinfo").unwrap_or_default();
+    let name = info.lines().find_map(|line| line.strip_prefix("model name")).and_then(|rest| rest.split_once(": "));
+    format!("{}\n", name.map_or("processor unknown", |(_, name)| name))
+}

@@ -1,0 +1,219 @@
+//! The sheets that are measured, made by size. Every one of them is accepted.
+
+/// One check: settings and the two sheets.
+pub struct Sample {
+    pub kind: u64,
+    pub semantics: u64,
+    pub schema: Vec<u8>,
+    pub rule: Vec<u8>,
+}
+
+impl Sample {
+    /// A precondition or an operation's template, under service/1.
+    fn new(schema: String, rule: String) -> Self {
+        let kind = if rule.starts_with('R') { 2 } else { 4 };
+        Self { kind, semantics: 2, schema: schema.into_bytes(), rule: rule.into_bytes() }
+    }
+
+    pub fn bytes(&self) -> usize {
+        self.schema.len() + self.rule.len()
+    }
+}
+
+/// Samples of one shape: the sizes of the plot, and the size that stands in the table.
+pub struct Group {
+    pub name: &'static str,
+    /// What the size counts.
+    pub unit: &'static str,
+    pub sizes: &'static [usize],
+    pub listed: usize,
+    pub make: fn(usize) -> Sample,
+}
+
+pub const GROUPS: [Group; 7] = [
+    Group { name: "small", unit: "fields and conditions", sizes: &[1, 2, 4, 6, 8, 12, 16], listed: 4, make: small },
+    Group { name: "typical", unit: "schema entries", sizes: &[51, 101, 201, 301, 401, 511, 611], listed: 611, make: typical },
+    Group { name: "wide", unit: "siblings", sizes: &[100, 200, 400, 700, 1_000, 1_300, 1_700], listed: 1_700, make: wide },
+    Group { name: "deep", unit: "levels", sizes: &[8, 16, 24, 32, 40, 52, 64], listed: 64, make: deep },
+    Group {
+        name: "long texts",
+        unit: "texts of 500 bytes in each sheet",
+        sizes: &[4, 8, 16, 24, 32, 44, 56],
+        listed: 56,
+        make: long_texts,
+    },
+    Group { name: "many references", unit: "references", sizes: &[50, 100, 200, 350, 500, 700, 900], listed: 900, make: many_references },
+    Group {
+        name: "large rules",
+        unit: "rule entries",
+        sizes: &[100, 200, 400, 800, 1_200, 1_600, 2_048],
+        listed: 2_048,
+        make: large_rules,
+    },
+];
+
+fn text(value: &str) -> String {
+    format!("V,5,{},{value}\n", value.len())
+}
+
+fn number(value: &str) -> String {
+    format!("V,4,{},{value}\n", value.len())
+}
+
+/// A field without members.
+fn plain(kind: usize, name: &str) -> String {
+    format!("F,{kind},0,0,0,{},-,{name}\n", name.len())
+}
+
+fn object(name: &str, count: usize) -> String {
+    format!("F,7,0,0,{count},{},-,{name}\n", name.len())
+}
+
+fn array(name: &str) -> String {
+    format!("F,6,0,1,0,{},-,{name}\n", name.len())
+}
+
+fn each(count: usize, make: impl Fn(usize) -> String) -> String {
+    (0..count).map(make).collect()
+}
+
+/// As many fields as conditions, each condition a bound for one field.
+fn small(size: usize) -> Sample {
+    let fields = each(size, |i| plain(2, &format!("weight_{i:02}")));
+    let bounds = each(size, |i| format!("C,11,0,\n{}{}", text(&format!("$fields.weight_{i:02}")), number("12.5")));
+    Sample::new(format!("H,0,{size},-,0\n{fields}"), format!("R,6,20,bounds weights are too low\nC,2,{size},\n{bounds}"))
+}
+
+/// Blocks of ten entries: an object of four fields, an array of objects of two fields, and one plain field. One condition for each block
+/// and one quantifier over its array.
+fn typical(entries: usize) -> Sample {
+    let blocks = (entries - 1) / 10;
+    let parts = each(blocks, |i| {
+        let inner = ["amount", "batch", "grade", "weight"].map(|name| plain(2, name)).concat();
+        let element = format!("F,7,0,0,2,0,-,\n{}{}", plain(3, "length"), plain(1, "steel"));
+        format!(
+            "{}{inner}{}{element}{}",
+            object(&format!("lot_{i:02}"), 4),
+            array(&format!("lot_{i:02}_bars")),
+            plain(1, &format!("lot_{i:02}_note"))
+        )
+    });
+    let conditions = each(blocks, |i| {
+        let bound = format!("C,10,0,\n{}{}", text(&format!("$fields.lot_{i:02}.weight")), number("0"));
+        let body = format!("C,8,0,\n{}{}", text("$bar.steel"), text("S355"));
+        format!("{bound}C,20,3,bar\n{}{body}", text(&format!("$fields.lot_{i:02}_bars")))
+    });
+    Sample::new(format!("H,0,{},-,0\n{parts}", 3 * blocks), format!("R,4,-,lots\nC,2,{},\n{conditions}", 2 * blocks))
+}
+
+/// Two letters, rising.
+fn pair_name(i: usize) -> String {
+    let letters: Vec<char> = ('0'..='9').chain('A'..='Z').chain('a'..='z').collect();
+    [letters[i / letters.len()], letters[i % letters.len()]].iter().collect()
+}
+
+pub fn wide_schema(fields: usize) -> String {
+    format!("H,0,{fields},-,0\n{}", each(fields, |i| plain(2, &pair_name(i))))
+}
+
+/// Siblings, and a reference to every second of them.
+fn wide(fields: usize) -> Sample {
+    let count = fields / 2;
+    Sample::new(wide_schema(fields), format!("T\nV,6,{count},\n{}", each(count, |i| text(&format!("$fields.{}", pair_name(2 * i))))))
+}
+
+pub fn deep_schema(levels: usize) -> String {
+    format!("H,0,1,-,0\n{}", each(levels, |i| object("n", usize::from(i + 1 < levels))))
+}
+
+/// Fields, conditions and values that nest: conditions half as deep, since 32 is the most that is accepted.
+fn deep(levels: usize) -> Sample {
+    let reference = text(&format!("$fields{}", ".n".repeat(levels)));
+    let value = format!("{}{reference}", "V,6,1,\n".repeat(levels - 1));
+    let condition = format!("{}C,8,0,\n{reference}{value}", "C,4,0,\n".repeat(levels / 2 - 1));
+    Sample::new(deep_schema(levels), format!("R,-,-,\n{condition}"))
+}
+
+fn long_name(i: usize) -> String {
+    format!("{i:02}{}", "n".repeat(498))
+}
+
+pub fn long_schema(texts: usize) -> String {
+    format!("H,0,{texts},-,0\n{}", each(texts, |i| plain(1, &long_name(i))))
+}
+
+fn long_texts(texts: usize) -> Sample {
+    Sample::new(long_schema(texts), format!("T\nV,6,{texts},\n{}", each(texts, |i| text(&format!("$fields.{}", long_name(i))))))
+}
+
+/// References through the inner one of two binders, in turn with ones to the record.
+fn many_references(count: usize) -> Sample {
+    let element = format!("F,7,0,0,2,0,-,\n{}F,7,0,0,1,6,-,origin\n{}", plain(1, "grade"), plain(1, "works"));
+    let fields = format!("{}{element}{}", array("bars"), plain(1, "works"));
+    let exists = each(count, |i| format!("C,5,0,\n{}", text(["$bar.origin.works", "$fields.works"][i % 2])));
+    let binders = format!("C,20,4,lots\n{}C,20,3,bar\n{}", text("$fields.bars"), text("$fields.bars"));
+    Sample::new(format!("H,0,2,-,0\n{fields}"), format!("R,-,-,\n{binders}C,2,{count},\n{exists}"))
+}
+
+/// Conditions of every form, six of them in sixteen entries.
+fn large_rules(entries: usize) -> Sample {
+    let forms = [
+        format!("C,6,0,\n{}{}", text("$fields.made"), text("2024-02-29")),
+        format!("C,11,0,\n{}{}", text("$fields.mass"), number("12.5e1")),
+        format!("C,18,3,\n{}{}", text("$fields.mass"), number("99")),
+        format!("C,16,0,\n{}{}", text("$fields.name"), text("HEB")),
+        "C,1,1,\n".to_owned(),
+        format!("C,4,0,\nC,19,0,\n{}", text("$fields.name")),
+    ];
+    let blocks = (entries - 2) / 16;
+    let rest = (entries - 2) % 16;
+    let conditions = each(blocks, |_| forms.concat()) + &each(rest, |_| forms[4].clone());
+    let fields = [plain(1, "made"), plain(3, "mass"), plain(1, "name")].concat();
+    Sample::new(format!("H,0,3,-,0\n{fields}"), format!("R,-,-,\nC,2,{},\n{conditions}", 6 * blocks + rest))
+}
+
+/// A sheet whose acceptance alone is measured.
+pub struct Sheet {
+    pub name: &'static str,
+    pub bytes: Vec<u8>,
+}
+
+/// Sheets of several shapes, up to the limit of 30,000 bytes.
+pub fn sheets() -> Vec<Sheet> {
+    let values = |one: String, count: usize| format!("T\nV,6,{count},\n{}", one.repeat(count));
+    let pair = format!("C,8,0,\n{}{}", text("$fields.bars"), number("12.5"));
+    let sheet = |name, text: String| Sheet { name, bytes: text.into_bytes() };
+    vec![
+        sheet("schema, 1,700 siblings", wide_schema(1_700)),
+        Sheet { name: "schema, 611 entries", bytes: typical(611).schema },
+        sheet("schema, names of 500 bytes", long_schema(57)),
+        sheet("schema, 64 levels", deep_schema(64)),
+        sheet("template, 2,046 constants", values("V,1,0,\n".to_owned(), 2_046)),
+        sheet("template, 1,900 numbers", values(number("12.5e10"), 1_900)),
+        sheet("template, strings of 512 bytes", values(text(&"s".repeat(512)), 57)),
+        sheet("rule, 600 pairs", format!("R,-,-,\nC,2,600,\n{}", pair.repeat(600))),
+        sheet("rule, 256 levels", format!("R,-,-,\n{}C,1,1,\n", "C,4,0,\n".repeat(255))),
+    ]
+}
+
+/// The sheets that go deepest into the stack.
+pub fn deepest() -> Vec<(&'static str, Sample)> {
+    let empty = || "H,1,0,-,0\n".to_owned();
+    let quantifiers = each(31, |_| format!("C,20,1,b\n{}", text("$fields.a")));
+    let reference = text(&format!("$b{}", ".n".repeat(62)));
+    let arrays = format!("{}{reference}", "V,6,1,\n".repeat(63));
+    let below = each(63, |i| format!("F,7,0,0,{},{},-,{}\n", usize::from(i < 62), usize::from(i > 0), if i > 0 { "n" } else { "" }));
+    vec![
+        ("64 levels of fields", Sample::new(deep_schema(64), "R,-,-,\nC,1,1,\n".to_owned())),
+        ("256 levels of conditions", Sample::new(empty(), format!("R,-,-,\n{}C,1,1,\n", "C,4,0,\n".repeat(255)))),
+        ("64 levels of values", Sample::new(empty(), format!("T\n{}V,1,0,\n", "V,6,1,\n".repeat(63)))),
+        (
+            "31 quantifiers, one in another",
+            Sample::new(format!("H,0,1,-,0\n{}{below}", array("a")), format!("R,-,-,\n{quantifiers}C,18,1,\n{reference}{reference}")),
+        ),
+        (
+            "256 levels of conditions and 64 of values",
+            Sample::new(empty(), format!("R,-,-,\n{}C,8,0,\n{arrays}{arrays}", "C,4,0,\n".repeat(255))),
+        ),
+    ]
+}
