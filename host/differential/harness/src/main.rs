@@ -1,30 +1,13 @@
-//! Holds a plain model of docs/FORMAT.md against the Rust that it describes. See README.md beside the script `run`.
+//! The commands of the comparison. See README.md beside the script `run`.
 
-mod agreement;
-mod bound;
-mod case;
-mod compare;
-mod edges;
-mod exhaustive;
-mod generate;
-mod instants;
-mod leaves;
-mod nodes;
-mod oracle;
-mod plan;
-mod random;
-mod refusals;
-mod samples;
-mod shrink;
-mod tally;
-mod vectors;
-mod widened;
-
+use harness::{compare, exhaustive, leaves, vectors, widened};
 use std::collections::BTreeMap;
 use std::process::ExitCode;
 
 const USAGE: &str = "usage: differential COMMAND [OPTION..]
-  compare [--cases N] [--seed S]   known edges, then N generated cases: the model against the Rust
+  compare [--cases N] [--seed S] [--last S] [--record FILE]
+                                   known edges, then N generated cases of each seed: library, model and Rust;
+                                   runs that FILE has are left out, and new ones are added to it
   widened [--cases N] [--seed S]   N rules, each under a schema and a widening of it
   exhaustive [--tokens N]          every reference of up to N tokens (2 to 7, else 6), every instant near a good one
   leaves                           text and numbers of the model against Rust's own
@@ -55,8 +38,10 @@ fn run(arguments: &[String]) -> Result<(), Trouble> {
     let (command, rest) = arguments.split_first().ok_or_else(|| Trouble::Usage("no command".to_owned()))?;
     match command.as_str() {
         "compare" => {
-            let options = options(rest, &["cases", "seed"])?;
-            compare::compare(numeral(&options, "cases", 1_000_000)?, numeral(&options, "seed", 1)?).map_err(Trouble::Failed)
+            let options = options(rest, &["cases", "seed", "last", "record"])?;
+            let seed = numeral(&options, "seed", 1)?;
+            let seeds = seed..=numeral(&options, "last", seed)?;
+            compare::compare(numeral(&options, "cases", 1_000_000)?, seeds, options.get("record").copied()).map_err(Trouble::Failed)
         }
         "widened" => {
             let options = options(rest, &["cases", "seed"])?;
