@@ -3,6 +3,7 @@
 pub mod agreement;
 pub mod bound;
 pub mod case;
+pub mod changes;
 pub mod compare;
 pub mod edges;
 pub mod exhaustive;

@@ -8,7 +8,7 @@ const USAGE: &str = "usage: differential COMMAND [OPTION..]
   compare [--cases N] [--seed S] [--last S] [--record FILE]
                                    known edges, then N generated cases of each seed: library, model and Rust;
                                    runs that FILE has are left out, and new ones are added to it
-  widened [--cases N] [--seed S]   N rules, each under a schema and a widening of it
+  widened [--cases N] [--seed S]   N rules, each under a schema and a widening of it that differs
   exhaustive [--tokens N]          every reference of up to N tokens (2 to 7, else 6), every instant near a good one
   leaves                           text and numbers of the model against Rust's own
   vectors --out FILE [--seed S]    writes the fixed list of answers";
@@ -45,7 +45,7 @@ fn run(arguments: &[String]) -> Result<(), Trouble> {
         }
         "widened" => {
             let options = options(rest, &["cases", "seed"])?;
-            widened::widened(numeral(&options, "cases", 200_000)?, numeral(&options, "seed", 1)?).map_err(Trouble::Failed)
+            widened::widened(numeral(&options, "cases", 1_000_000)?, numeral(&options, "seed", 1)?).map_err(Trouble::Failed)
         }
         "exhaustive" => {
             let options = options(rest, &["tokens"])?;
