@@ -1,6 +1,6 @@
 //! The commands of the comparison. See README.md beside the script `run`.
 
-use harness::{compare, exhaustive, leaves, vectors, widened};
+use harness::{compare, exhaustive, leaves, memory, published, vectors, widened};
 use std::collections::BTreeMap;
 use std::process::ExitCode;
 
@@ -11,7 +11,10 @@ const USAGE: &str = "usage: differential COMMAND [OPTION..]
   widened [--cases N] [--seed S]   N rules, each under a schema and a widening of it that differs
   exhaustive [--tokens N]          every reference of up to N tokens (2 to 7, else 6), every instant near a good one
   leaves                           text and numbers of the model against Rust's own
-  vectors --out FILE [--seed S]    writes the fixed list of answers";
+  samples [--program FILE]         known edges, slips and published samples: library, model and Rust, and the program rulecheck
+  vectors --out FILE [--seed S]    writes the fixed list of answers
+  memory --list FILE [--cases N] [--seed S]
+                                   that list and N generated cases with buffers of exact length, for a run under valgrind";
 
 fn main() -> ExitCode {
     let arguments: Vec<String> = std::env::args().skip(1).collect();
@@ -55,6 +58,15 @@ fn run(arguments: &[String]) -> Result<(), Trouble> {
             let options = options(rest, &["out", "seed"])?;
             let file = options.get("out").ok_or_else(|| Trouble::Usage("vectors needs --out FILE".to_owned()))?;
             vectors::vectors(file, numeral(&options, "seed", 1)?).map_err(Trouble::Failed)
+        }
+        "memory" => {
+            let options = options(rest, &["list", "cases", "seed"])?;
+            let list = options.get("list").ok_or_else(|| Trouble::Usage("memory needs --list FILE".to_owned()))?;
+            memory::memory(list, numeral(&options, "cases", 100_000)?, numeral(&options, "seed", 1)?).map_err(Trouble::Failed)
+        }
+        "samples" => {
+            let options = options(rest, &["program"])?;
+            published::published(options.get("program").copied()).map_err(Trouble::Failed)
         }
         "leaves" => {
             options(rest, &[])?;

@@ -56,6 +56,27 @@ fn head(cases: usize, seed: u64) -> String {
     )
 }
 
+/// The cases of a list that was written.
+pub fn read(file: &str) -> Result<Vec<Case>, String> {
+    let bytes = std::fs::read(file).map_err(|error| format!("{file} cannot be read: {error}"))?;
+    let mut rest = bytes.as_slice();
+    let mut cases = Vec::new();
+    while !rest.is_empty() {
+        let end = rest.iter().position(|byte| *byte == b'\n').ok_or("a list that does not end in a line")?;
+        let (line, after) = (&rest[..end], &rest[end + 1..]);
+        rest = after;
+        if !line.starts_with(b"#") {
+            let counts = String::from_utf8_lossy(line);
+            let (input, output) = counts.split_once(',').ok_or_else(|| format!("{counts} is no pair of byte counts"))?;
+            let [input, output] = [input, output].map(|count| count.parse::<usize>().unwrap_or(usize::MAX));
+            let whole = input.checked_add(output).filter(|whole| *whole <= rest.len()).ok_or("a list that is cut short")?;
+            cases.push(Case::of_check_in(&rest[..input]).ok_or("a case of the list is no check.in")?);
+            rest = &rest[whole..];
+        }
+    }
+    Ok(cases)
+}
+
 #[derive(Default)]
 struct List {
     seen: BTreeSet<Vec<u8>>,

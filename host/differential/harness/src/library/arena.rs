@@ -37,7 +37,7 @@ impl Arena {
         let (path, result) = (&mut self.paths[lent.pattern], &mut self.results[lent.pattern]);
         let start = AROUND + lent.shift;
         let (path_lent, result_lent) = (AROUND..AROUND + lent.path, start..start + lent.result);
-        let number = raw::check(case, lent, &mut path[path_lent], &mut result[result_lent.clone()]);
+        let number = raw::check(case, lent.entry, &mut path[path_lent], &mut result[result_lent.clone()]);
         if number != expected.number {
             return Err(format!("it returns {number}"));
         }

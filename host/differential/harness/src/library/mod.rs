@@ -1,7 +1,7 @@
 //! The library under its C functions, held against what the model answers: every byte of both buffers and around them, and every number.
 
 mod arena;
-mod raw;
+pub mod raw;
 
 use crate::case::Case;
 use crate::refusals::{MIN_PATH_BYTES, MIN_SCRATCH_WORDS};
@@ -38,7 +38,7 @@ impl Entry {
     }
 
     /// The letter of the sheets that it takes.
-    fn letter(self) -> u8 {
+    pub fn letter(self) -> u8 {
         match self {
             Self::Rule => b'R',
             Self::Template => b'T',
