@@ -7,6 +7,7 @@ pub mod changes;
 pub mod compare;
 pub mod edges;
 pub mod exhaustive;
+pub mod fuzzed;
 pub mod generate;
 pub mod instants;
 pub mod leaves;

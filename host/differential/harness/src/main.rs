@@ -1,6 +1,6 @@
 //! The commands of the comparison. See README.md beside the script `run`.
 
-use harness::{compare, exhaustive, leaves, memory, published, vectors, widened};
+use harness::{compare, exhaustive, fuzzed, leaves, memory, published, vectors, widened};
 use std::collections::BTreeMap;
 use std::process::ExitCode;
 
@@ -14,7 +14,8 @@ const USAGE: &str = "usage: differential COMMAND [OPTION..]
   samples [--program FILE]         known edges, slips and published samples: library, model and Rust, and the program rulecheck
   vectors --out FILE [--seed S]    writes the fixed list of answers
   memory --list FILE [--cases N] [--seed S]
-                                   that list and N generated cases with buffers of exact length, for a run under valgrind";
+                                   that list and N generated cases with buffers of exact length, for a run under valgrind
+  corpus --list FILE --out FOLDER  the cases of that list as files from which a fuzzer starts";
 
 fn main() -> ExitCode {
     let arguments: Vec<String> = std::env::args().skip(1).collect();
@@ -67,6 +68,12 @@ fn run(arguments: &[String]) -> Result<(), Trouble> {
         "samples" => {
             let options = options(rest, &["program"])?;
             published::published(options.get("program").copied()).map_err(Trouble::Failed)
+        }
+        "corpus" => {
+            let options = options(rest, &["list", "out"])?;
+            let [list, folder] = ["list", "out"].map(|name| options.get(name).copied());
+            let (list, folder) = list.zip(folder).ok_or_else(|| Trouble::Usage("corpus needs --list FILE and --out FOLDER".to_owned()))?;
+            fuzzed::corpus(list, folder).map_err(Trouble::Failed)
         }
         "leaves" => {
             options(rest, &[])?;
