@@ -4,9 +4,9 @@ use crate::cursor::TreeRead;
 use crate::cursor::word_of;
 use crate::value::MAX_VALUE_NESTING;
 use crate::value::read_values;
+use lines::rule_sheet::condition_head;
 use sheet::rule::ConditionHead;
 use sheet::rule::ConditionRead;
-use sheet::rule::condition_head;
 ghost use mathlib.Core.Path.{_≡_};
 ghost use Rattle.rule.specs.Read.{Ready, operandsOf, ConditionAnswer, ConditionsAnswer};
 

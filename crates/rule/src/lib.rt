@@ -11,8 +11,8 @@ use cursor::TreeRead;
 use cursor::word_of;
 use definition::MAX_SHEET_BYTES;
 use index::MAX_RULE_ENTRIES;
+use lines::rule_sheet::rule_head;
 use sheet::rule::RuleHead;
-use sheet::rule::rule_head;
 use value::MAX_VALUE_NESTING;
 use value::read_value;
 ghost use mathlib.Core.Path.{_≡_};
@@ -77,12 +77,12 @@ pub fn read_rule(s: &[u8], scratch: &mut [u32]) -> RuleRead
     };
     let end = next.at;
     let entries = next.word;
-    if end < s.len() {
-        return RuleRead::Bad;
+    if lines::ends_at(s, end) {
+        scratch[0] = word_of(0, entries);
+        return RuleRead::Good(RuleSheet {
+            is_template: template,
+            entries,
+        });
     }
-    scratch[0] = word_of(0, entries);
-    RuleRead::Good(RuleSheet {
-        is_template: template,
-        entries,
-    })
+    RuleRead::Bad
 }

@@ -2,6 +2,8 @@
 use crate::cursor::Cursor;
 use crate::cursor::TreeRead;
 use crate::cursor::word_of;
+use lines::rule_sheet::key_head;
+use lines::rule_sheet::value_head;
 use sheet::order::ByteOrder;
 use sheet::part::OptionalPart;
 use sheet::part::Part;
@@ -9,8 +11,6 @@ use sheet::part::bytes_of;
 use sheet::rule::KeyRead;
 use sheet::rule::ValueHead;
 use sheet::rule::ValueRead;
-use sheet::rule::key_head;
-use sheet::rule::value_head;
 ghost use mathlib.Core.Path.{_≡_};
 ghost use Prim.Native.Nat.{_*_, _≤_};
 ghost use Rattle.sheet.specs.Entries.{maxCount};

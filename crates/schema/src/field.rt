@@ -43,7 +43,7 @@ fn read_field(sheet: &[u8], words: &mut [u32], depth: usize, slot: usize, from: 
     }
     let at = from.at;
     let low = from.used;
-    let FieldRead::Is(head, end) = sheet::schema::field_head(sheet, at) else {
+    let FieldRead::Is(head, end) = lines::schema_sheet::field_head(sheet, at) else {
         return OneRead::Bad;
     };
     let elements = to_count(head.items);

@@ -103,7 +103,7 @@ pub fn read_schema(sheet: &[u8], scratch: &mut [u32]) -> SchemaRead
     if MAX_SHEET_BYTES < sheet.len() {
         return SchemaRead::Bad;
     }
-    let sheet::schema::SchemaRead::Is(head, end) = sheet::schema::schema_head(sheet, 0) else {
+    let sheet::schema::SchemaRead::Is(head, end) = lines::schema_sheet::schema_head(sheet, 0) else {
         return SchemaRead::Bad;
     };
     let start = Cursor {
@@ -120,8 +120,9 @@ pub fn read_schema(sheet: &[u8], scratch: &mut [u32]) -> SchemaRead
     else {
         return SchemaRead::Bad;
     };
-    if to.at < sheet.len() {
-        return SchemaRead::Bad;
+    let last = to.at;
+    if lines::ends_at(sheet, last) {
+        return SchemaRead::Good(Schema { fields, arguments });
     }
-    SchemaRead::Good(Schema { fields, arguments })
+    SchemaRead::Bad
 }

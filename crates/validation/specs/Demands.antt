@@ -6,11 +6,12 @@ use mathlib.Core.List.{List}
 use mathlib.Core.Option.{some}
 use mathlib.Core.Path.{_≡_, ap, sym, _∙_}
 use lib.ListN.{length}
+use borrow.Author.Tests.{le-leb}
 use Rattle.definition.specs.Tree.{Schema, Rule}
 use Rattle.definition.specs.Decode.{decodeSchema, decodeRule}
 use Rattle.widening.specs.Widening.{Level, marks}
-use Rattle.validation.specs.Result.{Call, Defect, Answer, defect, settingFor, checked, resultOf, numbersOf, pathAfter, Run, callOf, Meets}
-use Rattle.validation.specs.Growth.{against, Widens, Unrefused, NotRefused, SameFinding}
+use Rattle.validation.specs.Result.{Call, Defect, Answer, defect, settingFor, checked, resultOf, numbersOf, pathAfter, keptScratch, ScratchAfter, Run, callOf, Meets}
+use Rattle.validation.specs.Growth.{against, Widens, Unrefused, SameFinding}
 use Rattle.validation.specs.DemandLaws.{Heard, refusal, acceptance, finding, heard, answers-by-checks, AnswersFare, results-fare, number-accepted, number-defect, number-unrefused, passed-number, Gives, meets-gives, same-acceptance, same-finding, same-passed}
 
 -- Demand 1: whatever is handed over, the caller hears acceptance, a defect or one of refusals 1 to 5; a refusal leaves the path buffer
@@ -19,6 +20,8 @@ use Rattle.validation.specs.DemandLaws.{Heard, refusal, acceptance, find
 pub record Demand1 (r : Run) : Type 0 where
   pub hears : (a : Answer) × Heard a × (r .result ≡ numbersOf a)
   pub keeps : r .result .number ≤ 5 → r .path ≡ r .pathBefore
+  -- refusals 1 to 3 come before any sheet is read
+  pub spares : 1 ≤ r .result .number → r .result .number ≤ 3 → r .scratch ≡ r .scratchBefore
 
 -- two runs that differ at most in what the scratch held before, and in what it holds after
 pub record SameButScratch (r r′ : Run) : Type 0 where
@@ -41,11 +44,23 @@ keeps-path before (refusal p q) h = λ i. before
 keeps-path before acceptance h = λ i. before
 keeps-path before (finding d) h = absurd (omega (arith, d .low))
 
+spares-scratch : {a : Answer} {before after : List ℕ}
+    → Heard a
+    → ScratchAfter a before after
+    → 1 ≤ numbersOf a .number
+    → numbersOf a .number ≤ 3
+    → after ≡ before
+unfolding numbersOf keptScratch
+spares-scratch (refusal {n} p q) s l h = rw (le-leb n 3 h) at (s .kept)
+spares-scratch acceptance s l h = absurd (omega arith)
+spares-scratch (finding d) s l h = absurd (omega (arith, d .low))
+
 pub demand-1 : (r : Run) → Meets r → Demand1 r
 demand-1 r m =
     record {
       hears = (resultOf (callOf r), heard (callOf r), m .result);
       keeps = λ h. m .path ∙ keeps-path (r .pathBefore) (heard (callOf r)) (rw (m .result) at h);
+      spares = λ l h. spares-scratch (heard (callOf r)) (m .scratch) (rw (m .result) at l) (rw (m .result) at h);
     }
 
 same-call : {r r′ : Run} → SameButScratch r r′ → callOf r ≡ callOf r′
@@ -80,13 +95,14 @@ pub demand-2 : (r : Run) (s : Schema) (t : Rule)
     → Meets r
     → decodeSchema (r .schema) ≡ some s
     → decodeRule (r .rule) ≡ some t
-    → NotRefused (resultOf (callOf r))
+    → Unrefused r
     → Demand2 r s t
 unfolding callOf
 demand-2 r s t m e e′ n =
+    let heeded = number-unrefused (heard (callOf r)) (rw (m .result) at n) in
     record {
-      result = rw (answers-by-checks (callOf r) s t e e′ n) at (m .result);
-      path = rw (answers-by-checks (callOf r) s t e e′ n) at (m .path);
+      result = rw (answers-by-checks (callOf r) s t e e′ heeded) at (m .result);
+      path = rw (answers-by-checks (callOf r) s t e e′ heeded) at (m .path);
     }
 
 -- Demand 3: one rule or template under the same settings, checked against two schemas of which the second is a widening of the first, with

@@ -25,8 +25,8 @@ returns-2 c = rule-headless-answer (now (c .before .before .before .before .befo
 is-template-requires : tie.Need-is-template-requires
 is-template-requires c κs = search needs
 
-sub-if2 : tie.Need-sub-if2
-sub-if2 c = search needs
+sub-t10 : tie.Need-sub-t10
+sub-t10 c = search needs
 
 read-tree-requires : tie.Need-read-tree-requires
 read-tree-requires c κs = let head = rw (c .before .before .before .head .given .1) at (c .before .before .before .before .before .rule-head .ensures) in rule-ready (c .before .before .before .before .before .before .if1 .left) (c .before .before .before .before .before .before .before .before .before .pre) (head .within)
@@ -46,32 +46,35 @@ returns-3 c =
     let answer = rw (c .before .before .before .before .before .before .is-template .ensures) at (rw (c .enum-told2 .given .1) at (c .before .before .before .before .read-tree .ensures)) in
     rule-treeless-answer (now (c .before .before .before .before .before .before .before .before .before .before .before .before .before .before .args .s)) (now (c .before .before .before .before .before .before .before .before .before .before .before .before .before .before .args .scratch)) (c .before .before .before .before .read-tree .last .1 .0) (c .before .before .before .before .before .before .before .before .head .given .0 .1 .0) (c .before .before .before .before .before .before .before .before .before .before .before .if1 .left) (c .before .before .before .before .before .before .before .before .head .given .0 .0) (head .reads) answer
 
-same-length-2 : tie.Need-same-length-2
-same-length-2 c = c .before .before .before .before .before .before .read-tree .kept .1 .0
-
-returns-4 : tie.Need-returns-4
-returns-4 c =
-    let head = rw (c .before .before .before .before .before .before .before .before .before .before .head .given .1) at (c .before .before .before .before .before .before .before .before .before .before .before .before .rule-head .ensures) in
-    let answer = rw (c .before .before .before .before .before .before .before .before .is-template .ensures) at (rw (c .before .before .next .given .1) at (c .before .before .before .before .before .before .read-tree .ensures)) in
-    rule-unended-answer (now (c .before .before .before .before .before .before .before .before .before .before .before .before .before .before .before .before .args .s)) (now (c .before .before .before .before .before .before .before .before .before .before .before .before .before .before .before .before .args .scratch)) (c .before .before .before .before .before .before .read-tree .last .1 .0) (c .before .before .before .before .before .before .before .before .before .before .head .given .0 .1 .0) (c .before .before .before .before .before .before .before .before .before .before .before .before .before .if1 .left) (c .before .before .before .before .before .before .before .before .before .before .head .given .0 .0) (c .before .before .next .given .0 .0) (head .reads) answer (c .if2 .taken)
+ends-at-requires : tie.Need-ends-at-requires
+ends-at-requires c κs = search needs
 
 word-of-requires : tie.Need-word-of-requires
 word-of-requires c κs =
-    let answer = rw (c .before .before .next .given .1) at (c .before .before .before .before .before .before .read-tree .ensures) in
-    (omega arith, tree-limit (now (c .before .before .before .before .before .before .before .before .before .before .before .before .before .before .before .before .args .s)) (now (c .before .before .before .before .before .before .before .before .before .before .before .before .before .before .before .before .args .scratch)) (c .before .before .before .before .before .before .read-tree .last .1 .0) (c .before .before .before .before .before .before .before .before .before .before .head .given .0 .1 .0) (c .before .before .before .before .before .before .before .before .before .before .before .before .before .if1 .left) (c .before .before .before .before .before .before .before .before .is-template .result) (c .before .before .next .given .0 .0) answer)
+    let answer = rw (c .before .before .before .next .given .1) at (c .before .before .before .before .before .before .before .read-tree .ensures) in
+    (omega arith, tree-limit (now (c .before .before .before .before .before .before .before .before .before .before .before .before .before .before .before .before .before .args .s)) (now (c .before .before .before .before .before .before .before .before .before .before .before .before .before .before .before .before .before .args .scratch)) (c .before .before .before .before .before .before .before .read-tree .last .1 .0) (c .before .before .before .before .before .before .before .before .before .before .before .head .given .0 .1 .0) (c .before .before .before .before .before .before .before .before .before .before .before .before .before .before .if1 .left) (c .before .before .before .before .before .before .before .before .before .is-template .result) (c .before .before .before .next .given .0 .0) answer)
 
 slice-write-scratch : tie.Need-slice-write-scratch
-slice-write-scratch c = omega (arith, c .before .before .before .before .before .before .before .read-tree .kept .1 .0, c .before .before .before .before .before .before .before .before .before .before .before .before .before .before .before .before .before .pre)
+slice-write-scratch c = omega (arith, c .before .before .before .before .before .before .before .before .read-tree .kept .1 .0, c .before .before .before .before .before .before .before .before .before .before .before .before .before .before .before .before .before .before .pre)
+
+same-length-2 : tie.Need-same-length-2
+same-length-2 c = simp length-set (c .before .before .before .before .before .before .before .before .read-tree .kept .1 .0)
+
+returns-4 : tie.Need-returns-4
+returns-4 c =
+    let head = rw (c .before .before .before .before .before .before .before .before .before .before .before .before .head .given .1) at (c .before .before .before .before .before .before .before .before .before .before .before .before .before .before .rule-head .ensures) in
+    let answer = rw (c .before .before .before .before .before .before .before .before .before .before .is-template .ensures) at (rw (c .before .before .before .before .next .given .1) at (c .before .before .before .before .before .before .before .before .read-tree .ensures)) in
+    rw (c .before .before .before .before .before .before .before .before .before .before .is-template .ensures)
+    (rule-answer (now (c .before .before .before .before .before .before .before .before .before .before .before .before .before .before .before .before .before .before .args .s)) (now (c .before .before .before .before .before .before .before .before .before .before .before .before .before .before .before .before .before .before .args .scratch)) (c .before .before .before .before .before .before .before .before .read-tree .last .1 .0) (c .before .before .before .before .before .before .before .before .before .before .before .before .head .given .0 .1 .0) (c .before .before .before .before .before .before .before .before .before .before .before .before .before .before .before .if1 .left) (c .before .before .before .before .before .before .before .before .before .before .before .before .head .given .0 .0) (c .before .before .before .before .next .given .0 .0) (head .reads) (omega (arith, c .before .before .before .before .before .before .before .before .read-tree .kept .1 .0, c .before .before .before .before .before .before .before .before .before .before .before .before .before .before .before .before .before .before .pre)) answer (omega (arith, rw (c .before .if2 .taken) at (c .before .before .ends-at .ensures))) (c .word-of .ensures))
 
 same-length-3 : tie.Need-same-length-3
-same-length-3 c = simp length-set (c .before .before .before .before .before .before .before .read-tree .kept .1 .0)
+same-length-3 c = c .before .before .before .before .before .before .before .read-tree .kept .1 .0
 
 returns-5 : tie.Need-returns-5
 returns-5 c =
     let head = rw (c .before .before .before .before .before .before .before .before .before .before .before .head .given .1) at (c .before .before .before .before .before .before .before .before .before .before .before .before .before .rule-head .ensures) in
     let answer = rw (c .before .before .before .before .before .before .before .before .before .is-template .ensures) at (rw (c .before .before .before .next .given .1) at (c .before .before .before .before .before .before .before .read-tree .ensures)) in
-    rw (c .before .before .before .before .before .before .before .before .before .is-template .ensures)
-    (rule-answer (now (c .before .before .before .before .before .before .before .before .before .before .before .before .before .before .before .before .before .args .s)) (now (c .before .before .before .before .before .before .before .before .before .before .before .before .before .before .before .before .before .args .scratch)) (c .before .before .before .before .before .before .before .read-tree .last .1 .0) (c .before .before .before .before .before .before .before .before .before .before .before .head .given .0 .1 .0) (c .before .before .before .before .before .before .before .before .before .before .before .before .before .before .if1 .left) (c .before .before .before .before .before .before .before .before .before .before .before .head .given .0 .0) (c .before .before .before .next .given .0 .0) (head .reads) (omega (arith, c .before .before .before .before .before .before .before .read-tree .kept .1 .0, c .before .before .before .before .before .before .before .before .before .before .before .before .before .before .before .before .before .pre)) answer (c .before .if2 .left) (c .word-of .ensures))
+    rule-unended-answer (now (c .before .before .before .before .before .before .before .before .before .before .before .before .before .before .before .before .before .args .s)) (now (c .before .before .before .before .before .before .before .before .before .before .before .before .before .before .before .before .before .args .scratch)) (c .before .before .before .before .before .before .before .read-tree .last .1 .0) (c .before .before .before .before .before .before .before .before .before .before .before .head .given .0 .1 .0) (c .before .before .before .before .before .before .before .before .before .before .before .before .before .before .if1 .left) (c .before .before .before .before .before .before .before .before .before .before .before .head .given .0 .0) (c .before .before .before .next .given .0 .0) (head .reads) answer (omega (arith, rw (c .if2 .left) at (c .before .ends-at .ensures)))
 
 pub read-rule-spec : {M : Type 1} → statement M
 read-rule-spec =
@@ -83,15 +86,16 @@ read-rule-spec =
     enum-told
     returns-2
     is-template-requires
-    sub-if2
+    sub-t10
     read-tree-requires
     enum-known-next
     enum-told-2
     same-length
     returns-3
-    same-length-2
-    returns-4
+    ends-at-requires
     word-of-requires
     slice-write-scratch
+    same-length-2
+    returns-4
     same-length-3
     returns-5)

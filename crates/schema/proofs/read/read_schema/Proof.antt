@@ -91,6 +91,9 @@ returns-4 c =
     let e = rw (c15 .head .given .1) at (c17 .schema-head .ensures) in
     record { kept = kept-more (c11 .read-holder .ensures .kept) (c4 .read-arguments .ensures .kept); answer = schema-argumentless (c21 .args .sheet .now) (c18 .if1 .left) (schemaOf (c15 .head .given .0 .0)) (c15 .head .given .0 .1 .0) (e .0 .reads) (c21 .args .scratch .now) _ _ _ (rw (c7 .fields .given .1) at (c11 .read-holder .ensures .answer)) (rw (c .enum-told3 .given .1) at (c4 .read-arguments .ensures .answer)) }
 
+ends-at-requires : tie.Need-ends-at-requires
+ends-at-requires c κs = search needs
+
 same-length-3 : tie.Need-same-length-3
 same-length-3 c = search needs
 
@@ -106,7 +109,7 @@ returns-5 c =
     let c21 = c20 .before in
     let c24 = c21 .before .before .before in
     let e = rw (c18 .head .given .1) at (c20 .schema-head .ensures) in
-    record { kept = kept-more (c14 .read-holder .ensures .kept) (c7 .read-arguments .ensures .kept); answer = schema-unended (c24 .args .sheet .now) (c21 .if1 .left) (schemaOf (c18 .head .given .0 .0)) (c18 .head .given .0 .1 .0) (e .0 .reads) (c24 .args .scratch .now) _ _ _ (rw (c10 .fields .given .1) at (c14 .read-holder .ensures .answer)) _ _ _ (rw (c3 .arguments .given .1) at (c7 .read-arguments .ensures .answer)) (c .if2 .taken) }
+    record { kept = kept-more (c14 .read-holder .ensures .kept) (c7 .read-arguments .ensures .kept); answer = schema-good (c24 .args .sheet .now) (c21 .if1 .left) (schemaOf (c18 .head .given .0 .0)) (c18 .head .given .0 .1 .0) (e .0 .reads) (c24 .args .scratch .now) _ _ _ (rw (c10 .fields .given .1) at (c14 .read-holder .ensures .answer)) _ _ _ (rw (c3 .arguments .given .1) at (c7 .read-arguments .ensures .answer)) (omega (arith, rw (c .if2 .taken) at (c .before .ends-at .ensures))) }
 
 same-length-4 : tie.Need-same-length-4
 same-length-4 c = search needs
@@ -123,7 +126,7 @@ returns-6 c =
     let c21 = c20 .before in
     let c24 = c21 .before .before .before in
     let e = rw (c18 .head .given .1) at (c20 .schema-head .ensures) in
-    record { kept = kept-more (c14 .read-holder .ensures .kept) (c7 .read-arguments .ensures .kept); answer = schema-good (c24 .args .sheet .now) (c21 .if1 .left) (schemaOf (c18 .head .given .0 .0)) (c18 .head .given .0 .1 .0) (e .0 .reads) (c24 .args .scratch .now) _ _ _ (rw (c10 .fields .given .1) at (c14 .read-holder .ensures .answer)) _ _ _ (rw (c3 .arguments .given .1) at (c7 .read-arguments .ensures .answer)) (c .if2 .left) }
+    record { kept = kept-more (c14 .read-holder .ensures .kept) (c7 .read-arguments .ensures .kept); answer = schema-unended (c24 .args .sheet .now) (c21 .if1 .left) (schemaOf (c18 .head .given .0 .0)) (c18 .head .given .0 .1 .0) (e .0 .reads) (c24 .args .scratch .now) _ _ _ (rw (c10 .fields .given .1) at (c14 .read-holder .ensures .answer)) _ _ _ (rw (c3 .arguments .given .1) at (c7 .read-arguments .ensures .answer)) (omega (arith, rw (c .if2 .left) at (c .before .ends-at .ensures))) }
 
 pub read-schema-spec : {M : Type 1} → statement M
 read-schema-spec =
@@ -144,6 +147,7 @@ read-schema-spec =
     enum-told-3
     same-length-2
     returns-4
+    ends-at-requires
     same-length-3
     returns-5
     same-length-4

@@ -1,0 +1,33 @@
+-- Results as bytes, computed.
+use Prim.Native.Nat.{ℕ}
+use mathlib.Core.List.{List, [], _∷_, _++_}
+use mathlib.Core.Path.{_≡_, refl}
+use lib.ListN.{replicate}
+use Rattle.validation.specs.Result.{refused, numbersOf}
+use Rattle.entity_rules.specs.Bytes.{littleEndian, bytesOf, numberAt, fieldAt}
+use Rattle.entity_rules.specs.Entry.{fieldsOf, resultAfter}
+
+unfoldable result : List ℕ → List ℕ
+unfolding littleEndian bytesOf fieldsOf resultAfter numbersOf numberAt fieldAt
+result before = resultAfter (numbersOf (refused 3)) before
+
+least-first : littleEndian 0x12345678 ≡ 0x78 ∷ 0x56 ∷ 0x34 ∷ 0x12 ∷ []
+unfolding littleEndian
+least-first = refl
+
+-- a refusal and six zeros; what lies past the 28 bytes keeps its values
+refusal-written : result (replicate 30 7) ≡ 3 ∷ replicate 27 0 ++ 7 ∷ 7 ∷ []
+unfolding result
+refusal-written = refl
+
+short-kept : result (replicate 27 7) ≡ replicate 27 7
+unfolding result
+short-kept = refl
+
+field-within : fieldAt 6 (replicate 28 1) ≡ 0x01010101
+unfolding fieldAt numberAt
+field-within = refl
+
+field-past : fieldAt 7 (replicate 31 1) ≡ 0
+unfolding fieldAt numberAt
+field-past = refl

@@ -1,0 +1,68 @@
+-- `entity_rules::check` meets its contract: the validator's answer, with the lent part of the path buffer back in its place.
+use Rattle.entity_rules.proofs.Entries.{lent-within, answered}
+use borrow.Author.Needs.{needs}
+use Rattle.entity_rules.proofs.check.Statement.{statement}
+use Rattle.entity_rules.proofs.check.Tie as tie
+
+path-lent-requires : tie.Need-path-lent-requires
+path-lent-requires c κs = search needs
+
+setting-requires : tie.Need-setting-requires
+setting-requires c κs = search needs
+
+setting-requires-2 : tie.Need-setting-requires-2
+setting-requires-2 c κs = search needs
+
+sub-validate-taken : tie.Need-sub-validate-taken
+sub-validate-taken c = search needs
+
+part-validate-taken-start : tie.Need-part-validate-taken-start
+part-validate-taken-start c = search needs
+
+part-validate-taken-end : tie.Need-part-validate-taken-end
+part-validate-taken-end c = rw (c .before .before .path-lent .ensures) (lent-within _ _)
+
+slice-aggregate-validate-taken : tie.Need-slice-aggregate-validate-taken
+slice-aggregate-validate-taken c = search needs
+
+validate-taken-requires : tie.Need-validate-taken-requires
+validate-taken-requires c κs = search needs
+
+write-result-requires : tie.Need-write-result-requires
+write-result-requires c κs = search needs
+
+same-length : tie.Need-same-length
+same-length c = search needs
+
+same-length-2 : tie.Need-same-length-2
+same-length-2 c = search needs
+
+returns : tie.Need-returns
+returns c =
+    let wrote = c .before .before in
+    let called = wrote .before .before .before .before .before in
+    let second = called .before .before .before in
+    let first = second .before in
+    let lent = first .before in
+    let a = lent .before .before .before .before .before .before .args in
+    let last = called .validate-taken .last .1 .1 .1 .1 .1 .1 in
+    answered (a .takes) (a .kind) (a .semantics) (a .label .now) (a .schema .now) (a .rule .now) (a .path .now) (a .result .now)
+    (called .validate-taken .result) (last .0) (last .1 .0)
+    (first .setting .ensures) (second .setting2 .ensures) (lent .path-lent .ensures) (called .validate-taken .ensures) (wrote .write-result .ensures)
+
+pub check-spec : {M : Type 1} → statement M
+check-spec =
+    tie.close
+    (tie.spec
+    path-lent-requires
+    setting-requires
+    setting-requires-2
+    sub-validate-taken
+    part-validate-taken-start
+    part-validate-taken-end
+    slice-aggregate-validate-taken
+    validate-taken-requires
+    write-result-requires
+    same-length
+    same-length-2
+    returns)

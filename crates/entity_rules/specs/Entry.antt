@@ -1,0 +1,67 @@
+-- What a C function of this crate answers, and what both buffers hold after it (docs/FORMAT.md, "The C interface").
+use Prim.Native.Nat.{ℕ}
+use mathlib.Core.Bool.{cond}
+use mathlib.Core.List.{List, [], _∷_}
+use mathlib.Core.Path.{_≡_}
+use lib.Dec.{leb}
+use lib.ListN.{length}
+use lib.Seq.{sets}
+use Rattle.validation.specs.Result.{Takes, Call, Answer, Numbers, resultOf, numbersOf, pathAfter, scratchWords}
+use Rattle.validator.specs.declared.outcome.Outcome.{Outcome}
+use Rattle.validator.specs.Outcomes.{numbersBy}
+use Rattle.entity_rules.specs.Bytes.{bytesOf, Small}
+
+-- seven numbers of four bytes
+abbrev pub resultBytes : ℕ
+resultBytes = 28
+
+-- the numbers of a result in their order
+unfoldable pub fieldsOf : Numbers → List ℕ
+fieldsOf n =
+    n .number
+    ∷ n .family
+    ∷ n .detail
+    ∷ n .place
+    ∷ n .overPlace
+    ∷ n .passed
+    ∷ n .pathLength
+    ∷ []
+
+-- the result buffer after the call: the numbers lie at its start, and all other bytes keep their values
+unfoldable pub resultAfter : Numbers → List ℕ → List ℕ
+resultAfter n before = cond (leb resultBytes (length before)) (sets before 0 (bytesOf (fieldsOf n))) before
+
+-- A result buffer under 28 bytes is refusal 3, as a path buffer under 32,768 bytes is. So the path buffer counts as empty there:
+-- 3 then falls due in its place, after 1 and 2 and before the sheets.
+unfoldable pub pathLent : (pathLength resultLength : ℕ) → ℕ
+pathLent pathLength resultLength = cond (leb resultBytes resultLength) pathLength 0
+
+-- the call that a C function makes, with a scratch of its own
+unfoldable pub entryCall : Takes → (kind semantics : ℕ) (label schema rule : List ℕ) (pathLength resultLength : ℕ) → Call
+entryCall takes kind semantics label schema rule pathLength resultLength =
+    record {
+      takes = takes;
+      kind = kind;
+      semantics = semantics;
+      label = label;
+      schema = schema;
+      rule = rule;
+      pathLength = pathLent pathLength resultLength;
+      scratchLength = scratchWords;
+    }
+
+unfoldable pub entryAnswer : Takes → (kind semantics : ℕ) (label schema rule : List ℕ) (pathLength resultLength : ℕ) → Answer
+entryAnswer takes kind semantics label schema rule pathLength resultLength =
+    resultOf (entryCall takes kind semantics label schema rule pathLength resultLength)
+
+-- what is returned, and both buffers; since the numbers are small, they can be read back (EntryLaws, `field-of-answer`)
+pub record Answered (answer : Answer) (pathBefore pathNow resultBefore resultNow : List ℕ) (r : ℕ) : Type 0 where
+  pub number : r ≡ numbersOf answer .number
+  pub path : pathNow ≡ pathAfter answer pathBefore
+  pub result : resultNow ≡ resultAfter (numbersOf answer) resultBefore
+  pub small : Small (fieldsOf (numbersOf answer))
+
+-- what writing a result promises
+pub record Written (o : Outcome) (before after : List ℕ) : Type 0 where
+  pub stands : after ≡ resultAfter (numbersBy o) before
+  pub small : Small (fieldsOf (numbersBy o))

@@ -1,0 +1,121 @@
+// The checker as C functions for a host. Each call brings a scratch of its own.
+mod result; // result.rt: the seven numbers as bytes
+
+use crate::result::RESULT_BYTES;
+use crate::result::read_u32;
+use crate::result::write_result;
+use validator::sheets::Takes;
+use validator::validate_taken;
+ghost use mathlib.Core.Path.{_≡_};
+ghost use Prim.Native.Nat.{min};
+ghost use lib.ListN.{length};
+ghost use Rattle.validation.specs.Result.{rules, templates};
+ghost use Rattle.validator.specs.Sheets.{takesOf};
+ghost use Rattle.entity_rules.specs.Bytes.{fieldAt};
+ghost use Rattle.entity_rules.specs.Entry.{pathLent, entryAnswer, Answered};
+
+const SCRATCH_WORDS: usize = 8192;
+
+// Kinds end at 8 and semantics at 4, so 9 stands for all that is too large for either.
+fn setting(n: u64) -> u32
+    ensures { λ r. ⌜ r ≡ min n 9 ⌝ }
+{
+    if 8 < n { 9 } else { n as u32 }
+}
+
+// How much of the path buffer is lent: nothing where the result would have no room, so that both are refused as width.
+fn path_lent(path: usize, result: usize) -> usize
+    ensures { λ r. ⌜ r ≡ pathLent path result ⌝ }
+{
+    if result < RESULT_BYTES { 0 } else { path }
+}
+
+fn check(
+    takes: Takes,
+    kind: u64,
+    semantics: u64,
+    label: &[u8],
+    schema: &[u8],
+    rule: &[u8],
+    path: &mut [u8],
+    result: &mut [u8],
+) -> u32
+    ensures { λ r. ⌜ Answered (entryAnswer (takesOf takes) kind semantics (now (label .entry)) (now (schema .entry)) (now (rule .entry)) (length (now (path .entry))) (length (now (result .entry)))) (now (path .entry)) (now (path .exit)) (now (result .entry)) (now (result .exit)) r ⌝ }
+{
+    let mut scratch = [0u32; SCRATCH_WORDS];
+    let lent = path_lent(path.len(), result.len());
+    let outcome = validate_taken(
+        takes,
+        setting(kind),
+        setting(semantics),
+        label,
+        schema,
+        rule,
+        &mut path[0..lent],
+        &mut scratch,
+    );
+    write_result(outcome, result);
+    outcome.number
+}
+
+// Checks a rule. `path` takes at least 32,768 bytes, and `result` 28.
+#[no_mangle]
+pub extern "C" fn rulecheck_rule(
+    kind: u64,
+    semantics: u64,
+    label: &[u8],
+    schema: &[u8],
+    rule: &[u8],
+    path: &mut [u8],
+    result: &mut [u8],
+) -> u32
+    ensures { λ r. ⌜ Answered (entryAnswer rules kind semantics (now (label .entry)) (now (schema .entry)) (now (rule .entry)) (length (now (path .entry))) (length (now (result .entry)))) (now (path .entry)) (now (path .exit)) (now (result .entry)) (now (result .exit)) r ⌝ }
+{
+    check(
+        Takes::Rules,
+        kind,
+        semantics,
+        label,
+        schema,
+        rule,
+        path,
+        result,
+    )
+}
+
+// Checks a template, with buffers as for a rule.
+#[no_mangle]
+pub extern "C" fn rulecheck_template(
+    kind: u64,
+    semantics: u64,
+    label: &[u8],
+    schema: &[u8],
+    rule: &[u8],
+    path: &mut [u8],
+    result: &mut [u8],
+) -> u32
+    ensures { λ r. ⌜ Answered (entryAnswer templates kind semantics (now (label .entry)) (now (schema .entry)) (now (rule .entry)) (length (now (path .entry))) (length (now (result .entry)))) (now (path .entry)) (now (path .exit)) (now (result .entry)) (now (result .exit)) r ⌝ }
+{
+    check(
+        Takes::Templates,
+        kind,
+        semantics,
+        label,
+        schema,
+        rule,
+        path,
+        result,
+    )
+}
+
+// A number of a result by its index, or 0 where there is none.
+#[no_mangle]
+pub extern "C" fn rulecheck_field(result: &[u8], index: u32) -> u32
+    ensures { λ r. ⌜ r ≡ fieldAt index (now (result .entry)) ⌝ }
+{
+    let at = index as usize * 4;
+    if result.len() < at + 4 {
+        return 0;
+    }
+    read_u32(result, at)
+}

@@ -1,0 +1,46 @@
+-- Where a line reader stands: behind the head that it read, or where it stood if it read none; and whether a sheet ends there.
+use Prim.Native.Nat.{ℕ, _<_, _≤_}
+use mathlib.Core.Bool.{Bool, true, false}
+use mathlib.Core.List.{List}
+use lib.ListN.{length}
+use Rattle.sheet.specs.declared.schema.SchemaRead.{SchemaRead}
+use Rattle.sheet.specs.declared.schema.SchemaRead.the-variants as schema
+use Rattle.sheet.specs.declared.schema.FieldRead.{FieldRead}
+use Rattle.sheet.specs.declared.schema.FieldRead.the-variants as field
+use Rattle.sheet.specs.declared.rule.RuleRead.{RuleRead}
+use Rattle.sheet.specs.declared.rule.RuleRead.the-variants as rule
+use Rattle.sheet.specs.declared.rule.ConditionRead.{ConditionRead}
+use Rattle.sheet.specs.declared.rule.ConditionRead.the-variants as condition
+use Rattle.sheet.specs.declared.rule.ValueRead.{ValueRead}
+use Rattle.sheet.specs.declared.rule.ValueRead.the-variants as value
+use Rattle.sheet.specs.declared.rule.KeyRead.{KeyRead}
+use Rattle.sheet.specs.declared.rule.KeyRead.the-variants as key
+
+abbrev pub schemaEnd : SchemaRead → ℕ → ℕ
+schemaEnd (schema.Is h next) at = next
+schemaEnd schema.Bad at = at
+
+abbrev pub fieldEnd : FieldRead → ℕ → ℕ
+fieldEnd (field.Is h next) at = next
+fieldEnd field.Bad at = at
+
+abbrev pub ruleEnd : RuleRead → ℕ → ℕ
+ruleEnd (rule.Is h next) at = next
+ruleEnd rule.Bad at = at
+
+abbrev pub conditionEnd : ConditionRead → ℕ → ℕ
+conditionEnd (condition.Is h next) at = next
+conditionEnd condition.Bad at = at
+
+abbrev pub valueEnd : ValueRead → ℕ → ℕ
+valueEnd (value.Is h next) at = next
+valueEnd value.Bad at = at
+
+abbrev pub keyEnd : KeyRead → ℕ → ℕ
+keyEnd (key.Is k next) at = next
+keyEnd key.Bad at = at
+
+-- no byte stands at place `at` or behind it
+abbrev pub EndIs : List ℕ → ℕ → Bool → Type 0
+EndIs s at true = length s ≤ at
+EndIs s at false = at < length s

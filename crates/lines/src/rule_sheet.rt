@@ -1,0 +1,119 @@
+// The entries of a rule sheet, one after the other.
+use crate::Lines;
+use crate::new;
+use sheet::rule::ConditionRead;
+use sheet::rule::KeyRead;
+use sheet::rule::RuleRead;
+use sheet::rule::ValueRead;
+ghost use mathlib.Core.Path.{_≡_};
+ghost use Rattle.sheet.specs.Places.{RuleIs, ConditionIs, ValueIs, KeyIs};
+ghost use Rattle.lines.specs.Ends.{ruleEnd, conditionEnd, valueEnd, keyEnd};
+ghost use Rattle.lines.specs.Passed.{Passed};
+
+// Where the entry behind the sheet's first entry starts; a reader that finds none stays where it is.
+fn rule_end(read: RuleRead, at: usize) -> usize
+    ensures { λ r. ⌜ r ≡ ruleEnd read at ⌝ }
+{
+    match read {
+        RuleRead::Is(_, next) => next,
+        RuleRead::Bad => at,
+    }
+}
+
+// The next entry's head, with the reader moved past it.
+pub fn next_rule<'s, 'a>(lines: &'s mut Lines<'a>) -> RuleRead
+    ensures { λ r. ⌜ Passed RuleIs ruleEnd (now (lines .entry)) (now (lines .exit)) r ⌝ }
+{
+    let read = sheet::rule::rule_head(lines.sheet, lines.at);
+    lines.at = rule_end(read, lines.at);
+    read
+}
+
+// The head of the entry that starts at `at`, for callers without a reader.
+pub fn rule_head(sheet: &[u8], at: usize) -> RuleRead
+    ensures { λ r. ⌜ RuleIs (now (sheet .entry)) at r ⌝ }
+{
+    let mut lines = new(sheet, at);
+    next_rule(&mut lines)
+}
+
+// Where the entry behind a condition's entry starts; a reader that finds none stays where it is.
+fn condition_end(read: ConditionRead, at: usize) -> usize
+    ensures { λ r. ⌜ r ≡ conditionEnd read at ⌝ }
+{
+    match read {
+        ConditionRead::Is(_, next) => next,
+        ConditionRead::Bad => at,
+    }
+}
+
+// The next entry's head, with the reader moved past it.
+pub fn next_condition<'s, 'a>(lines: &'s mut Lines<'a>) -> ConditionRead
+    ensures { λ r. ⌜ Passed ConditionIs conditionEnd (now (lines .entry)) (now (lines .exit)) r ⌝ }
+{
+    let read = sheet::rule::condition_head(lines.sheet, lines.at);
+    lines.at = condition_end(read, lines.at);
+    read
+}
+
+// The head of the entry that starts at `at`, for callers without a reader.
+pub fn condition_head(sheet: &[u8], at: usize) -> ConditionRead
+    ensures { λ r. ⌜ ConditionIs (now (sheet .entry)) at r ⌝ }
+{
+    let mut lines = new(sheet, at);
+    next_condition(&mut lines)
+}
+
+// Where the entry behind a value's entry starts; a reader that finds none stays where it is.
+fn value_end(read: ValueRead, at: usize) -> usize
+    ensures { λ r. ⌜ r ≡ valueEnd read at ⌝ }
+{
+    match read {
+        ValueRead::Is(_, next) => next,
+        ValueRead::Bad => at,
+    }
+}
+
+// The next entry's head, with the reader moved past it.
+pub fn next_value<'s, 'a>(lines: &'s mut Lines<'a>) -> ValueRead
+    ensures { λ r. ⌜ Passed ValueIs valueEnd (now (lines .entry)) (now (lines .exit)) r ⌝ }
+{
+    let read = sheet::rule::value_head(lines.sheet, lines.at);
+    lines.at = value_end(read, lines.at);
+    read
+}
+
+// The head of the entry that starts at `at`, for callers without a reader.
+pub fn value_head(sheet: &[u8], at: usize) -> ValueRead
+    ensures { λ r. ⌜ ValueIs (now (sheet .entry)) at r ⌝ }
+{
+    let mut lines = new(sheet, at);
+    next_value(&mut lines)
+}
+
+// Where the entry behind a key's entry starts; a reader that finds none stays where it is.
+fn key_end(read: KeyRead, at: usize) -> usize
+    ensures { λ r. ⌜ r ≡ keyEnd read at ⌝ }
+{
+    match read {
+        KeyRead::Is(_, next) => next,
+        KeyRead::Bad => at,
+    }
+}
+
+// The next entry's head, with the reader moved past it.
+pub fn next_key<'s, 'a>(lines: &'s mut Lines<'a>) -> KeyRead
+    ensures { λ r. ⌜ Passed KeyIs keyEnd (now (lines .entry)) (now (lines .exit)) r ⌝ }
+{
+    let read = sheet::rule::key_head(lines.sheet, lines.at);
+    lines.at = key_end(read, lines.at);
+    read
+}
+
+// The head of the entry that starts at `at`, for callers without a reader.
+pub fn key_head(sheet: &[u8], at: usize) -> KeyRead
+    ensures { λ r. ⌜ KeyIs (now (sheet .entry)) at r ⌝ }
+{
+    let mut lines = new(sheet, at);
+    next_key(&mut lines)
+}

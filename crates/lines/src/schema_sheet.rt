@@ -1,0 +1,63 @@
+// The entries of a schema sheet, one after the other.
+use crate::Lines;
+use crate::new;
+use sheet::schema::FieldRead;
+use sheet::schema::SchemaRead;
+ghost use mathlib.Core.Path.{_≡_};
+ghost use Rattle.sheet.specs.Places.{SchemaIs, FieldIs};
+ghost use Rattle.lines.specs.Ends.{schemaEnd, fieldEnd};
+ghost use Rattle.lines.specs.Passed.{Passed};
+
+// Where the entry behind the sheet's first entry starts; a reader that finds none stays where it is.
+fn schema_end(read: SchemaRead, at: usize) -> usize
+    ensures { λ r. ⌜ r ≡ schemaEnd read at ⌝ }
+{
+    match read {
+        SchemaRead::Is(_, next) => next,
+        SchemaRead::Bad => at,
+    }
+}
+
+// The next entry's head, with the reader moved past it.
+pub fn next_schema<'s, 'a>(lines: &'s mut Lines<'a>) -> SchemaRead
+    ensures { λ r. ⌜ Passed SchemaIs schemaEnd (now (lines .entry)) (now (lines .exit)) r ⌝ }
+{
+    let read = sheet::schema::schema_head(lines.sheet, lines.at);
+    lines.at = schema_end(read, lines.at);
+    read
+}
+
+// The head of the entry that starts at `at`, for callers without a reader.
+pub fn schema_head(sheet: &[u8], at: usize) -> SchemaRead
+    ensures { λ r. ⌜ SchemaIs (now (sheet .entry)) at r ⌝ }
+{
+    let mut lines = new(sheet, at);
+    next_schema(&mut lines)
+}
+
+// Where the entry behind a field's entry starts; a reader that finds none stays where it is.
+fn field_end(read: FieldRead, at: usize) -> usize
+    ensures { λ r. ⌜ r ≡ fieldEnd read at ⌝ }
+{
+    match read {
+        FieldRead::Is(_, next) => next,
+        FieldRead::Bad => at,
+    }
+}
+
+// The next entry's head, with the reader moved past it.
+pub fn next_field<'s, 'a>(lines: &'s mut Lines<'a>) -> FieldRead
+    ensures { λ r. ⌜ Passed FieldIs fieldEnd (now (lines .entry)) (now (lines .exit)) r ⌝ }
+{
+    let read = sheet::schema::field_head(lines.sheet, lines.at);
+    lines.at = field_end(read, lines.at);
+    read
+}
+
+// The head of the entry that starts at `at`, for callers without a reader.
+pub fn field_head(sheet: &[u8], at: usize) -> FieldRead
+    ensures { λ r. ⌜ FieldIs (now (sheet .entry)) at r ⌝ }
+{
+    let mut lines = new(sheet, at);
+    next_field(&mut lines)
+}

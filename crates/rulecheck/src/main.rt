@@ -1,0 +1,21 @@
+// Checks the rule of the file `check.in` against its schema, and prints the answer (docs/FORMAT.md, "The program `rulecheck`").
+use file_answer::output;
+use libc::STDOUT_FILENO;
+
+// One byte more than the longest file that is taken, so that a longer one shows.
+const FILE_BYTES: usize = 65537;
+
+// Room enough for every line.
+const LINE_BYTES: usize = 32835;
+
+fn main() {
+    let fd = os::open_read(b"check.in");
+    if fd < 0 {
+        return;
+    }
+    let mut file = [0u8; FILE_BYTES];
+    let n = io::read_full(fd, &mut file);
+    let mut line = [0u8; LINE_BYTES];
+    let size = output(&file[..n], &mut line);
+    io::write_all(STDOUT_FILENO, &line[0..size]);
+}

@@ -1,0 +1,240 @@
+// Replays a list of files and the lines that `rulecheck` prints for them, and writes how many came out as expected, with the number of
+// each that did not. A case is a line with two byte counts parted by a comma, then a file, then what is printed for it. Lines that begin
+// with # may stand before the first case.
+use file_answer::output;
+use libc::STDIN_FILENO;
+use libc::STDOUT_FILENO;
+ghost use Prim.Native.Nat.{_+_, _≤_, min};
+ghost use mathlib.Core.Bool.{true};
+ghost use mathlib.Core.Path.{_≡_};
+ghost use lib.ListN.{length};
+ghost use Rattle.check_file.specs.Output.{outputOf};
+ghost use Rattle.vectors.specs.Found.{Within, FoundIn, ReplayedIn};
+
+// The list is read in pieces of this size.
+const BUFFER_BYTES: usize = 262144;
+
+// More than any case has.
+const CASE_BYTES: usize = 131072;
+
+// More than any list has.
+const MAX_CASES: u64 = 1000000;
+
+// Room enough for every line that is printed.
+const LINE_BYTES: usize = 32835;
+
+// Larger numbers are read as this one.
+const TOO_LARGE: usize = 1000000;
+
+// The bytes that are read and not yet replayed.
+struct Window {
+    start: usize,
+    end: usize,
+}
+
+struct Numeral {
+    value: usize,
+    // The place behind the byte that ends it.
+    next: usize,
+}
+
+struct Case {
+    file: usize,
+    expected: usize,
+    end: usize,
+}
+
+enum Found {
+    Whole(Case),
+    // Not all of a case is there.
+    Broken,
+}
+
+enum Replayed {
+    // Whether it came out as expected, and the place behind it.
+    Whole(bool, usize),
+    Broken,
+}
+
+// The place behind the lines that begin with #.
+fn head(s: &[u8]) -> usize
+    ensures { λ r. ⌜ r ≤ length (now (s .entry)) ⌝ }
+{
+    let mut at = 0;
+    let mut in_comment = false;
+    while at < s.len() {
+        if s[at] == b'#' {
+            in_comment = true;
+        }
+        if !in_comment {
+            return at;
+        }
+        if s[at] == b'\n' {
+            in_comment = false;
+        }
+        at += 1;
+    }
+    at
+}
+
+fn wide(b: u8) -> usize
+    ensures { λ r. ⌜ r ≡ b ⌝ }
+{
+    b as usize
+}
+
+// A number with one more digit; `TOO_LARGE` where the byte is no digit.
+fn grown(value: usize, b: u8) -> usize
+    requires { ⌜ value ≤ 1000000 ⌝ }
+    ensures { λ r. ⌜ r ≤ 1000000 ⌝ }
+{
+    if b < b'0' {
+        return TOO_LARGE;
+    }
+    let digit = wide(b - b'0');
+    if 9 < digit {
+        return TOO_LARGE;
+    }
+    let next = value * 10 + digit;
+    if next < TOO_LARGE { next } else { TOO_LARGE }
+}
+
+// The number that stands from `at` on up to the byte `stop`.
+fn count(s: &[u8], at: usize, stop: u8) -> Numeral
+    requires { ⌜ at ≤ length (now s) ⌝ }
+    ensures { λ r. ⌜ (r .value ≤ 1000000) × (r .next ≤ length (now (s .entry))) ⌝ }
+{
+    let mut value = 0;
+    let mut i = at;
+    while i < s.len() {
+        let b = s[i];
+        if b == stop {
+            return Numeral { value, next: i + 1 };
+        }
+        value = grown(value, b);
+        i += 1;
+    }
+    Numeral {
+        value: TOO_LARGE,
+        next: i,
+    }
+}
+
+// The case at the start of `s`.
+fn find(s: &[u8]) -> Found
+    ensures { λ r. ⌜ FoundIn (now (s .entry)) r ⌝ }
+{
+    let given = count(s, 0, b',');
+    let told = count(s, given.next, b'\n');
+    let file = told.next;
+    let expected = file + given.value;
+    let end = expected + told.value;
+    if end <= s.len() {
+        return Found::Whole(Case {
+            file,
+            expected,
+            end,
+        });
+    }
+    Found::Broken
+}
+
+fn is_as_expected(file: &[u8], expected: &[u8]) -> bool
+    ensures { λ r. ⌜ (r ≡ true → outputOf (now (file .entry)) ≡ now (expected .entry)) × (outputOf (now (file .entry)) ≡ now (expected .entry) → r ≡ true) ⌝ }
+{
+    let mut line = [0u8; LINE_BYTES];
+    let n = output(file, &mut line);
+    check::same(&line[0..n], expected)
+}
+
+fn replay(s: &[u8]) -> Replayed
+    ensures { λ r. ⌜ ReplayedIn (now (s .entry)) r ⌝ }
+{
+    let Found::Whole(c) = find(s) else {
+        return Replayed::Broken;
+    };
+    let file = c.file;
+    let expected = c.expected;
+    let end = c.end;
+    let agrees = is_as_expected(&s[file..expected], &s[expected..end]);
+    Replayed::Whole(agrees, end)
+}
+
+// Moves the bytes of the window to the front.
+fn shift(buffer: &mut [u8], start: usize, end: usize)
+    requires { ⌜ (start ≤ end) × (end ≤ length (now buffer)) ⌝ }
+{
+    let mut i = start;
+    while i < end {
+        buffer[i - start] = buffer[i];
+        i += 1;
+    }
+}
+
+// Reads on where less than a case may be left.
+fn refill(buffer: &mut [u8], w: Window) -> Window
+    requires { ⌜ Within (now buffer) w ⌝ }
+    ensures { λ r. ⌜ Within (now (buffer .exit)) r ⌝ }
+{
+    let start = w.start;
+    let end = w.end;
+    let left = end - start;
+    if CASE_BYTES <= left {
+        return w;
+    }
+    shift(buffer, start, end);
+    let more = io::read_full(STDIN_FILENO, &mut buffer[left..]);
+    Window {
+        start: 0,
+        end: left + more,
+    }
+}
+
+fn say(number: u64, words: &[u8]) {
+    io::print_decimal(STDOUT_FILENO, number);
+    io::write_all(STDOUT_FILENO, words);
+}
+
+fn say_case(number: u64, words: &[u8]) {
+    io::write_all(STDOUT_FILENO, b"case ");
+    say(number, words);
+}
+
+fn run(buffer: &mut [u8], from: Window)
+    requires { ⌜ Within (now buffer) from ⌝ }
+{
+    let mut w = from;
+    let mut cases: u64 = 0;
+    let mut agreed: u64 = 0;
+    while cases < MAX_CASES {
+        w = refill(buffer, w);
+        let start = w.start;
+        let end = w.end;
+        if start == end {
+            break;
+        }
+        let Replayed::Whole(agrees, n) = replay(&buffer[start..end]) else {
+            say_case(cases + 1, b" cannot be read\n");
+            break;
+        };
+        cases += 1;
+        if agrees {
+            agreed += 1;
+        } else {
+            say_case(cases, b" differs\n");
+        }
+        w = Window {
+            start: start + n,
+            end,
+        };
+    }
+    say(cases, b" cases, ");
+    say(agreed, b" as expected\n");
+}
+
+fn main() {
+    let mut buffer = [0u8; BUFFER_BYTES];
+    let end = io::read_full(STDIN_FILENO, &mut buffer);
+    let start = head(&buffer[..end]);
+    run(&mut buffer, Window { start, end });
+}

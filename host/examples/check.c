@@ -1,0 +1,55 @@
+/* Checks a good and a bad rule of a mill from C. In this folder, after `rt staticlib entity_rules` in the repository's root:
+ *
+ *   cc check.c -I../include -L../../target/staticlib -lentity_rules -o check && ./check
+ */
+#include <entity_rules.h>
+#include <stdio.h>
+#include <string.h>
+
+static uint8_t path[ENTITY_RULES_PATH_BYTES];
+
+static const uint8_t *bytes(const char *text) { return (const uint8_t *)text; }
+
+/* Prints what the library answers for one rule. */
+static void check(const char *label, const char *schema, const char *rule) {
+  uint8_t result[ENTITY_RULES_RESULT_BYTES];
+  uint32_t number = rulecheck_rule(ENTITY_RULES_PRECONDITION, ENTITY_RULES_SERVICE_1,
+                                   bytes(label), strlen(label), bytes(schema), strlen(schema),
+                                   bytes(rule), strlen(rule),
+                                   path, sizeof path, result, sizeof result);
+  uint32_t passed = rulecheck_field(result, sizeof result, ENTITY_RULES_PASSED);
+  if (number == ENTITY_RULES_ACCEPTED) {
+    printf("%s: accepted, %u checks passed\n", label, (unsigned)passed);
+  } else if (number <= ENTITY_RULES_REFUSED_RULE_SHEET) {
+    printf("%s: refused, %u\n", label, (unsigned)number);
+  } else {
+    printf("%s: defect %u of family %u, detail %u, at entry %u, %.*s, after %u checks\n", label, (unsigned)number,
+           (unsigned)rulecheck_field(result, sizeof result, ENTITY_RULES_FAMILY),
+           (unsigned)rulecheck_field(result, sizeof result, ENTITY_RULES_DETAIL),
+           (unsigned)rulecheck_field(result, sizeof result, ENTITY_RULES_PLACE),
+           (int)rulecheck_field(result, sizeof result, ENTITY_RULES_PATH_LENGTH), (const char *)path, (unsigned)passed);
+  }
+}
+
+int main(void) {
+  /* A pattern names bars, each of them threaded or not. */
+  const char *schema = "H,0,1,-,0\n"
+                       "F,6,0,1,0,4,-,bars\n"
+                       "F,7,0,0,1,0,-,\n"
+                       "F,4,0,0,0,8,-,threaded\n";
+  check("good", schema,
+        "R,-,-,\n"
+        "C,20,3,bar\n"
+        "V,5,12,$fields.bars\n"
+        "C,8,0,\n"
+        "V,5,13,$bar.threaded\n"
+        "V,3,0,\n");
+  check("bad", schema,
+        "R,-,-,\n"
+        "C,20,3,bar\n"
+        "V,5,12,$fields.bars\n"
+        "C,8,0,\n"
+        "V,5,12,$bar.threded\n"
+        "V,3,0,\n");
+  return 0;
+}

@@ -1,0 +1,42 @@
+//! Builds the sheets beside this file and checks both rules: `cargo run --example mill`.
+//!
+//! With a folder as its argument it writes the sheets there instead: `cargo run --example mill -- examples/mill`.
+
+mod sheets;
+
+use entity_rules::{Kind, Semantics, check_rule};
+use std::error::Error;
+use std::path::Path;
+use std::{env, fs};
+
+fn main() -> Result<(), Box<dyn Error>> {
+    match env::args_os().nth(1) {
+        Some(folder) => write(folder.as_ref()),
+        None => check(),
+    }
+}
+
+fn check() -> Result<(), Box<dyn Error>> {
+    let schema = sheets::pattern().sheet()?;
+    for (label, rule) in [
+        ("release", sheets::release()),
+        ("misspelt", sheets::misspelt()),
+    ] {
+        let verdict = check_rule(
+            Kind::Precondition,
+            Semantics::Service1,
+            label,
+            &schema,
+            &rule.sheet()?,
+        )?;
+        println!("{label}: {verdict}");
+    }
+    Ok(())
+}
+
+fn write(folder: &Path) -> Result<(), Box<dyn Error>> {
+    for (name, sheet) in sheets::files()? {
+        fs::write(folder.join(name), sheet)?;
+    }
+    Ok(())
+}

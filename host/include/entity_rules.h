@@ -1,0 +1,111 @@
+/* One rule or template checked against the schema of its record: the C functions of libentity_rules.a.
+ *
+ * docs/FORMAT.md says what the sheets hold and what each number means. Lengths are in bytes. A pointer must lead to as many bytes
+ * as the length after it says, and must not be null, even where that is 0. path and result must not overlap each other or
+ * anything else. No function keeps a pointer, allocates or waits, so any number of threads may call them at once. A call
+ * takes about 32 KB of stack for its own work.
+ */
+#ifndef ENTITY_RULES_H
+#define ENTITY_RULES_H
+
+#include <stddef.h>
+#include <stdint.h>
+
+#ifdef __cplusplus
+extern "C" {
+#endif
+
+/* Where the rule or template stands. */
+enum entity_rules_kind {
+  ENTITY_RULES_INVARIANT = 1,
+  ENTITY_RULES_PRECONDITION = 2,
+  ENTITY_RULES_CREATE_TEMPLATE = 3,
+  ENTITY_RULES_OPERATION_TEMPLATE = 4,
+  ENTITY_RULES_OUTCOME_SELECTOR = 5,
+  ENTITY_RULES_CREATE_SELECTOR = 6,
+  ENTITY_RULES_CREATE_SET = 7,
+  ENTITY_RULES_CREATE_OUTCOME_TEMPLATE = 8
+};
+
+/* The version of the language that it is written for. */
+enum entity_rules_semantics {
+  ENTITY_RULES_KERNEL_1 = 1,
+  ENTITY_RULES_SERVICE_1 = 2,
+  ENTITY_RULES_SERVICE_2 = 3,
+  ENTITY_RULES_SERVICE_3 = 4
+};
+
+/* The number of an answer: 0, a refusal (1 to 5) or a defect (11 to 22). */
+enum entity_rules_number {
+  ENTITY_RULES_ACCEPTED = 0,
+  ENTITY_RULES_REFUSED_SETTING = 1,
+  ENTITY_RULES_REFUSED_LABEL = 2,
+  ENTITY_RULES_REFUSED_WIDTH = 3,
+  ENTITY_RULES_REFUSED_SCHEMA_SHEET = 4,
+  ENTITY_RULES_REFUSED_RULE_SHEET = 5,
+  ENTITY_RULES_DEFECT_NAME = 11,
+  ENTITY_RULES_DEFECT_MESSAGE = 12,
+  ENTITY_RULES_DEFECT_DEEP = 13,
+  ENTITY_RULES_DEFECT_LITERAL = 14,
+  ENTITY_RULES_DEFECT_OPERATOR = 15,
+  ENTITY_RULES_DEFECT_EMPTY = 16,
+  ENTITY_RULES_DEFECT_OPERAND = 17,
+  ENTITY_RULES_DEFECT_REFERENCE = 18,
+  ENTITY_RULES_DEFECT_AFFIX = 19,
+  ENTITY_RULES_DEFECT_INSTANT = 20,
+  ENTITY_RULES_DEFECT_BIND = 21,
+  ENTITY_RULES_DEFECT_OVER = 22
+};
+
+/* The family of a defect. */
+enum entity_rules_family {
+  ENTITY_RULES_INVALID_RULE = 1,
+  ENTITY_RULES_INVALID_TEMPLATE = 2,
+  ENTITY_RULES_SEMANTICS_KEY_NOT_AVAILABLE = 3,
+  ENTITY_RULES_CONDITION_TOO_DEEP = 4,
+  ENTITY_RULES_COMPARE_OPERAND_NOT_ADDRESSABLE = 5,
+  ENTITY_RULES_QUANTIFIER_BIND_INVALID = 6,
+  ENTITY_RULES_QUANTIFIER_OVER_NOT_COLLECTION = 7,
+  ENTITY_RULES_QUANTIFIER_BODY_SCOPE = 8
+};
+
+/* The numbers of a result, by their index. */
+enum entity_rules_field {
+  ENTITY_RULES_NUMBER = 0,
+  ENTITY_RULES_FAMILY = 1,
+  ENTITY_RULES_DETAIL = 2,
+  ENTITY_RULES_PLACE = 3,
+  ENTITY_RULES_OVER_PLACE = 4,
+  ENTITY_RULES_PASSED = 5,
+  ENTITY_RULES_PATH_LENGTH = 6
+};
+
+/* What the buffers of a call must hold at least. */
+#define ENTITY_RULES_PATH_BYTES 32768
+#define ENTITY_RULES_RESULT_BYTES 28
+
+/* Checks a rule. Returns the number; result takes all seven numbers, and after a defect path begins with its path, which has no
+ * 0 at its end. Other bytes of both keep their values. A template's sheet is refused with 5. */
+uint32_t rulecheck_rule(uint64_t kind, uint64_t semantics,
+                        const uint8_t *label, size_t label_length,
+                        const uint8_t *schema, size_t schema_length,
+                        const uint8_t *rule, size_t rule_length,
+                        uint8_t *path, size_t path_length,
+                        uint8_t *result, size_t result_length);
+
+/* Checks a template; otherwise as rulecheck_rule. A rule's sheet is refused with 5. */
+uint32_t rulecheck_template(uint64_t kind, uint64_t semantics,
+                            const uint8_t *label, size_t label_length,
+                            const uint8_t *schema, size_t schema_length,
+                            const uint8_t *rule, size_t rule_length,
+                            uint8_t *path, size_t path_length,
+                            uint8_t *result, size_t result_length);
+
+/* One of the numbers of a result, by an index of enum entity_rules_field; 0 where it does not lie in the result. */
+uint32_t rulecheck_field(const uint8_t *result, size_t result_length, uint32_t index);
+
+#ifdef __cplusplus
+}
+#endif
+
+#endif

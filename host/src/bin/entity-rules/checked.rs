@@ -1,0 +1,142 @@
+//! One rule, checked, with what a person wants to know about the answer.
+
+use crate::arguments::Arguments;
+use entity_rules::entries::{Entry, Malformed, read_rule, read_schema};
+use entity_rules::limits::MAX_SHEET_BYTES;
+use entity_rules::{Defect, Refusal, Verdict, check};
+use std::fs::File;
+use std::io::{self, Read};
+use std::path::{Path, PathBuf};
+
+/// A rule's file and what came of it.
+pub struct Checked {
+    pub file: PathBuf,
+    pub outcome: Outcome,
+}
+
+pub enum Outcome {
+    Accepted {
+        passed: u32,
+    },
+    Defect {
+        defect: Defect,
+        at: Option<Spot>,
+        over: Option<Spot>,
+    },
+    Refused {
+        refusal: Refusal,
+        fault: Option<Fault>,
+    },
+    Unreadable(io::Error),
+}
+
+/// An entry of the rule sheet.
+pub struct Spot {
+    pub place: u32,
+    /// The line of the file on which the entry begins, from 1.
+    pub line: usize,
+    pub text: String,
+}
+
+/// Where a sheet stops being one.
+pub struct Fault {
+    pub file: PathBuf,
+    pub line: usize,
+    pub malformed: Malformed,
+}
+
+impl Outcome {
+    /// Whether the schema is at fault, so that every other rule would fare the same.
+    pub fn blames_the_schema(&self) -> bool {
+        matches!(
+            self,
+            Self::Refused {
+                refusal: Refusal::SchemaSheet,
+                ..
+            }
+        )
+    }
+}
+
+impl Checked {
+    pub fn new(arguments: &Arguments, schema: &[u8], file: &Path) -> Self {
+        let outcome = match read_sheet(file) {
+            Ok(rule) => outcome(arguments, schema, file, &rule),
+            Err(error) => Outcome::Unreadable(error),
+        };
+        Self {
+            file: file.to_owned(),
+            outcome,
+        }
+    }
+}
+
+/// A file's bytes. One byte past the longest sheet is enough to tell that it is too long.
+pub fn read_sheet(file: &Path) -> io::Result<Vec<u8>> {
+    let most = u64::try_from(MAX_SHEET_BYTES)
+        .unwrap_or(u64::MAX)
+        .saturating_add(1);
+    let mut sheet = Vec::new();
+    File::open(file)?.take(most).read_to_end(&mut sheet)?;
+    Ok(sheet)
+}
+
+fn outcome(arguments: &Arguments, schema: &[u8], file: &Path, rule: &[u8]) -> Outcome {
+    let label = match &arguments.label {
+        Some(label) => label.clone(),
+        None => file
+            .file_stem()
+            .unwrap_or_default()
+            .to_string_lossy()
+            .into_owned(),
+    };
+    match check(arguments.kind, arguments.semantics, label, schema, rule) {
+        Ok(Verdict::Accepted { passed }) => Outcome::Accepted { passed },
+        Ok(Verdict::Defect(defect)) => located(defect, rule),
+        Err(refusal) => {
+            let fault = match refusal {
+                Refusal::SchemaSheet => fault(&arguments.schema, schema, read_schema),
+                Refusal::RuleSheet => fault(file, rule, read_rule),
+                _ => None,
+            };
+            Outcome::Refused { refusal, fault }
+        }
+    }
+}
+
+/// A defect with the entries that it names.
+fn located(defect: Defect, rule: &[u8]) -> Outcome {
+    let entries = read_rule(rule).unwrap_or_default();
+    let spot = |place: u32| {
+        let index = usize::try_from(place).ok()?.checked_sub(1)?;
+        let entry = entries.get(index)?;
+        Some(Spot {
+            place,
+            line: line_of(rule, entry.byte),
+            text: entry.to_string(),
+        })
+    };
+    let (at, over) = (spot(defect.place), defect.over_place.and_then(spot));
+    Outcome::Defect { defect, at, over }
+}
+
+type Reader = for<'a> fn(&'a [u8]) -> Result<Vec<Entry<'a>>, Malformed>;
+
+fn fault(file: &Path, sheet: &[u8], read: Reader) -> Option<Fault> {
+    let malformed = read(sheet).err()?;
+    Some(Fault {
+        file: file.to_owned(),
+        line: line_of(sheet, malformed.byte),
+        malformed,
+    })
+}
+
+/// The line on which a byte stands, from 1. A text may hold line ends, so this is not the entry's number.
+fn line_of(sheet: &[u8], byte: usize) -> usize {
+    let ends = sheet
+        .iter()
+        .take(byte)
+        .filter(|&&byte| byte == b'\n')
+        .count();
+    ends.saturating_add(1)
+}

@@ -1,0 +1,115 @@
+//! Outcomes as JSON (RFC 8259), one object on one line.
+
+use crate::checked::{Checked, Outcome, Spot};
+use crate::report::refused;
+use entity_rules::Defect;
+
+/// The line for one rule.
+pub fn line(checked: &Checked) -> String {
+    let mut object = Object::new();
+    object.text("file", &checked.file.to_string_lossy());
+    match &checked.outcome {
+        Outcome::Accepted { passed } => {
+            object.text("verdict", "accepted");
+            object.number("number", 0);
+            object.number("passed", *passed);
+        }
+        Outcome::Defect { defect, at, over } => {
+            defect_members(&mut object, defect, at.as_ref(), over.as_ref())
+        }
+        Outcome::Refused { refusal, fault } => {
+            object.text("verdict", "refused");
+            object.number("number", refusal.number());
+            object.text("word", refusal.word());
+            object.text("explanation", &refused(*refusal, fault.as_ref()));
+        }
+        Outcome::Unreadable(error) => {
+            object.text("verdict", "unreadable");
+            object.text("explanation", &error.to_string());
+        }
+    }
+    object.line()
+}
+
+fn defect_members(object: &mut Object, defect: &Defect, at: Option<&Spot>, over: Option<&Spot>) {
+    object.text("verdict", "defect");
+    object.number("number", defect.number.number());
+    object.text("word", defect.number.word());
+    object.text("explanation", &defect.explanation());
+    object.number("family", defect.family.number());
+    object.text("family_name", defect.family.name());
+    object.number("detail", defect.detail.number());
+    object.number("place", defect.place);
+    object.number("over_place", defect.over_place.unwrap_or(0));
+    object.number("passed", defect.passed);
+    object.text("path", &defect.path);
+    if let Some(spot) = at {
+        object.number("line", spot.line);
+        object.text("entry", &spot.text);
+    }
+    if let Some(spot) = over {
+        object.text("over_entry", &spot.text);
+    }
+}
+
+/// An object that is being written.
+struct Object(String);
+
+impl Object {
+    fn new() -> Self {
+        Self("{".to_owned())
+    }
+
+    fn key(&mut self, key: &str) {
+        if self.0.len() > 1 {
+            self.0.push(',');
+        }
+        self.string(key);
+        self.0.push(':');
+    }
+
+    fn text(&mut self, key: &str, text: &str) {
+        self.key(key);
+        self.string(text);
+    }
+
+    fn number(&mut self, key: &str, number: impl std::fmt::Display) {
+        self.key(key);
+        self.0.push_str(&number.to_string());
+    }
+
+    fn string(&mut self, text: &str) {
+        self.0.push('"');
+        for character in text.chars() {
+            match character {
+                '"' | '\\' => self.0.extend(['\\', character]),
+                control if control.is_control() => {
+                    self.0.push_str(&format!("\\u{:04x}", u32::from(control)))
+                }
+                other => self.0.push(other),
+            }
+        }
+        self.0.push('"');
+    }
+
+    fn line(mut self) -> String {
+        self.0.push_str("}\n");
+        self.0
+    }
+}
+
+#[cfg(test)]
+mod tests {
+    use super::*;
+
+    #[test]
+    fn strings_are_escaped() {
+        let mut object = Object::new();
+        object.text("a\"", "\\\n\u{7F}é");
+        object.number("n", 7);
+        assert_eq!(
+            object.line(),
+            "{\"a\\\"\":\"\\\\\\u000a\\u007fé\",\"n\":7}\n"
+        );
+    }
+}

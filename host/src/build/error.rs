@@ -1,0 +1,141 @@
+//! What a sheet cannot hold.
+
+use crate::limits::{
+    MAX_CONDITION_NESTING, MAX_ENTRIES, MAX_FIELD_NESTING, MAX_SHEET_BYTES, MAX_TEXT_BYTES,
+    MAX_VALUE_NESTING,
+};
+use std::fmt;
+
+/// What is nested in itself.
+///
+/// ```
+/// assert_eq!(entity_rules::Nesting::Conditions.limit(), 256);
+/// ```
+#[derive(Clone, Copy, Debug, PartialEq, Eq, Hash)]
+pub enum Nesting {
+    /// Fields of a schema, by properties and elements.
+    Fields,
+    /// Conditions of a rule.
+    Conditions,
+    /// Arrays and objects.
+    Values,
+}
+
+impl Nesting {
+    /// How deep it may go.
+    ///
+    /// ```
+    /// assert_eq!(entity_rules::Nesting::Values.limit(), 64);
+    /// ```
+    #[must_use]
+    pub const fn limit(self) -> usize {
+        match self {
+            Self::Fields => MAX_FIELD_NESTING,
+            Self::Conditions => MAX_CONDITION_NESTING,
+            Self::Values => MAX_VALUE_NESTING,
+        }
+    }
+}
+
+impl fmt::Display for Nesting {
+    fn fmt(&self, f: &mut fmt::Formatter<'_>) -> fmt::Result {
+        f.pad(match self {
+            Self::Fields => "fields",
+            Self::Conditions => "conditions",
+            Self::Values => "values",
+        })
+    }
+}
+
+/// Why something cannot be written as a sheet. Of a long text only the start is kept.
+///
+/// ```
+/// use entity_rules::{BuildError, Field, FieldKind, Schema};
+///
+/// let bars = || Field::new("bars", FieldKind::Integer);
+/// let error = Schema::new().field(bars()).field(bars()).sheet().unwrap_err();
+/// assert_eq!(error, BuildError::NameTwice { name: "bars".to_owned() });
+/// assert_eq!(error.to_string(), "two fields beside each other are named \"bars\"; expected each name once");
+/// ```
+#[derive(Clone, Debug, PartialEq, Eq, Hash)]
+pub enum BuildError {
+    /// A text is over 512 bytes long.
+    TextTooLong {
+        /// What the text is: a name, a tag, a string and so on.
+        what: &'static str,
+        /// How it begins.
+        start: String,
+        /// How long it is.
+        bytes: usize,
+    },
+    /// A number's text is not one of RFC 8259.
+    NotANumber {
+        /// How it begins.
+        start: String,
+    },
+    /// Two fields of one holder have the same name.
+    NameTwice {
+        /// That name.
+        name: String,
+    },
+    /// Two members of one object have the same key.
+    KeyTwice {
+        /// That key.
+        key: String,
+    },
+    /// An element has a name.
+    NamedElement {
+        /// That name.
+        name: String,
+    },
+    /// Fields, conditions or values nest too deep.
+    TooDeep(Nesting),
+    /// The sheet has over 2,048 entries.
+    TooManyEntries,
+    /// The sheet has over 30,000 bytes.
+    TooManyBytes,
+}
+
+impl fmt::Display for BuildError {
+    fn fmt(&self, f: &mut fmt::Formatter<'_>) -> fmt::Result {
+        match self {
+            Self::TextTooLong { what, start, bytes } => {
+                write!(
+                    f,
+                    "the {what} {start:?} has {bytes} bytes; expected at most {MAX_TEXT_BYTES}"
+                )
+            }
+            Self::NotANumber { start } => {
+                write!(f, "{start:?} is no number; expected one as JSON writes it")
+            }
+            Self::NameTwice { name } => {
+                write!(
+                    f,
+                    "two fields beside each other are named {name:?}; expected each name once"
+                )
+            }
+            Self::KeyTwice { key } => write!(
+                f,
+                "an object has the key {key:?} twice; expected each key once"
+            ),
+            Self::NamedElement { name } => {
+                write!(f, "an element is named {name:?}; expected `Field::element`")
+            }
+            Self::TooDeep(nesting) => write!(f, "{nesting} nest deeper than {}", nesting.limit()),
+            Self::TooManyEntries => write!(f, "the sheet has more than {MAX_ENTRIES} entries"),
+            Self::TooManyBytes => write!(f, "the sheet has more than {MAX_SHEET_BYTES} bytes"),
+        }
+    }
+}
+
+impl std::error::Error for BuildError {}
+
+/// The first characters of a text, for an error.
+pub(crate) fn start(text: &str) -> String {
+    const SHOWN: usize = 40;
+    let mut start: String = text.chars().take(SHOWN).collect();
+    if start.len() < text.len() {
+        start.push('…');
+    }
+    start
+}

@@ -1,0 +1,15 @@
+//! Builders that write sheets from Rust values (docs/FORMAT.md, "Sheets").
+//!
+//! A builder holds what is written so far and never a tree, so nesting costs no stack. Where a limit is passed, it holds the error
+//! instead, which the sheet then is.
+
+mod error;
+mod part;
+mod rule;
+mod schema;
+mod value;
+
+pub use error::{BuildError, Nesting};
+pub use rule::{CompareOp, Condition, Rule, Template};
+pub use schema::{Field, FieldKind, Schema};
+pub use value::Value;

@@ -1,0 +1,91 @@
+//! Entries of a sheet to be.
+
+use super::error::{BuildError, Nesting, start};
+use crate::limits::{MAX_ENTRIES, MAX_SHEET_BYTES, MAX_TEXT_BYTES};
+
+/// Entries that stand together, and how deep they nest. It never passes the limits of a sheet.
+#[derive(Clone, Debug, Default, PartialEq, Eq)]
+pub(crate) struct Part {
+    bytes: Vec<u8>,
+    entries: usize,
+    nesting: usize,
+}
+
+/// A part, or why there can be none.
+pub(crate) type Built = Result<Part, BuildError>;
+
+impl Part {
+    /// Adds entries that belong to the same nesting.
+    pub fn add(&mut self, other: &Part) -> Result<(), BuildError> {
+        self.nesting = self.nesting.max(other.nesting);
+        self.append(other.entries, &other.bytes)
+    }
+
+    /// Adds entries that nest for themselves, as the values of a condition do.
+    pub fn add_apart(&mut self, other: &Part) -> Result<(), BuildError> {
+        self.append(other.entries, &other.bytes)
+    }
+
+    /// Adds one entry: its head up to the last comma or without a text, and its texts.
+    pub fn add_entry(&mut self, head: &str, texts: &[&str]) -> Result<(), BuildError> {
+        self.append(1, head.as_bytes())?;
+        for text in texts {
+            self.append(0, text.as_bytes())?;
+        }
+        self.append(0, b"\n")
+    }
+
+    /// These entries under one that holds them, one level deeper.
+    pub fn under(&self, head: &str, texts: &[&str], nesting: Nesting) -> Built {
+        let mut part = Part::default();
+        part.add_entry(head, texts)?;
+        part.append(self.entries, &self.bytes)?;
+        part.nesting = self.nesting.saturating_add(1);
+        match part.nesting <= nesting.limit() {
+            true => Ok(part),
+            false => Err(BuildError::TooDeep(nesting)),
+        }
+    }
+
+    /// These entries as a sheet, after the entry that begins it.
+    pub fn sheet(&self, head: &str, texts: &[&str]) -> Result<Vec<u8>, BuildError> {
+        let mut part = Part::default();
+        part.add_entry(head, texts)?;
+        part.append(self.entries, &self.bytes)?;
+        Ok(part.bytes)
+    }
+
+    fn append(&mut self, entries: usize, bytes: &[u8]) -> Result<(), BuildError> {
+        self.entries = self.entries.saturating_add(entries);
+        if self.entries > MAX_ENTRIES {
+            return Err(BuildError::TooManyEntries);
+        }
+        if self.bytes.len().saturating_add(bytes.len()) > MAX_SHEET_BYTES {
+            return Err(BuildError::TooManyBytes);
+        }
+        self.bytes.extend_from_slice(bytes);
+        Ok(())
+    }
+}
+
+/// The part of a builder, or its error.
+pub(crate) fn lent(built: &Built) -> Result<&Part, BuildError> {
+    built.as_ref().map_err(Clone::clone)
+}
+
+/// A text of at most 512 bytes.
+pub(crate) fn text<'t>(what: &'static str, text: &'t str) -> Result<&'t str, BuildError> {
+    match text.len() {
+        0..=MAX_TEXT_BYTES => Ok(text),
+        bytes => Err(BuildError::TextTooLong {
+            what,
+            start: start(text),
+            bytes,
+        }),
+    }
+}
+
+/// The length of a text that may be absent, as an entry writes it.
+pub(crate) fn length_or_dash(text: Option<&str>) -> String {
+    text.map_or_else(|| "-".to_owned(), |text| text.len().to_string())
+}

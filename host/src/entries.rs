@@ -1,0 +1,238 @@
+//! The entries of a sheet, read for people: what stands at a place, or where a sheet stops being one.
+//!
+//! Whether a sheet is accepted is the library's to say. This reading serves to show what an answer speaks of.
+//!
+//! ```
+//! use entity_rules::entries::{read_rule, Content};
+//!
+//! let sheet = b"R,-,-,\nC,5,0,\nV,5,8,$args.by\n";
+//! let entries = read_rule(sheet)?;
+//! assert_eq!(entries.len(), 3);
+//! assert_eq!(entries[2].content, Content::String("$args.by"));
+//! assert_eq!(entries[2].to_string(), "string \"$args.by\"");
+//!
+//! let error = read_rule(b"R,-,-,\nC,5,1,\nV,5,8,$args.by\n").unwrap_err();
+//! assert_eq!(error.to_string(), "entry 2, byte 11: expected 0 here, since `exists` counts nothing");
+//! # Ok::<(), entity_rules::entries::Malformed>(())
+//! ```
+
+mod number;
+mod reader;
+mod rule;
+mod schema;
+
+use crate::build::{CompareOp, FieldKind};
+use crate::numbered::numbered;
+use std::fmt;
+
+pub(crate) use number::is_number;
+pub use rule::read_rule;
+pub use schema::read_schema;
+
+numbered! {
+    /// The operator of a condition.
+    ///
+    /// ```
+    /// use entity_rules::Operator;
+    ///
+    /// assert_eq!(Operator::from_number(20), Some(Operator::ForAll));
+    /// assert_eq!(Operator::ForAll.to_string(), "for_all");
+    /// ```
+    Operator {
+        /// A fixed truth.
+        Literal = 1, "literal";
+        /// Every condition holds.
+        All = 2, "all";
+        /// A condition holds.
+        Any = 3, "any";
+        /// The condition does not hold.
+        Not = 4, "not";
+        /// There is a value.
+        Exists = 5, "exists";
+        /// One instant lies before another.
+        Before = 6, "before";
+        /// One instant lies after another.
+        After = 7, "after";
+        /// Equal.
+        Eq = 8, "eq";
+        /// Not equal.
+        Ne = 9, "ne";
+        /// Greater.
+        Gt = 10, "gt";
+        /// Greater or equal.
+        Gte = 11, "gte";
+        /// Less.
+        Lt = 12, "lt";
+        /// Less or equal.
+        Lte = 13, "lte";
+        /// One is a member of the other.
+        In = 14, "in";
+        /// One has the other as a member.
+        Contains = 15, "contains";
+        /// A string begins with another.
+        StartsWith = 16, "starts_with";
+        /// A string ends with another.
+        EndsWith = 17, "ends_with";
+        /// An exact comparison.
+        Compare = 18, "compare";
+        /// The value counts as true.
+        Truthy = 19, "truthy";
+        /// For every element.
+        ForAll = 20, "for_all";
+        /// For at least one element.
+        ForAny = 21, "for_any";
+    }
+}
+
+/// What an entry says.
+///
+/// ```
+/// use entity_rules::entries::Content;
+///
+/// assert_eq!(Content::Array(3).to_string(), "array of 3");
+/// assert_eq!(Content::Key("a\nb").to_string(), "key \"a\\nb\"");
+/// ```
+#[derive(Clone, Copy, Debug, PartialEq, Eq)]
+pub enum Content<'a> {
+    /// `H`: the beginning of a schema sheet.
+    Head {
+        /// The record's open mark.
+        open: bool,
+        /// How many fields the record has.
+        fields: usize,
+        /// The open mark of the arguments and how many there are, if there are arguments.
+        arguments: Option<(bool, usize)>,
+    },
+    /// `F`: a field.
+    Field {
+        /// Its kind.
+        kind: FieldKind,
+        /// Its open mark.
+        open: bool,
+        /// Whether its element follows.
+        items: bool,
+        /// How many properties it has.
+        properties: usize,
+        /// Its name; empty for an element.
+        name: &'a str,
+        /// Its tag.
+        tag: Option<&'a str>,
+    },
+    /// `R`: the beginning of a rule.
+    Rule {
+        /// Its name.
+        name: Option<&'a str>,
+        /// Its message.
+        message: Option<&'a str>,
+    },
+    /// `T`: the beginning of a template.
+    Template,
+    /// `C` 1: a fixed truth.
+    Literal(bool),
+    /// `C` 2 to 17 and 19: an operator, and how many conditions `all` and `any` have (0 for the others).
+    Condition(Operator, usize),
+    /// `C` 18: a comparison.
+    Compare(CompareOp),
+    /// `C` 20 and 21: a quantifier and its bind.
+    Quantifier(Operator, &'a str),
+    /// `V` 1: null.
+    Null,
+    /// `V` 2 and 3: false and true.
+    Bool(bool),
+    /// `V` 4: a number, as written.
+    Number(&'a str),
+    /// `V` 5: a string.
+    String(&'a str),
+    /// `V` 6: an array of so many values.
+    Array(usize),
+    /// `V` 7: an object of so many members.
+    Object(usize),
+    /// `K`: the key of a member.
+    Key(&'a str),
+}
+
+impl fmt::Display for Content<'_> {
+    fn fmt(&self, f: &mut fmt::Formatter<'_>) -> fmt::Result {
+        match *self {
+            Self::Head { .. } => f.pad("schema"),
+            Self::Field { kind, name: "", .. } => write!(f, "element or unnamed field, {kind}"),
+            Self::Field { kind, name, .. } => write!(f, "field {name:?}, {kind}"),
+            Self::Rule {
+                name: Some(name), ..
+            } => write!(f, "rule {name:?}"),
+            Self::Rule { name: None, .. } => f.pad("rule without a name"),
+            Self::Template => f.pad("template"),
+            Self::Literal(truth) => write!(f, "condition {truth}"),
+            Self::Condition(operator @ (Operator::All | Operator::Any), n) => {
+                write!(f, "condition {operator} of {n}")
+            }
+            Self::Condition(operator, _) => write!(f, "condition {operator}"),
+            Self::Compare(op) => write!(f, "condition compare, {op}"),
+            Self::Quantifier(operator, bind) => write!(f, "condition {operator}, bind {bind:?}"),
+            Self::Null => f.pad("null"),
+            Self::Bool(truth) => write!(f, "{truth}"),
+            Self::Number(text) => write!(f, "number {text}"),
+            Self::String(text) => write!(f, "string {text:?}"),
+            Self::Array(n) => write!(f, "array of {n}"),
+            Self::Object(n) => write!(f, "object of {n}"),
+            Self::Key(key) => write!(f, "key {key:?}"),
+        }
+    }
+}
+
+/// An entry of a sheet, and where it begins. Its place is its position in the list, from 1.
+///
+/// ```
+/// use entity_rules::entries::{read_schema, Content};
+///
+/// let entries = read_schema(b"H,0,0,-,0\n")?;
+/// let head = entries.first().ok_or("no entry")?;
+/// assert_eq!(head.byte, 0);
+/// assert_eq!(head.content, Content::Head { open: false, fields: 0, arguments: None });
+/// # Ok::<(), Box<dyn std::error::Error>>(())
+/// ```
+#[derive(Clone, Copy, Debug, PartialEq, Eq)]
+pub struct Entry<'a> {
+    /// How many bytes of the sheet stand before it.
+    pub byte: usize,
+    /// What it says.
+    pub content: Content<'a>,
+}
+
+impl fmt::Display for Entry<'_> {
+    fn fmt(&self, f: &mut fmt::Formatter<'_>) -> fmt::Result {
+        self.content.fmt(f)
+    }
+}
+
+/// Where bytes stop being a sheet, and what was expected there.
+///
+/// ```
+/// use entity_rules::entries::read_schema;
+///
+/// let error = read_schema(b"H,0,1,-,0\nF,13,0,0,0,1,-,a\n").unwrap_err();
+/// assert_eq!((error.entry, error.byte), (2, 12));
+/// assert_eq!(error.to_string(), "entry 2, byte 12: expected the field's kind, 1 to 12");
+/// ```
+#[derive(Clone, Debug, PartialEq, Eq)]
+pub struct Malformed {
+    /// The entry that is not one, from 1.
+    pub entry: usize,
+    /// How many bytes of the sheet stand before the fault.
+    pub byte: usize,
+    /// What was expected there.
+    pub expected: String,
+}
+
+impl fmt::Display for Malformed {
+    fn fmt(&self, f: &mut fmt::Formatter<'_>) -> fmt::Result {
+        let Self {
+            entry,
+            byte,
+            expected,
+        } = self;
+        write!(f, "entry {entry}, byte {byte}: expected {expected}")
+    }
+}
+
+impl std::error::Error for Malformed {}

@@ -1,0 +1,204 @@
+//! The parts that entries are made of, read one after the other.
+
+use super::{Content, Entry, Malformed};
+use crate::build::Nesting;
+use crate::limits::{MAX_ENTRIES, MAX_SHEET_BYTES, MAX_TEXT_BYTES};
+
+pub type Read<T> = Result<T, Malformed>;
+
+/// What is left of a sheet, and the entries before it.
+pub struct Reader<'a> {
+    sheet: &'a [u8],
+    rest: &'a [u8],
+    entries: Vec<Entry<'a>>,
+    /// The byte at which the entry begins that is being read.
+    begun: Option<usize>,
+}
+
+/// Each of these takes what it reads off the sheet.
+impl<'a> Reader<'a> {
+    pub fn new(sheet: &'a [u8]) -> Read<Self> {
+        let reader = Self {
+            sheet,
+            rest: sheet,
+            entries: Vec::new(),
+            begun: None,
+        };
+        match sheet.len() <= MAX_SHEET_BYTES {
+            true => Ok(reader),
+            false => reader.fail("at most 30,000 bytes in the sheet"),
+        }
+    }
+
+    pub fn byte(&self) -> usize {
+        self.sheet.len().saturating_sub(self.rest.len())
+    }
+
+    pub fn fail<T>(&self, expected: impl Into<String>) -> Read<T> {
+        self.fail_at(self.byte(), expected)
+    }
+
+    pub fn fail_at<T>(&self, byte: usize, expected: impl Into<String>) -> Read<T> {
+        Err(Malformed {
+            entry: self.entries.len().saturating_add(1),
+            byte,
+            expected: expected.into(),
+        })
+    }
+
+    /// Takes these bytes off the sheet, if they are next.
+    fn take(&mut self, bytes: &[u8]) -> bool {
+        match self.rest.strip_prefix(bytes) {
+            Some(rest) => {
+                self.rest = rest;
+                true
+            }
+            None => false,
+        }
+    }
+
+    /// The letter that begins an entry.
+    pub fn begin(&mut self, letter: &str, what: &str) -> Read<()> {
+        let start = self.byte();
+        if self.entries.len() >= MAX_ENTRIES {
+            return self.fail("at most 2,048 entries in the sheet");
+        }
+        if !self.take(letter.as_bytes()) {
+            return self.fail(format!("`{letter}`, {what}"));
+        }
+        self.begun = Some(start);
+        Ok(())
+    }
+
+    pub fn comma(&mut self) -> Read<()> {
+        match self.take(b",") {
+            true => Ok(()),
+            false => self.fail("a comma"),
+        }
+    }
+
+    /// The end of an entry, which says this.
+    pub fn end(&mut self, content: Content<'a>) -> Read<()> {
+        if !self.take(b"\n") {
+            return self.fail("the end of the entry, byte 0A");
+        }
+        let byte = self.begun.take().unwrap_or_default();
+        self.entries.push(Entry { byte, content });
+        Ok(())
+    }
+
+    pub fn end_of_sheet(self) -> Read<Vec<Entry<'a>>> {
+        match self.rest.is_empty() {
+            true => Ok(self.entries),
+            false => self.fail("the end of the sheet"),
+        }
+    }
+
+    /// A comma, then a numeral from `least` to `most`.
+    pub fn numeral(&mut self, least: usize, most: usize, expected: &str) -> Read<usize> {
+        self.comma()?;
+        let start = self.byte();
+        let count = self
+            .rest
+            .iter()
+            .take_while(|byte| byte.is_ascii_digit())
+            .count();
+        let (digits, rest) = self.rest.split_at_checked(count).unwrap_or_default();
+        match value(digits).filter(|value| (least..=most).contains(value)) {
+            Some(value) => {
+                self.rest = rest;
+                Ok(value)
+            }
+            None => self.fail_at(start, expected),
+        }
+    }
+
+    /// A comma, then `-` or a numeral.
+    pub fn numeral_or_dash(&mut self, most: usize, expected: &str) -> Read<Option<usize>> {
+        match self.take(b",-") {
+            true => Ok(None),
+            false => self.numeral(0, most, expected).map(Some),
+        }
+    }
+
+    pub fn mark(&mut self, expected: &str) -> Read<bool> {
+        Ok(self.numeral(0, 1, expected)? == 1)
+    }
+
+    pub fn count(&mut self, what: &str) -> Read<usize> {
+        self.numeral(
+            0,
+            MAX_ENTRIES,
+            &format!("how many {what}, a numeral up to 2048"),
+        )
+    }
+
+    pub fn length(&mut self, what: &str) -> Read<usize> {
+        self.numeral(0, MAX_TEXT_BYTES, &length_of(what))
+    }
+
+    pub fn length_or_dash(&mut self, what: &str) -> Read<Option<usize>> {
+        let expected = format!("{}, or `-`", length_of(what));
+        self.numeral_or_dash(MAX_TEXT_BYTES, &expected)
+    }
+
+    pub fn text(&mut self, length: usize, what: &str) -> Read<&'a str> {
+        let Some((bytes, rest)) = self.rest.split_at_checked(length) else {
+            return self.fail(format!("{what} of {length} bytes, but the sheet ends"));
+        };
+        match std::str::from_utf8(bytes) {
+            Ok(text) => {
+                self.rest = rest;
+                Ok(text)
+            }
+            Err(error) => {
+                let byte = self.byte().saturating_add(error.valid_up_to());
+                self.fail_at(byte, format!("{what} that is UTF-8"))
+            }
+        }
+    }
+
+    pub fn text_or_absent(&mut self, length: Option<usize>, what: &str) -> Read<Option<&'a str>> {
+        length.map(|length| self.text(length, what)).transpose()
+    }
+
+    /// Refuses what nests too deep.
+    pub fn nests(&self, depth: usize, nesting: Nesting) -> Read<()> {
+        match depth <= nesting.limit() {
+            true => Ok(()),
+            false => self.fail(format!(
+                "{nesting} that nest at most {} deep",
+                nesting.limit()
+            )),
+        }
+    }
+
+    /// Refuses a text that does not come after the one before it. The fault is where the entry begins.
+    pub fn rises(&self, before: Option<&str>, text: &str, what: &str) -> Read<()> {
+        match before {
+            Some(before) if text.as_bytes() <= before.as_bytes() => {
+                let start = self.begun.unwrap_or_default();
+                self.fail_at(
+                    start,
+                    format!("{what} that comes after {before:?} by bytes, not {text:?}"),
+                )
+            }
+            _ => Ok(()),
+        }
+    }
+}
+
+fn length_of(what: &str) -> String {
+    format!("the length of {what}, a numeral up to 512")
+}
+
+/// The value of a numeral without leading zeros. A value past the largest counts as the largest, which no numeral may reach.
+fn value(digits: &[u8]) -> Option<usize> {
+    match digits {
+        [] | [b'0', _, ..] => None,
+        digits => Some(digits.iter().fold(0, |value: usize, digit| {
+            let digit = usize::from(digit.saturating_sub(b'0'));
+            value.saturating_mul(10).saturating_add(digit)
+        })),
+    }
+}

@@ -1,0 +1,139 @@
+#![doc = include_str!("../README.md")]
+#![forbid(unsafe_op_in_unsafe_fn)]
+#![deny(unsafe_code)]
+#![warn(missing_docs)]
+#![cfg_attr(
+    not(test),
+    deny(
+        clippy::arithmetic_side_effects,
+        clippy::expect_used,
+        clippy::indexing_slicing,
+        clippy::panic,
+        clippy::unreachable,
+        clippy::unwrap_used
+    )
+)]
+
+mod build;
+pub mod entries;
+pub mod limits;
+mod numbered;
+#[allow(unsafe_code)]
+pub mod raw;
+mod settings;
+mod verdict;
+
+pub use build::{
+    BuildError, CompareOp, Condition, Field, FieldKind, Nesting, Rule, Schema, Template, Value,
+};
+pub use entries::Operator;
+pub use settings::{Kind, Semantics, UnknownName};
+pub use verdict::{
+    CollectionFault, Defect, DefectNumber, Detail, Family, InstantFault, ReferenceFault, Refusal,
+    Side, Verdict,
+};
+
+use limits::{PATH_BYTES, RESULT_BYTES};
+
+/// Checks a rule or a template, as the first letter of its sheet says, against a schema.
+///
+/// The label begins the path of a defect. It is text of at most 256 bytes.
+///
+/// ```
+/// use entity_rules::{check, Field, FieldKind, Kind, Schema, Semantics, Template, Value};
+///
+/// let schema = Schema::new().field(Field::new("state", FieldKind::String)).sheet()?;
+/// let template = Template::new(Value::object([("was", "$fields.state"), ("by", "$args.user")])).sheet()?;
+///
+/// let verdict = check(Kind::OperationTemplate, Semantics::Kernel1, "event", &schema, &template)?;
+/// assert_eq!(verdict.defect().map(|defect| defect.path.as_str()), Some("event.by"));
+/// # Ok::<(), Box<dyn std::error::Error>>(())
+/// ```
+///
+/// # Errors
+///
+/// If the label or one of the sheets is refused.
+pub fn check(
+    kind: Kind,
+    semantics: Semantics,
+    label: impl AsRef<[u8]>,
+    schema: &[u8],
+    rule: &[u8],
+) -> Result<Verdict, Refusal> {
+    match rule.first() {
+        Some(b'T') => check_template(kind, semantics, label, schema, rule),
+        _ => check_rule(kind, semantics, label, schema, rule),
+    }
+}
+
+/// Checks a rule against a schema.
+///
+/// ```
+/// use entity_rules::{check_rule, Condition, Field, FieldKind, Kind, Rule, Schema, Semantics};
+///
+/// let bars = Field::new("bars", FieldKind::Array).items(FieldKind::Integer);
+/// let schema = Schema::new().field(bars).sheet()?;
+/// let rule = Rule::new(Condition::gt("$fields.bars.count", 0)).name("has bars").sheet()?;
+///
+/// let verdict = check_rule(Kind::Invariant, Semantics::Service1, "has_bars", &schema, &rule)?;
+/// assert!(verdict.is_accepted());
+/// # Ok::<(), Box<dyn std::error::Error>>(())
+/// ```
+///
+/// # Errors
+///
+/// If the label or one of the sheets is refused; a template's sheet is.
+pub fn check_rule(
+    kind: Kind,
+    semantics: Semantics,
+    label: impl AsRef<[u8]>,
+    schema: &[u8],
+    rule: &[u8],
+) -> Result<Verdict, Refusal> {
+    call(raw::rule, kind, semantics, label.as_ref(), schema, rule)
+}
+
+/// Checks a template against a schema.
+///
+/// ```
+/// use entity_rules::{check_template, Kind, Schema, Semantics, Template};
+///
+/// let schema = Schema::new().open().sheet()?;
+/// let template = Template::new("$fields.anything").sheet()?;
+///
+/// let verdict = check_template(Kind::CreateTemplate, Semantics::Service2, "event", &schema, &template)?;
+/// assert_eq!(verdict.passed(), 1);
+/// # Ok::<(), Box<dyn std::error::Error>>(())
+/// ```
+///
+/// # Errors
+///
+/// If the label or one of the sheets is refused; a rule's sheet is.
+pub fn check_template(
+    kind: Kind,
+    semantics: Semantics,
+    label: impl AsRef<[u8]>,
+    schema: &[u8],
+    rule: &[u8],
+) -> Result<Verdict, Refusal> {
+    call(raw::template, kind, semantics, label.as_ref(), schema, rule)
+}
+
+type Entry = fn(u64, u64, &[u8], &[u8], &[u8], &mut [u8], &mut [u8]) -> u32;
+
+/// One call with buffers of its own.
+fn call(
+    entry: Entry,
+    kind: Kind,
+    semantics: Semantics,
+    label: &[u8],
+    schema: &[u8],
+    rule: &[u8],
+) -> Result<Verdict, Refusal> {
+    let mut path = vec![0; PATH_BYTES];
+    let mut result = [0; RESULT_BYTES];
+    let (kind, semantics) = (kind.number().into(), semantics.number().into());
+    entry(kind, semantics, label, schema, rule, &mut path, &mut result);
+    let numbers = [0, 1, 2, 3, 4, 5, 6].map(|index| raw::field(&result, index));
+    verdict::answer(numbers, &path)
+}

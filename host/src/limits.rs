@@ -1,0 +1,37 @@
+//! The limits of sheets, labels and buffers (docs/FORMAT.md).
+//!
+//! ```
+//! use entity_rules::limits::MAX_TEXT_BYTES;
+//! use entity_rules::{Template, Value};
+//!
+//! let longest = "t".repeat(MAX_TEXT_BYTES);
+//! assert!(Template::new(Value::string(&longest)).sheet().is_ok());
+//! assert!(Template::new(Value::string(&format!("{longest}t"))).sheet().is_err());
+//! ```
+
+/// Bytes of a sheet.
+pub const MAX_SHEET_BYTES: usize = 30_000;
+
+/// Entries of a sheet.
+pub const MAX_ENTRIES: usize = 2_048;
+
+/// Bytes of a name, tag, message, bind, key, string or number.
+pub const MAX_TEXT_BYTES: usize = 512;
+
+/// How deep fields nest, elements and properties alike.
+pub const MAX_FIELD_NESTING: usize = 64;
+
+/// How deep conditions nest in a sheet. Over 32 is a defect all the same.
+pub const MAX_CONDITION_NESTING: usize = 256;
+
+/// How deep values nest.
+pub const MAX_VALUE_NESTING: usize = 64;
+
+/// Bytes of a label.
+pub const MAX_LABEL_BYTES: usize = 256;
+
+/// Bytes that a call wants for the path.
+pub const PATH_BYTES: usize = 32_768;
+
+/// Bytes that a call wants for the result: seven numbers of four bytes.
+pub const RESULT_BYTES: usize = 28;

@@ -1,0 +1,150 @@
+//! The library's C functions (docs/FORMAT.md, "The C interface"), on slices and numbers as they are.
+//!
+//! [`check`](crate::check) and its siblings are easier to use. These here take any settings, any bytes and buffers of any length, and
+//! answer with numbers alone.
+//!
+//! ```
+//! use entity_rules::limits::{PATH_BYTES, RESULT_BYTES};
+//! use entity_rules::raw;
+//!
+//! let (mut path, mut result) = (vec![0; PATH_BYTES], [0; RESULT_BYTES]);
+//! let schema = b"H,0,0,-,0\n";
+//! let rule = b"R,-,-,\nC,5,0,\nV,5,9,$fields.a\n";
+//! let number = raw::rule(1, 1, b"r", schema, rule, &mut path, &mut result);
+//!
+//! assert_eq!(number, 18);
+//! let length = raw::field(&result, 6);
+//! assert_eq!(path.get(..length as usize), Some(&b"r.assert.exists"[..]));
+//! ```
+
+unsafe extern "C" {
+    fn rulecheck_rule(
+        kind: u64,
+        semantics: u64,
+        label: *const u8,
+        label_length: usize,
+        schema: *const u8,
+        schema_length: usize,
+        rule: *const u8,
+        rule_length: usize,
+        path: *mut u8,
+        path_length: usize,
+        result: *mut u8,
+        result_length: usize,
+    ) -> u32;
+
+    fn rulecheck_template(
+        kind: u64,
+        semantics: u64,
+        label: *const u8,
+        label_length: usize,
+        schema: *const u8,
+        schema_length: usize,
+        rule: *const u8,
+        rule_length: usize,
+        path: *mut u8,
+        path_length: usize,
+        result: *mut u8,
+        result_length: usize,
+    ) -> u32;
+
+    fn rulecheck_field(result: *const u8, result_length: usize, index: u32) -> u32;
+}
+
+/// Checks a rule; the answer is the number, and `result` takes all seven numbers.
+///
+/// A result under 28 bytes, like a path buffer under 32,768, is refusal 3. A template's sheet is refusal 5.
+///
+/// ```
+/// use entity_rules::raw;
+///
+/// assert_eq!(raw::rule(9, 1, b"", b"", b"", &mut [], &mut []), 1);
+/// assert_eq!(raw::rule(1, 1, b"\xFF", b"", b"", &mut [], &mut []), 2);
+/// assert_eq!(raw::rule(1, 1, b"", b"", b"", &mut [], &mut []), 3);
+/// ```
+pub fn rule(
+    kind: u64,
+    semantics: u64,
+    label: &[u8],
+    schema: &[u8],
+    rule: &[u8],
+    path: &mut [u8],
+    result: &mut [u8],
+) -> u32 {
+    // SAFETY: each pointer and length are those of a slice, so the pointer is not null even where the length is 0. The library reads the
+    // first three and writes the last two, none of them beyond its length, and keeps no pointer; as slices lent mutably the last
+    // two overlap nothing.
+    unsafe {
+        rulecheck_rule(
+            kind,
+            semantics,
+            label.as_ptr(),
+            label.len(),
+            schema.as_ptr(),
+            schema.len(),
+            rule.as_ptr(),
+            rule.len(),
+            path.as_mut_ptr(),
+            path.len(),
+            result.as_mut_ptr(),
+            result.len(),
+        )
+    }
+}
+
+/// Checks a template; otherwise as [`rule`]. A rule's sheet is refusal 5.
+///
+/// ```
+/// use entity_rules::raw;
+///
+/// let (mut path, mut result) = (vec![0; 32_768], [0; 28]);
+/// let template = b"T\nV,5,6,$state\n";
+/// assert_eq!(raw::template(3, 1, b"", b"H,0,0,-,0\n", template, &mut path, &mut result), 0);
+/// assert_eq!(raw::template(5, 1, b"", b"H,0,0,-,0\n", template, &mut path, &mut result), 18);
+/// assert_eq!(raw::rule(3, 1, b"", b"H,0,0,-,0\n", template, &mut path, &mut result), 5);
+/// ```
+pub fn template(
+    kind: u64,
+    semantics: u64,
+    label: &[u8],
+    schema: &[u8],
+    rule: &[u8],
+    path: &mut [u8],
+    result: &mut [u8],
+) -> u32 {
+    // SAFETY: as in `rule`.
+    unsafe {
+        rulecheck_template(
+            kind,
+            semantics,
+            label.as_ptr(),
+            label.len(),
+            schema.as_ptr(),
+            schema.len(),
+            rule.as_ptr(),
+            rule.len(),
+            path.as_mut_ptr(),
+            path.len(),
+            result.as_mut_ptr(),
+            result.len(),
+        )
+    }
+}
+
+/// One of the numbers in a result: 0 number, 1 family, 2 detail, 3 place, 4 over place, 5 passed, 6 path length.
+///
+/// The answer is 0 where the four bytes do not lie in the result.
+///
+/// ```
+/// use entity_rules::raw;
+///
+/// let result = [0, 0, 0, 0, 2, 1, 0, 0, 7];
+/// assert_eq!(raw::field(&result, 1), 258);
+/// assert_eq!(raw::field(&result, 2), 0);
+/// assert_eq!(raw::field(&[], u32::MAX), 0);
+/// ```
+#[must_use]
+pub fn field(result: &[u8], index: u32) -> u32 {
+    // SAFETY: pointer and length are those of a slice, which the library only reads.
+    unsafe { rulecheck_field(result.as_ptr(), result.len(), index) }
+}

@@ -1,0 +1,156 @@
+//! Kind and semantics of a rule or template (docs/FORMAT.md, "Settings and names").
+
+use crate::numbered::numbered;
+use std::fmt;
+use std::str::FromStr;
+
+numbered! {
+    /// Where a rule or template stands, and so which names it may read.
+    ///
+    /// All may read `$id`, `$entity` and `$version`; the values below say what else. Any kind goes with either sheet.
+    ///
+    /// ```
+    /// use entity_rules::Kind;
+    ///
+    /// let kind: Kind = "create_selector".parse()?;
+    /// assert_eq!(kind, Kind::CreateSelector);
+    /// assert_eq!(kind.number(), 6);
+    /// assert!(kind.is_rule());
+    /// assert!("selector".parse::<Kind>().is_err());
+    /// # Ok::<(), entity_rules::UnknownName>(())
+    /// ```
+    Kind {
+        /// A rule that holds for every state of the record; reads `$fields`, `$state`.
+        Invariant = 1, "invariant";
+        /// A rule that an operation must meet; reads `$fields`, `$old_fields`, `$args`, `$from_state`, `$to_state`.
+        Precondition = 2, "precondition";
+        /// What the event of a creation says; reads `$fields`, `$state`, `$to_state`.
+        CreateTemplate = 3, "create_template";
+        /// What the event of an operation says, and what it sets; reads all names.
+        OperationTemplate = 4, "operation_template";
+        /// A rule that chooses a branch of an operation; reads `$fields`, `$args`, `$from_state`.
+        OutcomeSelector = 5, "outcome_selector";
+        /// A rule that chooses a branch of a creation; reads `$args`.
+        CreateSelector = 6, "create_selector";
+        /// What a branch of a creation sets; reads `$args`, `$state`, `$to_state`.
+        CreateSet = 7, "create_set";
+        /// What a branch of a creation says; reads `$fields`, `$args`, `$state`, `$to_state`.
+        CreateOutcomeTemplate = 8, "create_outcome_template";
+    }
+}
+
+impl Kind {
+    /// Whether it is a kind of rules; the others are kinds of templates.
+    ///
+    /// ```
+    /// use entity_rules::Kind;
+    ///
+    /// let rules = Kind::ALL.iter().filter(|kind| kind.is_rule());
+    /// assert_eq!(rules.count(), 4);
+    /// ```
+    #[must_use]
+    pub const fn is_rule(self) -> bool {
+        matches!(
+            self,
+            Self::Invariant | Self::Precondition | Self::OutcomeSelector | Self::CreateSelector
+        )
+    }
+}
+
+numbered! {
+    /// The version of the language that a rule or template is written for.
+    ///
+    /// ```
+    /// use entity_rules::Semantics;
+    ///
+    /// let semantics: Semantics = "service/1".parse()?;
+    /// assert_eq!(semantics, Semantics::Service1);
+    /// assert!(semantics.is_service());
+    /// assert!(!Semantics::Kernel1.is_service());
+    /// # Ok::<(), entity_rules::UnknownName>(())
+    /// ```
+    Semantics {
+        /// Without the operators `compare`, `truthy`, `for_all`, `for_any`.
+        Kernel1 = 1, "kernel/1";
+        /// With all operators.
+        Service1 = 2, "service/1";
+        /// For a check the same as `service/1`.
+        Service2 = 3, "service/2";
+        /// For a check the same as `service/1`.
+        Service3 = 4, "service/3";
+    }
+}
+
+impl Semantics {
+    /// Whether it is one of the service semantics, which do not differ in a check.
+    ///
+    /// ```
+    /// assert!(entity_rules::Semantics::Service3.is_service());
+    /// ```
+    #[must_use]
+    pub const fn is_service(self) -> bool {
+        !matches!(self, Self::Kernel1)
+    }
+}
+
+/// A text that names no kind, or no semantics.
+///
+/// ```
+/// use entity_rules::{Kind, Semantics};
+///
+/// let error = "service".parse::<Semantics>().unwrap_err();
+/// assert_eq!(
+///     error.to_string(),
+///     "\"service\" is no semantics; expected one of kernel/1, service/1, service/2, service/3"
+/// );
+/// ```
+#[derive(Clone, Debug, PartialEq, Eq)]
+pub struct UnknownName {
+    /// What was asked for: `kind` or `semantics`.
+    pub what: &'static str,
+    /// The text that was given.
+    pub given: String,
+    /// The names that there are.
+    pub known: Vec<&'static str>,
+}
+
+impl fmt::Display for UnknownName {
+    fn fmt(&self, f: &mut fmt::Formatter<'_>) -> fmt::Result {
+        let known = self.known.join(", ");
+        write!(
+            f,
+            "{:?} is no {}; expected one of {known}",
+            self.given, self.what
+        )
+    }
+}
+
+impl std::error::Error for UnknownName {}
+
+impl FromStr for Kind {
+    type Err = UnknownName;
+
+    /// Reads a kind's name, with `_` or `-` between its words.
+    fn from_str(given: &str) -> Result<Self, UnknownName> {
+        let spelled = given.replace('-', "_");
+        let found = Self::ALL.iter().find(|kind| kind.text() == spelled);
+        found.copied().ok_or_else(|| UnknownName {
+            what: "kind",
+            given: given.to_owned(),
+            known: Self::ALL.iter().map(|kind| kind.text()).collect(),
+        })
+    }
+}
+
+impl FromStr for Semantics {
+    type Err = UnknownName;
+
+    fn from_str(given: &str) -> Result<Self, UnknownName> {
+        let found = Self::ALL.iter().find(|semantics| semantics.text() == given);
+        found.copied().ok_or_else(|| UnknownName {
+            what: "semantics",
+            given: given.to_owned(),
+            known: Self::ALL.iter().map(|semantics| semantics.text()).collect(),
+        })
+    }
+}

@@ -1,0 +1,108 @@
+//! The C header and the C example.
+
+use entity_rules::limits::{PATH_BYTES, RESULT_BYTES};
+use entity_rules::{DefectNumber, Family, Kind, Semantics};
+use std::path::{Path, PathBuf};
+use std::process::Command;
+
+const HEADER: &str = include_str!("../include/entity_rules.h");
+
+fn host() -> &'static Path {
+    Path::new(env!("CARGO_MANIFEST_DIR"))
+}
+
+/// A compiler with the flags under which nothing may be amiss.
+fn compiler() -> Command {
+    let mut compiler = Command::new("cc");
+    compiler
+        .args(["-Wall", "-Wextra", "-Wpedantic", "-Werror", "-I"])
+        .arg(host().join("include"));
+    compiler
+}
+
+fn built() -> PathBuf {
+    let program = Path::new(env!("CARGO_TARGET_TMPDIR")).join("check");
+    let output = compiler()
+        .arg("-std=c99")
+        .arg(host().join("examples/check.c"))
+        .arg(format!("-L{}", env!("ENTITY_RULES_LIB_DIR")))
+        .args(["-lentity_rules", "-o"])
+        .arg(&program)
+        .output()
+        .expect("a C compiler");
+    assert!(
+        output.status.success(),
+        "{}",
+        String::from_utf8_lossy(&output.stderr)
+    );
+    program
+}
+
+#[test]
+fn the_c_example_runs() {
+    let output = Command::new(built()).output().expect("the example runs");
+    assert!(output.status.success());
+    assert_eq!(
+        String::from_utf8_lossy(&output.stdout),
+        "good: accepted, 9 checks passed\n\
+         bad: defect 18 of family 8, detail 3, at entry 5, bad.assert.for_all.that.eq[0], after 8 checks\n"
+    );
+}
+
+/// Whether the compiler finds nothing amiss with a file, read as C++.
+fn is_cpp(file: &Path) -> bool {
+    let output = compiler()
+        .args(["-fsyntax-only", "-x", "c++"])
+        .arg(file)
+        .output()
+        .expect("a compiler");
+    eprint!("{}", String::from_utf8_lossy(&output.stderr));
+    output.status.success()
+}
+
+#[test]
+fn the_header_is_cpp_too() {
+    let reads_cpp = is_cpp(Path::new("/dev/null"));
+    assert!(!reads_cpp || is_cpp(&host().join("include/entity_rules.h")));
+}
+
+/// A name of Rust as the header spells it: `CreateSet` as `CREATE_SET`, `Service1` as `SERVICE_1`.
+fn spelled(name: &str) -> String {
+    let mut spelled = String::new();
+    for letter in name.chars() {
+        if !spelled.is_empty() && !letter.is_lowercase() {
+            spelled.push('_');
+        }
+        spelled.extend(letter.to_uppercase());
+    }
+    spelled
+}
+
+#[test]
+fn the_header_has_the_numbers_of_the_crate() {
+    let kinds = Kind::ALL
+        .iter()
+        .map(|one| (spelled(one.name()), one.number()));
+    let semantics = Semantics::ALL
+        .iter()
+        .map(|one| (spelled(one.name()), one.number()));
+    let defects = DefectNumber::ALL
+        .iter()
+        .map(|one| (format!("DEFECT_{}", spelled(one.name())), one.number()));
+    let families = Family::ALL
+        .iter()
+        .map(|one| (spelled(one.name()), one.number()));
+    for (name, number) in kinds.chain(semantics).chain(defects).chain(families) {
+        let line = format!("  ENTITY_RULES_{name} = {number}");
+        assert!(
+            HEADER
+                .lines()
+                .any(|other| other.trim_end_matches(',') == line),
+            "{line}"
+        );
+    }
+    assert!(HEADER.contains(&format!("#define ENTITY_RULES_PATH_BYTES {PATH_BYTES}\n")));
+    assert!(HEADER.contains(&format!(
+        "#define ENTITY_RULES_RESULT_BYTES {RESULT_BYTES}\n"
+    )));
+}

@@ -1,0 +1,190 @@
+//! Sheets written by hand around every limit: the library and the reader of entries agree on each.
+
+mod support;
+
+use entity_rules::entries::{read_rule, read_schema};
+use support::{takes_rule, takes_schema};
+
+fn schema(sheet: &str, is_good: bool) {
+    let bytes = sheet.as_bytes();
+    assert_eq!(
+        (takes_schema(bytes), read_schema(bytes).is_ok()),
+        (is_good, is_good),
+        "{sheet}"
+    );
+}
+
+fn rule(sheet: &str, is_good: bool) {
+    let bytes = sheet.as_bytes();
+    assert_eq!(
+        (takes_rule(bytes), read_rule(bytes).is_ok()),
+        (is_good, is_good),
+        "{sheet}"
+    );
+}
+
+#[test]
+fn names_and_keys_rise() {
+    let fields = |first: &str, second: &str| {
+        format!(
+            "F,1,0,0,0,{},-,{first}\nF,1,0,0,0,{},-,{second}\n",
+            first.len(),
+            second.len()
+        )
+    };
+    let members = |first: &str, second: &str| {
+        format!(
+            "T\nV,7,2,\nK,{},{first}\nV,1,0,\nK,{},{second}\nV,1,0,\n",
+            first.len(),
+            second.len()
+        )
+    };
+    for (first, second, rises) in [
+        ("a", "b", true),
+        ("", "a", true),
+        ("a", "aa", true),
+        ("z", "é", true),
+        ("\u{FFFF}", "\u{10000}", true),
+        ("a", "a", false),
+        ("", "", false),
+        ("b", "a", false),
+        ("ab", "a", false),
+    ] {
+        let two = fields(first, second);
+        schema(&format!("H,0,2,-,0\n{two}"), rises);
+        schema(&format!("H,0,0,0,2\n{two}"), rises);
+        schema(&format!("H,0,1,-,0\nF,7,0,0,2,1,-,o\n{two}"), rises);
+        schema(&format!("H,0,1,0,1\n{two}"), true);
+        rule(&members(first, second), rises);
+    }
+}
+
+#[test]
+fn entries_up_to_2048() {
+    for (entries, is_good) in [(2_047, true), (2_048, true), (2_049, false)] {
+        let count = entries - 2;
+        rule(
+            &format!("T\nV,6,{count},\n{}", "V,1,0,\n".repeat(count)),
+            is_good,
+        );
+        rule(
+            &format!("R,-,-,\nC,2,{count},\n{}", "C,1,0,\n".repeat(count)),
+            is_good,
+        );
+    }
+}
+
+#[test]
+fn bytes_up_to_30000() {
+    let string = |bytes: usize| format!("V,5,{bytes},{}\n", "t".repeat(bytes));
+    let head = format!("T\nV,6,58,\n{}", string(512).repeat(57));
+    for (bytes, is_good) in [(29_999, true), (30_000, true), (30_001, false)] {
+        let last = bytes - head.len() - string(100).len() + 100;
+        let sheet = format!("{head}{}", string(last));
+        assert_eq!(sheet.len(), bytes);
+        rule(&sheet, is_good);
+    }
+}
+
+#[test]
+fn texts_up_to_512_bytes() {
+    for (bytes, is_good) in [(511, true), (512, true), (513, false)] {
+        let text = "t".repeat(bytes);
+        schema(&format!("H,0,1,-,0\nF,1,0,0,0,{bytes},-,{text}\n"), is_good);
+        schema(
+            &format!("H,0,1,-,0\nF,11,0,0,0,1,{bytes},u{text}\n"),
+            is_good,
+        );
+        rule(&format!("R,{bytes},-,{text}\nC,1,0,\n"), is_good);
+        rule(&format!("R,-,{bytes},{text}\nC,1,0,\n"), is_good);
+        rule(
+            &format!("R,-,-,\nC,20,{bytes},{text}\nV,1,0,\nC,1,0,\n"),
+            is_good,
+        );
+        rule(&format!("T\nV,5,{bytes},{text}\n"), is_good);
+        rule(&format!("T\nV,4,{bytes},{}\n", "1".repeat(bytes)), is_good);
+        rule(&format!("T\nV,7,1,\nK,{bytes},{text}\nV,1,0,\n"), is_good);
+    }
+}
+
+#[test]
+fn nesting_has_limits() {
+    for (depth, is_good) in [(63, true), (64, true), (65, false)] {
+        let above = depth - 1;
+        schema(
+            &format!(
+                "H,0,1,-,0\n{}F,8,0,0,0,0,-,\n",
+                "F,7,0,0,1,0,-,\n".repeat(above)
+            ),
+            is_good,
+        );
+        schema(
+            &format!(
+                "H,0,1,-,0\n{}F,8,0,0,0,0,-,\n",
+                "F,6,0,1,0,0,-,\n".repeat(above)
+            ),
+            is_good,
+        );
+        rule(&format!("T\n{}V,1,0,\n", "V,6,1,\n".repeat(above)), is_good);
+        rule(
+            &format!("T\n{}V,1,0,\n", "V,7,1,\nK,0,\n".repeat(above)),
+            is_good,
+        );
+    }
+    for (depth, is_good) in [(255, true), (256, true), (257, false)] {
+        let above = depth - 1;
+        rule(
+            &format!("R,-,-,\n{}C,1,1,\n", "C,4,0,\n".repeat(above)),
+            is_good,
+        );
+        rule(
+            &format!("R,-,-,\n{}C,1,1,\n", "C,20,0,\nV,1,0,\n".repeat(above)),
+            is_good,
+        );
+    }
+}
+
+/// Every numeral of a sheet with a zero before it, and as numbers that would wrap to it.
+#[test]
+fn numerals_have_one_spelling() {
+    let sheets = [
+        (
+            "H,0,1,1,1\nF,6,0,1,1,1,1,at\nF,8,0,0,0,0,-,\nF,1,1,0,0,2,-,xx\nF,2,0,0,0,0,0,\n",
+            schema as fn(&str, bool),
+        ),
+        (
+            "R,1,1,nm\nC,2,2,\nC,1,1,\nC,18,6,\nV,4,1,9\nV,7,1,\nK,1,k\nV,6,0,\n",
+            rule,
+        ),
+    ];
+    for (sheet, check) in sheets {
+        check(sheet, true);
+        for (at, _) in sheet.match_indices(',') {
+            let after = &sheet[at + 1..];
+            let digits = after.len() - after.trim_start_matches(|c: char| c.is_ascii_digit()).len();
+            let Ok(value) = after[..digits].parse::<u128>() else {
+                continue;
+            };
+            let wrapping = [value + (1 << 32), value + (1 << 64)].map(|other| other.to_string());
+            for other in wrapping.into_iter().chain([format!("0{value}")]) {
+                check(
+                    &format!("{},{other}{}", &sheet[..at], &after[digits..]),
+                    false,
+                );
+            }
+        }
+    }
+}
+
+#[test]
+fn nothing_follows_the_last_entry() {
+    schema("H,0,0,-,0\n", true);
+    schema("H,0,0,-,0", false);
+    schema("H,0,0,-,0\n\n", false);
+    schema("H,0,0,-,1\nF,1,0,0,0,0,-,\n", false);
+    schema("", false);
+    rule("T\nV,1,0,\n", true);
+    rule("T\nV,1,0,\nV,1,0,\n", false);
+    rule("T,\nV,1,0,\n", false);
+    rule("", false);
+}

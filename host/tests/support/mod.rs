@@ -1,0 +1,42 @@
+//! What several tests need.
+
+#![allow(dead_code, reason = "no test uses all of it")]
+
+use entity_rules::{Kind, Refusal, Semantics, check};
+
+const EMPTY_SCHEMA: &[u8] = b"H,0,0,-,0\n";
+const NO_REFERENCE: &[u8] = b"T\nV,1,0,\n";
+
+/// Whether the library takes a schema sheet.
+pub fn takes_schema(sheet: &[u8]) -> bool {
+    check(Kind::Invariant, Semantics::Kernel1, "", sheet, NO_REFERENCE) != Err(Refusal::SchemaSheet)
+}
+
+/// Whether the library takes a rule sheet.
+pub fn takes_rule(sheet: &[u8]) -> bool {
+    check(Kind::Invariant, Semantics::Kernel1, "", EMPTY_SCHEMA, sheet) != Err(Refusal::RuleSheet)
+}
+
+/// A small generator of numbers (xorshift), the same on every machine.
+pub struct Random(pub u64);
+
+impl Random {
+    pub fn next(&mut self) -> u64 {
+        self.0 ^= self.0 << 13;
+        self.0 ^= self.0 >> 7;
+        self.0 ^= self.0 << 17;
+        self.0
+    }
+
+    pub fn below(&mut self, bound: usize) -> usize {
+        (self.next() >> 33) as usize % bound
+    }
+
+    pub fn chance(&mut self, one_in: usize) -> bool {
+        self.below(one_in) == 0
+    }
+
+    pub fn pick<T: Copy>(&mut self, all: &[T]) -> T {
+        all[self.below(all.len())]
+    }
+}
