@@ -1,4 +1,5 @@
-//! Asks each faulty model until it answers otherwise than the library: `faults [CASES] [SEED]`.
+//! Asks each faulty model until it answers otherwise than the library: on the known edges, on generated cases, and last on the published
+//! samples: `faults [CASES] [SEED]`.
 
 pub use differential::trees;
 
@@ -8,6 +9,7 @@ use harness::edges::edges;
 use harness::generate;
 use harness::library::{self, Extent};
 use harness::longest::longest;
+use harness::published::sample_cases;
 use harness::random::Random;
 use std::panic::{catch_unwind, AssertUnwindSafe};
 use std::process::ExitCode;
@@ -16,7 +18,7 @@ include!(concat!(env!("OUT_DIR"), "/faults.rs"));
 
 fn main() -> ExitCode {
     let number = |at: usize, default: u64| std::env::args().nth(at).map_or(Some(default), |text| text.parse().ok());
-    let (Some(cases), Some(seed)) = (number(1, 1_000_000), number(2, 1)) else {
+    let (Some(cases), Some(seed)) = (number(1, 300_000), number(2, 1)) else {
         eprintln!("usage: faults [CASES] [SEED]");
         return ExitCode::from(2);
     };
@@ -24,8 +26,9 @@ fn main() -> ExitCode {
     std::panic::set_hook(Box::new(|_| {}));
     let mut hidden: Vec<_> = FAULTS.iter().collect();
     let known = edges().into_iter().chain(longest()).map(|case| ("a known edge".to_owned(), case));
+    let samples = sample_cases().into_iter().map(|case| ("a sample".to_owned(), case));
     let made = (0..cases).map(|number| (format!("case {number} of seed {seed}"), generate::case(&mut Random::of_case(seed, number)).1));
-    for (which, case) in known.chain(made) {
+    for (which, case) in known.chain(made).chain(samples) {
         hidden.retain(|(name, faulty)| match difference(&case, *faulty) {
             None => true,
             Some(difference) => {
@@ -41,7 +44,11 @@ fn main() -> ExitCode {
         println!("NOT FOUND: {name}");
     }
     println!("{} of {} faults found", FAULTS.len() - hidden.len(), FAULTS.len());
-    if hidden.is_empty() { ExitCode::SUCCESS } else { ExitCode::FAILURE }
+    if hidden.is_empty() {
+        ExitCode::SUCCESS
+    } else {
+        ExitCode::FAILURE
+    }
 }
 
 /// In what the faulty model and the library differ on the case, if they do.

@@ -1,6 +1,6 @@
 //! `compare`: generated cases, library, model and Rust held against each other.
 
-use crate::agreement::{hold, hold_with};
+use crate::agreement::{hold, hold_with, Held};
 use crate::case::Case;
 use crate::edges::edges;
 use crate::generate::{self, PROFILES};
@@ -18,9 +18,14 @@ use std::time::{Duration, Instant};
 
 /// Runs the known edges, then so many cases of each seed that the record does not have; an error is a disagreement, told to the reader already.
 pub fn compare(cases: u64, seeds: RangeInclusive<u64>, file: Option<&str>) -> Result<(), String> {
+    let mut longest_path = 0;
     for case in edges().iter().chain(&longest()) {
-        hold_with(case, Extent::All).map_err(|trouble| report(case, &trouble, "a known edge"))?;
+        let held = hold_with(case, Extent::All).map_err(|trouble| report(case, &trouble, "a known edge"))?;
+        if let Held::Agreed(answer) = held {
+            longest_path = longest_path.max(answer.path.len());
+        }
     }
+    println!("known edges: no disagreement, the longest path {longest_path} bytes");
     let mut record = Record::open(file)?;
     for seed in seeds {
         if !record.has(seed, cases) {

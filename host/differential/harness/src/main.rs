@@ -12,7 +12,8 @@ const USAGE: &str = "usage: differential COMMAND [OPTION..]
   exhaustive [--tokens N]          every reference of up to N tokens (2 to 7, else 6), every instant near a good one
   leaves                           text and numbers of the model against Rust's own
   samples [--program FILE]         known edges, slips and published samples: library, model and Rust, and the program rulecheck
-  vectors --out FILE [--seed S]    writes the fixed list of answers
+  vectors --out FILE [--printed FILE] [--seed S]
+                                   writes the fixed list of answers, and the line that the program vectors prints for it
   memory --list FILE [--cases N] [--seed S]
                                    that list and N generated cases with buffers of exact length, for a run under valgrind
   corpus --list FILE --out FOLDER  the cases of that list as files from which a fuzzer starts";
@@ -56,9 +57,9 @@ fn run(arguments: &[String]) -> Result<(), Trouble> {
             exhaustive::exhaustive(tokens(&options)?).map_err(Trouble::Failed)
         }
         "vectors" => {
-            let options = options(rest, &["out", "seed"])?;
+            let options = options(rest, &["out", "printed", "seed"])?;
             let file = options.get("out").ok_or_else(|| Trouble::Usage("vectors needs --out FILE".to_owned()))?;
-            vectors::vectors(file, numeral(&options, "seed", 1)?).map_err(Trouble::Failed)
+            vectors::vectors(file, options.get("printed").copied(), numeral(&options, "seed", 1)?).map_err(Trouble::Failed)
         }
         "memory" => {
             let options = options(rest, &["list", "cases", "seed"])?;

@@ -57,6 +57,11 @@ fn one(case: &Case, printed: Option<&str>, program: Option<&Program>) -> Result<
     }
 }
 
+/// Every sample as cases, in the order of the lists.
+pub fn sample_cases() -> Vec<Case> {
+    lines().iter().flat_map(cases).collect()
+}
+
 /// The cases that a sample stands in. Its verdict tells the answer.
 fn cases(sample: &Sample) -> Vec<Case> {
     let Sample { kind, bytes, holds, .. } = sample;

@@ -107,14 +107,15 @@ fn calls(case: &Case, extent: Extent) -> Vec<Lent> {
     [own].into_iter().chain(others.map(|(_, lent)| lent)).collect()
 }
 
-/// What the entry answers, given the model's answer to the case: other buffers may be short, and the sheet may be for the other entry.
+/// What the entry answers, given the model's answer to the case: a buffer may be shorter than the case says, and the sheet may be for the other entry.
 fn expected(case: &Case, answer: &Answer, lent: &Lent) -> Answer {
     let refused = |number| Answer { number, ..Answer::default() };
-    let is_short = lent.path < MIN_PATH_BYTES || lent.result < RESULT_BYTES;
+    let is_path_cut = lent.path < case.path_len.min(MIN_PATH_BYTES);
+    let is_result_cut = lent.result < RESULT_BYTES && case.scratch_len >= MIN_SCRATCH_WORDS;
     match answer.number {
         1 | 2 => answer.clone(),
-        _ if is_short => refused(3),
-        4 => answer.clone(),
+        _ if is_path_cut || is_result_cut => refused(3),
+        3 | 4 => answer.clone(),
         _ if case.rule.first() != Some(&lent.entry.letter()) => refused(5),
         _ => answer.clone(),
     }
