@@ -8,6 +8,8 @@ use Rattle.vectors.specs.declared.Found.{Found}
 use Rattle.vectors.specs.declared.Found.the-variants as found
 use Rattle.vectors.specs.declared.Replayed.{Replayed}
 use Rattle.vectors.specs.declared.Replayed.the-variants as replayed
+use Rattle.vectors.specs.declared.Step.{Step}
+use Rattle.vectors.specs.declared.Step.the-variants as step
 
 pub record Within (s : List ℕ) (w : Window) : Type 0 where
   pub rising : w .start ≤ w .end
@@ -25,3 +27,7 @@ FoundIn s found.Broken = Unit {0}
 abbrev pub ReplayedIn : List ℕ → Replayed → Type 0
 ReplayedIn s (replayed.Whole agrees next) = next ≤ length s
 ReplayedIn s replayed.Broken = Unit {0}
+
+abbrev pub StepIn : List ℕ → Step → Type 0
+StepIn s (step.Replayed agrees w) = Within s w
+StepIn s (step.Last ended) = Unit {0}

@@ -9,7 +9,7 @@ ghost use mathlib.Core.Bool.{true};
 ghost use mathlib.Core.Path.{_≡_};
 ghost use lib.ListN.{length};
 ghost use Rattle.check_file.specs.Output.{outputOf};
-ghost use Rattle.vectors.specs.Found.{Within, FoundIn, ReplayedIn};
+ghost use Rattle.vectors.specs.Found.{Within, FoundIn, ReplayedIn, StepIn};
 
 // The list is read in pieces of this size.
 const BUFFER_BYTES: usize = 262144;
@@ -18,7 +18,7 @@ const BUFFER_BYTES: usize = 262144;
 const CASE_BYTES: usize = 131072;
 
 // More than any list has.
-const MAX_CASES: u64 = 1000000;
+const MAX_CASES: u64 = 65536;
 
 // Room enough for every line that is printed.
 const LINE_BYTES: usize = 32835;
@@ -54,6 +54,13 @@ enum Replayed {
     // Whether it came out as expected, and the place behind it.
     Whole(bool, usize),
     Broken,
+}
+
+enum Step {
+    // Whether a case came out as expected, and what is left behind it.
+    Replayed(bool, Window),
+    // No case is there any more; whether that is the list's end.
+    Last(bool),
 }
 
 // The place behind the lines that begin with #.
@@ -200,6 +207,46 @@ fn say_case(number: u64, words: &[u8]) {
     say(number, words);
 }
 
+// 1 for a case that agrees; another is named.
+fn tallied(agrees: bool, number: u64) -> u64
+    ensures { λ r. ⌜ r ≤ 1 ⌝ }
+{
+    if agrees {
+        return 1;
+    }
+    say_case(number, b" differs\n");
+    0
+}
+
+fn report(cases: u64, agreed: u64, all_read: bool)
+    requires { ⌜ cases ≤ 65536 ⌝ }
+{
+    if !all_read {
+        say_case(cases + 1, b" cannot be read\n");
+    }
+    say(cases, b" cases, ");
+    say(agreed, b" as expected\n");
+}
+
+fn advance(buffer: &mut [u8], w: Window) -> Step
+    requires { ⌜ Within (now buffer) w ⌝ }
+    ensures { λ r. ⌜ StepIn (now (buffer .exit)) r ⌝ }
+{
+    let f = refill(buffer, w);
+    let start = f.start;
+    let end = f.end;
+    let Replayed::Whole(agrees, n) = replay(&buffer[start..end]) else {
+        return Step::Last(start == end);
+    };
+    Step::Replayed(
+        agrees,
+        Window {
+            start: start + n,
+            end,
+        },
+    )
+}
+
 fn run(buffer: &mut [u8], from: Window)
     requires { ⌜ Within (now buffer) from ⌝ }
 {
@@ -207,29 +254,20 @@ fn run(buffer: &mut [u8], from: Window)
     let mut cases: u64 = 0;
     let mut agreed: u64 = 0;
     while cases < MAX_CASES {
-        w = refill(buffer, w);
-        let start = w.start;
-        let end = w.end;
-        if start == end {
-            break;
+        let s = advance(buffer, w);
+        match s {
+            Step::Replayed(agrees, left) => {
+                cases += 1;
+                agreed += tallied(agrees, cases);
+                w = left;
+            }
+            Step::Last(all_read) => {
+                report(cases, agreed, all_read);
+                return;
+            }
         }
-        let Replayed::Whole(agrees, n) = replay(&buffer[start..end]) else {
-            say_case(cases + 1, b" cannot be read\n");
-            break;
-        };
-        cases += 1;
-        if agrees {
-            agreed += 1;
-        } else {
-            say_case(cases, b" differs\n");
-        }
-        w = Window {
-            start: start + n,
-            end,
-        };
     }
-    say(cases, b" cases, ");
-    say(agreed, b" as expected\n");
+    report(cases, agreed, false);
 }
 
 fn main() {

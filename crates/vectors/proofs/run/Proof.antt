@@ -1,7 +1,6 @@
 -- `vectors::run` is safe and ends: each turn counts one case more.
 use Prim.Native.Nat.{_≤_, _-_}
-use mathlib.Core.Path.{_≡_, ap}
-use mathlib.Core.Logic.{⊎-elim}
+use mathlib.Core.Path.{_≡_}
 use lib.ListN.{length}
 use Rattle.vectors.specs.Found.{Within}
 use native.Mathlib.Omega.{arith}
@@ -10,92 +9,57 @@ use Rattle.vectors.proofs.run.Statement.{statement}
 use Rattle.vectors.proofs.run.Tie as tie
 
 abbrev Inv-loop : tie.InvT-loop
-Inv-loop buffer₀ w₀ cases₀ agreed₀ t10 t11 t12 t13 buffer w cases agreed = Within buffer w × (agreed ≤ cases) × (cases ≤ 1000000) × (length buffer ≡ length buffer₀)
+Inv-loop buffer₀ w₀ cases₀ agreed₀ buffer w cases agreed = Within buffer w × (agreed ≤ cases) × (cases ≤ 65536) × (length buffer ≡ length buffer₀)
 
 abbrev μ-loop : tie.MeasureT-loop
-μ-loop buffer₀ w₀ cases₀ agreed₀ t10 t11 t12 t13 buffer w cases agreed = 1000000 - cases
+μ-loop buffer₀ w₀ cases₀ agreed₀ buffer w cases agreed = 65536 - cases
 
 loop-holds : tie.Need-loop-holds Inv-loop μ-loop
 loop-holds c = search needs
 
-refill-requires : tie.Need-refill-requires Inv-loop μ-loop
-refill-requires c κs = search needs
+advance-requires : tie.Need-advance-requires Inv-loop μ-loop
+advance-requires c κs = search needs
 
-sub-replay : tie.Need-sub-replay Inv-loop μ-loop
-sub-replay c = search needs
-
-part-replay-start : tie.Need-part-replay-start Inv-loop μ-loop
-part-replay-start c = search needs
-
-part-replay-end : tie.Need-part-replay-end Inv-loop μ-loop
-part-replay-end c = search needs
-
-replay-requires : tie.Need-replay-requires Inv-loop μ-loop
-replay-requires c κs = search needs
-
-enum-known-agrees : tie.Need-enum-known-agrees Inv-loop μ-loop
-enum-known-agrees c = search needs
-
-enum-told : tie.Need-enum-told Inv-loop μ-loop
-enum-told c = search needs
-
-add-say-case : tie.Need-add-say-case Inv-loop μ-loop
-add-say-case c = search needs
-
-slice-aggregate-say-case : tie.Need-slice-aggregate-say-case Inv-loop μ-loop
-slice-aggregate-say-case c = search needs
-
-say-case-requires : tie.Need-say-case-requires Inv-loop μ-loop
-say-case-requires c κs = search needs
+enum-known-s : tie.Need-enum-known-s Inv-loop μ-loop
+enum-known-s c = search needs
 
 add-cases : tie.Need-add-cases Inv-loop μ-loop
 add-cases c = search needs
 
+tallied-requires : tie.Need-tallied-requires Inv-loop μ-loop
+tallied-requires c κs = search needs
+
 add-agreed : tie.Need-add-agreed Inv-loop μ-loop
-add-agreed c = omega arith
-
-slice-aggregate-say-case-2 : tie.Need-slice-aggregate-say-case-2 Inv-loop μ-loop
-slice-aggregate-say-case-2 c = search needs
-
-say-case-requires-2 : tie.Need-say-case-requires-2 Inv-loop μ-loop
-say-case-requires-2 c κs = search needs
-
-add-t19 : tie.Need-add-t19 Inv-loop μ-loop
-add-t19 c =
-    let r = rw (c .before .before .agrees .given .1) at (c .before .before .before .before .replay .ensures) in
-    omega (arith, r)
+add-agreed c = search needs
 
 loop-less : tie.Need-loop-less Inv-loop μ-loop
 loop-less c = search needs
 
 loop-again : tie.Need-loop-again Inv-loop μ-loop
 loop-again c =
-    let r = rw (c .before .before .agrees .given .1) at (c .before .before .before .before .replay .ensures) in
-    (record { rising = omega arith; within = c .before .before .before .before .before .before .before .before .before .before .refill .ensures .within }, ⊎-elim (λ w. omega arith) (λ w. omega arith) (c .if2 .came), omega arith, omega (arith, c .before .before .before .before .before .before .before .before .before .before .refill .kept .0))
+    let left = rw (c .before .before .s .given .1) at (c .before .before .before .before .before .before .advance .ensures) in
+    (left, omega arith, omega arith, omega (arith, c .before .before .before .before .before .before .advance .kept .0))
 
-slice-aggregate-say : tie.Need-slice-aggregate-say Inv-loop μ-loop
-slice-aggregate-say c = search needs
+enum-known-s-2 : tie.Need-enum-known-s-2 Inv-loop μ-loop
+enum-known-s-2 c = search needs
 
-say-requires : tie.Need-say-requires Inv-loop μ-loop
-say-requires c κs = search needs
-
-slice-aggregate-say-2 : tie.Need-slice-aggregate-say-2 Inv-loop μ-loop
-slice-aggregate-say-2 c = search needs
-
-say-requires-2 : tie.Need-say-requires-2 Inv-loop μ-loop
-say-requires-2 c κs = search needs
+report-requires : tie.Need-report-requires Inv-loop μ-loop
+report-requires c κs = search needs
 
 same-length : tie.Need-same-length Inv-loop μ-loop
-same-length c =
-    ⊎-elim (λ ended. omega (arith, ap length (ended .1)))
-    (λ left.
-    ⊎-elim (λ empty. omega (arith, empty .2 .kept .0, ap length (empty .6)))
-    (λ broken. omega (arith, broken .2 .kept .0, ap length (broken .13)))
-    left)
-    (c .before .before .before .before .loop-test .came)
+same-length c = search needs
 
 returns : tie.Need-returns Inv-loop μ-loop
 returns c = search needs
+
+report-requires-2 : tie.Need-report-requires-2 Inv-loop μ-loop
+report-requires-2 c κs = search needs
+
+same-length-2 : tie.Need-same-length-2 Inv-loop μ-loop
+same-length-2 c = search needs
+
+returns-2 : tie.Need-returns-2 Inv-loop μ-loop
+returns-2 c = search needs
 
 pub run-spec : {M : Type 1} → statement M
 run-spec =
@@ -104,26 +68,17 @@ run-spec =
     Inv-loop
     μ-loop
     loop-holds
-    refill-requires
-    sub-replay
-    part-replay-start
-    part-replay-end
-    replay-requires
-    enum-known-agrees
-    enum-told
-    add-say-case
-    slice-aggregate-say-case
-    say-case-requires
+    advance-requires
+    enum-known-s
     add-cases
+    tallied-requires
     add-agreed
-    slice-aggregate-say-case-2
-    say-case-requires-2
-    add-t19
     loop-less
     loop-again
-    slice-aggregate-say
-    say-requires
-    slice-aggregate-say-2
-    say-requires-2
+    enum-known-s-2
+    report-requires
     same-length
-    returns)
+    returns
+    report-requires-2
+    same-length-2
+    returns-2)

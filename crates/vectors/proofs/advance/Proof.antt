@@ -1,0 +1,62 @@
+-- `vectors::advance` leaves a window of the buffer.
+use native.Mathlib.Omega.{arith}
+use borrow.Author.Needs.{needs}
+use Rattle.vectors.proofs.advance.Statement.{statement}
+use Rattle.vectors.proofs.advance.Tie as tie
+
+refill-requires : tie.Need-refill-requires
+refill-requires c κs = search needs
+
+sub-replay : tie.Need-sub-replay
+sub-replay c = search needs
+
+part-replay-start : tie.Need-part-replay-start
+part-replay-start c = search needs
+
+part-replay-end : tie.Need-part-replay-end
+part-replay-end c = search needs
+
+replay-requires : tie.Need-replay-requires
+replay-requires c κs = search needs
+
+enum-known-agrees : tie.Need-enum-known-agrees
+enum-known-agrees c = search needs
+
+enum-told : tie.Need-enum-told
+enum-told c = search needs
+
+same-length : tie.Need-same-length
+same-length c = search needs
+
+returns : tie.Need-returns
+returns c = search needs
+
+add-t12 : tie.Need-add-t12
+add-t12 c =
+    let r = rw (c .before .agrees .given .1) at (c .before .before .before .replay .ensures) in
+    omega arith
+
+same-length-2 : tie.Need-same-length-2
+same-length-2 c = search needs
+
+returns-2 : tie.Need-returns-2
+returns-2 c =
+    let r = rw (c .before .agrees .given .1) at (c .before .before .before .replay .ensures) in
+    record { rising = omega arith; within = c .before .before .before .before .before .before .before .before .refill .ensures .within }
+
+pub advance-spec : {M : Type 1} → statement M
+advance-spec =
+    tie.close
+    (tie.spec
+    refill-requires
+    sub-replay
+    part-replay-start
+    part-replay-end
+    replay-requires
+    enum-known-agrees
+    enum-told
+    same-length
+    returns
+    add-t12
+    same-length-2
+    returns-2)
