@@ -1,6 +1,7 @@
-//! Holds one case against both: the model answers, and the Rust must say the same of what it sees.
+//! Holds one case against all three: the model answers, the library must answer the same, and the Rust must say the same of what it sees.
 
 use crate::case::Case;
+use crate::library::{self, Extent};
 use crate::nodes::{entries, node, Node};
 use crate::oracle::{self, Defect, Frame, Quoted, Schemas, Verdict};
 use crate::plan::plan;
@@ -9,7 +10,7 @@ use differential::model::{self, checks::depth, Answer};
 use differential::trees::{Data, Operator, Schema, Sheet, Value};
 use std::panic::catch_unwind;
 
-/// How a case went where both agree.
+/// How a case went where all agree.
 #[derive(Clone, Debug, PartialEq, Eq)]
 pub enum Held {
     /// One of the refusals 1 to 5, which come before the Rust is asked.
@@ -22,12 +23,18 @@ pub enum Held {
 /// The longest path that a call can write.
 const MAX_PATH_BYTES: usize = 31_122;
 
-/// The model's answer, held against the Rust's. An error tells in what they differ.
+/// The model's answer, held against the library's and the Rust's. An error tells in what they differ.
 pub fn hold(case: &Case) -> Result<Held, String> {
+    hold_with(case, Extent::Some)
+}
+
+/// As `hold`, with more or fewer calls of the library.
+pub fn hold_with(case: &Case, extent: Extent) -> Result<Held, String> {
     let answer = catch_unwind(|| model::check(&case.call())).map_err(|_| "the model panics".to_owned())?;
     if !case.expect.allows(answer.number, answer.detail) {
         return Err(format!("the case was made for {:?}, the model answers {}", case.expect, line(&answer)));
     }
+    library::hold(case, &answer, extent)?;
     let refused = refusal(case);
     if refused != if answer.number > 5 { 0 } else { answer.number } {
         return Err(format!("the model answers {}, the second reading of the refusals {refused}", line(&answer)));

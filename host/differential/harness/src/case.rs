@@ -73,4 +73,19 @@ impl Case {
         let head = format!("{},{},{},", self.kind, self.semantics, counts.join(","));
         [head.as_bytes(), &self.label, b"\n", &self.schema, &self.rule].concat()
     }
+
+    /// The case of a file `check.in` with settings within 64 bits; none where the file has another form.
+    pub fn of_check_in(file: &[u8]) -> Option<Self> {
+        let mut rest = file;
+        let mut numbers = [0_u64; 5];
+        for number in &mut numbers {
+            let end = rest.iter().position(|byte| *byte == b',')?;
+            *number = std::str::from_utf8(&rest[..end]).ok()?.parse().ok()?;
+            rest = &rest[end + 1..];
+        }
+        let [kind, semantics, label, schema, rule] = numbers;
+        let (label, rest) = rest.split_at_checked(label as usize)?;
+        let (schema, rest) = rest.strip_prefix(b"\n")?.split_at_checked(schema as usize)?;
+        (rest.len() as u64 == rule).then(|| Self::new(kind, semantics, label, schema.to_vec(), rest.to_vec()))
+    }
 }

@@ -1,59 +1,78 @@
-//! `compare`: generated cases, the model held against the Rust.
+//! `compare`: generated cases, library, model and Rust held against each other.
 
-use crate::agreement::hold;
+use crate::agreement::{hold, hold_with, Held};
 use crate::case::Case;
 use crate::edges::edges;
 use crate::generate::{self, PROFILES};
+use crate::library::Extent;
+use crate::longest::longest;
 use crate::random::Random;
+use crate::runs::{Record, Run};
 use crate::shrink::shrink;
 use crate::tally::Tally;
 use std::io::Write;
+use std::ops::RangeInclusive;
 use std::sync::atomic::{AtomicU64, Ordering};
 use std::sync::Arc;
 use std::time::{Duration, Instant};
 
-/// Runs the cases; an error is a disagreement, told to the reader already.
-pub fn compare(cases: u64, seed: u64) -> Result<(), String> {
-    for case in edges() {
-        hold(&case).map_err(|trouble| report(&case, &trouble, "a known edge"))?;
+/// Runs the known edges, then so many cases of each seed that the record does not have; an error is a disagreement, told to the reader already.
+pub fn compare(cases: u64, seeds: RangeInclusive<u64>, file: Option<&str>) -> Result<(), String> {
+    let mut longest_path = 0;
+    for case in edges().iter().chain(&longest()) {
+        let held = hold_with(case, Extent::All).map_err(|trouble| report(case, &trouble, "a known edge"))?;
+        if let Held::Agreed(answer) = held {
+            longest_path = longest_path.max(answer.path.len());
+        }
     }
+    println!("known edges: no disagreement, the longest path {longest_path} bytes");
+    let mut record = Record::open(file)?;
+    for seed in seeds {
+        if !record.has(seed, cases) {
+            let run = run(cases, seed)?;
+            println!("seed {seed}: {} cases, {:.0} per second, no disagreement", run.tally.cases(), cases as f64 / run.seconds);
+            record.add(seed, cases, run)?;
+        }
+    }
+    let total = record.total();
+    println!("{}\n{:.0} cases per second", total.tally, total.tally.cases() as f64 / total.seconds);
+    if !total.tally.missing().is_empty() {
+        println!("never came: {:?}", total.tally.missing());
+    }
+    println!("no disagreement (seeds {:?})", record.seeds());
+    Ok(())
+}
+
+/// The cases of one seed.
+fn run(cases: u64, seed: u64) -> Result<Run, String> {
     let current = watch(seed);
     let mut tally = Tally::default();
-    let mut made = [0_u64; PROFILES.len()];
     let began = Instant::now();
     for number in 0..cases {
         current.store(number, Ordering::Relaxed);
         let (profile, case) = generate::case(&mut Random::of_case(seed, number));
-        made[profile] += 1;
         let held = hold(&case).map_err(|trouble| {
             current.store(IDLE, Ordering::Relaxed);
             report(&case, &trouble, &format!("case {number} of seed {seed}, profile {}", PROFILES[profile].0))
         })?;
         tally.count(&held);
     }
-    let seconds = began.elapsed().as_secs_f64();
-    println!("{tally}");
-    let shares: Vec<_> = PROFILES.iter().zip(made).map(|((name, ..), count)| format!("{name} {count}")).collect();
-    println!("made: {}\n{:.0} cases per second", shares.join(", "), cases as f64 / seconds);
-    if !tally.missing().is_empty() {
-        println!("never came: {:?}", tally.missing());
-    }
-    println!("no disagreement (seed {seed})");
-    Ok(())
+    current.store(IDLE, Ordering::Relaxed);
+    Ok(Run { tally, seconds: began.elapsed().as_secs_f64() })
 }
 
 /// Prints a disagreement as a small `check.in`, and answers with what is wrong.
 pub fn report(case: &Case, trouble: &str, which: &str) -> String {
     println!("{which}: {trouble}");
-    let small = shrink(case, |candidate| hold(candidate).is_err());
-    if let Err(trouble) = hold(&small) {
+    let small = shrink(case, |candidate| hold_with(candidate, Extent::All).is_err());
+    if let Err(trouble) = hold_with(&small, Extent::All) {
         println!("made smaller: {trouble}");
     }
     println!("check.in (path buffer {}, scratch {}):", small.path_len, small.scratch_len);
     // A reader that went away is no reason to fail differently.
     let _ = std::io::stdout().write_all(&small.check_in());
     println!();
-    "the model and the Rust disagree".to_owned()
+    "the library, the model and the Rust do not all agree".to_owned()
 }
 
 /// No case is running.

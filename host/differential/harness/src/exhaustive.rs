@@ -7,10 +7,10 @@ use crate::generate::build::{array, element, exists, field, holder, literal, qua
 use crate::generate::build::{ARRAY, INTEGER, JSON, MAP, OBJECT, STRING, UNION};
 use crate::generate::scope::may_read;
 use crate::instants;
+use crate::library::{self, Extent};
 use crate::oracle::{self, Frame, Schemas};
-use crate::refusals::{MIN_PATH_BYTES, MIN_SCRATCH_WORDS};
 use crate::tally::Tally;
-use differential::model::{check, decode_rule, write_rule, write_schema, Call};
+use differential::model::{check, decode_rule, write_rule, write_schema};
 use differential::trees::{Field, Holder, Schema, Sheet};
 
 const TOKENS: [&str; 10] = ["$", "b", ".", "0", "1", "é", "fields", "args", "count", "value"];
@@ -47,29 +47,17 @@ impl World {
         Self { sheet: write_schema(&schema), rust: Schemas::new(&schema), has_arguments: schema.arguments.is_some() }
     }
 
-    fn call<'a>(&'a self, kind: u64, semantics: u64, rule: &'a [u8]) -> Call<'a> {
-        Call {
-            kind,
-            semantics,
-            label: LABEL.as_bytes(),
-            schema: &self.sheet,
-            rule,
-            path_len: MIN_PATH_BYTES,
-            scratch_len: MIN_SCRATCH_WORDS,
-        }
-    }
-
-    /// Holds one rule against both, under each of the settings.
+    /// Holds one rule against all three, under each of the settings.
     fn hold(&self, settings: &[(u64, u64)], sheet: &Sheet, tally: &mut Tally) -> Result<(), String> {
         let rule = write_rule(sheet);
         let read = decode_rule(&rule).ok_or("a generated rule sheet is not read")?;
         for &(kind, semantics) in settings {
-            let answer = check(&self.call(kind, semantics, &rule));
+            let case = Case::new(kind, semantics, LABEL.as_bytes(), self.sheet.clone(), rule.clone());
+            let answer = check(&case.call());
             let verdict = oracle::ask(Frame { kind, semantics, label: LABEL }, &self.rust, &read);
-            verdict.and_then(|verdict| same(&answer, &verdict, &read)).map_err(|trouble| {
-                let case = Case::new(kind, semantics, LABEL.as_bytes(), self.sheet.clone(), rule.clone());
-                report(&case, &trouble, "exhaustive")
-            })?;
+            let agreed = verdict.and_then(|verdict| same(&answer, &verdict, &read));
+            let agreed = agreed.and_then(|()| library::hold(&case, &answer, Extent::Some));
+            agreed.map_err(|trouble| report(&case, &trouble, "exhaustive"))?;
             tally.add((answer.number, answer.family, answer.detail), 1);
         }
         Ok(())

@@ -1,34 +1,22 @@
-//! Holds a plain model of docs/FORMAT.md against the Rust that it describes. See README.md beside the script `run`.
+//! The commands of the comparison. See README.md beside the script `run`.
 
-mod agreement;
-mod bound;
-mod case;
-mod compare;
-mod edges;
-mod exhaustive;
-mod generate;
-mod instants;
-mod leaves;
-mod nodes;
-mod oracle;
-mod plan;
-mod random;
-mod refusals;
-mod samples;
-mod shrink;
-mod tally;
-mod vectors;
-mod widened;
-
+use harness::{compare, exhaustive, fuzzed, leaves, memory, published, vectors, widened};
 use std::collections::BTreeMap;
 use std::process::ExitCode;
 
 const USAGE: &str = "usage: differential COMMAND [OPTION..]
-  compare [--cases N] [--seed S]   known edges, then N generated cases: the model against the Rust
-  widened [--cases N] [--seed S]   N rules, each under a schema and a widening of it
+  compare [--cases N] [--seed S] [--last S] [--record FILE]
+                                   known edges, then N generated cases of each seed: library, model and Rust;
+                                   runs that FILE has are left out, and new ones are added to it
+  widened [--cases N] [--seed S]   N rules, each under a schema and a widening of it that differs
   exhaustive [--tokens N]          every reference of up to N tokens (2 to 7, else 6), every instant near a good one
   leaves                           text and numbers of the model against Rust's own
-  vectors --out FILE [--seed S]    writes the fixed list of answers";
+  samples [--program FILE]         known edges, slips and published samples: library, model and Rust, and the program rulecheck
+  vectors --out FILE [--printed FILE] [--seed S]
+                                   writes the fixed list of answers, and the line that the program vectors prints for it
+  memory --list FILE [--cases N] [--seed S]
+                                   that list and N generated cases with buffers of exact length, for a run under valgrind
+  corpus --list FILE --out FOLDER  the cases of that list as files from which a fuzzer starts";
 
 fn main() -> ExitCode {
     let arguments: Vec<String> = std::env::args().skip(1).collect();
@@ -55,21 +43,38 @@ fn run(arguments: &[String]) -> Result<(), Trouble> {
     let (command, rest) = arguments.split_first().ok_or_else(|| Trouble::Usage("no command".to_owned()))?;
     match command.as_str() {
         "compare" => {
-            let options = options(rest, &["cases", "seed"])?;
-            compare::compare(numeral(&options, "cases", 1_000_000)?, numeral(&options, "seed", 1)?).map_err(Trouble::Failed)
+            let options = options(rest, &["cases", "seed", "last", "record"])?;
+            let seed = numeral(&options, "seed", 1)?;
+            let seeds = seed..=numeral(&options, "last", seed)?;
+            compare::compare(numeral(&options, "cases", 1_000_000)?, seeds, options.get("record").copied()).map_err(Trouble::Failed)
         }
         "widened" => {
             let options = options(rest, &["cases", "seed"])?;
-            widened::widened(numeral(&options, "cases", 200_000)?, numeral(&options, "seed", 1)?).map_err(Trouble::Failed)
+            widened::widened(numeral(&options, "cases", 1_000_000)?, numeral(&options, "seed", 1)?).map_err(Trouble::Failed)
         }
         "exhaustive" => {
             let options = options(rest, &["tokens"])?;
             exhaustive::exhaustive(tokens(&options)?).map_err(Trouble::Failed)
         }
         "vectors" => {
-            let options = options(rest, &["out", "seed"])?;
+            let options = options(rest, &["out", "printed", "seed"])?;
             let file = options.get("out").ok_or_else(|| Trouble::Usage("vectors needs --out FILE".to_owned()))?;
-            vectors::vectors(file, numeral(&options, "seed", 1)?).map_err(Trouble::Failed)
+            vectors::vectors(file, options.get("printed").copied(), numeral(&options, "seed", 1)?).map_err(Trouble::Failed)
+        }
+        "memory" => {
+            let options = options(rest, &["list", "cases", "seed"])?;
+            let list = options.get("list").ok_or_else(|| Trouble::Usage("memory needs --list FILE".to_owned()))?;
+            memory::memory(list, numeral(&options, "cases", 100_000)?, numeral(&options, "seed", 1)?).map_err(Trouble::Failed)
+        }
+        "samples" => {
+            let options = options(rest, &["program"])?;
+            published::published(options.get("program").copied()).map_err(Trouble::Failed)
+        }
+        "corpus" => {
+            let options = options(rest, &["list", "out"])?;
+            let [list, folder] = ["list", "out"].map(|name| options.get(name).copied());
+            let (list, folder) = list.zip(folder).ok_or_else(|| Trouble::Usage("corpus needs --list FILE and --out FOLDER".to_owned()))?;
+            fuzzed::corpus(list, folder).map_err(Trouble::Failed)
         }
         "leaves" => {
             options(rest, &[])?;

@@ -5,12 +5,48 @@ use crate::refusals::is_number;
 const TEXTS: &str = include_str!("../../../../crates/leaves/stdin");
 const NUMBERS: &[u8] = include_bytes!("../../../../crates/number_samples/stdin");
 
-/// An error if Rust judges the sample otherwise than its line says.
-fn agree(line: &[u8], said: bool, rust: bool) -> Result<(), String> {
-    if said == rust {
-        return Ok(());
-    }
-    Err(format!("the sample {:?} is {said} by its line and {rust} by Rust", String::from_utf8_lossy(line)))
+/// What a sample is one of.
+#[derive(Clone, Copy, Debug, PartialEq, Eq)]
+pub enum Kind {
+    Utf8,
+    Blank,
+    Instant,
+    Number,
+}
+
+/// A sample and what its line says of it.
+#[derive(Clone, Debug)]
+pub struct Sample {
+    pub kind: Kind,
+    pub bytes: Vec<u8>,
+    /// Whether it is what its kind says.
+    pub holds: bool,
+    /// Whether a number is finite; true of all else.
+    pub finite: bool,
+}
+
+/// Every sample, in the order of the lists.
+pub fn lines() -> Vec<Sample> {
+    let texts = TEXTS.lines().filter(|line| !line.is_empty() && !line.starts_with('#')).map(text);
+    let numbers = NUMBERS.split(|&byte| byte == b'\n').filter(|line| !line.is_empty() && line[0] != b'#');
+    texts.chain(numbers.map(number)).collect()
+}
+
+/// `u` UTF-8 and `b` blank text in hexadecimal, `i` instants as text; then the verdict.
+fn text(line: &str) -> Sample {
+    let (head, rest) = line.split_at(2);
+    let kind = match &head[..1] {
+        "u" => Kind::Utf8,
+        "b" => Kind::Blank,
+        _ => Kind::Instant,
+    };
+    let bytes = if kind == Kind::Instant { rest.as_bytes().to_vec() } else { bytes_of(rest) };
+    Sample { kind, bytes, holds: head.ends_with('+'), finite: true }
+}
+
+/// `n` no number, `f` finite, `i` not finite.
+fn number(line: &[u8]) -> Sample {
+    Sample { kind: Kind::Number, bytes: line[1..].to_vec(), holds: line[0] != b'n', finite: line[0] != b'i' }
 }
 
 fn bytes_of(hexadecimal: &str) -> Vec<u8> {
@@ -18,30 +54,36 @@ fn bytes_of(hexadecimal: &str) -> Vec<u8> {
     (0..hexadecimal.len()).step_by(2).map(pair).collect()
 }
 
+/// An error if Rust judges the sample otherwise than its line says.
+fn agree(sample: &Sample, said: bool, rust: bool) -> Result<(), String> {
+    if said == rust {
+        return Ok(());
+    }
+    Err(format!("the sample {:?} is {said} by its line and {rust} by Rust", String::from_utf8_lossy(&sample.bytes)))
+}
+
 /// The UTF-8 samples, and those of blank text.
 pub fn texts() -> Result<u64, String> {
     let mut count = 0;
-    for line in TEXTS.lines().filter(|line| line.starts_with(['u', 'b'])) {
-        let bytes = bytes_of(&line[2..]);
-        let read = std::str::from_utf8(&bytes);
-        let holds = match line.starts_with('u') {
-            true => read.is_ok(),
-            false => read.is_ok_and(|text| text.trim().is_empty()),
+    for sample in lines().iter().filter(|sample| matches!(sample.kind, Kind::Utf8 | Kind::Blank)) {
+        let read = std::str::from_utf8(&sample.bytes);
+        let holds = match sample.kind {
+            Kind::Utf8 => read.is_ok(),
+            _ => read.is_ok_and(|text| text.trim().is_empty()),
         };
-        agree(line.as_bytes(), line[1..].starts_with('+'), holds)?;
+        agree(sample, sample.holds, holds)?;
         count += 1;
     }
     Ok(count)
 }
 
-/// The number samples: `n` no number, `f` finite, `i` not finite.
 pub fn numbers() -> Result<u64, String> {
     let mut count = 0;
-    for line in NUMBERS.split(|&byte| byte == b'\n').filter(|line| !line.is_empty() && line[0] != b'#') {
-        let text = std::str::from_utf8(&line[1..]).unwrap_or_default();
-        agree(line, line[0] != b'n', is_number(text))?;
-        if line[0] != b'n' {
-            agree(line, line[0] == b'f', text.parse::<f64>().is_ok_and(f64::is_finite))?;
+    for sample in lines().iter().filter(|sample| sample.kind == Kind::Number) {
+        let text = std::str::from_utf8(&sample.bytes).unwrap_or_default();
+        agree(sample, sample.holds, is_number(text))?;
+        if sample.holds {
+            agree(sample, sample.finite, text.parse::<f64>().is_ok_and(f64::is_finite))?;
         }
         count += 1;
     }

@@ -29,6 +29,41 @@ impl Tally {
         *self.answers.entry(answered).or_default() += count;
     }
 
+    /// Adds what another counted.
+    pub fn join(&mut self, other: &Self) {
+        self.cases += other.cases;
+        self.kept_out += other.kept_out;
+        for (answered, count) in &other.answers {
+            *self.answers.entry(*answered).or_default() += count;
+        }
+    }
+
+    /// Kept out, then each answer with its count: `110 0,0,0=51945 ..`.
+    pub fn to_line(&self) -> String {
+        let answers = self.answers.iter().map(|((number, family, detail), count)| format!(" {number},{family},{detail}={count}"));
+        format!("{}{}", self.kept_out, answers.collect::<String>())
+    }
+
+    /// What `to_line` wrote; none where it is nothing of the kind.
+    pub fn of_line(line: &str) -> Option<Self> {
+        let mut parts = line.split(' ');
+        let kept_out = parts.next()?.parse().ok()?;
+        let mut tally = Self { kept_out, cases: kept_out, ..Self::default() };
+        for part in parts {
+            let (answered, count) = part.split_once('=')?;
+            let numbers: Option<Vec<u32>> = answered.split(',').map(|number| number.parse().ok()).collect();
+            let [number, family, detail] = numbers?[..] else {
+                return None;
+            };
+            tally.add((number, family, detail), count.parse().ok()?);
+        }
+        Some(tally)
+    }
+
+    pub fn cases(&self) -> u64 {
+        self.cases
+    }
+
     /// The answers with a defect that can occur and did not.
     pub fn missing(&self) -> Vec<Answered> {
         all_answers().into_iter().filter(|answered| !self.answers.contains_key(answered)).collect()

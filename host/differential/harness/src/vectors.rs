@@ -18,18 +18,18 @@ const MAX_TRIES: u64 = 100_000;
 
 /// What is made how often: a name for the generator, and the number of cases.
 const SHARES: [(Make, u64); 6] = [
-    (|random, number| planted::planted(random, planted::TARGETS[number as usize % planted::TARGETS.len()]), 800),
-    (|random, _| slips(random), 400),
-    (|random, _| right(random), 250),
-    (|random, _| damage::case(random), 250),
-    (|random, _| widen::case(random), 100),
-    (|random, _| limits::settings(random), 80),
+    (|random, number| planted::planted(random, planted::TARGETS[number as usize % planted::TARGETS.len()]), 2_400),
+    (|random, _| slips(random), 1_000),
+    (|random, _| right(random), 600),
+    (|random, _| damage::case(random), 600),
+    (|random, _| widen::case(random), 200),
+    (|random, _| limits::settings(random), 100),
 ];
 
 type Make = fn(&mut Random, u64) -> Case;
 
-/// Writes the list; an error leaves the file as it was.
-pub fn vectors(file: &str, seed: u64) -> Result<(), String> {
+/// Writes the list, and what the gate's program prints where all of it comes out as expected; an error before that leaves both files as they were.
+pub fn vectors(file: &str, printed: Option<&str>, seed: u64) -> Result<(), String> {
     let mut list = List::default();
     for case in edges() {
         list.take(&case)?;
@@ -41,7 +41,11 @@ pub fn vectors(file: &str, seed: u64) -> Result<(), String> {
         return Err(format!("no case of the list has the answer {missing:?}"));
     }
     let head = head(list.seen.len(), seed);
-    std::fs::write(file, [head.into_bytes(), list.bytes].concat()).map_err(|error| format!("{file} cannot be written: {error}"))?;
+    let write = |file: &str, bytes: Vec<u8>| std::fs::write(file, bytes).map_err(|error| format!("{file} cannot be written: {error}"));
+    write(file, [head.into_bytes(), list.bytes].concat())?;
+    if let Some(printed) = printed {
+        write(printed, format!("{0} cases, {0} as expected\n", list.seen.len()).into_bytes())?;
+    }
     println!("{}\n{} cases written to {file}", list.tally, list.seen.len());
     Ok(())
 }
@@ -51,9 +55,31 @@ fn head(cases: usize, seed: u64) -> String {
         "# {cases} cases and their answers, written by host/differential/run SOURCES vectors --out FILE --seed {seed}; the same seed gives the same bytes.\n\
          # Acceptance, family, detail and path are those of the Rust in SOURCES; number, places and passed count are those of the model beside it,\n\
          # which agrees with the Rust on all that the Rust tells. Refusals 1, 2, 4 and 5 are the model's alone, since the Rust sees no sheets.\n\
+         # The library answers the same through its C functions.\n\
          # A case is a line with two byte counts parted by a comma; then as many bytes as the first says, a file check.in; then as many as the\n\
          # second says, what rulecheck prints for it. Lines that begin with # stand here only, before the first case.\n"
     )
+}
+
+/// The cases of a list that was written.
+pub fn read(file: &str) -> Result<Vec<Case>, String> {
+    let bytes = std::fs::read(file).map_err(|error| format!("{file} cannot be read: {error}"))?;
+    let mut rest = bytes.as_slice();
+    let mut cases = Vec::new();
+    while !rest.is_empty() {
+        let end = rest.iter().position(|byte| *byte == b'\n').ok_or("a list that does not end in a line")?;
+        let (line, after) = (&rest[..end], &rest[end + 1..]);
+        rest = after;
+        if !line.starts_with(b"#") {
+            let counts = String::from_utf8_lossy(line);
+            let (input, output) = counts.split_once(',').ok_or_else(|| format!("{counts} is no pair of byte counts"))?;
+            let [input, output] = [input, output].map(|count| count.parse::<usize>().unwrap_or(usize::MAX));
+            let whole = input.checked_add(output).filter(|whole| *whole <= rest.len()).ok_or("a list that is cut short")?;
+            cases.push(Case::of_check_in(&rest[..input]).ok_or("a case of the list is no check.in")?);
+            rest = &rest[whole..];
+        }
+    }
+    Ok(cases)
 }
 
 #[derive(Default)]

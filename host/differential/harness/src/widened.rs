@@ -1,33 +1,46 @@
-//! `widened`: how a rule fares when the schema under it grows, on the model and, where it is seen, on the Rust.
+//! `widened`: how a rule fares when the schema under it grows, under the library, the model and, where it is seen, the Rust.
 
 use crate::agreement::{hold, line, Held};
 use crate::case::Case;
+use crate::changes::{changes, Fared, Table};
 use crate::compare::report;
 use crate::generate::widen::{narrowed, unwidened, widened as widen, Level};
 use crate::generate::Pair;
 use crate::random::Random;
 use differential::model::{is_widening, only_marks_opened, Answer};
 use differential::trees::Schema;
-use std::collections::BTreeMap;
 
-/// Runs the pairs of schemas; an error is told to the reader already.
-pub fn widened(cases: u64, seed: u64) -> Result<(), String> {
-    let mut counts: BTreeMap<&str, u64> = BTreeMap::new();
-    for number in 0..cases {
+/// Runs so many pairs of schemas that differ, each answer one that library, model and Rust agree on; an error is told to the reader already.
+pub fn widened(pairs: u64, seed: u64) -> Result<(), String> {
+    let mut table = Table::default();
+    let (mut counted, mut equal, mut aside) = (0, 0_u64, 0_u64);
+    for number in 0.. {
+        if counted == pairs {
+            break;
+        }
+        let which = format!("case {number} of seed {seed}");
         let mut random = Random::of_case(seed, number);
         let slip = random.between(0, 30);
         let pair = Pair::new(&mut random, slip);
         let level = if random.chance(40) { Level::Marks } else { Level::Any };
         let (narrow, wide) = schemas(&mut random, &pair.schema, level);
-        relation(&mut random, &narrow, &wide, level).map_err(|trouble| format!("case {number} of seed {seed}: {trouble}"))?;
+        relation(&mut random, &narrow, &wide, level).map_err(|trouble| format!("{which}: {trouble}"))?;
+        let changes = changes(&narrow, &wide);
         let cases = [&narrow, &wide].map(|schema| pair.setting.case(schema, &pair.sheet));
-        let fared =
-            fare(&cases, level).map_err(|(which, problem)| report(&cases[which], &problem, &format!("case {number} of seed {seed}")))?;
-        *counts.entry(fared).or_default() += 1;
+        let fared = fare(&cases, only_marks_opened(&narrow, &wide))
+            .map_err(|(which_case, problem)| report(&cases[which_case], &problem, &which))?;
+        match fared {
+            _ if changes.is_empty() => equal += 1,
+            None => aside += 1,
+            Some(fared) => {
+                table.count(&changes, fared);
+                counted += 1;
+            }
+        }
     }
-    for (fared, count) in &counts {
-        println!("{count:10}  {fared}");
-    }
+    println!(
+        "{table}{counted} pairs that differ; not counted: {equal} of equal schemas, {aside} refused or kept out of the runs with the Rust"
+    );
     println!("no widening broke a promise (seed {seed})");
     Ok(())
 }
@@ -55,27 +68,28 @@ fn relation(random: &mut Random, first: &Schema, second: &Schema, level: Level) 
     }
 }
 
-/// Both calls, each held against the Rust, and the promise about the two. An error tells which case it is about, 0 or 1.
-fn fare(cases: &[Case; 2], level: Level) -> Result<&'static str, (usize, String)> {
+/// Both calls, each held by all three, and the promise about the two; none where one was refused or kept out. An error tells which case
+/// it is about, 0 or 1.
+fn fare(cases: &[Case; 2], marks_alone: bool) -> Result<Option<Fared>, (usize, String)> {
     let first = hold(&cases[0]).map_err(|problem| (0, problem))?;
     let second = hold(&cases[1]).map_err(|problem| (1, problem))?;
     let (Held::Agreed(first), Held::Agreed(second)) = (first, second) else {
-        return Ok("refused or kept out");
+        return Ok(None);
     };
     let broken = || (1, format!("{} under the first schema, {} under the second", line(&first), line(&second)));
-    promise(&first, &second, level).ok_or_else(broken)
+    promise(&first, &second, marks_alone).map(Some).ok_or_else(broken)
 }
 
 /// How the second answer stands to the first; none if the promise is broken.
-fn promise(first: &Answer, second: &Answer, level: Level) -> Option<&'static str> {
+fn promise(first: &Answer, second: &Answer, marks_alone: bool) -> Option<Fared> {
     if first.number == 0 {
-        return (first == second).then_some("accepted, and so again");
+        return (first == second).then_some(Fared::AcceptedAgain);
     }
     if second.passed > first.passed {
-        return Some(if second.number == 0 { "a defect, then accepted" } else { "a defect, then a later one" });
+        return Some(if second.number == 0 { Fared::DefectThenAccepted } else { Fared::DefectThenLater });
     }
     let without_detail = |answer: &Answer| Answer { detail: 0, ..answer.clone() };
     let same_detail = first.detail == second.detail;
-    let kept = second.number != 0 && without_detail(first) == without_detail(second) && (level == Level::Any || same_detail);
-    kept.then_some(if same_detail { "the same defect" } else { "the same defect with another detail" })
+    let kept = second.number != 0 && without_detail(first) == without_detail(second) && (!marks_alone || same_detail);
+    kept.then_some(if same_detail { Fared::SameDefect } else { Fared::OtherDetail })
 }

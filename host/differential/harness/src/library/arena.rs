@@ -1,0 +1,101 @@
+//! The buffers that are lent, each amid bytes that the library must not touch.
+
+use super::{numbers, raw, Lent, RESULT_BYTES};
+use crate::case::Case;
+use crate::random::Random;
+use crate::refusals::MIN_PATH_BYTES;
+use differential::model::Answer;
+
+/// Bytes before and behind what is lent.
+const AROUND: usize = 128;
+const PATH_ARENA: usize = AROUND + MIN_PATH_BYTES + 2 * AROUND;
+const RESULT_ARENA: usize = 4 * AROUND;
+
+/// Indexes far past every result; times four they wrap to one inside it, in 32 bits.
+const FAR: [u32; 4] = [1 << 30, (1 << 30) + 1, 3 << 30, u32::MAX];
+
+/// Two patterns, the second the first with every bit turned, so that no byte can be written and not be seen under both.
+pub struct Arena {
+    patterns: [Vec<u8>; 2],
+    /// Each holds the pattern of its index between calls.
+    paths: [Vec<u8>; 2],
+    results: [Vec<u8>; 2],
+}
+
+impl Arena {
+    pub fn new() -> Self {
+        let mut random = Random::new(7);
+        let first: Vec<u8> = (0..PATH_ARENA).map(|_| random.next() as u8).collect();
+        let second = first.iter().map(|byte| !byte).collect();
+        let patterns = [first, second];
+        let results = [patterns[0][..RESULT_ARENA].to_vec(), patterns[1][..RESULT_ARENA].to_vec()];
+        Self { paths: patterns.clone(), patterns, results }
+    }
+
+    /// Makes the call. An error tells what differs, and leaves the buffers as the library left them.
+    pub fn call(&mut self, case: &Case, lent: &Lent, expected: &Answer) -> Result<(), String> {
+        let (path, result) = (&mut self.paths[lent.pattern], &mut self.results[lent.pattern]);
+        let start = AROUND + lent.shift;
+        let (path_lent, result_lent) = (AROUND..AROUND + lent.path, start..start + lent.result);
+        let number = raw::check(case, lent.entry, &mut path[path_lent], &mut result[result_lent.clone()]);
+        if number != expected.number {
+            return Err(format!("it returns {number}"));
+        }
+        fields(&result[result_lent])?;
+        self.result(lent, expected)?;
+        self.path(lent, expected)
+    }
+
+    /// The seven numbers where there is room, all else as it was; then the pattern again.
+    fn result(&mut self, lent: &Lent, expected: &Answer) -> Result<(), String> {
+        let pattern = &self.patterns[lent.pattern][..RESULT_ARENA];
+        let found = &mut self.results[lent.pattern];
+        let mut wanted = pattern.to_vec();
+        if lent.result >= RESULT_BYTES {
+            let bytes: Vec<u8> = numbers(expected).into_iter().flat_map(u32::to_le_bytes).collect();
+            let start = AROUND + lent.shift;
+            wanted[start..start + RESULT_BYTES].copy_from_slice(&bytes);
+        }
+        if let Some(at) = differs(found, &wanted) {
+            return Err(format!("byte {} of the result is {}, not {}", at as isize - AROUND as isize, found[at], wanted[at]));
+        }
+        found.copy_from_slice(pattern);
+        Ok(())
+    }
+
+    /// The path at the start, all else as it was; then the pattern again.
+    fn path(&mut self, lent: &Lent, expected: &Answer) -> Result<(), String> {
+        let (pattern, found) = (&self.patterns[lent.pattern], &mut self.paths[lent.pattern]);
+        let end = AROUND + expected.path.len();
+        if found[AROUND..end] != expected.path {
+            return Err(format!("the path is {:?}", String::from_utf8_lossy(&found[AROUND..end])));
+        }
+        found[AROUND..end].copy_from_slice(&pattern[AROUND..end]);
+        match differs(found, pattern) {
+            Some(at) => Err(format!("byte {} of the path buffer is {}, not {}", at as isize - AROUND as isize, found[at], pattern[at])),
+            None => Ok(()),
+        }
+    }
+}
+
+/// The first place at which two equally long slices differ.
+fn differs(one: &[u8], other: &[u8]) -> Option<usize> {
+    if one == other {
+        return None;
+    }
+    one.iter().zip(other).position(|(one, other)| one != other)
+}
+
+/// Every index into the result and past it, read by `rulecheck_field`.
+fn fields(result: &[u8]) -> Result<(), String> {
+    let near = 0..result.len() as u32 / 4 + 2;
+    for index in near.chain(FAR) {
+        let found = raw::field(result, index);
+        let wanted = (index as usize).checked_mul(4).and_then(|start| result.get(start..start + 4));
+        let wanted = wanted.map_or(0, |bytes| u32::from_le_bytes([bytes[0], bytes[1], bytes[2], bytes[3]]));
+        if found != wanted {
+            return Err(format!("rulecheck_field gives {found} for index {index}, the bytes say {wanted}"));
+        }
+    }
+    Ok(())
+}

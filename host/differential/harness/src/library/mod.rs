@@ -1,0 +1,144 @@
+//! The library under its C functions, held against what the model answers: every byte of both buffers and around them, and every number.
+
+mod arena;
+pub mod raw;
+
+use crate::case::Case;
+use crate::refusals::{MIN_PATH_BYTES, MIN_SCRATCH_WORDS};
+use arena::Arena;
+use differential::model::Answer;
+use std::cell::RefCell;
+
+/// The bytes of a result that are written.
+pub const RESULT_BYTES: usize = 28;
+
+/// The entry that a sheet goes to.
+#[derive(Clone, Copy, Debug, PartialEq, Eq)]
+pub enum Entry {
+    Rule,
+    Template,
+}
+
+impl Entry {
+    /// The one that takes the sheet; a sheet of neither letter goes to either of them.
+    fn of(sheet: &[u8], chance: u64) -> Self {
+        match sheet.first() {
+            Some(b'R') => Self::Rule,
+            Some(b'T') => Self::Template,
+            _ if chance % 2 == 0 => Self::Rule,
+            _ => Self::Template,
+        }
+    }
+
+    fn other(self) -> Self {
+        match self {
+            Self::Rule => Self::Template,
+            Self::Template => Self::Rule,
+        }
+    }
+
+    /// The letter of the sheets that it takes.
+    pub fn letter(self) -> u8 {
+        match self {
+            Self::Rule => b'R',
+            Self::Template => b'T',
+        }
+    }
+}
+
+/// One call of a case through an entry, with buffers of these lengths.
+#[derive(Clone, Copy, Debug, PartialEq, Eq)]
+pub struct Lent {
+    pub entry: Entry,
+    pub path: usize,
+    pub result: usize,
+    /// Where the result begins, so that it need not stand on a boundary of four bytes.
+    pub shift: usize,
+    /// Which of the patterns the buffers hold before the call.
+    pub pattern: usize,
+}
+
+/// How many of the calls that a case allows are made.
+#[derive(Clone, Copy, Debug, PartialEq, Eq)]
+pub enum Extent {
+    /// The entry of the sheet, and by chance one of the other calls.
+    Some,
+    /// Each of them, so that a case that is made smaller goes on to show what it shows.
+    All,
+}
+
+/// Holds the library against the model's answer to the case. An error tells in what they differ.
+pub fn hold(case: &Case, answer: &Answer, extent: Extent) -> Result<(), String> {
+    calls(case, extent).iter().try_for_each(|lent| one(case, answer, lent))
+}
+
+/// A number that depends on the whole case.
+fn mixed(case: &Case) -> u64 {
+    let parts = [case.label.as_slice(), &case.schema, &case.rule];
+    let bytes = parts.iter().flat_map(|part| part.chunks(8)).map(|chunk| chunk.iter().fold(0, |sum, byte| sum << 8 | u64::from(*byte)));
+    let mix = |sum: u64, part: u64| (sum ^ part).wrapping_mul(0x9E37_79B9_7F4A_7C15).rotate_left(29);
+    mix([case.kind, case.semantics].into_iter().chain(bytes).fold(1, mix), 1)
+}
+
+/// Which of the other calls is made, each row equally often: the other entry in a quarter of the cases, short buffers less often.
+const PICKS: [Option<usize>; 16] = {
+    let (other, result, path, all) = (Some(0), Some(1), Some(2), Some(3));
+    [other, other, other, other, result, path, all, None, None, None, None, None, None, None, None, None]
+};
+
+/// The calls of a case: its own, with short buffers where the case has them, and others.
+fn calls(case: &Case, extent: Extent) -> Vec<Lent> {
+    let chance = mixed(case);
+    let entry = Entry::of(&case.rule, chance);
+    let spare = [0, 0, 1, 7, 64][chance as usize % 5];
+    let path = if case.path_len < MIN_PATH_BYTES { case.path_len } else { MIN_PATH_BYTES + spare };
+    let short = (chance >> 32) as usize % RESULT_BYTES;
+    let long = RESULT_BYTES + [0, 0, 1, 3, 4, 36][chance as usize % 6];
+    let result = if case.scratch_len < MIN_SCRATCH_WORDS { short } else { long };
+    let own = Lent { entry, path, result, shift: chance as usize % 4, pattern: chance as usize / 4 % 2 };
+    let others = [
+        Lent { entry: entry.other(), ..own },
+        Lent { result: short, ..own },
+        Lent { path: [0, 1, MIN_PATH_BYTES - 1, (chance >> 40) as usize % MIN_PATH_BYTES][chance as usize / 8 % 4], ..own },
+        Lent { entry: entry.other(), path: MIN_PATH_BYTES - 1, result: RESULT_BYTES - 1, ..own },
+    ];
+    let picked = PICKS[(chance >> 20) as usize % PICKS.len()];
+    let others = others.into_iter().enumerate().filter(|(at, _)| extent == Extent::All || picked == Some(*at));
+    [own].into_iter().chain(others.map(|(_, lent)| lent)).collect()
+}
+
+/// What the entry answers, given the model's answer to the case: a buffer may be shorter than the case says, and the sheet may be for the other entry.
+fn expected(case: &Case, answer: &Answer, lent: &Lent) -> Answer {
+    let refused = |number| Answer { number, ..Answer::default() };
+    let is_path_cut = lent.path < case.path_len.min(MIN_PATH_BYTES);
+    let is_result_cut = lent.result < RESULT_BYTES && case.scratch_len >= MIN_SCRATCH_WORDS;
+    match answer.number {
+        1 | 2 => answer.clone(),
+        _ if is_path_cut || is_result_cut => refused(3),
+        3 | 4 => answer.clone(),
+        _ if case.rule.first() != Some(&lent.entry.letter()) => refused(5),
+        _ => answer.clone(),
+    }
+}
+
+thread_local! {
+    static ARENA: RefCell<Arena> = RefCell::new(Arena::new());
+}
+
+fn one(case: &Case, answer: &Answer, lent: &Lent) -> Result<(), String> {
+    let expected = expected(case, answer, lent);
+    let differ = |what: String| Err(format!("the library, {lent:?}: {what}; expected {}", crate::agreement::line(&expected)));
+    ARENA.with_borrow_mut(|arena| match arena.call(case, lent, &expected) {
+        Ok(()) => Ok(()),
+        Err(what) => {
+            *arena = Arena::new();
+            differ(what)
+        }
+    })
+}
+
+/// The seven numbers in their order.
+pub fn numbers(answer: &Answer) -> [u32; 7] {
+    let Answer { number, family, detail, place, over_place, passed, path } = answer;
+    [*number, *family, *detail, *place, *over_place, *passed, path.len() as u32]
+}

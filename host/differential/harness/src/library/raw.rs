@@ -1,0 +1,96 @@
+//! The C functions on slices.
+
+use super::{Entry, RESULT_BYTES};
+use crate::case::Case;
+
+type Check = unsafe extern "C" fn(u64, u64, *const u8, usize, *const u8, usize, *const u8, usize, *mut u8, usize, *mut u8, usize) -> u32;
+
+extern "C" {
+    fn rulecheck_rule(
+        kind: u64,
+        semantics: u64,
+        label: *const u8,
+        label_length: usize,
+        schema: *const u8,
+        schema_length: usize,
+        rule: *const u8,
+        rule_length: usize,
+        path: *mut u8,
+        path_length: usize,
+        result: *mut u8,
+        result_length: usize,
+    ) -> u32;
+
+    fn rulecheck_template(
+        kind: u64,
+        semantics: u64,
+        label: *const u8,
+        label_length: usize,
+        schema: *const u8,
+        schema_length: usize,
+        rule: *const u8,
+        rule_length: usize,
+        path: *mut u8,
+        path_length: usize,
+        result: *mut u8,
+        result_length: usize,
+    ) -> u32;
+
+    fn rulecheck_field(result: *const u8, result_length: usize, index: u32) -> u32;
+}
+
+/// One call of the case, the slices lent as they are.
+pub fn check(case: &Case, entry: Entry, path: &mut [u8], result: &mut [u8]) -> u32 {
+    let inputs = [case.label.as_slice(), &case.schema, &case.rule];
+    // SAFETY: pointers and lengths are those of slices, and no two of them overlap.
+    unsafe { call(case, entry, inputs, (path.as_mut_ptr(), path.len()), (result.as_mut_ptr(), result.len())) }
+}
+
+/// # Safety
+///
+/// Each pointer of a buffer leads to as many bytes as its length says, and nothing else refers to these.
+unsafe fn call(case: &Case, entry: Entry, [label, schema, rule]: [&[u8]; 3], path: (*mut u8, usize), result: (*mut u8, usize)) -> u32 {
+    let entry: Check = match entry {
+        Entry::Rule => rulecheck_rule,
+        Entry::Template => rulecheck_template,
+    };
+    entry(
+        case.kind,
+        case.semantics,
+        label.as_ptr(),
+        label.len(),
+        schema.as_ptr(),
+        schema.len(),
+        rule.as_ptr(),
+        rule.len(),
+        path.0,
+        path.1,
+        result.0,
+        result.1,
+    )
+}
+
+/// A call with buffers fresh from the allocator, which nobody wrote yet, and copies of the inputs that are exactly as long as these: the number, the
+/// seven numbers where the result has room for them, and the path.
+pub fn fresh(case: &Case, entry: Entry, result_length: usize) -> (u32, Option<[u32; 7]>, Vec<u8>) {
+    let inputs = [&case.label, &case.schema, &case.rule].map(|input| input.clone().into_boxed_slice());
+    let (mut path, mut result) = (Box::<[u8]>::new_uninit_slice(case.path_len), Box::<[u8]>::new_uninit_slice(result_length));
+    let [label, schema, rule] = &inputs;
+    let (path_lent, result_lent) = ((path.as_mut_ptr().cast(), path.len()), (result.as_mut_ptr().cast(), result.len()));
+    // SAFETY: the boxes are as long as said, and only read again after the call.
+    let number = unsafe { call(case, entry, [label, schema, rule], path_lent, result_lent) };
+    if result_length < RESULT_BYTES {
+        return (number, None, Vec::new());
+    }
+    // SAFETY: a result with room is written in its first bytes by every call.
+    let written = unsafe { std::slice::from_raw_parts(result.as_ptr().cast::<u8>(), RESULT_BYTES) };
+    let numbers = [0, 1, 2, 3, 4, 5, 6].map(|index| field(written, index));
+    // SAFETY: as long as this the path was written.
+    let path = unsafe { std::slice::from_raw_parts(path.as_ptr().cast::<u8>(), numbers[6] as usize) };
+    (number, Some(numbers), path.to_vec())
+}
+
+pub fn field(result: &[u8], index: u32) -> u32 {
+    // SAFETY: pointer and length are those of a slice.
+    unsafe { rulecheck_field(result.as_ptr(), result.len(), index) }
+}
