@@ -40,9 +40,9 @@ fn folder(name: &str) -> PathBuf {
 #[test]
 fn the_readme_shows_what_is_printed() {
     let readme = include_str!("../README.md");
-    let (_, session) = readme.split_once("$ entity-rules ").expect("a session");
-    let (command, rest) = session.split_once('\n').expect("a command");
-    let (shown, _) = rest.split_once("```").expect("the end of the session");
+    let (_, example) = readme.split_once("$ entity-rules ").expect("an example");
+    let (command, rest) = example.split_once('\n').expect("a command");
+    let (shown, _) = rest.split_once("```").expect("the end of the example");
     let output = run(&mill(), command);
     assert_eq!(String::from_utf8_lossy(&output.stdout), shown);
     assert_eq!(output.status.code(), Some(1));

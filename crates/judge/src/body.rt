@@ -1,4 +1,4 @@
-// The checks of a condition. Conditions and quantifier bodies call each other, each time one level deeper.
+// The checks of a condition. A condition that is a quantifier has a condition as its body: the functions call one another, with one level less left.
 use crate::node::behind;
 use crate::operand::Form;
 use crate::operand::form_of;

@@ -183,21 +183,14 @@ heard c =
     heard-or (first-due (refusals c) (omega arith))
     (heard-judged (settingFor c) (c .label) (decodeSchema (c .schema)) (decodeRule (c .rule)))
 
-or-checked : (x : Option ℕ) (setting : Setting) (label : Text) (s : Schema) (r : Rule)
-    → NotRefused (refusedOr x (judged setting label (some s) (some r)))
-    → refusedOr x (judged setting label (some s) (some r)) ≡ checked setting label s r
-unfolding refusedOr judged
-or-checked none setting label s r h = refl
-or-checked (some n) setting label s r h = absurd h
-
--- a call that is not refused answers by its check list
+-- a call of which no refusal is due answers by its check list
 pub answers-by-checks : (c : Call) (s : Schema) (r : Rule)
     → decodeSchema (c .schema) ≡ some s
     → decodeRule (c .rule) ≡ some r
-    → NotRefused (resultOf c)
+    → firstRefusal (refusals c) ≡ none
     → resultOf c ≡ checked (settingFor c) (c .label) s r
-unfolding resultOf
-answers-by-checks c s r e e′ = rw (e, e′) (or-checked (firstRefusal (refusals c)) (settingFor c) (c .label) s r)
+unfolding resultOf refusedOr judged
+answers-by-checks c s r e e′ n = rw (n, e, e′)
 
 -- What the seven numbers tell of an answer
 

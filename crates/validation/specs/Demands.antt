@@ -3,14 +3,14 @@
 use Prim.Native.Nat.{ℕ, _≤_}
 use native.Mathlib.Omega.{arith}
 use mathlib.Core.List.{List}
-use mathlib.Core.Option.{some}
+use mathlib.Core.Option.{none, some}
 use mathlib.Core.Path.{_≡_, ap, sym, _∙_}
 use lib.ListN.{length}
 use borrow.Author.Tests.{le-leb}
 use Rattle.definition.specs.Tree.{Schema, Rule}
 use Rattle.definition.specs.Decode.{decodeSchema, decodeRule}
 use Rattle.widening.specs.Widening.{Level, marks}
-use Rattle.validation.specs.Result.{Call, Defect, Answer, defect, settingFor, checked, resultOf, numbersOf, pathAfter, keptScratch, ScratchAfter, Run, callOf, Meets}
+use Rattle.validation.specs.Result.{Call, Defect, Answer, defect, settingFor, refusals, firstRefusal, checked, resultOf, numbersOf, pathAfter, keptScratch, ScratchAfter, Run, callOf, Meets}
 use Rattle.validation.specs.Growth.{against, Widens, Unrefused, SameFinding}
 use Rattle.validation.specs.DemandLaws.{Heard, refusal, acceptance, finding, heard, answers-by-checks, AnswersFare, results-fare, number-accepted, number-defect, number-unrefused, passed-number, Gives, meets-gives, same-acceptance, same-finding, same-passed}
 
@@ -95,14 +95,13 @@ pub demand-2 : (r : Run) (s : Schema) (t : Rule)
     → Meets r
     → decodeSchema (r .schema) ≡ some s
     → decodeRule (r .rule) ≡ some t
-    → Unrefused r
+    → firstRefusal (refusals (callOf r)) ≡ none
     → Demand2 r s t
 unfolding callOf
 demand-2 r s t m e e′ n =
-    let heeded = number-unrefused (heard (callOf r)) (rw (m .result) at n) in
     record {
-      result = rw (answers-by-checks (callOf r) s t e e′ heeded) at (m .result);
-      path = rw (answers-by-checks (callOf r) s t e e′ heeded) at (m .path);
+      result = rw (answers-by-checks (callOf r) s t e e′ n) at (m .result);
+      path = rw (answers-by-checks (callOf r) s t e e′ n) at (m .path);
     }
 
 -- Demand 3: one rule or template under the same settings, checked against two schemas of which the second is a widening of the first, with
