@@ -1,5 +1,5 @@
 //! Measures the library beside the Rust on the same sheets and writes the figures, and a plot, into a document: `bench DOCUMENT`.
-//! `bench once GROUP SIDE` makes a single call for valgrind to count; `bench plain` prints the figures only, without counting.
+//! `bench once GROUP SIDE SIZE` makes a single call for valgrind to count; `bench plain` prints the figures only, without counting.
 
 mod library;
 mod measure;
@@ -42,10 +42,10 @@ fn main() -> ExitCode {
     let words: Vec<String> = std::env::args().skip(1).collect();
     let words: Vec<&str> = words.iter().map(String::as_str).collect();
     let done = match words[..] {
-        ["once", group, side] => once(group, side),
+        ["once", group, side, size] => once(group, side, size),
         ["plain"] => all(false).map(|figures| println!("{}", figures.tables())),
         [document] => all(true).and_then(|figures| figures.write(document)),
-        _ => Err("usage: bench DOCUMENT | bench plain | bench once GROUP SIDE".to_owned()),
+        _ => Err("usage: bench DOCUMENT | bench plain | bench once GROUP SIDE SIZE".to_owned()),
     };
     match done {
         Ok(()) => ExitCode::SUCCESS,
@@ -56,10 +56,11 @@ fn main() -> ExitCode {
     }
 }
 
-fn once(group: &str, side: &str) -> Result<(), String> {
+fn once(group: &str, side: &str, size: &str) -> Result<(), String> {
     let group = GROUPS.iter().find(|known| known.name == group).ok_or("no such group")?;
     let side = Side::named(side).ok_or("no such side")?;
-    let sample = (group.make)(group.listed);
+    let size = size.parse().map_err(|_| "the size is no number")?;
+    let sample = (group.make)(size);
     with_call(&sample, side, |call| measure::counted_call(call));
     Ok(())
 }
@@ -96,8 +97,15 @@ fn all(counting: bool) -> Result<Figures, String> {
 fn row(group: &'static Group, counting: bool) -> Result<Row, String> {
     let listed = (group.make)(group.listed);
     let points = group.sizes.iter().map(|&size| (group.make)(size)).map(|sample| point(group.name, &sample)).collect::<Result<_, _>>()?;
-    let count = |(side, _)| measure::instructions(&["once", group.name, side]);
-    Ok(Row { group, bytes: listed.bytes(), instructions: counting.then(|| Side::ALL.map(count)), points })
+    let count = |side, size: usize| measure::instructions(&["once", group.name, side, &size.to_string()]);
+    let ends = [group.sizes[group.sizes.len() / 2], group.sizes[group.sizes.len() - 1]];
+    Ok(Row {
+        group,
+        bytes: listed.bytes(),
+        instructions: counting.then(|| Side::ALL.map(|(side, _)| count(side, group.listed))),
+        ends: counting.then(|| ends.map(|size| ((group.make)(size).bytes(), count("library", size)))),
+        points,
+    })
 }
 
 /// The bytes of a sample and the times of the three sides, after a look whether they are measured on the same thing.

@@ -16,6 +16,8 @@ pub struct Row {
     /// Of the size in the table.
     pub bytes: usize,
     pub instructions: Option<[Option<u64>; 3]>,
+    /// Bytes and the library's instructions at the middle size and at the largest.
+    pub ends: Option<[(usize, Option<u64>); 2]>,
     pub points: Vec<Point>,
 }
 
@@ -24,10 +26,10 @@ impl Row {
         self.points.iter().find(|point| point.bytes == self.bytes).expect("the size in the table is one of the plot's")
     }
 
-    /// How the library's time grows from the middle size to the largest: 1 is with the bytes, 2 with their square.
+    /// How the library's instructions grow from the middle size to the largest: 1 is with the bytes, 2 with their square.
     fn growth(&self) -> f64 {
-        let (middle, last) = (&self.points[self.points.len() / 2], &self.points[self.points.len() - 1]);
-        (last.times[0] / middle.times[0]).ln() / (last.bytes as f64 / middle.bytes as f64).ln()
+        let Some([(few, Some(low)), (many, Some(high))]) = self.ends else { return f64::NAN };
+        (high as f64 / low as f64).ln() / (many as f64 / few as f64).ln()
     }
 }
 
@@ -69,11 +71,11 @@ impl Figures {
     }
 
     fn checks(&self) -> String {
-        let head = "| group | size | bytes | library, µs | Rust pre-built, µs | Rust building and validating, µs | ratio | library, ns a byte | growth |\n|---|---|---|---|---|---|---|---|---|\n";
+        let head = "| group | size | bytes | library, µs | Rust pre-built, µs | Rust building and validating, µs | ratio | library, ns a byte |\n|---|---|---|---|---|---|---|---|\n";
         let line = |row: &Row| {
             let [library, validating, building] = row.listed().times;
             format!(
-                "| {} | {} {} | {} | {:.1} | {:.1} | {:.1} | {:.2} | {:.2} | {:.2} |\n",
+                "| {} | {} {} | {} | {:.1} | {:.1} | {:.1} | {:.2} | {:.2} |\n",
                 row.group.name,
                 row.group.listed,
                 row.group.unit,
@@ -82,8 +84,7 @@ impl Figures {
                 validating / 1e3,
                 building / 1e3,
                 library / building,
-                library / row.bytes as f64,
-                row.growth()
+                library / row.bytes as f64
             )
         };
         head.to_owned() + &self.rows.iter().map(line).collect::<String>()
@@ -91,15 +92,16 @@ impl Figures {
 
     fn counts(&self) -> String {
         let head =
-            "| group | library | Rust pre-built | Rust building and validating | ratio | library, a byte |\n|---|---|---|---|---|---|\n";
+            "| group | library | Rust pre-built | Rust building and validating | ratio | library, a byte | growth |\n|---|---|---|---|---|---|---|\n";
         let line = |row: &Row| {
             let [library, validating, building] =
                 row.instructions.unwrap_or_default().map(|count| count.map_or(f64::NAN, |count| count as f64));
             format!(
-                "| {} | {library:.0} | {validating:.0} | {building:.0} | {:.2} | {:.1} |\n",
+                "| {} | {library:.0} | {validating:.0} | {building:.0} | {:.2} | {:.1} | {:.2} |\n",
                 row.group.name,
                 library / building,
-                library / row.bytes as f64
+                library / row.bytes as f64,
+                row.growth()
             )
         };
         head.to_owned() + &self.rows.iter().map(line).collect::<String>()
