@@ -84,8 +84,8 @@ fn small(size: usize) -> Sample {
     Sample::new(format!("H,0,{size},-,0\n{fields}"), format!("R,6,20,bounds weights are too low\nC,2,{size},\n{bounds}"))
 }
 
-/// Blocks of ten entries: an object of four fields, an array of objects of two fields, and one plain field. One condition for each block
-/// and one quantifier over its array.
+/// Blocks of ten entries: an object of four fields, an array of objects of two fields, and one plain field. The rule has 30 entries,
+/// conditions and quantifiers on blocks that are far apart.
 fn typical(entries: usize) -> Sample {
     let blocks = (entries - 1) / 10;
     let parts = each(blocks, |i| {
@@ -98,12 +98,14 @@ fn typical(entries: usize) -> Sample {
             plain(1, &format!("lot_{i:02}_note"))
         )
     });
-    let conditions = each(blocks, |i| {
-        let bound = format!("C,10,0,\n{}{}", text(&format!("$fields.lot_{i:02}.weight")), number("0"));
+    let bound = |i: usize| format!("C,10,0,\n{}{}", text(&format!("$fields.lot_{i:02}.weight")), number("0"));
+    let conditions = each(3, |i| {
+        let i = i * (blocks - 1) / 2;
         let body = format!("C,8,0,\n{}{}", text("$bar.steel"), text("S355"));
-        format!("{bound}C,20,3,bar\n{}{body}", text(&format!("$fields.lot_{i:02}_bars")))
+        format!("{}C,20,3,bar\n{}{body}", bound(i), text(&format!("$fields.lot_{i:02}_bars")))
     });
-    Sample::new(format!("H,0,{},-,0\n{parts}", 3 * blocks), format!("R,4,-,lots\nC,2,{},\n{conditions}", 2 * blocks))
+    let rule = format!("R,4,-,lots\nC,2,8,\n{conditions}{}C,1,1,\n", bound(blocks - 1));
+    Sample::new(format!("H,0,{},-,0\n{parts}", 3 * blocks), rule)
 }
 
 /// Two letters, rising.
