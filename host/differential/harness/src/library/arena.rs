@@ -57,7 +57,8 @@ impl Arena {
             wanted[start..start + RESULT_BYTES].copy_from_slice(&bytes);
         }
         if let Some(at) = differs(found, &wanted) {
-            return Err(format!("byte {} of the result is {}, not {}", at as isize - AROUND as isize, found[at], wanted[at]));
+            let place = at as isize - (AROUND + lent.shift) as isize;
+            return Err(format!("byte {place} of the result is {}, not {}", found[at], wanted[at]));
         }
         found.copy_from_slice(pattern);
         Ok(())

@@ -80,7 +80,8 @@ fn mixed(case: &Case) -> u64 {
     mix([case.kind, case.semantics].into_iter().chain(bytes).fold(1, mix), 1)
 }
 
-/// Which of the other calls is made, each row equally often: the other entry in a quarter of the cases, short buffers less often.
+/// Which of the other calls is made, each row equally often: the other entry in a quarter of the cases, short buffers less often. The last one, buffers
+/// without a byte to spare, is often the own call already.
 const PICKS: [Option<usize>; 16] = {
     let (other, result, path, all) = (Some(0), Some(1), Some(2), Some(3));
     [other, other, other, other, result, path, all, None, None, None, None, None, None, None, None, None]
@@ -101,6 +102,7 @@ fn calls(case: &Case, extent: Extent) -> Vec<Lent> {
         Lent { result: short, ..own },
         Lent { path: [0, 1, MIN_PATH_BYTES - 1, (chance >> 40) as usize % MIN_PATH_BYTES][chance as usize / 8 % 4], ..own },
         Lent { entry: entry.other(), path: MIN_PATH_BYTES - 1, result: RESULT_BYTES - 1, ..own },
+        Lent { path: path.min(MIN_PATH_BYTES), result: result.min(RESULT_BYTES), ..own },
     ];
     let picked = PICKS[(chance >> 20) as usize % PICKS.len()];
     let others = others.into_iter().enumerate().filter(|(at, _)| extent == Extent::All || picked == Some(*at));
