@@ -1,12 +1,9 @@
 -- Runs of calls on buffers of zeros, and those that give what the definitions say.
 use Prim.Native.Nat.{ℕ}
-use native.Mathlib.Omega.{arith}
 use mathlib.Core.List.{List}
 use mathlib.Core.Path.{_≡_, refl, ap, sym}
 use lib.ListN.{replicate, length-replicate}
-use Rattle.validation.specs.Result.{Call, Answer, Numbers, numbersOf, resultOf, pathAfter, Run, callOf, Meets}
-use Rattle.validation.specs.Growth.{IsRefusal, Unrefused, NotRefused}
-use Rattle.validation.specs.DemandLaws.{Heard, acceptance, finding, heard}
+use Rattle.validation.specs.Result.{Call, Unrefused, Numbers, numbersOf, resultOf, pathAfter, Run, callOf, Meets}
 
 -- with that result, and that path buffer after the call
 unfoldable pub runWith : Numbers → (path : List ℕ) → Call → Run
@@ -54,11 +51,6 @@ run-meets c =
       scratch = record { size = refl; kept = refl };
     }
 
-number-of-unrefused : {a : Answer} → Heard a → NotRefused a → IsRefusal (numbersOf a .number) → ⊥
-unfolding numbersOf
-number-of-unrefused acceptance n h = omega (arith, h)
-number-of-unrefused (finding f) n h = omega (arith, f, h)
-
-pub run-unrefused : (c : Call) → NotRefused (resultOf c) → Unrefused (runOf c)
+pub run-unrefused : (c : Call) → Unrefused c → Unrefused (callOf (runOf c))
 unfolding runOf
-run-unrefused c = number-of-unrefused (heard c)
+run-unrefused c n = rw (call-of-run (numbersOf (resultOf c)) (pathAfter (resultOf c) (replicate (c .pathLength) 0)) c) n

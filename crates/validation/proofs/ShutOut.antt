@@ -14,8 +14,8 @@ use Rattle.definition.specs.Decode.{decodeSchema, decodeRule}
 use Rattle.reference.specs.Setting.{Setting}
 use Rattle.validation.specs.Check.{isNone}
 use Rattle.validation.specs.Judge.{Verdict, allPass, failsAt}
-use Rattle.validation.specs.Result.{Takes, any, rules, templates, Call, Defect, Answer, refused, accepted, defect, answerOf, isTaken, Refusal, refusals, firstRefusal, checked, judged, refusedOr, settingFor, resultOf, Numbers, numbersOf, Run, callOf, Meets}
-use Rattle.validation.specs.DemandLaws.{Heard, refusal, acceptance, finding, heard}
+use Rattle.validation.specs.Result.{Takes, any, rules, templates, Call, Defect, Answer, refused, accepted, defect, Heard, refusal, acceptance, finding, answerOf, isTaken, Refusal, refusals, firstRefusal, checked, judged, refusedOr, settingFor, resultOf, Numbers, numbersOf, Run, callOf, Meets}
+use Rattle.validation.specs.DemandLaws.{heard}
 use Rattle.validation.specs.Computing.{computing}
 use Rattle.validation.proofs.Calls.{ask}
 use Rattle.validation.proofs.Runs.{runWith, call-of-run}

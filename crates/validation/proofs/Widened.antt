@@ -7,8 +7,8 @@ use Rattle.sheet.specs.Ascii.{ascii}
 use Rattle.definition.specs.Tree.{Text, Schema}
 use Rattle.definition.specs.Decode.{decodeSchema}
 use Rattle.widening.specs.Widening.{Level, marks, anything, kept, opened, closed, wider, neither, both, end, keep, more, without, appear, stay, WiderSchema}
-use Rattle.validation.specs.Result.{Call, Numbers, resultOf}
-use Rattle.validation.specs.Growth.{against, Widens, NotRefused}
+use Rattle.validation.specs.Result.{Call, Unrefused, Numbers}
+use Rattle.validation.specs.Growth.{against, Widens}
 use Rattle.validation.specs.Demands.{Demand3, demand-3}
 use Rattle.validation.proofs.Calls.{ask, heard, accepts, finds}
 use Rattle.validation.proofs.Runs.{runOf, run-meets, run-unrefused}
@@ -26,8 +26,8 @@ shows : {l : Level} {c : Call} {schema′ : List ℕ} {first second : Numbers ×
     → WiderSchema l s s′
     → heard c ≡ first
     → heard (against c schema′ 40000 9000) ≡ second
-    → NotRefused (resultOf c)
-    → NotRefused (resultOf (against c schema′ 40000 9000))
+    → Unrefused c
+    → Unrefused (against c schema′ 40000 9000)
     → Shows l c schema′ first second
 unfolding runOf against
 shows {l} {c} {schema′} s s′ e e′ w before after n n′ =
@@ -57,7 +57,7 @@ pub mark : Shows marks
     (accepts 5)
 unfolding heard lacks
 mark =
-    shows _ _ refl refl (record { fields = record { mark = kept; members = keep (wider opened neither end) end }; arguments = without }) refl refl tt tt
+    shows _ _ refl refl (record { fields = record { mark = kept; members = keep (wider opened neither end) end }; arguments = without }) refl refl refl refl
 
 -- an open mark elsewhere: the same defect with the same detail
 pub other-mark : Shows marks
@@ -67,7 +67,7 @@ pub other-mark : Shows marks
     (lacks 3)
 unfolding heard lacks
 other-mark =
-    shows _ _ refl refl (record { fields = record { mark = opened; members = keep (wider kept neither end) end }; arguments = without }) refl refl tt tt
+    shows _ _ refl refl (record { fields = record { mark = opened; members = keep (wider kept neither end) end }; arguments = without }) refl refl refl refl
 
 -- an added field with a property: the defect goes
 pub subtree : Shows anything
@@ -77,7 +77,7 @@ pub subtree : Shows anything
     (accepts 5)
 unfolding heard lacks
 subtree =
-    shows _ _ refl refl (record { fields = record { mark = kept; members = more closed end }; arguments = without }) refl refl tt tt
+    shows _ _ refl refl (record { fields = record { mark = kept; members = more closed end }; arguments = without }) refl refl refl refl
 
 -- inside an element
 pub in-element : Shows anything
@@ -87,7 +87,7 @@ pub in-element : Shows anything
     (accepts 5)
 unfolding heard lacks
 in-element =
-    shows _ _ refl refl (record { fields = record { mark = kept; members = keep (wider kept (both (wider kept neither (more closed end))) end) end }; arguments = without }) refl refl tt tt
+    shows _ _ refl refl (record { fields = record { mark = kept; members = keep (wider kept (both (wider kept neither (more closed end))) end) end }; arguments = without }) refl refl refl refl
 
 -- inside the arguments
 pub in-arguments : Shows anything
@@ -97,7 +97,7 @@ pub in-arguments : Shows anything
     (accepts 5)
 unfolding heard lacks
 in-arguments =
-    shows _ _ refl refl (record { fields = record { mark = kept; members = end }; arguments = stay (record { mark = kept; members = keep (wider kept neither (more closed end)) end }) }) refl refl tt tt
+    shows _ _ refl refl (record { fields = record { mark = kept; members = end }; arguments = stay (record { mark = kept; members = keep (wider kept neither (more closed end)) end }) }) refl refl refl refl
 
 -- arguments appear: the same defect with another detail
 pub arguments : Shows anything
@@ -107,7 +107,7 @@ pub arguments : Shows anything
     (lacks 2)
 unfolding heard lacks
 arguments =
-    shows _ _ refl refl (record { fields = record { mark = kept; members = end }; arguments = appear }) refl refl tt tt
+    shows _ _ refl refl (record { fields = record { mark = kept; members = end }; arguments = appear }) refl refl refl refl
 
 -- marks and fields at once: the defect is found further on
 pub mark-and-fields : Shows anything
@@ -117,7 +117,7 @@ pub mark-and-fields : Shows anything
     (finds 18 1 10 4 0 5 14 (ascii "r.assert.eq[1]"))
 unfolding heard lacks
 mark-and-fields =
-    shows _ _ refl refl (record { fields = record { mark = opened; members = more closed (keep (wider opened neither (more closed end)) end) }; arguments = without }) refl refl tt tt
+    shows _ _ refl refl (record { fields = record { mark = opened; members = more closed (keep (wider opened neither (more closed end)) end) }; arguments = without }) refl refl refl refl
 
 -- a property under a string: the same defect
 pub any-kind : Shows anything
@@ -127,7 +127,7 @@ pub any-kind : Shows anything
     (lacks 10)
 unfolding heard lacks
 any-kind =
-    shows _ _ refl refl (record { fields = record { mark = kept; members = keep (wider kept neither (more closed end)) end }; arguments = without }) refl refl tt tt
+    shows _ _ refl refl (record { fields = record { mark = kept; members = keep (wider kept neither (more closed end)) end }; arguments = without }) refl refl refl refl
 
 -- and what was accepted is accepted with the same count
 pub accepted : Shows anything
@@ -137,4 +137,4 @@ pub accepted : Shows anything
     (accepts 5)
 unfolding heard lacks
 accepted =
-    shows _ _ refl refl (record { fields = record { mark = kept; members = keep (wider kept neither (more closed end)) end }; arguments = without }) refl refl tt tt
+    shows _ _ refl refl (record { fields = record { mark = kept; members = keep (wider kept neither (more closed end)) end }; arguments = without }) refl refl refl refl

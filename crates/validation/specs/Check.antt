@@ -1,5 +1,5 @@
 -- The check list of a rule or template (docs/FORMAT.md, "The check list"). It comes from the sheet and the setting, never from a schema.
-use Prim.Native.Nat.{ℕ, _+_, max}
+use Prim.Native.Nat.{ℕ, _+_, _≤_, max}
 use Prim.Native.Char.{code}
 use mathlib.Core.Bool.{Bool, true, false, not, cond, _&&_, _||_}
 use mathlib.Core.List.{List, [], _∷_, _++_, map}
@@ -30,6 +30,11 @@ pub record Check : Type 0 where
   -- the quantifiers whose bodies hold it, innermost first
   pub binders : List Binder
   pub question : Question
+
+-- the numbers that checks have, and so defects
+pub record IsDefect (n : ℕ) : Type 0 where
+  pub low : 11 ≤ n
+  pub high : n ≤ 22
 
 unfoldable pub failsIf : Bool → ℕ → Question
 failsIf true detail = settled (some detail)

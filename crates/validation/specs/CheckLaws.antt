@@ -14,15 +14,10 @@ use Rattle.reference.specs.Setting.{Setting}
 use Rattle.reference.specs.Walk.{Reached, refused, unknown, known}
 use Rattle.reference.specs.Reference.{Environment, reference, collectionText, collection}
 use Rattle.reference.specs.CollectionLaws.{Reads, Listed, Explained, text-explained}
-use Rattle.validation.specs.Check.{Binder, Question, readable, walkable, failsIf, Check, check, referenceText, referenceCheck, references, referencesOfValues, referencesOfPairs, Literal, literals, literalCheck, entryOf, isString, isHolder, instantForm, instantOperand, affixOperand, compareSide, operand, operatorCheck, body, bodies, literalChecks, checks}
+use Rattle.validation.specs.Check.{Binder, Question, readable, walkable, IsDefect, failsIf, Check, check, referenceText, referenceCheck, references, referencesOfValues, referencesOfPairs, Literal, literals, literalCheck, entryOf, isString, isHolder, instantForm, instantOperand, affixOperand, compareSide, operand, operatorCheck, body, bodies, literalChecks, checks}
 use Rattle.validation.specs.Judge.{Outcome, verdict, extend, enter, environment, answer, answerIn, outcome}
 
--- the numbers of defects
-pub record IsDefect (n : ℕ) : Type 0 where
-  pub low : 11 ≤ n
-  pub high : n ≤ 22
-
--- those of values and operands
+-- the numbers that checks of values and operands have
 record IsOperandDefect (n : ℕ) : Type 0 where
   low : 17 ≤ n
   high : n ≤ 20

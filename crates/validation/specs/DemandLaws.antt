@@ -1,7 +1,7 @@
 -- The laws that the demands cite.
 use Prim.Native.Nat.{ℕ, _≤_, _<_}
 use native.Mathlib.Omega.{arith}
-use mathlib.Core.Bool.{Bool, true, false, cond}
+use mathlib.Core.Bool.{Bool, true, false, not, cond}
 use mathlib.Core.List.{List, [], _∷_}
 use mathlib.Core.Option.{Option, none, some}
 use mathlib.Core.Path.{_≡_, refl, ap, sym, _∙_}
@@ -14,13 +14,13 @@ use Rattle.widening.specs.Distinct.{DistinctSchema}
 use Rattle.widening.specs.DistinctLaws.{schema-distinct}
 use Rattle.widening.specs.WalkLaws.{Details, equal, differ}
 use Rattle.widening.specs.ReferenceLaws.{GrownSchema}
-use Rattle.validation.specs.Check.{Binder, Question, Check, check, checks}
+use Rattle.validation.specs.Check.{isNone, Binder, Question, Check, IsDefect, check, checks}
 use Rattle.validation.specs.Judge.{Verdict, allPass, failsAt}
-use Rattle.validation.specs.CheckLaws.{IsDefect, every-check, sure-checks}
+use Rattle.validation.specs.CheckLaws.{every-check, sure-checks}
 use Rattle.validation.specs.CountLaws.{VerdictIs, every-judged}
 use Rattle.validation.specs.WideningLaws.{VerdictFares, stillAccepted, sameDefect, later, passedOf, judge-fares}
-use Rattle.validation.specs.Result.{Call, Defect, Answer, refused, accepted, defect, answerOf, Refusal, refusals, firstRefusal, settingFor, checked, judged, refusedOr, resultOf, numbersOf, pathAfter, Run, callOf, Meets}
-use Rattle.validation.specs.Growth.{against, Widens, IsRefusal, NotRefused, passed, SameDefect, Writes, SameFinding}
+use Rattle.validation.specs.Result.{Takes, Call, Defect, Answer, refused, accepted, defect, Heard, refusal, acceptance, finding, answerOf, isTaken, Refusal, refusals, firstRefusal, Unrefused, settingFor, checked, judged, refusedOr, resultOf, numbersOf, pathAfter, Run, callOf, Meets}
+use Rattle.validation.specs.Growth.{against, Widens, NotRefused, passed, SameDefect, Writes, SameFinding}
 
 accepted-no-defect : (n : ℕ) (d : Defect) → accepted n ≡ defect d → ⊥
 accepted-no-defect n d e = let z : _≡_ {A = ℕ} 0 1 = cc in omega arith
@@ -130,11 +130,7 @@ results-fare c schema′ p q w n n′ =
       explains = explains-alike (calls-fare c schema′ p q w n n′);
     }
 
--- What a caller hears: one of refusals 1 to 5, acceptance, or a defect from 11 to 22
-pub data Heard : Answer → Type 0 where
-  refusal : {n : ℕ} → 1 ≤ n → n ≤ 5 → Heard (refused n)
-  acceptance : {n : ℕ} → Heard (accepted n)
-  finding : {d : Defect} → IsDefect (d .number) → Heard (defect d)
+-- Whatever is asked, the caller hears one of the answers that it may hear
 
 data Due : Option ℕ → Type 0 where
   notDue : Due none
@@ -183,11 +179,50 @@ heard c =
     heard-or (first-due (refusals c) (omega arith))
     (heard-judged (settingFor c) (c .label) (decodeSchema (c .schema)) (decodeRule (c .rule)))
 
--- a call of which no refusal is due answers by its check list
+-- A call of which no refusal is due
+
+abbrev NoneDue : List Refusal → Type 0
+NoneDue [] = Unit {0}
+NoneDue (r ∷ rs) = (r .isDue ≡ false) × NoneDue rs
+
+not-first : (b : Bool) (n : ℕ) (o : Option ℕ) → cond b (some n) o ≡ none → (b ≡ false) × (o ≡ none)
+not-first true n o e = let z : _≡_ {A = ℕ} 0 1 = cc in absurd (omega arith)
+not-first false n o e = (refl, e)
+
+none-due : (rs : List Refusal) → firstRefusal rs ≡ none → NoneDue rs
+unfolding firstRefusal
+none-due [] e = tt
+none-due (r ∷ rs) e =
+    let (first, others) = not-first (r .isDue) (r .number) (firstRefusal rs) e in
+    (first, none-due rs others)
+
+unrefused-verdict : (setting : Setting) (label : Text) (r : Rule) (v : Verdict) → NotRefused (answerOf setting label r v)
+unfolding answerOf
+unrefused-verdict setting label r (allPass n) = tt
+unrefused-verdict setting label r (failsAt n c d) = tt
+
+unrefused-sheets : (setting : Setting) (label : Text) (takes : Takes) (s : Option Schema) (r : Option Rule)
+    → isNone s ≡ false
+    → not (isTaken takes r) ≡ false
+    → NotRefused (judged setting label s r)
+unfolding judged checked isNone isTaken
+unrefused-sheets setting label takes none r e e′ = let z : _≡_ {A = ℕ} 0 1 = cc in omega arith
+unrefused-sheets setting label takes (some s) none e e′ = let z : _≡_ {A = ℕ} 0 1 = cc in omega arith
+unrefused-sheets setting label takes (some s) (some r) e e′ = unrefused-verdict setting label r _
+
+-- it ends in acceptance or a defect
+pub unrefused-answer : (c : Call) → Unrefused c → NotRefused (resultOf c)
+unfolding resultOf refusals refusedOr
+unrefused-answer c n =
+    let sheets = none-due (refusals c) n .1 .1 .1 in
+    rw n
+    (unrefused-sheets (settingFor c) (c .label) (c .takes) (decodeSchema (c .schema)) (decodeRule (c .rule)) (sheets .0) (sheets .1 .0))
+
+-- and it answers by its check list
 pub answers-by-checks : (c : Call) (s : Schema) (r : Rule)
     → decodeSchema (c .schema) ≡ some s
     → decodeRule (c .rule) ≡ some r
-    → firstRefusal (refusals c) ≡ none
+    → Unrefused c
     → resultOf c ≡ checked (settingFor c) (c .label) s r
 unfolding resultOf refusedOr judged
 answers-by-checks c s r e e′ n = rw (n, e, e′)
@@ -205,12 +240,6 @@ unfolding numbersOf
 number-defect (refusal p q) h = absurd (omega arith)
 number-defect acceptance h = absurd (omega arith)
 number-defect (finding {d = d} f) h = (d, refl)
-
-pub number-unrefused : {a : Answer} → Heard a → (IsRefusal (numbersOf a .number) → ⊥) → NotRefused a
-unfolding numbersOf
-number-unrefused (refusal p q) h = h (omega arith)
-number-unrefused acceptance h = tt
-number-unrefused (finding f) h = tt
 
 pub passed-number : (a : Answer) → numbersOf a .passed ≡ passed a
 unfolding numbersOf

@@ -10,9 +10,9 @@ use borrow.Author.Tests.{le-leb}
 use Rattle.definition.specs.Tree.{Schema, Rule}
 use Rattle.definition.specs.Decode.{decodeSchema, decodeRule}
 use Rattle.widening.specs.Widening.{Level, marks}
-use Rattle.validation.specs.Result.{Call, Defect, Answer, defect, settingFor, refusals, firstRefusal, checked, resultOf, numbersOf, pathAfter, keptScratch, ScratchAfter, Run, callOf, Meets}
-use Rattle.validation.specs.Growth.{against, Widens, Unrefused, SameFinding}
-use Rattle.validation.specs.DemandLaws.{Heard, refusal, acceptance, finding, heard, answers-by-checks, AnswersFare, results-fare, number-accepted, number-defect, number-unrefused, passed-number, Gives, meets-gives, same-acceptance, same-finding, same-passed}
+use Rattle.validation.specs.Result.{Call, Defect, Answer, defect, Heard, refusal, acceptance, finding, settingFor, Unrefused, checked, resultOf, numbersOf, pathAfter, keptScratch, ScratchAfter, Run, callOf, Meets}
+use Rattle.validation.specs.Growth.{against, Widens, SameFinding}
+use Rattle.validation.specs.DemandLaws.{heard, unrefused-answer, answers-by-checks, AnswersFare, results-fare, number-accepted, number-defect, passed-number, Gives, meets-gives, same-acceptance, same-finding, same-passed}
 
 -- Demand 1: whatever is handed over, the caller hears acceptance, a defect or one of refusals 1 to 5; a refusal leaves the path buffer
 -- unchanged, as acceptance does; and what the scratch held before never matters.
@@ -95,7 +95,7 @@ pub demand-2 : (r : Run) (s : Schema) (t : Rule)
     → Meets r
     → decodeSchema (r .schema) ≡ some s
     → decodeRule (r .rule) ≡ some t
-    → firstRefusal (refusals (callOf r)) ≡ none
+    → Unrefused (callOf r)
     → Demand2 r s t
 unfolding callOf
 demand-2 r s t m e e′ n =
@@ -174,18 +174,12 @@ pub demand-3 : {l : Level} (r r′ : Run)
     → Meets r′
     → SameButSchema r r′
     → Widens l (r .schema) (r′ .schema)
-    → Unrefused r
-    → Unrefused r′
+    → Unrefused (callOf r)
+    → Unrefused (callOf r′)
     → Demand3 l r r′
 unfolding callOf
 demand-3 r r′ m m′ s w n n′ =
-    runs-fare r r′ g g′
+    runs-fare r r′ (meets-gives r m) (rw (second-call s) at (meets-gives r′ m′))
     (results-fare (callOf r) (r′ .schema) (length (r′ .pathBefore)) (length (r′ .scratchBefore)) w
-    (number-unrefused (g .hears) (rw (g .result) at n))
-    (number-unrefused (g′ .hears) (rw (g′ .result) at n′)))
-  where
-    g : Gives r (resultOf (callOf r))
-    g = meets-gives r m
-
-    g′ : Gives r′ (resultOf (against (callOf r) (r′ .schema) (length (r′ .pathBefore)) (length (r′ .scratchBefore))))
-    g′ = rw (second-call s) at (meets-gives r′ m′)
+    (unrefused-answer (callOf r) n)
+    (rw (second-call s) at (unrefused-answer (callOf r′) n′)))

@@ -1,5 +1,5 @@
 -- One rule or template checked against a schema and against a widening of it.
-use Prim.Native.Nat.{ℕ, _≤_}
+use Prim.Native.Nat.{ℕ}
 use mathlib.Core.List.{List}
 use mathlib.Core.Option.{Option, none, some}
 use mathlib.Core.Path.{_≡_}
@@ -32,15 +32,7 @@ pub record Widens (l : Level) (sheet sheet′ : List ℕ) : Type 0 where
   pub decodesSecond : decodeSchema sheet′ ≡ some second
   pub isWider : WiderSchema l first second
 
-pub record IsRefusal (n : ℕ) : Type 0 where
-  pub low : 1 ≤ n
-  pub high : n ≤ 5
-
--- a call that met none of the refusals, by the number that its caller sees
-abbrev pub Unrefused : Run → Type 0
-Unrefused r = IsRefusal (r .result .number) → ⊥
-
--- the same, by the answer
+-- acceptance or a defect
 abbrev pub NotRefused : Answer → Type 0
 NotRefused (refused n) = ⊥
 NotRefused (accepted n) = Unit {0}

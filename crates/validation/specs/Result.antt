@@ -1,5 +1,5 @@
 -- The answer to a whole call, from the bytes and numbers that a caller hands over (docs/FORMAT.md, "Answers").
-use Prim.Native.Nat.{ℕ}
+use Prim.Native.Nat.{ℕ, _≤_}
 use mathlib.Core.Bool.{Bool, true, false, not, cond, _&&_, _||_}
 use mathlib.Core.List.{List, [], _∷_}
 use mathlib.Core.Option.{Option, none, some}
@@ -11,7 +11,7 @@ use Rattle.text.specs.Utf8.{isUtf8}
 use Rattle.definition.specs.Tree.{Text, Schema, Value, Rule, rule, template}
 use Rattle.definition.specs.Decode.{decodeSchema, decodeRule}
 use Rattle.reference.specs.Setting.{Setting, settingOf}
-use Rattle.validation.specs.Check.{isNone, Binder, Check, checks, entryOf}
+use Rattle.validation.specs.Check.{isNone, Binder, Check, IsDefect, checks, entryOf}
 use Rattle.validation.specs.Judge.{Verdict, allPass, failsAt, judge}
 use Rattle.validation.specs.Location.{pathOf}
 
@@ -43,6 +43,12 @@ pub data Answer : Type 0 where
   refused : (number : ℕ) → Answer
   accepted : (passed : ℕ) → Answer
   defect : Defect → Answer
+
+-- the answers that a caller may hear: one of refusals 1 to 5, acceptance, or a defect with a number from 11 to 22
+pub data Heard : Answer → Type 0 where
+  refusal : {n : ℕ} → 1 ≤ n → n ≤ 5 → Heard (refused n)
+  acceptance : {n : ℕ} → Heard (accepted n)
+  finding : {d : Defect} → IsDefect (d .number) → Heard (defect d)
 
 -- Families: 1 InvalidRule, 2 InvalidTemplate, 3 SemanticsKeyNotAvailable, 4 ConditionTooDeep, 5 CompareOperandNotAddressable,
 -- 6 QuantifierBindInvalid, 7 QuantifierOverNotCollection, 8 QuantifierBodyScope.
@@ -121,6 +127,10 @@ refusals c =
 unfoldable pub firstRefusal : List Refusal → Option ℕ
 firstRefusal [] = none
 firstRefusal (r ∷ rs) = cond (r .isDue) (some (r .number)) (firstRefusal rs)
+
+-- none of the refusals is due
+abbrev pub Unrefused : Call → Type 0
+Unrefused c = firstRefusal (refusals c) ≡ none
 
 -- the answer of a schema about a rule or template
 unfoldable pub checked : Setting → (label : Text) → Schema → Rule → Answer
