@@ -1,15 +1,12 @@
 -- What is printed, by what the code answers: the parts of the file as it places them, and a call's run.
-use Prim.Native.Nat.{ℕ, _≤_, _<_, min}
-use mathlib.Core.Bool.{false, _&&_, and-false}
+use Prim.Native.Nat.{ℕ, _≤_}
 use mathlib.Core.List.{List, []}
 use mathlib.Core.Option.{Option, none, some, Option·map}
 use mathlib.Core.Path.{_≡_, refl, sym, ap, _∙_}
 use native.Mathlib.Omega.{arith}
 use lib.ListN.{length, take}
-use lib.Dec.{leb}
-use borrow.Author.Tests.{leb-true, leb-false, lt-leb}
-use Rattle.sheet.specs.ReaderLaws.{by-test}
-use Rattle.validation.specs.Result.{Call, Answer, refused, accepted, defect, isWithin, refusals, firstRefusal, refusedOr, resultOf, numbersOf, pathAfter, Run, callOf, Meets}
+use Rattle.validation.specs.Result.{Answer, refused, accepted, defect, resultOf, numbersOf, pathAfter, Run, callOf, Meets}
+use Rattle.validation.specs.RefusalLaws.{capped, capped-same}
 use Rattle.check_file.specs.File.{Parts, takenApart}
 use Rattle.check_file.specs.Line.{lineOf}
 use Rattle.check_file.specs.LineLaws.{sets-front}
@@ -17,40 +14,10 @@ use Rattle.check_file.specs.Places.{tooLarge, partsAt, answerable}
 use Rattle.check_file.specs.Output.{callFor, pathIn, answered, printed, outputOf}
 use Rattle.check_file.specs.declared.file.Placed.{Placed}
 
--- a setting out of range is refused, whatever else the call holds
-unsettled : (c : Call) → (isWithin 1 8 (c .kind) && isWithin 1 4 (c .semantics)) ≡ false → resultOf c ≡ refused 1
-unfolding resultOf refusals firstRefusal refusedOr
-unsettled c e = rw e
-
-outside : (high n : ℕ) → high < n → isWithin 1 high n ≡ false
-unfolding isWithin
-outside high n h = rw (lt-leb n high h, and-false)
-
-kind-refused : (c : Call) → 8 < c .kind → resultOf c ≡ refused 1
-kind-refused c h = unsettled c (rw (outside 8 (c .kind) h))
-
-semantics-refused : (c : Call) → 4 < c .semantics → resultOf c ≡ refused 1
-semantics-refused c h = unsettled c (rw (outside 4 (c .semantics) h, and-false))
-
--- so a large setting may stand for a larger one
+-- a setting that is too large may stand for a larger one
 answerable-same : (p : Parts) → resultOf (callFor (answerable p)) ≡ resultOf (callFor p)
-unfolding callFor answerable
-answerable-same p =
-    by-test (leb (p .kind) tooLarge)
-    (λ k.
-    let small = leb-true (p .kind) tooLarge k in
-    let kind-is : min (p .kind) tooLarge ≡ p .kind = omega arith in
-    by-test (leb (p .semantics) tooLarge)
-    (λ s.
-    let low = leb-true (p .semantics) tooLarge s in
-    let semantics-is : min (p .semantics) tooLarge ≡ p .semantics = omega arith in
-    rw (kind-is, semantics-is))
-    (λ s.
-    let large = leb-false (p .semantics) tooLarge s in
-    semantics-refused (callFor (answerable p)) (omega arith) ∙ sym (semantics-refused (callFor p) (omega arith))))
-    (λ k.
-    let large = leb-false (p .kind) tooLarge k in
-    kind-refused (callFor (answerable p)) (omega arith) ∙ sym (kind-refused (callFor p) (omega arith)))
+unfolding callFor answerable capped
+answerable-same p = capped-same tooLarge (callFor p) (omega arith)
 
 printed-answerable : (o : Option Parts) → printed (Option·map answerable o) ≡ printed o
 unfolding printed

@@ -2,7 +2,7 @@
 use Prim.Native.Nat.{ℕ, _<_, _≤_, _-_, min}
 use native.Mathlib.Omega.{arith}
 use mathlib.Core.List.{List, _++_, append-nil}
-use mathlib.Core.Path.{_≡_, ap, sym, _∙_}
+use mathlib.Core.Path.{_≡_, ap, _∙_}
 use lib.Dec.{leb}
 use lib.ListN.{length, take, drop, length-take, replicate, length-replicate}
 use lib.Seq.{take-length, drop-length}
@@ -10,13 +10,14 @@ use borrow.Author.Tests.{le-leb, lt-leb, leb-true, leb-false}
 use Rattle.sheet.specs.ReaderLaws.{by-test}
 use Rattle.validation.specs.Result as Result
 use Rattle.validation.specs.Result.{Answer, Numbers, resultOf, numbersOf, pathAfter, callOf, Meets, scratchWords}
+use Rattle.validation.specs.RefusalLaws.{capped, capped-same}
 use Rattle.validator.specs.Runs.{runOf}
 use Rattle.validator.specs.Sheets.{takesOf}
 use Rattle.validator.specs.Outcomes.{numbersBy}
 use Rattle.validator.specs.declared.sheets.Takes.{Takes}
 use Rattle.validator.specs.declared.outcome.Outcome.{Outcome}
 use Rattle.entity_rules.specs.Entry.{resultBytes, pathLent, resultAfter, entryCall, entryAnswer, Answered, Written}
-use Rattle.entity_rules.specs.EntryLaws.{large-kind-refused, large-semantics-refused, short-result-refused}
+use Rattle.entity_rules.specs.EntryLaws.{short-result-refused}
 
 pub lent-nothing : (path result : ℕ) → result < resultBytes → 0 ≡ pathLent path result
 unfolding pathLent
@@ -33,27 +34,11 @@ lent-within path result =
 
 module _ (takes : Result.Takes) (kind semantics : ℕ) (label schema rule : List ℕ) where
   -- what is too large for a setting may be cut down to 9
-  capped : (pathLength resultLength : ℕ)
+  cut-down : (pathLength resultLength : ℕ)
       → entryAnswer takes (min kind 9) (min semantics 9) label schema rule pathLength resultLength
       ≡ entryAnswer takes kind semantics label schema rule pathLength resultLength
-  capped p r =
-      by-test (leb kind 8)
-      (λ e.
-      let k = leb-true kind 8 e in
-      by-test (leb semantics 8)
-      (λ f.
-      let s = leb-true semantics 8 f in
-      let same : min kind 9 ≡ kind = omega arith in
-      let same-s : min semantics 9 ≡ semantics = omega arith in
-      rw (same, same-s))
-      (λ f.
-      let s = leb-false semantics 8 f in
-      large-semantics-refused takes (min kind 9) (min semantics 9) label schema rule p r (omega arith)
-      ∙ sym (large-semantics-refused takes kind semantics label schema rule p r (omega arith))))
-      (λ e.
-      let k = leb-false kind 8 e in
-      large-kind-refused takes (min kind 9) (min semantics 9) label schema rule p r (omega arith)
-      ∙ sym (large-kind-refused takes kind semantics label schema rule p r k))
+  unfolding entryAnswer entryCall capped
+  cut-down p r = capped-same 9 (entryCall takes kind semantics label schema rule p r) (omega arith)
 
   -- the part of the path buffer that was lent comes home
   path-home : (path result : List ℕ) (lent : ℕ) (last : List ℕ)
@@ -87,7 +72,7 @@ module _ (takes : Takes) (kind semantics : ℕ) (label schema rule path result :
       simp length-take (omega (arith, lent-within (length path) (length result)))
       in
       rw (length-replicate {A = ℕ} scratchWords 0, part, ek, es, el)
-      (capped (takesOf takes) kind semantics label schema rule (length path) (length result))
+      (cut-down (takesOf takes) kind semantics label schema rule (length path) (length result))
 
   pub answered : {k s lent : ℕ} (r : Outcome) (last scratchNow : List ℕ) {resultNow : List ℕ}
       → k ≡ min kind 9

@@ -1,7 +1,7 @@
 -- What a host may rely on: a result's numbers are read back as they were written, and settings and buffers of any size are refused by number.
 use Prim.Native.Nat.{ℕ, zero, suc, _+_, _*_, _/_, _%_, _^_, _≤_, _<_}
 use native.Mathlib.Omega.{arith}
-use mathlib.Core.Bool.{Bool, true, false, cond, _&&_, not, and-false}
+use mathlib.Core.Bool.{Bool, true, false, cond, _&&_, not}
 use mathlib.Core.List.{List, [], _∷_, _++_, append-assoc}
 use mathlib.Core.Option.{some}
 use mathlib.Core.Path.{_≡_, refl, _∙_}
@@ -11,6 +11,7 @@ use lib.Seq.{sets-eq, length-sets}
 use borrow.Author.Tests.{le-leb, lt-leb}
 use Rattle.text.specs.Utf8.{isUtf8}
 use Rattle.validation.specs.Result.{Takes, Call, Answer, refused, Numbers, numbersOf, isWithin, maxLabelBytes, resultOf, refusals, firstRefusal, refusedOr}
+use Rattle.validation.specs.RefusalLaws.{kind-refused, semantics-refused}
 use Rattle.entity_rules.specs.Bytes.{littleEndian, bytesOf, Small, no-more, one-more, numberAt, fieldAt}
 use Rattle.entity_rules.specs.Entry.{resultBytes, fieldsOf, resultAfter, pathLent, entryCall, entryAnswer, Answered}
 
@@ -76,14 +77,6 @@ pub field-of-answer : {answer : Answer} {pathBefore pathNow resultBefore resultN
 field-of-answer {answer} {pathBefore} {pathNow} {resultBefore} a i less room =
     rw (a .result) (field-of-result i (numbersOf answer) resultBefore less room (a .small))
 
-beyond : (high n : ℕ) → high < n → isWithin 1 high n ≡ false
-unfolding isWithin
-beyond high n more = rw (lt-leb n high more, and-false (leb 1 n))
-
-setting-refused : (c : Call) → (isWithin 1 8 (c .kind) && isWithin 1 4 (c .semantics)) ≡ false → resultOf c ≡ refused 1
-unfolding resultOf refusals firstRefusal refusedOr
-setting-refused c e = rw e
-
 refused-first : (a b : Bool) (rest : Answer) → refusedOr (cond (not a) (some 1) (cond (not b) (some 2) (some 3))) rest ≡ refused (cond a (cond b 3 2) 1)
 unfolding refusedOr
 refused-first true true rest = refl
@@ -102,14 +95,11 @@ module _ (takes : Takes) (kind semantics : ℕ) (label schema rule : List ℕ) (
   -- a setting is refused for its whole value, and not for its last 32 bits
   pub large-kind-refused : 8 < kind → entryAnswer takes kind semantics label schema rule pathLength resultLength ≡ refused 1
   unfolding entryAnswer entryCall
-  large-kind-refused more =
-      setting-refused (entryCall takes kind semantics label schema rule pathLength resultLength) (rw (beyond 8 kind more))
+  large-kind-refused more = kind-refused (entryCall takes kind semantics label schema rule pathLength resultLength) more
 
   pub large-semantics-refused : 4 < semantics → entryAnswer takes kind semantics label schema rule pathLength resultLength ≡ refused 1
   unfolding entryAnswer entryCall
-  large-semantics-refused more =
-      setting-refused (entryCall takes kind semantics label schema rule pathLength resultLength)
-      (rw (beyond 4 semantics more, and-false (isWithin 1 8 kind)))
+  large-semantics-refused more = semantics-refused (entryCall takes kind semantics label schema rule pathLength resultLength) more
 
   -- a short result buffer is refused as 3, after 1 and 2 and before the sheets
   pub short-result-refused : resultLength < resultBytes

@@ -2,6 +2,7 @@ pub mod Check
 pub mod Judge
 pub mod Location
 pub mod Result
+pub mod RefusalLaws
 pub mod CheckLaws
 pub mod WideningLaws
 pub mod CountLaws
