@@ -4,12 +4,12 @@ use mathlib.Core.Bool.{cond}
 use mathlib.Core.List.{List, [], _∷_}
 use mathlib.Core.Path.{_≡_}
 use lib.Dec.{leb}
-use lib.ListN.{length}
+use lib.ListN.{length, replicate}
 use lib.Seq.{sets}
-use Rattle.validation.specs.Result.{Takes, Call, Answer, Numbers, resultOf, numbersOf, pathAfter, scratchWords}
+use Rattle.validation.specs.Result.{Takes, Call, Answer, Numbers, resultOf, numbersOf, pathAfter, scratchWords, Run}
 use Rattle.validator.specs.declared.outcome.Outcome.{Outcome}
 use Rattle.validator.specs.Outcomes.{numbersBy}
-use Rattle.entity_rules.specs.Bytes.{bytesOf, Small}
+use Rattle.entity_rules.specs.Bytes.{bytesOf, Small, fieldAt}
 
 -- seven numbers of four bytes
 abbrev pub resultBytes : ℕ
@@ -60,6 +60,37 @@ pub record Answered (answer : Answer) (pathBefore pathNow resultBefore resultNow
   pub path : pathNow ≡ pathAfter answer pathBefore
   pub result : resultNow ≡ resultAfter (numbersOf answer) resultBefore
   pub small : Small (fieldsOf (numbersOf answer))
+
+-- the seven numbers that a result's bytes stand for
+unfoldable pub numbersIn : List ℕ → Numbers
+numbersIn bytes =
+    record {
+      number = fieldAt 0 bytes;
+      family = fieldAt 1 bytes;
+      detail = fieldAt 2 bytes;
+      place = fieldAt 3 bytes;
+      overPlace = fieldAt 4 bytes;
+      passed = fieldAt 5 bytes;
+      pathLength = fieldAt 6 bytes;
+    }
+
+-- What a host hands over and what it has after the call, as a run. The scratch is the function's own: nobody sees what it holds, so it
+-- counts as unchanged.
+unfoldable pub entryRun : Takes → (kind semantics : ℕ) (label schema rule pathBefore pathNow resultNow : List ℕ) → Run
+entryRun takes kind semantics label schema rule pathBefore pathNow resultNow =
+    record {
+      takes = takes;
+      kind = kind;
+      semantics = semantics;
+      label = label;
+      schema = schema;
+      rule = rule;
+      pathBefore = pathBefore;
+      scratchBefore = replicate scratchWords 0;
+      result = numbersIn resultNow;
+      path = pathNow;
+      scratch = replicate scratchWords 0;
+    }
 
 -- what writing a result promises
 pub record Written (o : Outcome) (before after : List ℕ) : Type 0 where

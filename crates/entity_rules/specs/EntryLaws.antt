@@ -1,19 +1,20 @@
--- What a host may rely on: a result's numbers are read back as they were written, and settings and buffers of any size are refused by number.
+-- What a host may rely on: a result's numbers are read back as they were written, the demands hold of each call, and settings and buffers
+-- of any size are refused by number.
 use Prim.Native.Nat.{ℕ, zero, suc, _+_, _*_, _/_, _%_, _^_, _≤_, _<_}
 use native.Mathlib.Omega.{arith}
 use mathlib.Core.Bool.{Bool, true, false, cond, _&&_, not}
 use mathlib.Core.List.{List, [], _∷_, _++_, append-assoc}
 use mathlib.Core.Option.{some}
-use mathlib.Core.Path.{_≡_, refl, _∙_}
+use mathlib.Core.Path.{_≡_, refl, ap, sym, _∙_}
 use lib.Dec.{leb}
-use lib.ListN.{length, drop, getD}
+use lib.ListN.{length, drop, getD, length-replicate}
 use lib.Seq.{sets-eq, length-sets}
 use borrow.Author.Tests.{le-leb, lt-leb}
 use Rattle.text.specs.Utf8.{isUtf8}
-use Rattle.validation.specs.Result.{Takes, Call, Answer, refused, Numbers, numbersOf, isWithin, maxLabelBytes, resultOf, refusals, firstRefusal, refusedOr}
+use Rattle.validation.specs.Result.{Takes, Call, Answer, refused, Numbers, numbersOf, isWithin, maxLabelBytes, scratchWords, resultOf, refusals, firstRefusal, refusedOr, pathAfter, callOf, Meets}
 use Rattle.validation.specs.RefusalLaws.{kind-refused, semantics-refused}
 use Rattle.entity_rules.specs.Bytes.{littleEndian, bytesOf, Small, no-more, one-more, numberAt, fieldAt}
-use Rattle.entity_rules.specs.Entry.{resultBytes, fieldsOf, resultAfter, pathLent, entryCall, entryAnswer, Answered}
+use Rattle.entity_rules.specs.Entry.{resultBytes, fieldsOf, resultAfter, pathLent, entryCall, entryAnswer, Answered, numbersIn, entryRun}
 
 whole : (n : ℕ) → n ≡ n / 256 * 256 + n % 256
 whole n = omega arith
@@ -76,6 +77,52 @@ pub field-of-answer : {answer : Answer} {pathBefore pathNow resultBefore resultN
     → fieldAt i resultNow ≡ getD (fieldsOf (numbersOf answer)) i 0
 field-of-answer {answer} {pathBefore} {pathNow} {resultBefore} a i less room =
     rw (a .result) (field-of-result i (numbersOf answer) resultBefore less room (a .small))
+
+numbers-of-answer : {answer : Answer} {pathBefore pathNow resultBefore resultNow : List ℕ} {r : ℕ}
+    → Answered answer pathBefore pathNow resultBefore resultNow r
+    → resultBytes ≤ length resultBefore
+    → numbersIn resultNow ≡ numbersOf answer
+unfolding numbersIn fieldsOf
+numbers-of-answer a room = λ i.
+    record {
+      number = field-of-answer a 0 (omega arith) room i;
+      family = field-of-answer a 1 (omega arith) room i;
+      detail = field-of-answer a 2 (omega arith) room i;
+      place = field-of-answer a 3 (omega arith) room i;
+      overPlace = field-of-answer a 4 (omega arith) room i;
+      passed = field-of-answer a 5 (omega arith) room i;
+      pathLength = field-of-answer a 6 (omega arith) room i;
+    }
+
+-- A call of a C function with room for its result is a run that gives what the definitions say. So the demands hold of it (crate
+-- `validation`, specs/Demands).
+module _ (takes : Takes) (kind semantics : ℕ) (label schema rule pathBefore pathNow resultBefore resultNow : List ℕ) where
+  pub entry-call : resultBytes ≤ length resultBefore
+      → callOf (entryRun takes kind semantics label schema rule pathBefore pathNow resultNow)
+      ≡ entryCall takes kind semantics label schema rule (length pathBefore) (length resultBefore)
+  unfolding callOf entryRun entryCall pathLent
+  entry-call room = rw (le-leb resultBytes (length resultBefore) room, length-replicate {A = ℕ} scratchWords 0)
+
+  pub entry-meets : {r : ℕ}
+      → Answered (entryAnswer takes kind semantics label schema rule (length pathBefore) (length resultBefore)) pathBefore pathNow resultBefore resultNow r
+      → resultBytes ≤ length resultBefore
+      → Meets (entryRun takes kind semantics label schema rule pathBefore pathNow resultNow)
+  unfolding entryRun entryAnswer
+  entry-meets a room =
+      let same = sym (entry-call room) in
+      record {
+        result = numbers-of-answer a room ∙ ap (λ (c : Call). numbersOf (resultOf c)) same;
+        path = a .path ∙ ap (λ (c : Call). pathAfter (resultOf c) pathBefore) same;
+        scratch = record { size = refl; kept = refl };
+      }
+
+  -- and what is returned is the run's number
+  pub entry-returns : {r : ℕ}
+      → Answered (entryAnswer takes kind semantics label schema rule (length pathBefore) (length resultBefore)) pathBefore pathNow resultBefore resultNow r
+      → resultBytes ≤ length resultBefore
+      → r ≡ entryRun takes kind semantics label schema rule pathBefore pathNow resultNow .result .number
+  unfolding entryRun
+  entry-returns a room = a .number ∙ sym (ap (λ (n : Numbers). n .number) (numbers-of-answer a room))
 
 refused-first : (a b : Bool) (rest : Answer) → refusedOr (cond (not a) (some 1) (cond (not b) (some 2) (some 3))) rest ≡ refused (cond a (cond b 3 2) 1)
 unfolding refusedOr
