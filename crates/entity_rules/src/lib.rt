@@ -6,6 +6,7 @@ use crate::result::read_u32;
 use crate::result::write_result;
 use validator::sheets::Takes;
 use validator::validate_taken;
+use validator::widths::SCRATCH_WORDS;
 ghost use mathlib.Core.Path.{_≡_};
 ghost use Prim.Native.Nat.{min};
 ghost use lib.ListN.{length};
@@ -13,8 +14,6 @@ ghost use Rattle.validation.specs.Result.{rules, templates};
 ghost use Rattle.validator.specs.Sheets.{takesOf};
 ghost use Rattle.entity_rules.specs.Bytes.{fieldAt};
 ghost use Rattle.entity_rules.specs.Entry.{pathLent, entryAnswer, Answered};
-
-const SCRATCH_WORDS: usize = 8192;
 
 // Kinds end at 8 and semantics at 4, so 9 stands for all that is too large for either.
 fn setting(n: u64) -> u32

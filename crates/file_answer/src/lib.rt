@@ -4,15 +4,13 @@ use check_file::file::Taken;
 use check_file::file::take_apart;
 use check_file::line::write_line;
 use validator::validate;
+use validator::widths::PATH_BYTES;
+use validator::widths::SCRATCH_WORDS;
 ghost use mathlib.Core.Path.{_≡_};
 ghost use Rattle.validation.specs.Result.{resultOf};
 ghost use Rattle.check_file.specs.Output.{callFor, answered, outputOf};
 ghost use Rattle.check_file.specs.Places.{Lies, partOf};
 ghost use Rattle.file_answer.specs.Printed.{Printed};
-
-const PATH_BYTES: usize = 32768;
-
-const SCRATCH_WORDS: usize = 8192;
 
 fn part(file: &[u8], span: Span) -> &[u8]
     requires { ⌜ Lies (now file) span ⌝ }

@@ -1,4 +1,6 @@
 // Settings, label and widths: what is asked before a sheet is read.
+use crate::widths::PATH_BYTES;
+use crate::widths::SCRATCH_WORDS;
 ghost use mathlib.Core.Bool.{_&&_};
 ghost use mathlib.Core.Path.{_≡_};
 ghost use lib.Dec.{leb};
@@ -7,11 +9,7 @@ ghost use Rattle.text.specs.Utf8.{isUtf8};
 ghost use Rattle.validation.specs.Result.{isWithin, maxLabelBytes, pathBytes, scratchWords};
 ghost use Rattle.validator.specs.Settings.{settingsRefusal};
 
-pub const MAX_LABEL_BYTES: usize = 256;
-
-pub const PATH_BYTES: usize = 32768;
-
-pub const SCRATCH_WORDS: usize = 8192;
+const MAX_LABEL_BYTES: usize = 256;
 
 fn is_within(high: u32, n: u32) -> bool
     ensures { λ r. ⌜ r ≡ isWithin 1 high n ⌝ }
