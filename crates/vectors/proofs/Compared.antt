@@ -1,6 +1,6 @@
--- Comparing with the line that was written is comparing with the output.
+-- Comparing with the line that was written is comparing with the output; and a case counts once at most.
 use Prim.Native.Nat.{ℕ, _-_, _≤_}
-use mathlib.Core.Bool.{Bool, true}
+use mathlib.Core.Bool.{Bool, true, false, cond}
 use mathlib.Core.List.{List}
 use mathlib.Core.Path.{_≡_}
 use native.Mathlib.Omega.{arith}
@@ -15,3 +15,7 @@ pub compared : {output before after expected : List ℕ} {n : ℕ} {r : Bool} �
 compared {n = n} p room same =
     let whole : n - 0 ≡ n = omega arith in
     rw (whole, printed-whole p room) at same
+
+pub tally : (agrees : Bool) {n : ℕ} → n ≡ cond agrees 1 0 → n ≤ 1
+tally true e = omega arith
+tally false e = omega arith

@@ -1,7 +1,10 @@
--- Where a case lies in the bytes that were read.
-use Prim.Native.Nat.{ℕ, _≤_}
+-- Where a case lies in the bytes that were read, and whether it agrees.
+use Prim.Native.Nat.{ℕ, _+_, _-_, _≤_}
+use mathlib.Core.Bool.{Bool, true}
 use mathlib.Core.List.{List}
-use lib.ListN.{length}
+use mathlib.Core.Path.{_≡_}
+use lib.ListN.{length, take, drop}
+use Rattle.check_file.specs.Output.{outputOf}
 use Rattle.vectors.specs.declared.Window.{Window}
 use Rattle.vectors.specs.declared.Case.{Case}
 use Rattle.vectors.specs.declared.Found.{Found}
@@ -24,10 +27,33 @@ abbrev pub FoundIn : List ℕ → Found → Type 0
 FoundIn s (found.Whole c) = Lies s c
 FoundIn s found.Broken = Unit {0}
 
+-- the bytes from `start` up to `end`
+abbrev pub between : (start end : ℕ) → List ℕ → List ℕ
+between start end s = take (end - start) (drop start s)
+
+-- a case agrees exactly if what is printed for its file is the line that was expected
+abbrev pub Tells : (agrees : Bool) (file expected : List ℕ) → Type 0
+Tells agrees file expected = (agrees ≡ true → outputOf file ≡ expected) × (outputOf file ≡ expected → agrees ≡ true)
+
+-- whether a case that lies in `s` agrees, and the place behind it
+pub record Replays (s : List ℕ) (agrees : Bool) (next : ℕ) : Type 0 where
+  pub found : Case
+  pub lies : Lies s found
+  pub tells : Tells agrees (between (found .file) (found .expected) s) (between (found .expected) (found .end) s)
+  pub ends : next ≡ found .end
+
 abbrev pub ReplayedIn : List ℕ → Replayed → Type 0
-ReplayedIn s (replayed.Whole agrees next) = next ≤ length s
+ReplayedIn s (replayed.Whole agrees next) = Replays s agrees next
 ReplayedIn s replayed.Broken = Unit {0}
 
+-- whether a case that lies in the buffer `s` agrees, and the window behind it
+pub record Steps (s : List ℕ) (agrees : Bool) (w : Window) : Type 0 where
+  pub start : ℕ
+  pub size : ℕ
+  pub replays : Replays (between start (w .end) s) agrees size
+  pub left : w .start ≡ start + size
+  pub within : Within s w
+
 abbrev pub StepIn : List ℕ → Step → Type 0
-StepIn s (step.Replayed agrees w) = Within s w
+StepIn s (step.Replayed agrees w) = Steps s agrees w
 StepIn s (step.Last ended) = Unit {0}

@@ -4,12 +4,11 @@
 use file_answer::output;
 use libc::STDIN_FILENO;
 use libc::STDOUT_FILENO;
-ghost use Prim.Native.Nat.{_+_, _≤_, min};
-ghost use mathlib.Core.Bool.{true};
+ghost use Prim.Native.Nat.{_≤_};
+ghost use mathlib.Core.Bool.{cond};
 ghost use mathlib.Core.Path.{_≡_};
 ghost use lib.ListN.{length};
-ghost use Rattle.check_file.specs.Output.{outputOf};
-ghost use Rattle.vectors.specs.Found.{Within, FoundIn, ReplayedIn, StepIn};
+ghost use Rattle.vectors.specs.Found.{Within, FoundIn, Tells, ReplayedIn, StepIn};
 
 // The list is read in pieces of this size.
 const BUFFER_BYTES: usize = 262144;
@@ -147,7 +146,7 @@ fn find(s: &[u8]) -> Found
 }
 
 fn is_as_expected(file: &[u8], expected: &[u8]) -> bool
-    ensures { λ r. ⌜ (r ≡ true → outputOf (now (file .entry)) ≡ now (expected .entry)) × (outputOf (now (file .entry)) ≡ now (expected .entry) → r ≡ true) ⌝ }
+    ensures { λ r. ⌜ Tells r (now (file .entry)) (now (expected .entry)) ⌝ }
 {
     let mut line = [0u8; LINE_BYTES];
     let n = output(file, &mut line);
@@ -209,7 +208,7 @@ fn say_case(number: u64, words: &[u8]) {
 
 // 1 for a case that agrees; another is named.
 fn tallied(agrees: bool, number: u64) -> u64
-    ensures { λ r. ⌜ r ≤ 1 ⌝ }
+    ensures { λ r. ⌜ r ≡ cond agrees 1 0 ⌝ }
 {
     if agrees {
         return 1;

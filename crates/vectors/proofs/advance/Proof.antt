@@ -1,5 +1,6 @@
--- `vectors::advance` leaves a window of the buffer.
+-- `vectors::advance` tells whether a case of the buffer agrees, and leaves the window behind it.
 use native.Mathlib.Omega.{arith}
+use mathlib.Core.Path.{refl}
 use borrow.Author.Needs.{needs}
 use Rattle.vectors.proofs.advance.Statement.{statement}
 use Rattle.vectors.proofs.advance.Tie as tie
@@ -34,7 +35,7 @@ returns c = search needs
 add-t12 : tie.Need-add-t12
 add-t12 c =
     let r = rw (c .before .agrees .given .1) at (c .before .before .before .replay .ensures) in
-    omega arith
+    omega (arith, r .lies .within, r .ends)
 
 same-length-2 : tie.Need-same-length-2
 same-length-2 c = search needs
@@ -42,7 +43,17 @@ same-length-2 c = search needs
 returns-2 : tie.Need-returns-2
 returns-2 c =
     let r = rw (c .before .agrees .given .1) at (c .before .before .before .replay .ensures) in
-    record { rising = omega arith; within = c .before .before .before .before .before .before .before .before .refill .ensures .within }
+    record {
+      start = _;
+      size = _;
+      replays = r;
+      left = refl;
+      within =
+          record {
+            rising = omega (arith, r .lies .within, r .ends);
+            within = c .before .before .before .before .before .before .before .before .refill .ensures .within;
+          };
+    }
 
 pub advance-spec : {M : Type 1} → statement M
 advance-spec =

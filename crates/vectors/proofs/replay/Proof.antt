@@ -1,5 +1,6 @@
--- `vectors::replay` ends within the bytes.
+-- `vectors::replay` tells whether a case of the bytes agrees.
 use native.Mathlib.Omega.{arith}
+use mathlib.Core.Path.{refl}
 use borrow.Author.Needs.{needs}
 use Rattle.vectors.proofs.replay.Statement.{statement}
 use Rattle.vectors.proofs.replay.Tie as tie
@@ -38,7 +39,9 @@ is-as-expected-requires : tie.Need-is-as-expected-requires
 is-as-expected-requires c κs = search needs
 
 returns-2 : tie.Need-returns-2
-returns-2 c = let r = rw (c .before .before .before .before .c .given .1) at (c .before .before .before .before .before .before .find .ensures) in omega arith
+returns-2 c =
+    let lies = rw (c .before .before .before .before .c .given .1) at (c .before .before .before .before .before .before .find .ensures) in
+    record { found = c .before .before .before .before .c .given .0 .0; lies = lies; tells = c .is-as-expected .ensures; ends = refl }
 
 pub replay-spec : {M : Type 1} → statement M
 replay-spec =

@@ -3,6 +3,7 @@ use Prim.Native.Nat.{_≤_, _-_}
 use mathlib.Core.Path.{_≡_}
 use lib.ListN.{length}
 use Rattle.vectors.specs.Found.{Within}
+use Rattle.vectors.proofs.Compared.{tally}
 use native.Mathlib.Omega.{arith}
 use borrow.Author.Needs.{needs}
 use Rattle.vectors.proofs.run.Statement.{statement}
@@ -30,7 +31,7 @@ tallied-requires : tie.Need-tallied-requires Inv-loop μ-loop
 tallied-requires c κs = search needs
 
 add-agreed : tie.Need-add-agreed Inv-loop μ-loop
-add-agreed c = search needs
+add-agreed c = omega (arith, tally (c .before .before .s .given .0 .0) (c .tallied .ensures))
 
 loop-less : tie.Need-loop-less Inv-loop μ-loop
 loop-less c = search needs
@@ -38,7 +39,7 @@ loop-less c = search needs
 loop-again : tie.Need-loop-again Inv-loop μ-loop
 loop-again c =
     let left = rw (c .before .before .s .given .1) at (c .before .before .before .before .before .before .advance .ensures) in
-    (left, omega arith, omega arith, omega (arith, c .before .before .before .before .before .before .advance .kept .0))
+    (left .within, omega (arith, tally (c .before .before .s .given .0 .0) (c .tallied .ensures)), omega arith, omega (arith, c .before .before .before .before .before .before .advance .kept .0))
 
 enum-known-s-2 : tie.Need-enum-known-s-2 Inv-loop μ-loop
 enum-known-s-2 c = search needs
