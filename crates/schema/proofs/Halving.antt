@@ -12,6 +12,7 @@ use lib.ListN.{drop}
 use borrow.Author.Tests.{ltb-true, ltb-false}
 use Rattle.sheet.specs.ReaderLaws.{by-test}
 use Rattle.sheet.specs.Entries.{FieldHead, fieldHead}
+use Rattle.sheet.specs.Places.{Knows}
 use Rattle.sheet.specs.Order.{precedes, sameBytes}
 use Rattle.sheet.specs.OrderLaws.{sameBytes-equal, sameBytes-refl, sameBytes-symmetric, precedes-transitive, precedes-differs}
 use Rattle.definition.specs.Tree as Tree
@@ -20,7 +21,6 @@ use Rattle.definition.specs.Within.{FieldRises, MembersRise}
 use Rattle.definition.specs.RisingLaws.{AllBehind, rising-behind}
 use Rattle.reference.specs.Walk.{lookup}
 use Rattle.schema.specs.Index.{maxSlots, placeWord, countOf, below, belowMembers, FieldAt, MembersAt}
-use Rattle.schema.specs.IndexLaws.{head-unique}
 use Rattle.schema.specs.Slot.{HolderAt}
 use Rattle.schema.specs.Lookup.{FoundAt, LookedUp}
 use Rattle.schema.specs.declared.index.Holder.{Holder}
@@ -161,10 +161,10 @@ found-at s w k i members name rises m e =
 slot-headless : (s w : List ℕ) (k low : ℕ) (name : Text) (f : Field) → FieldAt s w k low name f → fieldHead (drop (placeWord w k / 4096) s) ≡ none → ⊥
 slot-headless s w k low name (field e kind o tag items members) at n = Option·none-ne-some _ (sym n ∙ at .1 .reads)
 
-slot-named : (s w : List ℕ) (k low : ℕ) (name : Text) (f : Field) (h : FieldHead) (rest : List ℕ) → FieldAt s w k low name f
-    → fieldHead (drop (placeWord w k / 4096) s) ≡ some (h, rest) → h .name ≡ name
-slot-named s w k low name (field e kind o tag items members) h rest at q =
-    ap (λ (h : FieldHead). h .name) (head-unique (record { rest = rest; reads = q }) (at .1))
+slot-named : (s w : List ℕ) (k low : ℕ) (name : Text) (f : Field) (h : FieldHead) → FieldAt s w k low name f
+    → Knows fieldHead s (placeWord w k / 4096) h → h .name ≡ name
+slot-named s w k low name (field e kind o tag items members) h at q =
+    ap (λ (h : FieldHead). h .name) (q .reads _ _ (at .1 .reads))
 
 -- What is left of the `count` members in the slots from `first` on
 
@@ -197,11 +197,11 @@ module _ (s w : List ℕ) (first count : ℕ) (name : Text) (low high : ℕ) (na
         let p = middle-at o t h in
         absurd (slot-headless s w (first + middle) (p .low) (p .name) (p .f) (p .indexed) e)
 
-    module _ (head : FieldHead) (rest : List ℕ) (reads : fieldHead (drop (placeWord w (first + middle) / 4096) s) ≡ some (head, rest)) where
+    module _ (head : FieldHead) (known : Knows fieldHead s (placeWord w (first + middle) / 4096) head) where
       middle-named : (o : Bool) (t : Tree.Holder) (h : HolderAt s w (record { opened = o; first = first; count = count }) t) → head .name ≡ middle-at o t h .name
       middle-named o t h =
           let p = middle-at o t h in
-          slot-named s w (first + middle) (p .low) (p .name) (p .f) head rest (p .indexed) reads
+          slot-named s w (first + middle) (p .low) (p .name) (p .f) head (p .indexed) known
 
       pub narrowed-lower : precedes (head .name) name ≡ true → Narrowed s w first count name (middle + 1) high
       narrowed-lower e =

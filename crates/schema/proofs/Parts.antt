@@ -11,9 +11,9 @@ use Rattle.definition.specs.Tree.{field, Items, absent, element}
 use Rattle.definition.specs.Within.{ItemsRise}
 use Rattle.definition.specs.Decode.{toCount}
 use Rattle.schema.specs.Index.{maxSlots, placeWord, childWord, hasElement, elements, countOf, below, belowItems, ItemsAt}
-use Rattle.schema.specs.IndexLaws.{head-unique, elements-marked}
+use Rattle.schema.specs.IndexLaws.{elements-marked}
 use Rattle.schema.specs.Slot.{ElementAt, elementFrom, IndexedIs}
-use Rattle.sheet.specs.Places.{fieldOf}
+use Rattle.sheet.specs.Places.{Knows, fieldOf}
 use Rattle.sheet.specs.declared.schema.FieldHead.{FieldHead}
 use Rattle.schema.specs.declared.index.Element.{Element}
 use Rattle.schema.specs.declared.index.IndexedField.{IndexedField}
@@ -29,8 +29,8 @@ unfolding elementFrom hasElement belowItems
 items-element s w k low absent at rises room = tt
 items-element s w k low (element f) at rises room = record { name = []; low = low; indexed = at; rises = rises; room = room }
 
-pub indexed-parts : (s w : List ℕ) (k : ℕ) (head : FieldHead) (rest : List ℕ) (place child elems : ℕ) (el : Element)
-    → fieldHead (drop (placeWord w k / 4096) s) ≡ some (fieldOf s head, rest) → place ≡ placeWord w k → child ≡ childWord w k
+pub indexed-parts : (s w : List ℕ) (k : ℕ) (head : FieldHead) (place child elems : ℕ) (el : Element)
+    → Knows fieldHead s (placeWord w k / 4096) (fieldOf s head) → place ≡ placeWord w k → child ≡ childWord w k
     → elems ≡ toCount (head .items) → el ≡ elementFrom (head .items) child
     → IndexedIs s w k
     (record {
@@ -41,9 +41,9 @@ pub indexed-parts : (s w : List ℕ) (k : ℕ) (head : FieldHead) (rest : List �
       members = record { opened = head .opened; first = child + elems; count = head .count };
     })
 unfolding fieldOf below
-indexed-parts s w k head rest place child elems el reads p c n l (field e kind o tag items members) holds =
+indexed-parts s w k head place child elems el known p c n l (field e kind o tag items members) holds =
     let at = holds .indexed in
-    let q = head-unique (record { rest = rest; reads = reads }) (at .1) in
+    let q = known .reads _ _ (at .1 .reads) in
     let has : head .items ≡ hasElement items = ap (λ (h : Entries.FieldHead). h .hasItems) q in
     let count : head .count ≡ countOf members = ap (λ (h : Entries.FieldHead). h .count) q in
     let low : child ≡ holds .low = c ∙ at .2 in

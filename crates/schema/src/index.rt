@@ -1,6 +1,6 @@
 // The slots of the index: two words for each field, behind the words of a rule.
 use sheet::part::OptionalPart;
-use sheet::schema::FieldRead;
+use sheet::schema::KnownField;
 ghost use mathlib.Core.Path.{_≡_};
 ghost use Prim.Native.Nat.{_/_};
 ghost use lib.ListN.{getD};
@@ -8,7 +8,7 @@ ghost use Rattle.definition.specs.Decode.{toCount};
 ghost use Rattle.schema.specs.Index.{placeWord, childWord};
 ghost use Rattle.schema.specs.Fields.{SlotFits, SlotPut};
 ghost use Rattle.schema.specs.Slot.{elementFrom, IndexedIs};
-ghost use Rattle.sheet.specs.Places.{FieldIs};
+ghost use Rattle.sheet.specs.Places.{KnownFieldIs};
 
 // No schema has more entries.
 pub const MAX_SCHEMA_ENTRIES: usize = 2048;
@@ -81,11 +81,11 @@ pub fn put_slot(words: &mut [u32], k: usize, start: usize, entry: usize, child: 
 }
 
 // The head of slot `k`, read again.
-pub fn head_of(sheet: &[u8], words: &[u32], k: usize) -> FieldRead
-    ensures { λ r. ⌜ FieldIs (now (sheet .entry)) (placeWord (now (words .entry)) k / 4096) r ⌝ }
+pub fn head_of(sheet: &[u8], words: &[u32], k: usize) -> KnownField
+    ensures { λ r. ⌜ KnownFieldIs (now (sheet .entry)) (placeWord (now (words .entry)) k / 4096) r ⌝ }
 {
     let start = place_word(words, k) as usize / ENTRY_NUMBERS;
-    sheet::schema::field_head(sheet, start)
+    sheet::schema::known_field(sheet, start)
 }
 
 pub fn to_count(is: bool) -> usize
@@ -122,7 +122,7 @@ fn no_field() -> IndexedField {
 pub fn indexed_field(sheet: &[u8], words: &[u32], k: usize) -> IndexedField
     ensures { λ r. ⌜ IndexedIs (now (sheet .entry)) (now (words .entry)) k r ⌝ }
 {
-    let FieldRead::Is(head, _) = head_of(sheet, words, k) else {
+    let KnownField::Is(head) = head_of(sheet, words, k) else {
         return no_field();
     };
     let first = child_word(words, k) as usize;

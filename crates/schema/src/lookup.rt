@@ -2,7 +2,7 @@
 use crate::index::Holder;
 use crate::index::MAX_SLOTS;
 use sheet::order::ByteOrder;
-use sheet::schema::FieldRead;
+use sheet::schema::KnownField;
 ghost use Rattle.schema.specs.Lookup.{LookedUp};
 
 pub enum Found {
@@ -28,7 +28,7 @@ pub fn lookup(sheet: &[u8], words: &[u32], holder: Holder, name: &[u8]) -> Found
     while low < high {
         let middle = low + (high - low) / 2;
         let slot = first + middle;
-        let FieldRead::Is(head, _) = crate::index::head_of(sheet, words, slot) else {
+        let KnownField::Is(head) = crate::index::head_of(sheet, words, slot) else {
             return Found::Missing;
         };
         let part = head.name;

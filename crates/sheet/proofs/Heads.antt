@@ -182,7 +182,7 @@ unfolding andThen
 andThen-assoc none f g = refl
 andThen-assoc (some r) f g = refl
 
-fieldBy : FieldMarks → List ℕ × Option (List ℕ) → entries.FieldHead
+unfoldable pub fieldBy : FieldMarks → List ℕ × Option (List ℕ) → entries.FieldHead
 fieldBy m x =
     record {
       kind = m .kind;
@@ -193,7 +193,7 @@ fieldBy m x =
       tag = x .1;
     }
 
-field-pieces : (l : List ℕ) → fieldHead l ≡ (fieldMarks >>= λ m. fieldTexts >>= λ x. pure (fieldBy m x)) l
+pub field-pieces : (l : List ℕ) → fieldHead l ≡ (fieldMarks >>= λ m. fieldTexts >>= λ x. pure (fieldBy m x)) l
 unfolding fieldHead fieldMarks fieldTexts first fieldBy _>>=_ _>>_ andThen pure
 field-pieces l = simp andThen-assoc
 

@@ -2,3 +2,4 @@ pub mod Numerals
 pub mod Chains
 pub mod Heads
 pub mod Comparing
+pub mod Known

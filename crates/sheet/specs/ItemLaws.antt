@@ -28,7 +28,7 @@ pub record Exact {A : Type 0} (p : Reader (List ℕ) A) (w : A → List ℕ) (Fi
 unfoldable pub anything : List ℕ → Bool
 anything s = true
 
-byte-sound : (b : ℕ) (s : List ℕ) (a : Unit {0}) (t : List ℕ) → Reads (byte b) s a t → s ≡ b ∷ t
+pub byte-sound : (b : ℕ) (s : List ℕ) (a : Unit {0}) (t : List ℕ) → Reads (byte b) s a t → s ≡ b ∷ t
 unfolding byte
 byte-sound b [] a t e = absurd (Option·none-ne-some _ e)
 byte-sound b (x ∷ s) a t e =

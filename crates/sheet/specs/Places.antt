@@ -37,6 +37,10 @@ use Rattle.sheet.specs.declared.schema.FieldTextsRead.the-variants as fi
 use Rattle.sheet.specs.declared.schema.FieldHead.{FieldHead}
 use Rattle.sheet.specs.declared.schema.FieldRead.{FieldRead}
 use Rattle.sheet.specs.declared.schema.FieldRead.the-variants as field
+use Rattle.sheet.specs.declared.schema.KnownField.{KnownField}
+use Rattle.sheet.specs.declared.schema.KnownField.the-variants as known-field
+use Rattle.sheet.specs.declared.part.OptionalPart.{OptionalPart}
+use Rattle.sheet.specs.declared.part.OptionalPart.the-variants as part
 use Rattle.sheet.specs.declared.rule.RuleHead.{RuleHead}
 use Rattle.sheet.specs.declared.rule.RuleHead.the-variants as rule-head
 use Rattle.sheet.specs.declared.rule.RuleRead.{RuleRead}
@@ -61,6 +65,10 @@ pub record ReadsTo {A : Type 0} (p : Reader (List ℕ) A) (s : List ℕ) (at : �
 -- `p` reads nothing from place `at` on
 abbrev pub Refuses : {A : Type 0} → Reader (List ℕ) A → List ℕ → ℕ → Type 0
 Refuses p s at = p (drop at s) ≡ none
+
+-- if `p` reads anything from place `at` on, it reads `a`
+pub record Knows {A : Type 0} (p : Reader (List ℕ) A) (s : List ℕ) (at : ℕ) (a : A) : Type 0 where
+  pub reads : (b : A) (t : List ℕ) → p (drop at s) ≡ some (b, t) → a ≡ b
 
 -- What entries are made of.
 
@@ -164,6 +172,15 @@ fieldOf s h =
 abbrev pub FieldIs : List ℕ → ℕ → FieldRead → Type 0
 FieldIs s at (field.Is h next) = ReadsTo entries.fieldHead s at (fieldOf s h) next × (h .kind ≤ 12) × (h .count ≤ entries.maxCount)
 FieldIs s at field.Bad = Refuses entries.fieldHead s at
+
+-- a tag of that length whose first byte is at `at`
+unfoldable pub tagAt : ℕ → Length → OptionalPart
+tagAt at (length-of.Of n) = part.Is (record { start = at; len = n })
+tagAt at length-of.Absent = part.Absent
+
+abbrev pub KnownFieldIs : List ℕ → ℕ → KnownField → Type 0
+KnownFieldIs s at (known-field.Is h) = Knows entries.fieldHead s at (fieldOf s h)
+KnownFieldIs s at known-field.Bad = Refuses entries.fieldHead s at
 
 -- The entries of a rule sheet.
 

@@ -9,7 +9,8 @@ use crate::entry::OptionalRead;
 use crate::numeral::NumeralRead;
 use crate::part::OptionalPart;
 use crate::part::Part;
-ghost use Rattle.sheet.specs.Places.{HolderIs, ArgumentsAre, SchemaIs, FieldMarksAre, FieldTextsAre, FieldIs};
+ghost use mathlib.Core.Path.{_≡_};
+ghost use Rattle.sheet.specs.Places.{HolderIs, ArgumentsAre, SchemaIs, FieldMarksAre, FieldTextsAre, FieldIs, tagAt, KnownFieldIs};
 
 // The open mark and the field count of the record or of the arguments.
 pub struct HolderHead {
@@ -85,6 +86,12 @@ pub struct FieldHead {
 pub enum FieldRead {
     // The head, and the place behind it.
     Is(FieldHead, usize),
+    Bad,
+}
+
+pub enum KnownField {
+    Is(FieldHead),
+    // The entry is no field's.
     Bad,
 }
 
@@ -206,4 +213,40 @@ pub fn field_head(s: &[u8], at: usize) -> FieldRead
         },
         next,
     )
+}
+
+// A tag of that length whose first byte is at `at`.
+fn tag_at(at: usize, len: Length) -> OptionalPart
+    ensures { λ r. ⌜ r ≡ tagAt at len ⌝ }
+{
+    match len {
+        Length::Of(n) => OptionalPart::Is(Part { start: at, len: n }),
+        Length::Absent => OptionalPart::Absent,
+    }
+}
+
+// The head of an entry that was read before: its texts are known to be UTF-8 and are not looked at again.
+pub fn known_field(s: &[u8], at: usize) -> KnownField
+    ensures { λ r. ⌜ KnownFieldIs (now (s .entry)) at r ⌝ }
+{
+    let FieldMarksRead::Are(marks, behind) = field_marks(s, at) else {
+        return KnownField::Bad;
+    };
+    let NumeralRead::Is(len, a) = entry::item(s, behind, 0, MAX_TEXT) else {
+        return KnownField::Bad;
+    };
+    let LengthRead::Is(tag_len, b) = entry::text_length(s, a) else {
+        return KnownField::Bad;
+    };
+    let start = b + 1;
+    let name = Part { start, len };
+    let tag = tag_at(start + len, tag_len);
+    KnownField::Is(FieldHead {
+        kind: marks.kind,
+        opened: marks.opened,
+        items: marks.items,
+        count: marks.count,
+        name,
+        tag,
+    })
 }

@@ -9,11 +9,11 @@ place-word-requires c κs = search needs
 cast-start : tie.Need-cast-start
 cast-start c = search needs
 
-field-head-requires : tie.Need-field-head-requires
-field-head-requires c κs = search needs
+known-field-requires : tie.Need-known-field-requires
+known-field-requires c κs = search needs
 
 returns : tie.Need-returns
-returns c = rw (c .before .place-word .ensures) at (c .field-head .ensures)
+returns c = rw (c .before .place-word .ensures) at (c .known-field .ensures)
 
 pub head-of-spec : {M : Type 1} → statement M
-head-of-spec = tie.close (tie.spec place-word-requires cast-start field-head-requires returns)
+head-of-spec = tie.close (tie.spec place-word-requires cast-start known-field-requires returns)

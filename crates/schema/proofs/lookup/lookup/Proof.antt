@@ -81,7 +81,7 @@ loop-again c =
     let c16 = c10 .before .before .before .before .before .before in
     let e = rw (c6 .head .given .1) at (c8 .head-of .ensures) in
     let q = rw (c .enum-told2 .given .1, c3 .bytes-of .ensures) at (c2 .compare .ensures) in
-    narrowed-lower (c16 .args .sheet .now) (c16 .args .words .now) (c16 .args .holder .first) (c16 .args .holder .count) (c16 .args .name .now) (c10 .loop .low) (c10 .loop .high) (c10 .loop .inv) (c10 .loop .low + (c10 .loop .high - c10 .loop .low) / 2) (omega (arith, c9 .loop-test .taken)) (omega (arith, c9 .loop-test .taken)) (fieldOf (c16 .args .sheet .now) (c6 .head .given .0 .0)) _ (e .0 .reads) (q .before-is)
+    narrowed-lower (c16 .args .sheet .now) (c16 .args .words .now) (c16 .args .holder .first) (c16 .args .holder .count) (c16 .args .name .now) (c10 .loop .low) (c10 .loop .high) (c10 .loop .inv) (c10 .loop .low + (c10 .loop .high - c10 .loop .low) / 2) (omega (arith, c9 .loop-test .taken)) (omega (arith, c9 .loop-test .taken)) (fieldOf (c16 .args .sheet .now) (c6 .head .given .0 .0)) e (q .before-is)
 
 enum-told-3 : tie.Need-enum-told-3 Inv-loop μ-loop
 enum-told-3 c = search needs
@@ -101,7 +101,7 @@ loop-again-2 c =
     let c16 = c10 .before .before .before .before .before .before in
     let e = rw (c6 .head .given .1) at (c8 .head-of .ensures) in
     let q = rw (c .enum-told3 .given .1, c3 .bytes-of .ensures) at (c2 .compare .ensures) in
-    narrowed-upper (c16 .args .sheet .now) (c16 .args .words .now) (c16 .args .holder .first) (c16 .args .holder .count) (c16 .args .name .now) (c10 .loop .low) (c10 .loop .high) (c10 .loop .inv) (c10 .loop .low + (c10 .loop .high - c10 .loop .low) / 2) (omega (arith, c9 .loop-test .taken)) (omega (arith, c9 .loop-test .taken)) (fieldOf (c16 .args .sheet .now) (c6 .head .given .0 .0)) _ (e .0 .reads) (q .behind-is)
+    narrowed-upper (c16 .args .sheet .now) (c16 .args .words .now) (c16 .args .holder .first) (c16 .args .holder .count) (c16 .args .name .now) (c10 .loop .low) (c10 .loop .high) (c10 .loop .inv) (c10 .loop .low + (c10 .loop .high - c10 .loop .low) / 2) (omega (arith, c9 .loop-test .taken)) (omega (arith, c9 .loop-test .taken)) (fieldOf (c16 .args .sheet .now) (c6 .head .given .0 .0)) e (q .behind-is)
 
 enum-told-4 : tie.Need-enum-told-4 Inv-loop μ-loop
 enum-told-4 c = search needs
@@ -118,7 +118,7 @@ returns-4 c =
     let c16 = c10 .before .before .before .before .before .before in
     let e = rw (c6 .head .given .1) at (c8 .head-of .ensures) in
     let q = rw (c .enum-told4 .given .1, c3 .bytes-of .ensures) at (c2 .compare .ensures) in
-    narrowed-found (c16 .args .sheet .now) (c16 .args .words .now) (c16 .args .holder .first) (c16 .args .holder .count) (c16 .args .name .now) (c10 .loop .low) (c10 .loop .high) (c10 .loop .inv) (c10 .loop .low + (c10 .loop .high - c10 .loop .low) / 2) (omega (arith, c9 .loop-test .taken)) (omega (arith, c9 .loop-test .taken)) (fieldOf (c16 .args .sheet .now) (c6 .head .given .0 .0)) _ (e .0 .reads) (c16 .args .holder .opened) (q .same-is)
+    narrowed-found (c16 .args .sheet .now) (c16 .args .words .now) (c16 .args .holder .first) (c16 .args .holder .count) (c16 .args .name .now) (c10 .loop .low) (c10 .loop .high) (c10 .loop .inv) (c10 .loop .low + (c10 .loop .high - c10 .loop .low) / 2) (omega (arith, c9 .loop-test .taken)) (omega (arith, c9 .loop-test .taken)) (fieldOf (c16 .args .sheet .now) (c6 .head .given .0 .0)) e (c16 .args .holder .opened) (q .same-is)
 
 returns-5 : tie.Need-returns-5 Inv-loop μ-loop
 returns-5 c =
