@@ -1,13 +1,14 @@
 // Text as bytes: UTF-8, White_Space, blank text, and text trimmed at both ends. Every function takes any bytes.
 ghost use mathlib.Core.Path.{_≡_};
 ghost use mathlib.Core.Bool.{true};
-ghost use Prim.Native.Nat.{_+_, _≤_};
+ghost use Prim.Native.Nat.{_+_, _*_, _≤_};
 ghost use lib.ListN.{length, drop};
 ghost use Rattle.text.specs.Utf8.{between, isTail, isUtf8-2, isSecondOf3, isUtf8-3, isSecondOf4, isUtf8-4, isUtf8};
 ghost use Rattle.text.specs.Utf8.{codeOf2, codeOf3, codeOf4};
 ghost use Rattle.text.specs.WhiteSpace.{isWhiteSpace};
 ghost use Rattle.text.specs.Blank.{isBlank, trim};
 ghost use Rattle.text.specs.Decodes.{Decodes, StartsAt, EndsAt};
+ghost use Rattle.text.specs.Digits.{Digits};
 
 // What stands at an offset of a text.
 pub enum Decoded {
@@ -97,6 +98,34 @@ fn code_of_4(a: u8, b: u8, c: u8, d: u8) -> u32
     ensures { λ r. ⌜ r ≡ codeOf4 a b c d ⌝ }
 {
     (a as u32) % 8 * 262144 + (b as u32) % 64 * 4096 + (c as u32) % 64 * 64 + (d as u32) % 64
+}
+
+// Four bytes as one number, the first its lowest digit.
+fn four(a: u8, b: u8, c: u8, d: u8) -> u32
+    ensures { λ r. ⌜ r ≡ a + b * 256 + c * 65536 + d * 16777216 ⌝ }
+{
+    (a as u32) + (b as u32) * 256 + (c as u32) * 65536 + (d as u32) * 16777216
+}
+
+fn four_at(s: &[u8], at: usize) -> u32
+    requires { ⌜ at + 4 ≤ length (now s) ⌝ }
+    ensures { λ r. ⌜ Digits 4 (now (s .entry)) at r ⌝ }
+{
+    four(s[at], s[at + 1], s[at + 2], s[at + 3])
+}
+
+fn wider(n: u32) -> u64
+    ensures { λ r. ⌜ r ≡ n ⌝ }
+{
+    n as u64
+}
+
+// Eight bytes as one number. The compiler reads them all at once.
+pub fn eight_at(s: &[u8], at: usize) -> u64
+    requires { ⌜ at + 8 ≤ length (now s) ⌝ }
+    ensures { λ r. ⌜ Digits 8 (now (s .entry)) at r ⌝ }
+{
+    wider(four_at(s, at)) + wider(four_at(s, at + 4)) * 4294967296
 }
 
 // The code point whose bytes begin at an offset.
