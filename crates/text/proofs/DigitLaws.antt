@@ -1,8 +1,9 @@
 -- Numbers whose digits are the bytes of a text: how they are put together, and what one of them says of its bytes.
-use Prim.Native.Nat.{ℕ, zero, suc, _+_, _*_, _≤_, _<_}
-use mathlib.Core.Path.{_≡_, ap, sym, _∙_}
+use Prim.Native.Nat.{ℕ, zero, suc, _+_, _*_, _/_, _%_, _≤_, _<_}
+use mathlib.Core.Path.{_≡_, ap, ap₂, sym, _∙_}
 use mathlib.Core.List.{List}
 use native.Mathlib.Omega.{arith}
+use lib.Bits.{bitAnd, and-block, and-shr, and-mask}
 use lib.ListN.{getD}
 use Rattle.text.specs.Digits.{number, Digits}
 
@@ -52,3 +53,39 @@ pub same-digits
     → getD s (at + k) 0 ≡ getD t (at + k) 0
 same-digits n s t at x y e =
     number-same n (λ k. getD s (at + k) 0) (λ k. getD t (at + k) 0) (λ k. x .below (at + k)) (λ k. y .below (at + k)) (sym (x .value-is) ∙ e ∙ y .value-is)
+
+-- a byte without its highest bit is ASCII
+byte-ascii : (b : ℕ) → b < 256 → bitAnd b 0x80 ≡ 0 → b ≤ 0x7F
+byte-ascii b h e =
+    let even : (b / 128) % 2 ≡ 0 = sym (and-mask (b / 128) 1) ∙ sym (and-shr b 0x80 7) ∙ ap (λ (x : ℕ). x / 128) e in
+    omega arith
+
+lowest-apart : (a x y : ℕ) → a < 256 → bitAnd (a + 256 * x) (0x80 + 256 * y) ≡ 0 → (bitAnd a 0x80 ≡ 0) × (bitAnd x y ≡ 0)
+lowest-apart a x y h e =
+    let p : x * 256 + a ≡ a + 256 * x = omega arith in
+    let q : y * 256 + 0x80 ≡ 0x80 + 256 * y = omega arith in
+    let none : bitAnd x y * 256 + bitAnd a 0x80 ≡ 0 = sym (and-block 8 x y a 0x80 h (omega arith)) ∙ ap₂ bitAnd p q ∙ e in
+    (omega arith, omega arith)
+
+number-ascii
+    : (n : ℕ) (f : ℕ → ℕ)
+    → ((k : ℕ) → f k < 256)
+    → bitAnd (number n f) (number n (λ k. 0x80)) ≡ 0
+    → (k : ℕ)
+    → k < n
+    → f k ≤ 0x7F
+unfolding number
+number-ascii zero f below e k h = absurd (omega arith)
+number-ascii (suc n) f below e zero h = byte-ascii (f 0) (below 0) (lowest-apart (f 0) _ _ (below 0) e .0)
+number-ascii (suc n) f below e (suc k) h =
+    number-ascii n (λ j. f (suc j)) (λ j. below (suc j)) (lowest-apart (f 0) _ _ (below 0) e .1) k (omega arith)
+
+pub digits-ascii
+    : (n : ℕ) (s : List ℕ) (at : ℕ) {v : ℕ}
+    → Digits n s at v
+    → bitAnd v (number n (λ k. 0x80)) ≡ 0
+    → (k : ℕ)
+    → k < n
+    → getD s (at + k) 0 ≤ 0x7F
+digits-ascii n s at d e =
+    number-ascii n (λ k. getD s (at + k) 0) (λ k. d .below (at + k)) (ap (λ (v : ℕ). bitAnd v (number n (λ k. 0x80))) (sym (d .value-is)) ∙ e)
