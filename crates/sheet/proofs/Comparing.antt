@@ -1,15 +1,16 @@
 -- Laws of the order of two texts: by their first bytes, and by their bytes from a place on.
-use Prim.Native.Nat.{ℕ, _+_, _<_, _≤_}
-use mathlib.Core.Path.{_≡_, refl}
+use Prim.Native.Nat.{ℕ, zero, suc, _+_, _-_, _<_, _≤_}
+use mathlib.Core.Path.{_≡_, refl, ap, sym, _∙_}
 use mathlib.Core.Bool.{Bool, true, false}
 use mathlib.Core.List.{List, [], _∷_}
 use native.Mathlib.Omega.{arith}
 use native.Mathlib.Numerals.{add-one}
 use lib.ListN.{length, drop, getD, drop-of-length-le}
+use lib.Dec.{ltb}
 use lib.Seq.{drop-cons}
-use borrow.Author.Tests.{lt-ltb, le-ltb, eq-eqb, ne-eqb}
+use borrow.Author.Tests.{lt-ltb, le-ltb, eq-eqb, ne-eqb, ltb-true, ltb-false}
 use Rattle.sheet.specs.Order.{precedes, sameBytes}
-use Rattle.sheet.specs.Compares.{Stand}
+use Rattle.sheet.specs.Compares.{Stand, SameAt, SameStart}
 
 cons-same : (x y : ℕ) {s t : List ℕ} {p q r : Bool} → x ≡ y → Stand s t p q r → Stand (x ∷ s) (y ∷ t) p q r
 unfolding precedes sameBytes
@@ -74,3 +75,34 @@ module _ (a b : List ℕ) (i : ℕ) (goes : Goes a b i) where
 
       pub goes-on : getD a i 0 ≡ getD b i 0 → Goes a b (i + 1)
       goes-on e p q r h = goes p q r (rw (drop-cons a i 0 ha, drop-cons b i 0 hb) (cons-same _ _ e (rw (add-one i) at h)))
+
+-- Bytes that are passed over by eights
+
+pub same-none : (a b : List ℕ) → SameStart a b 0
+same-none a b = record { in-first = omega arith; in-second = omega arith; same = λ k h. absurd (omega arith) }
+
+pub same-more
+    : (a b : List ℕ) (i : ℕ)
+    → SameStart a b i
+    → i + 8 ≤ length a
+    → i + 8 ≤ length b
+    → SameAt a b i 8
+    → SameStart a b (i + 8)
+same-more a b i h p q at = record { in-first = p; in-second = q; same = λ k l. go k l (ltb k i) refl }
+  where
+    go : (k : ℕ) → k < i + 8 → (t : Bool) → ltb k i ≡ t → getD a k 0 ≡ getD b k 0
+    go k l true e = h .same k (ltb-true k i e)
+    go k l false e =
+        let below = ltb-false k i e in
+        let back : i + (k - i) ≡ k = omega arith in
+        ap (λ (j : ℕ). getD a j 0) (sym back) ∙ at (k - i) (omega arith) ∙ ap (λ (j : ℕ). getD b j 0) back
+
+goes-from : (a b : List ℕ) (n : ℕ) → SameStart a b n → (i : ℕ) → i ≤ n → Goes a b i
+goes-from a b n h zero l = λ p q r s. s
+goes-from a b n h (suc i) l =
+    rw (sym (add-one i))
+    (goes-on a b i (goes-from a b n h i (omega arith)) (omega (arith, h .in-first)) (omega (arith, h .in-second)) (h .same i (omega arith)))
+
+-- so do the texts stand behind the bytes that are the same
+pub goes-start : (a b : List ℕ) (n : ℕ) → SameStart a b n → Goes a b n
+goes-start a b n h = goes-from a b n h n (omega arith)

@@ -1,5 +1,9 @@
 // The order of texts by their bytes.
-ghost use Rattle.sheet.specs.Compares.{Compares};
+ghost use mathlib.Core.Path.{_≡_};
+ghost use mathlib.Core.Bool.{true};
+ghost use Prim.Native.Nat.{_+_, _≤_, min};
+ghost use lib.ListN.{length};
+ghost use Rattle.sheet.specs.Compares.{Compares, SameAt, SameStart};
 
 pub enum ByteOrder {
     Less,
@@ -7,10 +11,39 @@ pub enum ByteOrder {
     Greater,
 }
 
+fn shorter(a: &[u8], b: &[u8]) -> usize
+    ensures { λ r. ⌜ r ≡ min (length (now (a .entry))) (length (now (b .entry))) ⌝ }
+{
+    if a.len() < b.len() { a.len() } else { b.len() }
+}
+
+fn is_same_8(a: &[u8], b: &[u8], i: usize) -> bool
+    requires { ⌜ (i + 8 ≤ length (now a)) × (i + 8 ≤ length (now b)) ⌝ }
+    ensures { λ r. ⌜ (r ≡ true → SameAt (now (a .entry)) (now (b .entry)) i 8) ⌝ }
+{
+    text::eight_at(a, i) == text::eight_at(b, i)
+}
+
+// How many bytes at the start are the same, as far as eights go: one comparison passes over eight bytes.
+fn same_start(a: &[u8], b: &[u8]) -> usize
+    ensures { λ r. ⌜ SameStart (now (a .entry)) (now (b .entry)) r ⌝ }
+{
+    let n = shorter(a, b);
+    let mut i = 0;
+    while 8 <= n - i {
+        if is_same_8(a, b, i) {
+            i += 8;
+        } else {
+            return i;
+        }
+    }
+    i
+}
+
 pub fn compare(a: &[u8], b: &[u8]) -> ByteOrder
     ensures { λ r. ⌜ Compares (now (a .entry)) (now (b .entry)) r ⌝ }
 {
-    let mut i = 0;
+    let mut i = same_start(a, b);
     while i < a.len() {
         if b.len() <= i {
             return ByteOrder::Greater;

@@ -4,6 +4,7 @@ pub mod White
 pub mod Decode
 pub mod Shape
 pub mod Points
+pub mod DigitLaws
 pub mod Passes
 pub mod End
 pub mod TextLaws

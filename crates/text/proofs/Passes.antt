@@ -1,5 +1,5 @@
 -- What the loops over a text keep from turn to turn: the answer for the rest is the answer for the whole.
-use Prim.Native.Nat.{ℕ, _+_, _≤_, _<_}
+use Prim.Native.Nat.{ℕ, zero, suc, _+_, _≤_, _<_}
 use mathlib.Core.Path.{_≡_, refl, sym, ap, _∙_}
 use mathlib.Core.Bool.{Bool, true, false}
 use mathlib.Core.List.{List}
@@ -9,6 +9,7 @@ use lib.ListN.{length, getD, drop, length-drop, drop-of-length-le}
 use Rattle.text.specs.Utf8.{utf8-1, utf8-2, utf8-3, utf8-4, orElse, decodeOne, isUtf8}
 use Rattle.text.specs.WhiteSpace.{isWhiteSpace}
 use Rattle.text.specs.Blank.{isBlank, trimStart}
+use Rattle.text.specs.Decodes.{PassedTo}
 use Rattle.text.proofs.Decode.{one-byte}
 use Rattle.text.proofs.Points.{utf8-empty, utf8-none, utf8-some, blank-empty, blank-none, blank-some, start-none, start-white, start-other}
 
@@ -23,16 +24,38 @@ pub ascii-step
     → isUtf8 (drop next s) ≡ isUtf8 (drop at s)
 ascii-step s at next e h l = rw e (sym (utf8-some (drop at s) (one-byte s at h l refl)))
 
+pub ascii-steps
+    : (s : List ℕ) (at n : ℕ)
+    → at + n ≤ length s
+    → ((k : ℕ) → k < n → getD s (at + k) 0 ≤ 0x7F)
+    → isUtf8 (drop (at + n) s) ≡ isUtf8 (drop at s)
+ascii-steps s at zero h l = let e : at + 0 ≡ at = omega arith in ap (λ (i : ℕ). isUtf8 (drop i s)) e
+ascii-steps s at (suc n) h l =
+    ascii-step s (at + n) (at + suc n) (omega arith) (omega arith) (l n (omega arith))
+    ∙ ascii-steps s at n (omega arith) (λ k b. l k (omega arith))
+
+pub passed-none : (s : List ℕ) (from : ℕ) → from ≤ length s → PassedTo s from from
+passed-none s from h = record { forward = omega arith; within = h; kept = refl }
+
+pub passed-eight
+    : (s : List ℕ) (from at : ℕ)
+    → PassedTo s from at
+    → at + 8 ≤ length s
+    → isUtf8 (drop (at + 8) s) ≡ isUtf8 (drop at s)
+    → PassedTo s from (at + 8)
+passed-eight s from at p h e = record { forward = omega (arith, p .forward); within = h; kept = e ∙ p .kept }
+
 module _ (s : List ℕ) (at : ℕ) where
   module _ (kept : isUtf8 (drop at s) ≡ isUtf8 s) where
     pub utf8-ascii : at < length s → getD s at 0 ≤ 0x7F → isUtf8 (drop (at + 1) s) ≡ isUtf8 s
     utf8-ascii h l = ascii-step s at (at + 1) refl h l ∙ kept
 
-    pub utf8-skipped : (next : ℕ) → isUtf8 (drop next s) ≡ isUtf8 (drop at s) → isUtf8 (drop next s) ≡ isUtf8 s
-    utf8-skipped next e = e ∙ kept
-
-    pub utf8-again : {c : ℕ} (next : ℕ) → decodeOne (drop at s) ≡ some (c, drop next s) → isUtf8 (drop next s) ≡ isUtf8 s
-    utf8-again next e = sym (utf8-some (drop at s) e) ∙ kept
+    pub utf8-again
+        : {c : ℕ} (next to : ℕ)
+        → decodeOne (drop at s) ≡ some (c, drop next s)
+        → PassedTo s next to
+        → isUtf8 (drop to s) ≡ isUtf8 s
+    utf8-again next to e p = p .kept ∙ sym (utf8-some (drop at s) e) ∙ kept
 
     pub utf8-refused : at < length s → decodeOne (drop at s) ≡ none → false ≡ isUtf8 s
     utf8-refused h e = sym (utf8-none (drop at s) (more-left s at h) e) ∙ kept

@@ -4,7 +4,7 @@ use mathlib.Core.Path.{_≡_}
 use mathlib.Core.List.{List}
 use mathlib.Core.Option.{none, some}
 use lib.ListN.{length, take, drop}
-use Rattle.text.specs.Utf8.{decodeOne}
+use Rattle.text.specs.Utf8.{decodeOne, isUtf8}
 use Rattle.text.specs.Blank.{trimStart, trimEnd}
 use Rattle.text.specs.declared.Decoded.{Decoded}
 use Rattle.text.specs.declared.Decoded.the-variants.{CodePoint, Malformed}
@@ -13,6 +13,12 @@ use Rattle.text.specs.declared.Decoded.the-variants.{CodePoint, Malforme
 abbrev pub Decodes : List ℕ → ℕ → Decoded → Type 0
 Decodes s at (CodePoint c next) = (decodeOne (drop at s) ≡ some (c, drop next s)) × (at < next) × (next ≤ length s)
 Decodes s at Malformed = decodeOne (drop at s) ≡ none
+
+-- a part that says nothing of whether the text is UTF-8 ends there
+pub record PassedTo (s : List ℕ) (from to : ℕ) : Type 0 where
+  pub forward : from ≤ to
+  pub within : to ≤ length s
+  pub kept : isUtf8 (drop to s) ≡ isUtf8 (drop from s)
 
 pub record StartsAt (s : List ℕ) (start : ℕ) : Type 0 where
   pub within : start ≤ length s

@@ -2,3 +2,4 @@ pub mod Utf8
 pub mod WhiteSpace
 pub mod Blank
 pub mod Decodes
+pub mod Digits

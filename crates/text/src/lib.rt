@@ -1,13 +1,14 @@
 // Text as bytes: UTF-8, White_Space, blank text, and text trimmed at both ends. Every function takes any bytes.
 ghost use mathlib.Core.Path.{_≡_};
 ghost use mathlib.Core.Bool.{true};
-ghost use Prim.Native.Nat.{_+_, _≤_};
+ghost use Prim.Native.Nat.{_+_, _*_, _≤_};
 ghost use lib.ListN.{length, drop};
 ghost use Rattle.text.specs.Utf8.{between, isTail, isUtf8-2, isSecondOf3, isUtf8-3, isSecondOf4, isUtf8-4, isUtf8};
 ghost use Rattle.text.specs.Utf8.{codeOf2, codeOf3, codeOf4};
 ghost use Rattle.text.specs.WhiteSpace.{isWhiteSpace};
 ghost use Rattle.text.specs.Blank.{isBlank, trim};
-ghost use Rattle.text.specs.Decodes.{Decodes, StartsAt, EndsAt};
+ghost use Rattle.text.specs.Decodes.{Decodes, PassedTo, StartsAt, EndsAt};
+ghost use Rattle.text.specs.Digits.{Digits};
 
 // What stands at an offset of a text.
 pub enum Decoded {
@@ -99,6 +100,34 @@ fn code_of_4(a: u8, b: u8, c: u8, d: u8) -> u32
     (a as u32) % 8 * 262144 + (b as u32) % 64 * 4096 + (c as u32) % 64 * 64 + (d as u32) % 64
 }
 
+// Four bytes as one number, the first its lowest digit.
+fn four(a: u8, b: u8, c: u8, d: u8) -> u32
+    ensures { λ r. ⌜ r ≡ a + b * 256 + c * 65536 + d * 16777216 ⌝ }
+{
+    (a as u32) + (b as u32) * 256 + (c as u32) * 65536 + (d as u32) * 16777216
+}
+
+fn four_at(s: &[u8], at: usize) -> u32
+    requires { ⌜ at + 4 ≤ length (now s) ⌝ }
+    ensures { λ r. ⌜ Digits 4 (now (s .entry)) at r ⌝ }
+{
+    four(s[at], s[at + 1], s[at + 2], s[at + 3])
+}
+
+fn wider(n: u32) -> u64
+    ensures { λ r. ⌜ r ≡ n ⌝ }
+{
+    n as u64
+}
+
+// Eight bytes as one number. The compiler reads them all at once.
+pub fn eight_at(s: &[u8], at: usize) -> u64
+    requires { ⌜ at + 8 ≤ length (now s) ⌝ }
+    ensures { λ r. ⌜ Digits 8 (now (s .entry)) at r ⌝ }
+{
+    wider(four_at(s, at)) + wider(four_at(s, at + 4)) * 4294967296
+}
+
 // The code point whose bytes begin at an offset.
 pub fn decode_one(s: &[u8], at: usize) -> Decoded
     ensures { λ r. ⌜ Decodes (now (s .entry)) at r ⌝ }
@@ -154,38 +183,37 @@ pub fn is_white_space(c: u32) -> bool
     }
 }
 
-// 0 for an ASCII byte, 1 for any other.
-fn high_bit(b: u8) -> u8
-    ensures { λ r. ⌜ (r ≤ 1) × (r ≡ 0 → b ≤ 0x7F) ⌝ }
-{
-    if b <= 0x7F { 0 } else { 1 }
-}
-
-// Whether eight bytes are ASCII, and so may be passed over. A sum takes no branch: the machine looks at all eight at once.
+// Whether eight bytes are ASCII, and so may be passed over: none of them has its highest bit set.
 fn is_ascii_8(s: &[u8], at: usize) -> bool
     requires { ⌜ at + 8 ≤ length (now s) ⌝ }
     ensures { λ r. ⌜ (r ≡ true → isUtf8 (drop (at + 8) (now (s .entry))) ≡ isUtf8 (drop at (now (s .entry)))) ⌝ }
 {
-    let a = high_bit(s[at]) + high_bit(s[at + 1]);
-    let b = a + high_bit(s[at + 2]) + high_bit(s[at + 3]);
-    let c = b + high_bit(s[at + 4]) + high_bit(s[at + 5]);
-    let d = c + high_bit(s[at + 6]) + high_bit(s[at + 7]);
-    d == 0
+    eight_at(s, at) & 0x8080808080808080 == 0
 }
 
-// Whether a text is UTF-8.
+// Behind the eights of ASCII bytes that begin at an offset.
+fn behind_ascii(s: &[u8], from: usize) -> usize
+    requires { ⌜ from ≤ length (now s) ⌝ }
+    ensures { λ r. ⌜ PassedTo (now (s .entry)) from r ⌝ }
+{
+    let mut at = from;
+    while 8 <= s.len() - at {
+        if is_ascii_8(s, at) {
+            at += 8;
+        } else {
+            return at;
+        }
+    }
+    at
+}
+
+// Whether a text is UTF-8. Eights are looked for at the start and behind each code point that is not ASCII, and not at every byte: most
+// texts are short.
 pub fn is_utf8(s: &[u8]) -> bool
     ensures { λ r. ⌜ r ≡ isUtf8 (now (s .entry)) ⌝ }
 {
-    let mut at = 0;
+    let mut at = behind_ascii(s, 0);
     while at < s.len() {
-        // Most text is ASCII: such bytes need no call.
-        if 8 <= s.len() - at {
-            if is_ascii_8(s, at) {
-                at += 8;
-                continue;
-            }
-        }
         if s[at] <= 0x7F {
             at += 1;
             continue;
@@ -193,7 +221,7 @@ pub fn is_utf8(s: &[u8]) -> bool
         let Decoded::CodePoint(_, next) = decode_one(s, at) else {
             return false;
         };
-        at = next;
+        at = behind_ascii(s, next);
     }
     true
 }

@@ -1,14 +1,18 @@
 -- The search for the first dot: what was passed is the beginning of the first segment.
-use Prim.Native.Nat.{ℕ, _+_, _<_, _≤_}
+use Prim.Native.Nat.{ℕ, zero, suc, _+_, _-_, _<_, _≤_}
+use Prim.Native.Char.{code}
 use native.Mathlib.Omega.{arith}
+use native.Mathlib.Nat.{add-zero}
 use native.Mathlib.Numerals.{add-one}
 use mathlib.Core.List.{List, [], _∷_, _++_, append-nil, append-assoc}
 use mathlib.Core.Path.{_≡_, refl, ap, sym, _∙_}
 use lib.ListN.{length, take, drop, getD, drop-of-length-le}
 use lib.Seq.{drop-cons, take-suc, take-all, take-length}
-use borrow.Author.Tests.{eq-eqb, ne-eqb}
+use lib.Dec.{ltb, eqb}
+use mathlib.Core.Bool.{Bool, true, false, not, _&&_, false≢true}
+use borrow.Author.Tests.{eq-eqb, ne-eqb, eqb-false, ltb-true, ltb-false, not-true}
 use Rattle.reference.specs.Path.{Segments, split, cut, extend}
-use Rattle.walk.specs.Dots.{Cuts, Ends}
+use Rattle.walk.specs.Dots.{Cuts, Ends, DotlessAt, DotlessStart}
 use Rattle.walk.specs.declared.path.Dot.{Dot}
 use Rattle.walk.specs.declared.path.Dot.the-variants.{At, Nowhere}
 
@@ -36,6 +40,58 @@ passed-dot path i h less dot = h ∙ rw (add-one, drop-cons path i 0, eq-eqb (ge
 pub passed-all : (path : List ℕ) (i : ℕ) → Passed path i → length path ≤ i → split path ≡ record { first = path; others = [] }
 unfolding behind split
 passed-all path i h end = h ∙ rw (drop-of-length-le path end, take-all i path, append-nil)
+
+-- Bytes that are passed over by eights
+
+both : (p q : Bool) → (p && q) ≡ true → (p ≡ true) × (q ≡ true)
+both true q e = (refl, e)
+both false q e = absurd (false≢true e)
+
+unfoldable pub all : ℕ → (ℕ → Bool) → Bool
+all zero p = true
+all (suc n) p = all n p && p n
+
+all-true : (n : ℕ) (p : ℕ → Bool) → all n p ≡ true → (k : ℕ) → k < n → p k ≡ true
+unfolding all
+all-true zero p e k h = absurd (omega arith)
+all-true (suc n) p e k h = go (ltb k n) refl (all-true n p (both (all n p) (p n) e .0) k)
+  where
+    go : (t : Bool) → ltb k n ≡ t → (k < n → p k ≡ true) → p k ≡ true
+    go true u before = before (ltb-true k n u)
+    go false u before = let above = ltb-false k n u in let last : k ≡ n = omega arith in rw last (both (all n p) (p n) e .1)
+
+-- the bytes from place `i` on, tested
+abbrev pub other : List ℕ → ℕ → ℕ → Bool
+other path i k = not (eqb (getD path (i + k) 0) (code "."))
+
+pub all-dotless : (path : List ℕ) (i n : ℕ) → all n (other path i) ≡ true → DotlessAt path i n
+all-dotless path i n e k h = eqb-false (getD path (i + k) 0) (code ".") (not-true _ (all-true n (other path i) e k h))
+
+pub dotless-none : (path : List ℕ) → DotlessStart path 0
+dotless-none path = record { within = omega arith; dotless = λ k h. absurd (omega arith) }
+
+pub dotless-more
+    : (path : List ℕ) (i : ℕ)
+    → DotlessStart path i
+    → i + 8 ≤ length path
+    → DotlessAt path i 8
+    → DotlessStart path (i + 8)
+dotless-more path i h p at = record { within = p; dotless = λ k l. go k l (ltb k i) refl }
+  where
+    go : (k : ℕ) → k < i + 8 → (t : Bool) → ltb k i ≡ t → getD path k 0 ≡ code "." → ⊥
+    go k l true e = h .dotless k (ltb-true k i e)
+    go k l false e =
+        let above = ltb-false k i e in
+        let back : i + (k - i) ≡ k = omega arith in
+        λ dot. at (k - i) (omega arith) (ap (λ (j : ℕ). getD path j 0) back ∙ dot)
+
+passed-from : (path : List ℕ) (n : ℕ) → DotlessStart path n → (i : ℕ) → i ≤ n → Passed path i
+passed-from path n h zero l = passed-none path
+passed-from path n h (suc i) l =
+    rw (sym (add-one i)) (passed-more path i (passed-from path n h i (omega arith)) (omega (arith, h .within)) (h .dotless i (omega arith)))
+
+pub passed-start : (path : List ℕ) (n : ℕ) → DotlessStart path n → Passed path n
+passed-start path n h = passed-from path n h n (omega arith)
 
 -- Where the first segment ends
 

@@ -1,7 +1,7 @@
 -- `walk::path::first_dot` meets its contract.
 use Prim.Native.Nat.{_≤_, _-_}
 use lib.ListN.{length}
-use Rattle.walk.proofs.Dots.{Passed, passed-none, passed-more, passed-dot, passed-all}
+use Rattle.walk.proofs.Dots.{Passed, passed-start, passed-more, passed-dot, passed-all}
 use native.Mathlib.Omega.{arith}
 use borrow.Author.Needs.{needs}
 use Rattle.walk.proofs.path.first_dot.Statement.{statement}
@@ -13,8 +13,11 @@ Inv-loop path i₀ i = (i ≤ length path) × Passed path i
 abbrev μ-loop : tie.MeasureT-loop
 μ-loop path i₀ i = length path - i
 
+dotless-start-requires : tie.Need-dotless-start-requires Inv-loop μ-loop
+dotless-start-requires c κs = search needs
+
 loop-holds : tie.Need-loop-holds Inv-loop μ-loop
-loop-holds c = (omega arith, passed-none _)
+loop-holds c = (c .dotless-start .ensures .within, passed-start _ (c .dotless-start .result) (c .dotless-start .ensures))
 
 shared-slice-read-if1 : tie.Need-shared-slice-read-if1 Inv-loop μ-loop
 shared-slice-read-if1 c = search needs
@@ -40,6 +43,7 @@ first-dot-spec =
     (tie.spec
     Inv-loop
     μ-loop
+    dotless-start-requires
     loop-holds
     shared-slice-read-if1
     returns

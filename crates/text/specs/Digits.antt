@@ -1,0 +1,15 @@
+-- Bytes as the digits of one number.
+use Prim.Native.Nat.{ℕ, zero, suc, _+_, _*_, _<_}
+use mathlib.Core.List.{List}
+use mathlib.Core.Path.{_≡_}
+use lib.ListN.{getD}
+
+-- the number to base 256 of so many digits, the lowest first
+unfoldable pub number : ℕ → (ℕ → ℕ) → ℕ
+number zero digit = 0
+number (suc n) digit = digit 0 + 256 * number n (λ k. digit (suc k))
+
+-- `n` bytes of a text, from a place on, are the digits of a number
+pub record Digits (n : ℕ) (s : List ℕ) (at value : ℕ) : Type 0 where
+  pub value-is : value ≡ number n (λ k. getD s (at + k) 0)
+  pub below : (i : ℕ) → getD s i 0 < 256
