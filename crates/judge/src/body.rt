@@ -124,60 +124,21 @@ pub fn validate_condition_body(
             let d = require(b, count == 0, Fault::Empty, i + 1, over);
             validate_conditions(d, schema, rule, words, scope, over, i + 1, end, left - 1)
         }
-        ConditionHead::Negation => validate_conditions(
-            b,
-            schema,
-            rule,
-            words,
-            scope,
-            over,
-            i + 1,
-            end,
-            left - 1,
-        ),
-        ConditionHead::One(_) => validate_references(
-            b,
-            schema,
-            rule,
-            words,
-            scope,
-            over,
-            i + 1,
-            end,
-        ),
-        ConditionHead::Two(op) => validate_pair(
-            b,
-            schema,
-            rule,
-            words,
-            scope,
-            over,
-            op,
-            i + 1,
-            end,
-        ),
-        ConditionHead::Comparison(_) => validate_comparison(
-            b,
-            schema,
-            rule,
-            words,
-            scope,
-            over,
-            i + 1,
-            end,
-        ),
-        ConditionHead::Quantifier(_, name) => validate_quantifier(
-            b,
-            schema,
-            rule,
-            words,
-            scope,
-            over,
-            name,
-            i,
-            end,
-            left - 1,
-        ),
+        ConditionHead::Negation => {
+            validate_conditions(b, schema, rule, words, scope, over, i + 1, end, left - 1)
+        }
+        ConditionHead::One(_) => {
+            validate_references(b, schema, rule, words, scope, over, i + 1, end)
+        }
+        ConditionHead::Two(op) => {
+            validate_pair(b, schema, rule, words, scope, over, op, i + 1, end)
+        }
+        ConditionHead::Comparison(_) => {
+            validate_comparison(b, schema, rule, words, scope, over, i + 1, end)
+        }
+        ConditionHead::Quantifier(_, name) => {
+            validate_quantifier(b, schema, rule, words, scope, over, name, i, end, left - 1)
+        }
     }
 }
 
@@ -223,39 +184,19 @@ fn validate_quantifier(
     ensures { λ r. ⌜ QuantifierJudged (frame (now (schema .entry)) (now (rule .entry)) (now (words .entry)) scope over) (partOf (now (rule .entry)) name) i end left a r ⌝ }
 {
     let start = i + 1;
-    let middle = behind(words, start, end);
+    let mid = behind(words, start, end);
     let wrong = is_wrong_bind(bytes_of(rule, name));
     let b = require(a, wrong, Fault::Bind, start, over);
-    let d = validate_references(b, schema, rule, words, scope, over, start, middle);
+    let d = validate_references(b, schema, rule, words, scope, over, start, mid);
     let within = Over::In(start + 1);
     match collection_of(schema, rule, words, scope, start) {
         Collected::Known(slot) => {
             let inner = bind(scope, name, Element::Known(slot));
-            validate_conditions(
-                pass(d),
-                schema,
-                rule,
-                words,
-                inner,
-                within,
-                middle,
-                end,
-                left,
-            )
+            validate_conditions(pass(d), schema, rule, words, inner, within, mid, end, left)
         }
         Collected::Unknown => {
             let inner = bind(scope, name, Element::Unknown);
-            validate_conditions(
-                pass(d),
-                schema,
-                rule,
-                words,
-                inner,
-                within,
-                middle,
-                end,
-                left,
-            )
+            validate_conditions(pass(d), schema, rule, words, inner, within, mid, end, left)
         }
         Collected::No(fault, at) => fail(d, Fault::Collection(fault, at), start, over),
     }
