@@ -25,21 +25,21 @@ use Rattle.walk.specs.declared.answer.Collected.the-variants as Collected
 use Rattle.walk.specs.declared.answer.CollectionFault.the-variants.{NotString}
 use Rattle.validation.specs.Check.{Binder, check, failsIf, entryOf, isString, hasDot, operatorCheck, isEmpty, operand, compareSide, body, bodies, depth, depthOfConditions}
 use Rattle.validation.specs.Judge.{outcome}
-use Rattle.judge.specs.Nodes.{IsCondition, AreConditions, Behind}
-use Rattle.judge.specs.Verdicts.{numberOf, detailOf, sideDetail, failed, GoesOn, PassedOn, Failed, Required}
+use Rattle.value_checks.specs.Nodes.{IsCondition, AreConditions, Behind}
+use Rattle.value_checks.specs.Verdicts.{numberOf, detailOf, sideDetail, failed, GoesOn, PassedOn, Failed, Required}
 use Rattle.scope.specs.Collections.{CollectionIs}
-use Rattle.judge.specs.Frames.{Frame, frame, Stands, settingIn, ReferencesIn, PairJudged, side}
+use Rattle.value_checks.specs.Frames.{Frame, frame, Stands, settingIn, ReferencesIn, PairJudged, side}
 use Rattle.judge.specs.Bodies.{operatorIn, OperatorJudged, CollectionOf, BodyJudged, BodiesJudged, QuantifierJudged}
 use Rattle.scope.specs.declared.binder.Scope.{Scope}
-use Rattle.judge.specs.declared.verdict.Over.{Over}
-use Rattle.judge.specs.declared.verdict.Side.the-variants.{Left, Right}
-use Rattle.judge.specs.declared.verdict.Fault.the-variants.{Operator, Empty}
-use Rattle.judge.specs.declared.verdict.Answer.{Answer}
-use Rattle.judge.proofs.Going.{goes-nothing, goes-then}
-use Rattle.judge.proofs.NodeSteps.{same-head, condition-unread, tailOf, first-stands, tail-stands, none-left, none-ends}
-use Rattle.judge.proofs.LiteralSteps.{settled-outcome}
-use Rattle.judge.proofs.ReferenceSteps.{references-judged}
-use Rattle.judge.proofs.OperandSteps.{asked-outcome}
+use Rattle.value_checks.specs.declared.verdict.Over.{Over}
+use Rattle.value_checks.specs.declared.verdict.Side.the-variants.{Left, Right}
+use Rattle.value_checks.specs.declared.verdict.Fault.the-variants.{Operator, Empty}
+use Rattle.value_checks.specs.declared.verdict.Answer.{Answer}
+use Rattle.value_checks.proofs.Going.{goes-nothing, goes-then}
+use Rattle.value_checks.proofs.NodeSteps.{same-head, condition-unread, tailOf, first-stands, tail-stands, none-left, none-ends}
+use Rattle.value_checks.proofs.LiteralSteps.{settled-outcome}
+use Rattle.value_checks.proofs.ReferenceSteps.{references-judged}
+use Rattle.value_checks.proofs.OperandSteps.{asked-outcome}
 
 -- Operators.
 

@@ -10,9 +10,9 @@ use Rattle.sheet.specs.Places.{ReadsTo}
 use Rattle.definition.specs.Tree.{Condition, literal, many, negation, one, two, comparison, quantifier, Conditions, noConditions, condition}
 use Rattle.rule.specs.Index.{startOf}
 use Rattle.validation.specs.Check.{depth, depthOfConditions}
-use Rattle.judge.specs.Nodes.{AreConditions, Behind, childrenOf, ChildrenAt}
+use Rattle.value_checks.specs.Nodes.{AreConditions, Behind, childrenOf, ChildrenAt}
 use Rattle.judge.specs.Depth.{DepthIs, DepthsAre}
-use Rattle.judge.proofs.NodeSteps.{condition-unread, children-stand, tailOf, first-stands, tail-stands, none-left, none-ends}
+use Rattle.value_checks.proofs.NodeSteps.{condition-unread, children-stand, tailOf, first-stands, tail-stands, none-left, none-ends}
 
 depth-children : (c : Condition) → depth c ≡ 1 + depthOfConditions (childrenOf c)
 unfolding depth depthOfConditions childrenOf

@@ -1,10 +1,4 @@
-mod Going
-mod NodeSteps
 mod DepthSteps
-mod LiteralSteps
-mod ObservedSteps
-mod ReferenceSteps
-mod OperandSteps
 mod BodySteps
 mod QuantifierSteps
 mod RuleSteps

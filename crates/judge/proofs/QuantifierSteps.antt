@@ -24,24 +24,24 @@ use Rattle.walk.specs.declared.answer.Collected.the-variants as Collected
 use Rattle.walk.specs.declared.answer.CollectionFault.{CollectionFault}
 use Rattle.validation.specs.Check.{Binder, walkable, readable, Check, check, failsIf, referenceText, referenceCheck, references, hasDot, body, bodies, depth, depthOfConditions}
 use Rattle.validation.specs.Judge.{Outcome, outcome, verdict, extend, enter, environment, answer, answerIn, decide, judgeFrom}
-use Rattle.judge.specs.Shown.{Shown, passes, fails, overOf, shownOf, goOn}
-use Rattle.judge.specs.Nodes.{Behind}
-use Rattle.judge.specs.Verdicts.{numberOf, detailOf, overBy, shownBy, failed, GoesOn, PassedOn, Failed, Required}
+use Rattle.value_checks.specs.Shown.{Shown, passes, fails, overOf, shownOf, goOn}
+use Rattle.value_checks.specs.Nodes.{Behind}
+use Rattle.value_checks.specs.Verdicts.{numberOf, detailOf, overBy, shownBy, failed, GoesOn, PassedOn, Failed, Required}
 use Rattle.scope.specs.Scopes.{BoundElement, Binds}
-use Rattle.judge.specs.Frames.{Frame, frame, Stands, settingIn, ReferencesIn}
+use Rattle.value_checks.specs.Frames.{Frame, frame, Stands, settingIn, ReferencesIn}
 use Rattle.judge.specs.Bodies.{CollectionOf, BodiesJudged, QuantifierJudged}
 use Rattle.scope.specs.declared.binder.Element.{Element}
 use Rattle.scope.specs.declared.binder.Element.the-variants as Element
 use Rattle.scope.specs.declared.binder.Scope.{Scope}
-use Rattle.judge.specs.declared.verdict.Over.{Over}
-use Rattle.judge.specs.declared.verdict.Over.the-variants.{In}
-use Rattle.judge.specs.declared.verdict.Fault.the-variants.{Bind, Collection}
-use Rattle.judge.specs.declared.verdict.Answer.{Answer}
-use Rattle.judge.proofs.Going.{goes-then}
-use Rattle.judge.proofs.NodeSteps.{value-size}
-use Rattle.judge.proofs.LiteralSteps.{settled-outcome}
-use Rattle.judge.proofs.ReferenceSteps.{readable-outcome, references-judged}
-use Rattle.judge.proofs.OperandSteps.{value-entry}
+use Rattle.value_checks.specs.declared.verdict.Over.{Over}
+use Rattle.value_checks.specs.declared.verdict.Over.the-variants.{In}
+use Rattle.value_checks.specs.declared.verdict.Fault.the-variants.{Bind, Collection}
+use Rattle.value_checks.specs.declared.verdict.Answer.{Answer}
+use Rattle.value_checks.proofs.Going.{goes-then}
+use Rattle.value_checks.proofs.NodeSteps.{value-size}
+use Rattle.value_checks.proofs.LiteralSteps.{settled-outcome}
+use Rattle.value_checks.proofs.ReferenceSteps.{readable-outcome, references-judged}
+use Rattle.value_checks.proofs.OperandSteps.{value-entry}
 use Rattle.judge.proofs.BodySteps.{depth-some}
 
 walkable-outcome : (setting : Setting) (tree : Schema) (binders : List Binder) (env : Environment) (n p : ℕ) (v : Value)

@@ -22,21 +22,21 @@ use Rattle.scope.specs.Scopes.{chainOf, ChainAt, ScopeAt}
 use Rattle.scope.specs.declared.binder.Binder.{Binder}
 use Rattle.scope.specs.declared.binder.Scope.{Scope}
 use Rattle.judge.specs.Depth.{DepthIs}
-use Rattle.judge.specs.Shown.{overOf, shownOf, goOn}
-use Rattle.judge.specs.Verdicts.{numberOf, detailOf, overBy, shownWith, shownBy, failed, GoesOn, PassedOn, Failed, Required}
-use Rattle.judge.specs.Literals.{ConditionLiterals}
-use Rattle.judge.specs.Frames.{frame, Stands, ReferencesIn}
+use Rattle.value_checks.specs.Shown.{overOf, shownOf, goOn}
+use Rattle.value_checks.specs.Verdicts.{numberOf, detailOf, overBy, shownWith, shownBy, failed, GoesOn, PassedOn, Failed, Required}
+use Rattle.value_checks.specs.Literals.{ConditionLiterals}
+use Rattle.value_checks.specs.Frames.{frame, Stands, ReferencesIn}
 use Rattle.judge.specs.Bodies.{BodyJudged}
 use Rattle.judge.specs.Rules.{PassJudged, DefinitionJudged, RuleJudged}
-use Rattle.judge.specs.declared.verdict.Fault.{Fault}
-use Rattle.judge.specs.declared.verdict.Fault.the-variants.{Name, Message, Deep}
-use Rattle.judge.specs.declared.verdict.Over.the-variants.{Outside}
-use Rattle.judge.specs.declared.verdict.Verdict.the-variants.{Pass}
-use Rattle.judge.specs.declared.verdict.Answer.{Answer}
-use Rattle.judge.proofs.Going.{goes-nothing, goes-then}
-use Rattle.judge.proofs.NodeSteps.{same-head, condition-size}
-use Rattle.judge.proofs.LiteralSteps.{settled-outcome}
-use Rattle.judge.proofs.ReferenceSteps.{references-judged}
+use Rattle.value_checks.specs.declared.verdict.Fault.{Fault}
+use Rattle.value_checks.specs.declared.verdict.Fault.the-variants.{Name, Message, Deep}
+use Rattle.value_checks.specs.declared.verdict.Over.the-variants.{Outside}
+use Rattle.value_checks.specs.declared.verdict.Verdict.the-variants.{Pass}
+use Rattle.value_checks.specs.declared.verdict.Answer.{Answer}
+use Rattle.value_checks.proofs.Going.{goes-nothing, goes-then}
+use Rattle.value_checks.proofs.NodeSteps.{same-head, condition-size}
+use Rattle.value_checks.proofs.LiteralSteps.{settled-outcome}
+use Rattle.value_checks.proofs.ReferenceSteps.{references-judged}
 
 -- before the first check
 abbrev pub begin : Answer

@@ -15,13 +15,13 @@ use Rattle.walk.specs.Answers.{CollectedIs}
 use Rattle.walk.specs.declared.answer.Collected.{Collected}
 use Rattle.validation.specs.Check.{Binder, check, failsIf, walkable, references, hasDot, operatorCheck, body, bodies, depth, depthOfConditions}
 use Rattle.validation.specs.Judge.{outcome}
-use Rattle.judge.specs.Nodes.{IsCondition, AreConditions}
-use Rattle.judge.specs.Verdicts.{GoesOn}
+use Rattle.value_checks.specs.Nodes.{IsCondition, AreConditions}
+use Rattle.value_checks.specs.Verdicts.{GoesOn}
 use Rattle.scope.specs.Scopes.{ScopeAt}
-use Rattle.judge.specs.Frames.{Frame, frame, Stands, settingIn}
+use Rattle.value_checks.specs.Frames.{Frame, frame, Stands, settingIn}
 use Rattle.scope.specs.declared.binder.Scope.{Scope}
-use Rattle.judge.specs.declared.verdict.Over.{Over}
-use Rattle.judge.specs.declared.verdict.Answer.{Answer}
+use Rattle.value_checks.specs.declared.verdict.Over.{Over}
+use Rattle.value_checks.specs.declared.verdict.Answer.{Answer}
 
 -- the operator's number, which a literal's, a negation's and a comparison's head leave out
 unfoldable pub operatorIn : ConditionHead → ℕ

@@ -12,10 +12,10 @@ use Rattle.validation.specs.Check.{literalChecks, checks}
 use Rattle.validation.specs.Judge.{outcome, judge}
 use Rattle.scope.specs.Scopes.{ScopeAt}
 use Rattle.scope.specs.declared.binder.Scope.{Scope}
-use Rattle.judge.specs.Nodes.{IsCondition}
-use Rattle.judge.specs.Shown.{shownOf}
-use Rattle.judge.specs.Verdicts.{shownBy, GoesOn}
-use Rattle.judge.specs.declared.verdict.Answer.{Answer}
+use Rattle.value_checks.specs.Nodes.{IsCondition}
+use Rattle.value_checks.specs.Shown.{shownOf}
+use Rattle.value_checks.specs.Verdicts.{shownBy, GoesOn}
+use Rattle.value_checks.specs.declared.verdict.Answer.{Answer}
 
 -- the literal pass, which belongs to service
 pub record PassJudged (rule words : List ℕ) (isService : Bool) (end : ℕ) (a r : Answer) : Type 0 where

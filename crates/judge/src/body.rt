@@ -1,16 +1,4 @@
 // The checks of a condition. A condition that is a quantifier has a condition as its body: the functions call one another, with one level less left.
-use crate::node::behind;
-use crate::operand::Form;
-use crate::operand::form_of;
-use crate::operand::validate_comparison;
-use crate::operand::validate_pair;
-use crate::references::validate_references;
-use crate::verdict::Answer;
-use crate::verdict::Fault;
-use crate::verdict::Over;
-use crate::verdict::fail;
-use crate::verdict::pass;
-use crate::verdict::require;
 use rule::index::start_of;
 use scope::binder::Element;
 use scope::binder::Scope;
@@ -21,6 +9,18 @@ use sheet::part::bytes_of;
 use sheet::rule::ConditionHead;
 use sheet::rule::ConditionRead;
 use sheet::rule::condition_head;
+use value_checks::node::behind;
+use value_checks::operand::Form;
+use value_checks::operand::form_of;
+use value_checks::operand::validate_comparison;
+use value_checks::operand::validate_pair;
+use value_checks::references::validate_references;
+use value_checks::verdict::Answer;
+use value_checks::verdict::Fault;
+use value_checks::verdict::Over;
+use value_checks::verdict::fail;
+use value_checks::verdict::pass;
+use value_checks::verdict::require;
 use walk::answer::Collected;
 use walk::answer::CollectionFault;
 ghost use mathlib.Core.Path.{_≡_};
@@ -31,8 +31,8 @@ ghost use Rattle.text.specs.Blank.{isBlank};
 ghost use Rattle.sheet.specs.Parts.{partOf};
 ghost use Rattle.sheet.specs.Places.{conditionOf};
 ghost use Rattle.validation.specs.Check.{hasDot};
-ghost use Rattle.judge.specs.Verdicts.{HasRoom};
-ghost use Rattle.judge.specs.Frames.{frame};
+ghost use Rattle.value_checks.specs.Verdicts.{HasRoom};
+ghost use Rattle.value_checks.specs.Frames.{frame};
 ghost use Rattle.judge.specs.Bodies.{operatorIn, OperatorJudged, CollectionOf, BodyJudged, BodiesJudged, QuantifierJudged};
 
 fn operator_of(head: ConditionHead) -> usize
@@ -124,60 +124,21 @@ pub fn validate_condition_body(
             let d = require(b, count == 0, Fault::Empty, i + 1, over);
             validate_conditions(d, schema, rule, words, scope, over, i + 1, end, left - 1)
         }
-        ConditionHead::Negation => validate_conditions(
-            b,
-            schema,
-            rule,
-            words,
-            scope,
-            over,
-            i + 1,
-            end,
-            left - 1,
-        ),
-        ConditionHead::One(_) => validate_references(
-            b,
-            schema,
-            rule,
-            words,
-            scope,
-            over,
-            i + 1,
-            end,
-        ),
-        ConditionHead::Two(op) => validate_pair(
-            b,
-            schema,
-            rule,
-            words,
-            scope,
-            over,
-            op,
-            i + 1,
-            end,
-        ),
-        ConditionHead::Comparison(_) => validate_comparison(
-            b,
-            schema,
-            rule,
-            words,
-            scope,
-            over,
-            i + 1,
-            end,
-        ),
-        ConditionHead::Quantifier(_, name) => validate_quantifier(
-            b,
-            schema,
-            rule,
-            words,
-            scope,
-            over,
-            name,
-            i,
-            end,
-            left - 1,
-        ),
+        ConditionHead::Negation => {
+            validate_conditions(b, schema, rule, words, scope, over, i + 1, end, left - 1)
+        }
+        ConditionHead::One(_) => {
+            validate_references(b, schema, rule, words, scope, over, i + 1, end)
+        }
+        ConditionHead::Two(op) => {
+            validate_pair(b, schema, rule, words, scope, over, op, i + 1, end)
+        }
+        ConditionHead::Comparison(_) => {
+            validate_comparison(b, schema, rule, words, scope, over, i + 1, end)
+        }
+        ConditionHead::Quantifier(_, name) => {
+            validate_quantifier(b, schema, rule, words, scope, over, name, i, end, left - 1)
+        }
     }
 }
 
@@ -223,39 +184,19 @@ fn validate_quantifier(
     ensures { λ r. ⌜ QuantifierJudged (frame (now (schema .entry)) (now (rule .entry)) (now (words .entry)) scope over) (partOf (now (rule .entry)) name) i end left a r ⌝ }
 {
     let start = i + 1;
-    let middle = behind(words, start, end);
+    let mid = behind(words, start, end);
     let wrong = is_wrong_bind(bytes_of(rule, name));
     let b = require(a, wrong, Fault::Bind, start, over);
-    let d = validate_references(b, schema, rule, words, scope, over, start, middle);
+    let d = validate_references(b, schema, rule, words, scope, over, start, mid);
     let within = Over::In(start + 1);
     match collection_of(schema, rule, words, scope, start) {
         Collected::Known(slot) => {
             let inner = bind(scope, name, Element::Known(slot));
-            validate_conditions(
-                pass(d),
-                schema,
-                rule,
-                words,
-                inner,
-                within,
-                middle,
-                end,
-                left,
-            )
+            validate_conditions(pass(d), schema, rule, words, inner, within, mid, end, left)
         }
         Collected::Unknown => {
             let inner = bind(scope, name, Element::Unknown);
-            validate_conditions(
-                pass(d),
-                schema,
-                rule,
-                words,
-                inner,
-                within,
-                middle,
-                end,
-                left,
-            )
+            validate_conditions(pass(d), schema, rule, words, inner, within, mid, end, left)
         }
         Collected::No(fault, at) => fail(d, Fault::Collection(fault, at), start, over),
     }

@@ -1,9 +1,9 @@
 // How deep conditions nest: siblings by a loop, children by recursion.
-use crate::node::behind;
-use crate::node::children_from;
 use rule::index::start_of;
 use sheet::rule::ConditionRead;
 use sheet::rule::condition_head;
+use value_checks::node::behind;
+use value_checks::node::children_from;
 ghost use mathlib.Core.Path.{_≡_};
 ghost use Prim.Native.Nat.{_<_, _≤_, max};
 ghost use Rattle.judge.specs.Depth.{DepthIs, DepthsAre};

@@ -1,15 +1,6 @@
 // A whole rule or template.
 use crate::body::validate_condition_body;
 use crate::depth::condition_depth;
-use crate::literal::unobservable_condition_literals;
-use crate::references::validate_references;
-use crate::verdict::Answer;
-use crate::verdict::Fault;
-use crate::verdict::Over;
-use crate::verdict::Verdict;
-use crate::verdict::fail;
-use crate::verdict::pass;
-use crate::verdict::require;
 use rule::index::end_of;
 use rule::index::start_of;
 use scope::binder::Scope;
@@ -18,11 +9,20 @@ use sheet::part::bytes_of;
 use sheet::rule::RuleHead;
 use sheet::rule::RuleRead;
 use sheet::rule::rule_head;
+use value_checks::literal::unobservable_condition_literals;
+use value_checks::references::validate_references;
+use value_checks::verdict::Answer;
+use value_checks::verdict::Fault;
+use value_checks::verdict::Over;
+use value_checks::verdict::Verdict;
+use value_checks::verdict::fail;
+use value_checks::verdict::pass;
+use value_checks::verdict::require;
 ghost use mathlib.Core.Path.{_≡_};
 ghost use Prim.Native.Nat.{_-_, _<_, _≤_};
 ghost use Rattle.sheet.specs.Parts.{optionalOf};
 ghost use Rattle.validation.specs.Check.{isBlankText};
-ghost use Rattle.judge.specs.Verdicts.{HasRoom};
+ghost use Rattle.value_checks.specs.Verdicts.{HasRoom};
 ghost use Rattle.judge.specs.Rules.{PassJudged, DefinitionJudged, RuleJudged};
 
 // Conditions nest at most so deep.

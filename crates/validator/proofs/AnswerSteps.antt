@@ -25,13 +25,13 @@ use Rattle.validation.specs.CountLaws.{VerdictIs, every-judged, passes-at-most,
 use Rattle.validation.specs.Location.{behindLabel, pathOf}
 use Rattle.validation.specs.Result as Result
 use Rattle.validation.specs.Result.{Answer, checked, ownFamily, numbersOf, pathAfter}
-use Rattle.judge.specs.Shown.{overOf, Shown, passes, fails, shownOf, familyOf, overPlaceOf, answerShown, answer-shown}
-use Rattle.judge.specs.Verdicts.{numberOf, detailOf, overBy, shownWith, shownBy}
+use Rattle.value_checks.specs.Shown.{overOf, Shown, passes, fails, shownOf, familyOf, overPlaceOf, answerShown, answer-shown}
+use Rattle.value_checks.specs.Verdicts.{numberOf, detailOf, overBy, shownWith, shownBy}
 use Rattle.judge.specs.Rules.{RuleJudged}
-use Rattle.judge.specs.declared.verdict.Fault.{Fault}
-use Rattle.judge.specs.declared.verdict.Over.{Over}
-use Rattle.judge.specs.declared.verdict.Verdict.the-variants.{Pass, Defect}
-use Rattle.judge.specs.declared.verdict.Answer as Judged
+use Rattle.value_checks.specs.declared.verdict.Fault.{Fault}
+use Rattle.value_checks.specs.declared.verdict.Over.{Over}
+use Rattle.value_checks.specs.declared.verdict.Verdict.the-variants.{Pass, Defect}
+use Rattle.value_checks.specs.declared.verdict.Answer as Judged
 use Rattle.location.specs.Path.{PathWritten}
 use Rattle.location.specs.PathLaws.{HasPath, checks-have-paths}
 use Rattle.location.specs.LengthLaws.{path-length}

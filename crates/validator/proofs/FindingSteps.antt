@@ -9,14 +9,14 @@ use Rattle.walk.specs.Answers.{referenceDetail, collectionDetail}
 use Rattle.walk.specs.declared.answer.ReferenceFault.{ReferenceFault}
 use Rattle.walk.specs.declared.answer.CollectionFault.{CollectionFault}
 use Rattle.validation.specs.Result.{ownFamily}
-use Rattle.judge.specs.Shown.{familyOf, overPlaceOf}
-use Rattle.judge.specs.Verdicts.{numberOf, detailOf, overBy, sideDetail, instantDetail}
-use Rattle.judge.specs.declared.verdict.Side.{Side}
-use Rattle.judge.specs.declared.verdict.InstantFault.{InstantFault}
-use Rattle.judge.specs.declared.verdict.Fault.{Fault}
-use Rattle.judge.specs.declared.verdict.Fault.the-variants.{Name, Message, Deep, Literal, Operator, Empty, Operand, Reference, Affix, Instant, Bind, Collection}
-use Rattle.judge.specs.declared.verdict.Over.{Over}
-use Rattle.judge.specs.declared.verdict.Over.the-variants.{In}
+use Rattle.value_checks.specs.Shown.{familyOf, overPlaceOf}
+use Rattle.value_checks.specs.Verdicts.{numberOf, detailOf, overBy, sideDetail, instantDetail}
+use Rattle.value_checks.specs.declared.verdict.Side.{Side}
+use Rattle.value_checks.specs.declared.verdict.InstantFault.{InstantFault}
+use Rattle.value_checks.specs.declared.verdict.Fault.{Fault}
+use Rattle.value_checks.specs.declared.verdict.Fault.the-variants.{Name, Message, Deep, Literal, Operator, Empty, Operand, Reference, Affix, Instant, Bind, Collection}
+use Rattle.value_checks.specs.declared.verdict.Over.{Over}
+use Rattle.value_checks.specs.declared.verdict.Over.the-variants.{In}
 use Rattle.validator.specs.Findings.{FindingIs}
 use Rattle.validator.specs.declared.finding.Finding.{Finding}
 

@@ -3,8 +3,8 @@ use mathlib.Core.Bool.{Bool}
 use mathlib.Core.Path.{_≡_}
 use Rattle.reference.specs.Setting.{Setting}
 use Rattle.validation.specs.Result.{ownFamily}
-use Rattle.judge.specs.Verdicts.{numberOf, detailOf}
-use Rattle.judge.specs.declared.verdict.Fault.{Fault}
+use Rattle.value_checks.specs.Verdicts.{numberOf, detailOf}
+use Rattle.value_checks.specs.declared.verdict.Fault.{Fault}
 use Rattle.validator.specs.declared.finding.Finding.{Finding}
 
 pub record FindingIs (isRuleKind : Bool) (fault : Fault) (r : Finding) : Type 0 where

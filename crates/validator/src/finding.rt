@@ -1,9 +1,9 @@
 // What a defect is called: number, family and detail of a verdict's fault; docs/FORMAT.md, "Answers".
-use judge::verdict::Fault;
-use judge::verdict::InstantFault;
-use judge::verdict::Over;
-use judge::verdict::Side;
 use scope::name::one_of;
+use value_checks::verdict::Fault;
+use value_checks::verdict::InstantFault;
+use value_checks::verdict::Over;
+use value_checks::verdict::Side;
 use walk::answer::CollectionFault;
 use walk::answer::ReferenceFault;
 ghost use mathlib.Core.Bool.{cond};
@@ -11,8 +11,8 @@ ghost use mathlib.Core.List.{[], _∷_};
 ghost use mathlib.Core.Path.{_≡_};
 ghost use Rattle.reference.specs.Setting.{oneOf};
 ghost use Rattle.walk.specs.Answers.{referenceDetail, collectionDetail};
-ghost use Rattle.judge.specs.Shown.{familyOf, overPlaceOf};
-ghost use Rattle.judge.specs.Verdicts.{overBy, sideDetail, instantDetail};
+ghost use Rattle.value_checks.specs.Shown.{familyOf, overPlaceOf};
+ghost use Rattle.value_checks.specs.Verdicts.{overBy, sideDetail, instantDetail};
 ghost use Rattle.validator.specs.Findings.{FindingIs};
 
 pub struct Finding {

@@ -2,7 +2,7 @@
 use native.Mathlib.Omega.{arith}
 use mathlib.Core.Path.{refl}
 use Rattle.sheet.specs.Places.{conditionOf}
-use Rattle.judge.specs.Frames.{frame}
+use Rattle.value_checks.specs.Frames.{frame}
 use Rattle.judge.proofs.BodySteps.{body-zero, body-bad, body-judged, BodiesLeft, bodies-begin, bodies-next, bodies-all}
 use Rattle.judge.proofs.QuantifierSteps.{quantifier-known, quantifier-unknown, quantifier-refused}
 use borrow.Author.Needs.{needs}
@@ -21,14 +21,14 @@ use Rattle.judge.proofs.body.+validate_condition_body+validate_conditio
 use Rattle.judge.proofs.body.collection_of.Reads as collection-of-reads
 use Rattle.judge.proofs.body.is_wrong_bind.Reads as is-wrong-bind-reads
 use Rattle.judge.proofs.body.validate_operator.Reads as validate-operator-reads
-use Rattle.judge.proofs.node.behind.Reads as behind-reads
-use Rattle.judge.proofs.operand.validate_comparison.Reads as validate-comparison-reads
-use Rattle.judge.proofs.operand.validate_pair.Reads as validate-pair-reads
-use Rattle.judge.proofs.references.validate_references.Reads as validate-references-reads
+use Rattle.value_checks.proofs.node.behind.Reads as behind-reads
+use Rattle.value_checks.proofs.operand.validate_comparison.Reads as validate-comparison-reads
+use Rattle.value_checks.proofs.operand.validate_pair.Reads as validate-pair-reads
+use Rattle.value_checks.proofs.references.validate_references.Reads as validate-references-reads
 use Rattle.scope.proofs.binder.bind.Reads as bind-reads
-use Rattle.judge.proofs.verdict.fail.Reads as fail-reads
-use Rattle.judge.proofs.verdict.pass.Reads as pass-reads
-use Rattle.judge.proofs.verdict.require.Reads as require-reads
+use Rattle.value_checks.proofs.verdict.fail.Reads as fail-reads
+use Rattle.value_checks.proofs.verdict.pass.Reads as pass-reads
+use Rattle.value_checks.proofs.verdict.require.Reads as require-reads
 use Rattle.rule.proofs.index.start_of.Reads as start-of-reads
 use Rattle.sheet.proofs.part.bytes_of.Reads as bytes-of-reads
 use Rattle.sheet.proofs.rule.condition_head.Reads as condition-head-reads

@@ -12,8 +12,8 @@ use Rattle.judge.proofs.depth.conditions_depth.Reads as conditions-dept
 use Rattle.judge.proofs.depth.conditions_depth.Kinds as conditions-depth-kinds
 use Rattle.judge.proofs.depth.+condition_depth+conditions_depth.Lts-conditions_depth as conditions-depth-lts
 use Rattle.judge.proofs.depth.greater.Reads as greater-reads
-use Rattle.judge.proofs.node.behind.Reads as behind-reads
-use Rattle.judge.proofs.node.children_from.Reads as children-from-reads
+use Rattle.value_checks.proofs.node.behind.Reads as behind-reads
+use Rattle.value_checks.proofs.node.children_from.Reads as children-from-reads
 use Rattle.rule.proofs.index.start_of.Reads as start-of-reads
 use Rattle.sheet.proofs.rule.condition_head.Reads as condition-head-reads
 use Rattle.judge.proofs.depth.+condition_depth+conditions_depth.{statement}

@@ -1,8 +1,8 @@
 use native.Mathlib.Omega.{arith}
 use borrow.Author.Needs.{needs}
 use Rattle.validator.proofs.FindingSteps.{family-body, family-own}
-use Rattle.judge.specs.Shown.{familyOf}
-use Rattle.judge.specs.Verdicts.{overBy}
+use Rattle.value_checks.specs.Shown.{familyOf}
+use Rattle.value_checks.specs.Verdicts.{overBy}
 use Rattle.validator.proofs.finding.family_in.Statement.{statement}
 use Rattle.validator.proofs.finding.family_in.Tie as tie
 

@@ -2,7 +2,7 @@ use borrow.Author.Needs.{needs}
 use mathlib.Core.Path.{refl, ap}
 use mathlib.Core.Bool.{Bool, cond}
 use Prim.Native.Nat.{ℕ}
-use Rattle.judge.specs.Verdicts.{numberOf, detailOf}
+use Rattle.value_checks.specs.Verdicts.{numberOf, detailOf}
 use Rattle.validation.specs.Result.{ownFamily}
 use Rattle.validator.proofs.FindingSteps.{finding-of}
 use Rattle.validator.proofs.finding.find.Statement.{statement}

@@ -1,6 +1,6 @@
 use native.Mathlib.Omega.{arith}
 use borrow.Author.Needs.{needs}
-use Rattle.judge.specs.Verdicts.{instantDetail}
+use Rattle.value_checks.specs.Verdicts.{instantDetail}
 use Rattle.validator.proofs.finding.instant_detail.Statement.{statement}
 use Rattle.validator.proofs.finding.instant_detail.Tie as tie
 

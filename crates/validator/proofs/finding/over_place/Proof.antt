@@ -1,8 +1,8 @@
 use native.Mathlib.Omega.{arith}
 use borrow.Author.Needs.{needs}
 use Rattle.validator.proofs.FindingSteps.{place-body, place-none}
-use Rattle.judge.specs.Shown.{overPlaceOf}
-use Rattle.judge.specs.Verdicts.{overBy}
+use Rattle.value_checks.specs.Shown.{overPlaceOf}
+use Rattle.value_checks.specs.Verdicts.{overBy}
 use Rattle.validator.proofs.finding.over_place.Statement.{statement}
 use Rattle.validator.proofs.finding.over_place.Tie as tie
 

@@ -1,6 +1,6 @@
 use native.Mathlib.Omega.{arith}
 use borrow.Author.Needs.{needs}
-use Rattle.judge.specs.Verdicts.{sideDetail}
+use Rattle.value_checks.specs.Verdicts.{sideDetail}
 use Rattle.validator.proofs.finding.side_detail.Statement.{statement}
 use Rattle.validator.proofs.finding.side_detail.Tie as tie
 

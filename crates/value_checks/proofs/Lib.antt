@@ -1,0 +1,6 @@
+pub mod Going
+pub mod NodeSteps
+pub mod LiteralSteps
+pub mod ObservedSteps
+pub mod ReferenceSteps
+pub mod OperandSteps

@@ -1,0 +1,206 @@
+-- The literal pass over conditions, step by step: what is left is a list of conditions side by side, and each step puts a condition's children in its place.
+use Prim.Native.Nat.{ℕ, _+_, _-_, _≤_, _<_}
+use native.Mathlib.Omega.{arith}
+use mathlib.Core.Bool.{Bool, true, false, cond, _&&_}
+use mathlib.Core.List.{List, [], _++_, map, append-nil, append-assoc, map-append}
+use mathlib.Core.Option.{none}
+use mathlib.Core.Path.{_≡_, refl, sym, ap₂, _∙_}
+use lib.ListN.{drop}
+use lib.Dec.{leb, eqb}
+use Rattle.sheet.specs.Entries.{ConditionHead, conditionHead}
+use Rattle.sheet.specs.Places.{ReadsTo, conditionOf}
+use Rattle.sheet.specs.declared.rule.ConditionHead.{ConditionHead as Head}
+use Rattle.definition.specs.Tree.{Schema, Value, constant, number, string, array, object, Values, noValues, value, Pairs, noPairs, pair, Condition, literal, many, negation, one, two, comparison, quantifier, Conditions, noConditions, condition}
+use Rattle.reference.specs.Setting.{Setting}
+use Rattle.rule.specs.Index.{startOf, sizeOfValue, sizeOfCondition, sizeOfConditions, ValueAt}
+use Rattle.validation.specs.Check.{Check, Literal, literalCheck, numbers, numbersOfValues, numbersOfPairs, literals, literalsOfConditions}
+use Rattle.validation.specs.Judge.{outcome}
+use Rattle.value_checks.specs.Leaves.{leaves, leavesOfValues, leavesOfPairs, saidIn, said-append, said-value}
+use Rattle.value_checks.specs.Nodes.{IsCondition, AreConditions, Behind, childrenOf, ChildrenAt}
+use Rattle.value_checks.specs.Verdicts.{GoesOn}
+use Rattle.value_checks.specs.Literals.{literalSays, LiteralsJudged, isObserved, ObservedJudged, ConditionLiterals}
+use Rattle.value_checks.specs.declared.verdict.Answer.{Answer}
+use Rattle.value_checks.proofs.Going.{goes-nothing, goes-then}
+use Rattle.value_checks.proofs.NodeSteps.{same-head, condition-unread, children-stand, tailOf, first-stands, tail-stands, none-left, none-ends}
+
+pub observed-yes : {rule words : List ℕ} {h : Head} {start end : ℕ} {a r : Answer} {flag : Bool}
+    → flag ≡ true
+    → ((s : List ℕ) → flag ≡ isObserved (conditionOf s h))
+    → LiteralsJudged rule words start (end - start) a r
+    → ObservedJudged rule words h start end a r
+observed-yes {rule} {words} {h} t e p =
+    let q : isObserved (conditionOf rule h) ≡ true = sym (e rule) ∙ t in
+    record { atMost = p .atMost; goes = λ setting schema. rw q (p .goes setting schema) }
+
+pub observed-no : {rule words : List ℕ} {h : Head} {start end : ℕ} {a : Answer} {flag : Bool}
+    → flag ≡ false
+    → ((s : List ℕ) → flag ≡ isObserved (conditionOf s h))
+    → ObservedJudged rule words h start end a a
+unfolding saidIn
+observed-no {rule} {words} {h} t e =
+    let q : isObserved (conditionOf rule h) ≡ false = sym (e rule) ∙ t in
+    record { atMost = omega arith; goes = λ setting schema. rw q goes-nothing }
+
+-- what the entries of a value say is what the definition of the check list asks of its numbers
+mutual
+  unfolding leaves numbers literalSays
+
+  numbers-said : (v : Value) → leaves literalSays v ≡ map literalCheck (numbers v)
+  numbers-said (constant e type) = refl
+  numbers-said (number e digits) = refl
+  numbers-said (string e t) = refl
+  numbers-said (array e values) = numbers-of-values values
+  numbers-said (object e pairs) = numbers-of-pairs pairs
+
+  numbers-of-values : (vs : Values) → leavesOfValues literalSays vs ≡ map literalCheck (numbersOfValues vs)
+  numbers-of-values noValues = refl
+  numbers-of-values (value v others) =
+      ap₂ _++_ (numbers-said v) (numbers-of-values others) ∙ sym (map-append literalCheck (numbers v) (numbersOfValues others))
+
+  numbers-of-pairs : (ps : Pairs) → leavesOfPairs literalSays ps ≡ map literalCheck (numbersOfPairs ps)
+  numbers-of-pairs noPairs = refl
+  numbers-of-pairs (pair key v others) =
+      ap₂ _++_ (numbers-said v) (numbers-of-pairs others) ∙ sym (map-append literalCheck (numbers v) (numbersOfPairs others))
+
+module _ (rule words : List ℕ) where
+  value-said : (i : ℕ) (v : Value) → ValueAt rule words i v → saidIn literalSays rule words (sizeOfValue v) i ≡ map literalCheck (numbers v)
+  value-said i v w = said-value literalSays rule words i v w ∙ numbers-said v
+
+  both-said : (i : ℕ) (left right : Value)
+      → ValueAt rule words i left
+      → ValueAt rule words (i + sizeOfValue left) right
+      → saidIn literalSays rule words (sizeOfValue left + sizeOfValue right) i ≡ map literalCheck (numbers left ++ numbers right)
+  both-said i left right w u =
+      said-append literalSays rule words (sizeOfValue left) (sizeOfValue right) i
+      ∙ ap₂ _++_ (value-said i left w) (value-said (i + sizeOfValue left) right u)
+      ∙ sym (map-append literalCheck (numbers left) (numbers right))
+
+  -- where the pass looks, or not
+  if-observed : (b : Bool) (i n : ℕ) (ls : List Literal)
+      → saidIn literalSays rule words n i ≡ map literalCheck ls
+      → map literalCheck (cond b ls []) ≡ saidIn literalSays rule words (cond b n 0) i ++ []
+  unfolding saidIn
+  if-observed true i n ls e = sym e ∙ sym (append-nil (saidIn literalSays rule words n i))
+  if-observed false i n ls e = refl
+
+  module _ (i end next : ℕ) {at behind : ℕ} {h : ConditionHead} (start : at ≡ startOf words i) (reads : ReadsTo conditionHead rule at h behind) where
+    -- a condition's literals are those of its own values, and those of its children
+    literals-parts : (c : Condition)
+        → IsCondition rule words i end c
+        → ChildrenAt words i end next h
+        → map literalCheck (literals c)
+        ≡ saidIn literalSays rule words (cond (isObserved h) (next - (i + 1)) 0) (i + 1) ++ map literalCheck (literalsOfConditions (childrenOf c))
+    unfolding literals literalsOfConditions childrenOf isObserved saidIn sizeOfCondition
+    literals-parts (literal e truth) w k = rw (same-head start reads (w .stands))
+    literals-parts (many e op children) w k = rw (same-head start reads (w .stands .0))
+    literals-parts (negation e child) w k = rw (same-head start reads (w .stands .0), append-nil)
+    literals-parts (one e op v) w k =
+        let f : next ≡ end = rw (same-head start reads (w .stands .0)) at k in
+        let n : next - (i + 1) ≡ sizeOfValue v = omega (arith, w .ends) in
+        rw (same-head start reads (w .stands .0), n) (if-observed (eqb op 19) (i + 1) (sizeOfValue v) (numbers v) (value-said (i + 1) v (w .stands .1)))
+    literals-parts (two e op left right) w k =
+        let f : next ≡ end = rw (same-head start reads (w .stands .0)) at k in
+        let n : next - (i + 1) ≡ sizeOfValue left + sizeOfValue right = omega (arith, w .ends) in
+        rw (same-head start reads (w .stands .0), n)
+        (if-observed (leb 8 op && leb op 15) (i + 1) (sizeOfValue left + sizeOfValue right) (numbers left ++ numbers right)
+        (both-said (i + 1) left right (w .stands .1) (w .stands .2)))
+    literals-parts (comparison e which left right) w k =
+        let f : next ≡ end = rw (same-head start reads (w .stands .0)) at k in
+        let n : next - (i + 1) ≡ sizeOfValue left + sizeOfValue right = omega (arith, w .ends) in
+        rw (same-head start reads (w .stands .0), n)
+        (if-observed true (i + 1) (sizeOfValue left + sizeOfValue right) (numbers left ++ numbers right)
+        (both-said (i + 1) left right (w .stands .1) (w .stands .2)))
+    literals-parts (quantifier e op bind over body) w k = rw (same-head start reads (w .stands .0), append-nil)
+
+-- Conditions in the place of their holder.
+
+unfoldable beside : Conditions → Conditions → Conditions
+beside noConditions ds = ds
+beside (condition c others) ds = condition c (beside others ds)
+
+unfoldable opened : Conditions → Conditions
+opened noConditions = noConditions
+opened (condition c others) = beside (childrenOf c) others
+
+beside-literals : (cs ds : Conditions) → literalsOfConditions (beside cs ds) ≡ literalsOfConditions cs ++ literalsOfConditions ds
+unfolding beside literalsOfConditions
+beside-literals noConditions ds = refl
+beside-literals (condition c others) ds = rw (beside-literals others ds, append-assoc)
+
+beside-stand : (rule words : List ℕ) (i mid end : ℕ) (cs ds : Conditions)
+    → AreConditions rule words i mid cs
+    → AreConditions rule words mid end ds
+    → AreConditions rule words i end (beside cs ds)
+unfolding beside sizeOfConditions
+beside-stand rule words i mid end noConditions ds p q =
+    let e : mid ≡ i = omega (arith, p .ends) in
+    rw (sym e) q
+beside-stand rule words i mid end (condition c others) ds p q =
+    let e : mid ≡ i + sizeOfCondition c + sizeOfConditions others = omega (arith, p .ends) in
+    let t : AreConditions rule words (i + sizeOfCondition c) end (beside others ds) =
+    beside-stand rule words (i + sizeOfCondition c) mid end others ds (record { stand = p .stand .1; ends = e }) q in
+    record { stand = (p .stand .0, t .stand); ends = omega (arith, t .ends) }
+
+abbrev literalsAre : Conditions → List Check
+literalsAre cs = map literalCheck (literalsOfConditions cs)
+
+-- what is left of the conditions at word `i`
+pub record LiteralsLeft (rule words : List ℕ) (start i end : ℕ) (a b : Answer) : Type 0 where
+  pub atMost : b .passed ≤ a .passed + (i - start)
+  pub rest : (cs : Conditions) → AreConditions rule words start end cs → Conditions
+  pub stand : (cs : Conditions) (w : AreConditions rule words start end cs) → AreConditions rule words i end (rest cs w)
+  pub onward : (setting : Setting) (schema : Schema) (cs : Conditions) (w : AreConditions rule words start end cs) (r : Answer)
+      → GoesOn (outcome setting schema) b (literalsAre (rest cs w)) r
+      → GoesOn (outcome setting schema) a (literalsAre cs) r
+
+pub left-begin : {rule words : List ℕ} {start end : ℕ} {a : Answer} → LiteralsLeft rule words start start end a a
+left-begin = record { atMost = omega arith; rest = λ cs w. cs; stand = λ cs w. w; onward = λ setting schema cs w r g. g }
+
+module _ {rule words : List ℕ} {i end own at behind next : ℕ} {h : Head} {b d : Answer} (inside : i < end) (ends : Behind words i end own) (start : at ≡ startOf words i) (reads : ReadsTo conditionHead rule at (conditionOf rule h) behind) (first : ChildrenAt words i own next (conditionOf rule h)) (judged : ObservedJudged rule words h (i + 1) next b d) where
+  opened-stand : (cs : Conditions) → AreConditions rule words i end cs → AreConditions rule words next end (opened cs)
+  unfolding opened tailOf
+  opened-stand noConditions w = absurd (omega (arith, none-ends w, inside))
+  opened-stand (condition c others) w =
+      beside-stand rule words next own end (childrenOf c) others
+      (children-stand rule words i own start reads c (first-stands inside ends w) first)
+      (tail-stands inside ends (condition c others) w)
+
+  opened-goes : (setting : Setting) (schema : Schema) (cs : Conditions) → AreConditions rule words i end cs → (r : Answer)
+      → GoesOn (outcome setting schema) d (literalsAre (opened cs)) r
+      → GoesOn (outcome setting schema) b (literalsAre cs) r
+  unfolding opened literalsOfConditions
+  opened-goes setting schema noConditions w r g = absurd (omega (arith, none-ends w, inside))
+  opened-goes setting schema (condition c others) w r g =
+      let p = literals-parts rule words i own next start reads c (first-stands inside ends w) first in
+      let q = rw (beside-literals (childrenOf c) others, map-append literalCheck (literalsOfConditions (childrenOf c)) (literalsOfConditions others)) at g in
+      rw (map-append literalCheck (literals c) (literalsOfConditions others), p, append-assoc) (goes-then (judged .goes setting schema) q)
+
+  pub left-next : {from : ℕ} {a : Answer} → from ≤ i → i < next → LiteralsLeft rule words from i end a b → LiteralsLeft rule words from next end a d
+  left-next {from} {a} low more l =
+      record {
+        atMost = omega (arith, l .atMost, judged .atMost);
+        rest = λ cs w. opened (l .rest cs w);
+        stand = λ cs w. opened-stand (l .rest cs w) (l .stand cs w);
+        onward = λ setting schema cs w r g. l .onward setting schema cs w r (opened-goes setting schema (l .rest cs w) (l .stand cs w) r g);
+      }
+
+module _ {rule words : List ℕ} {from i end : ℕ} {a b : Answer} (l : LiteralsLeft rule words from i end a b) where
+  pub left-all : end ≤ i → i - from ≤ end - from → ConditionLiterals rule words from end a b
+  unfolding literalsOfConditions
+  left-all h m =
+      record {
+        atMost = omega (arith, l .atMost);
+        goes =
+            λ setting schema cs w.
+            let f : l .rest cs w ≡ noConditions = none-left (l .rest cs w) h (l .stand cs w) in
+            l .onward setting schema cs w b (rw f goes-nothing);
+      }
+
+  -- where no entry is read, no condition stands
+  pub left-bad : {at : ℕ} → i < end → i - from ≤ end - from → at ≡ startOf words i → conditionHead (drop at rule) ≡ none → ConditionLiterals rule words from end a b
+  left-bad {at} inside m start r =
+      record { atMost = omega (arith, l .atMost); goes = λ setting schema cs w. absurd (none-stands (l .rest cs w) (l .stand cs w)) }
+    where
+      none-stands : (cs : Conditions) → AreConditions rule words i end cs → ⊥
+      none-stands noConditions w = omega (arith, none-ends w, inside)
+      none-stands (condition c others) w = condition-unread rule words i c (w .stand .0) start r

@@ -1,0 +1,336 @@
+-- Operands, step by step.
+use Prim.Native.Nat.{ℕ, _+_, _-_, _≤_}
+use native.Mathlib.Omega.{arith}
+use mathlib.Core.Bool.{true, false}
+use mathlib.Core.List.{List, [], _∷_}
+use mathlib.Core.Option.{none, some}
+use mathlib.Core.Path.{_≡_, refl, sym, ap, _∙_}
+use lib.ListN.{length, getD, drop}
+use lib.Dec.{leb}
+use borrow.Author.Tests.{eq-eqb, ne-eqb}
+use Rattle.timestamp.specs.Instant.{instant}
+use Rattle.sheet.specs.Entries.{ValueHead, constantHead, numberHead, stringHead, arrayHead, objectHead, valueHead}
+use Rattle.sheet.specs.Places.{ReadsTo}
+use Rattle.sheet.specs.Parts.{partOf}
+use Rattle.sheet.specs.declared.part.Part.{Part}
+use Rattle.definition.specs.Tree.{Text, Schema, Value, constant, number, string, array, object}
+use Rattle.reference.specs.Setting.{Setting}
+use Rattle.reference.specs.Reference.{Environment}
+use Rattle.rule.specs.Index.{startOf, endOf, sizeOfValue, ValueAt}
+use Rattle.rule.specs.IndexLaws.{value-next}
+use Rattle.validation.specs.Check.{Binder, Question, settled, Check, check, failsIf, isNone, entryOf, isString, isHolder, references, instantText, instantForm, instantOperand, affixOperand, compareSide, operand}
+use Rattle.validation.specs.Judge.{Outcome, outcome, environment, answer, answerIn}
+use Rattle.value_checks.specs.Nodes.{Behind}
+use Rattle.value_checks.specs.Verdicts.{numberOf, detailOf, instantDetail, GoesOn, PassedOn, Failed}
+use Rattle.value_checks.specs.Frames.{Frame, Stands, settingIn, ReferencesIn, OperandJudged, PairJudged, FormIs, formOf, side}
+use Rattle.value_checks.specs.declared.operand.Form.{Form}
+use Rattle.value_checks.specs.declared.operand.Form.the-variants as Form
+use Rattle.value_checks.specs.declared.operand.InstantRead.{InstantRead}
+use Rattle.value_checks.specs.declared.operand.InstantRead.the-variants.{Good, Bad}
+use Rattle.value_checks.specs.declared.verdict.InstantFault.{InstantFault}
+use Rattle.value_checks.specs.declared.verdict.InstantFault.the-variants.{Dollars, Other}
+use Rattle.value_checks.specs.declared.verdict.Side.{Side}
+use Rattle.value_checks.specs.declared.verdict.Fault.{Fault}
+use Rattle.value_checks.specs.declared.verdict.Fault.the-variants.{Operand, Affix, Instant}
+use Rattle.value_checks.specs.declared.verdict.Answer.{Answer}
+use Rattle.value_checks.proofs.Going.{goes-then}
+use Rattle.value_checks.proofs.NodeSteps.{same-head, value-size}
+use Rattle.value_checks.proofs.ReferenceSteps.{references-judged}
+
+-- What a value's head says of its form.
+
+module _ (rule words : List ℕ) (i : ℕ) {at : ℕ} (start : at ≡ startOf words i) where
+  value-unread : (v : Value) → ValueAt rule words i v → valueHead (drop at rule) ≡ none → ⊥
+  value-unread v a r = reads-some v a
+    where
+      clash : (h : ValueHead) (rest : List ℕ) → valueHead (drop (startOf words i) rule) ≡ some (h, rest) → ⊥
+      clash h rest q =
+          let p : valueHead (drop (startOf words i) rule) ≡ none = rw (sym start) r in
+          let z : _≡_ {A = ℕ} 0 1 = cc in
+          omega arith
+
+      reads-some : (v : Value) → ValueAt rule words i v → ⊥
+      reads-some (constant e type) a = clash _ _ (a .reads)
+      reads-some (number e digits) a = clash _ _ (a .reads)
+      reads-some (string e t) a = clash _ _ (a .reads)
+      reads-some (array e values) a = clash _ _ (a .0 .reads)
+      reads-some (object e pairs) a = clash _ _ (a .0 .reads)
+
+  pub form-bad : valueHead (drop at rule) ≡ none → (v : Value) → ValueAt rule words i v → FormIs rule Form.Other v
+  form-bad r v a = absurd (value-unread v a r)
+
+-- by the head: what an operand is asked goes by it
+abbrev FormBy : List ℕ → Form → ValueHead → Type 0
+FormBy rule (Form.Text p) (constantHead type) = ⊥
+FormBy rule (Form.Text p) (numberHead digits) = ⊥
+FormBy rule (Form.Text p) (stringHead t) = t ≡ partOf rule p
+FormBy rule (Form.Text p) (arrayHead n) = ⊥
+FormBy rule (Form.Text p) (objectHead n) = ⊥
+FormBy rule Form.Holder (constantHead type) = ⊥
+FormBy rule Form.Holder (numberHead digits) = ⊥
+FormBy rule Form.Holder (stringHead t) = ⊥
+FormBy rule Form.Holder (arrayHead n) = Unit {0}
+FormBy rule Form.Holder (objectHead n) = Unit {0}
+FormBy rule Form.Other (constantHead type) = Unit {0}
+FormBy rule Form.Other (numberHead digits) = Unit {0}
+FormBy rule Form.Other (stringHead t) = ⊥
+FormBy rule Form.Other (arrayHead n) = ⊥
+FormBy rule Form.Other (objectHead n) = ⊥
+
+module _ (rule words : List ℕ) (i : ℕ) {at next : ℕ} {h : ValueHead} (start : at ≡ startOf words i) (reads : ReadsTo valueHead rule at h next) where
+  pub form-text : (p : Part) → FormBy rule (Form.Text p) h → (v : Value) → ValueAt rule words i v → FormIs rule (Form.Text p) v
+  unfolding entryOf
+  form-text p f (constant e type) a = absurd (rw (same-head start reads a) at f)
+  form-text p f (number e digits) a = absurd (rw (same-head start reads a) at f)
+  form-text p f (string e t) a = let g : t ≡ partOf rule p = rw (same-head start reads a) at f in ap (λ (x : Text). string e x) g
+  form-text p f (array e values) a = absurd (rw (same-head start reads (a .0)) at f)
+  form-text p f (object e pairs) a = absurd (rw (same-head start reads (a .0)) at f)
+
+  pub form-holder : FormBy rule Form.Holder h → (v : Value) → ValueAt rule words i v → FormIs rule Form.Holder v
+  unfolding isHolder isString
+  form-holder f (constant e type) a = absurd (rw (same-head start reads a) at f)
+  form-holder f (number e digits) a = absurd (rw (same-head start reads a) at f)
+  form-holder f (string e t) a = absurd (rw (same-head start reads a) at f)
+  form-holder f (array e values) a = (refl, refl)
+  form-holder f (object e pairs) a = (refl, refl)
+
+  pub form-other : FormBy rule Form.Other h → (v : Value) → ValueAt rule words i v → FormIs rule Form.Other v
+  unfolding isHolder isString
+  form-other f (constant e type) a = (refl, refl)
+  form-other f (number e digits) a = (refl, refl)
+  form-other f (string e t) a = absurd (rw (same-head start reads a) at f)
+  form-other f (array e values) a = absurd (rw (same-head start reads (a .0)) at f)
+  form-other f (object e pairs) a = absurd (rw (same-head start reads (a .0)) at f)
+
+pub text-string : {e : ℕ} {t : Text} (v : Value) → v ≡ string e t → (isString v ≡ true) × (isHolder v ≡ false)
+unfolding isString isHolder
+text-string v g = (rw g, rw g)
+
+pub text-side : {e : ℕ} {t : Text} (v : Value) → v ≡ string e t → isHolder v ≡ false
+text-side v g = text-string v g .1
+
+-- Instants.
+
+pub instant-empty : (t : Text) → length t ≡ 0 → instantText t ≡ formOf (Bad Other)
+unfolding instantText formOf instantDetail
+instant-empty [] h = refl
+instant-empty (b ∷ t) h = absurd (omega arith)
+
+pub instant-dollar : (t : Text) → getD t 0 0 ≡ 36 → length t ≡ 1 → instantText t ≡ formOf Good
+unfolding instantText formOf failsIf
+instant-dollar [] e h = absurd (omega arith)
+instant-dollar (a ∷ []) e h = rw (eq-eqb a 36 e)
+instant-dollar (a ∷ b ∷ t) e h = absurd (omega arith)
+
+pub instant-dollars : (t : Text) → getD t 0 0 ≡ 36 → (length t ≡ 0 → ⊥) → (length t ≡ 1 → ⊥) → getD t 1 0 ≡ 36 → instantText t ≡ formOf (Bad Dollars)
+unfolding instantText formOf instantDetail failsIf
+instant-dollars [] e h k f = absurd (h refl)
+instant-dollars (a ∷ []) e h k f = absurd (k refl)
+instant-dollars (a ∷ b ∷ t) e h k f = rw (eq-eqb a 36 e, eq-eqb b 36 f)
+
+pub instant-reference : (t : Text) → getD t 0 0 ≡ 36 → (length t ≡ 0 → ⊥) → (length t ≡ 1 → ⊥) → (getD t 1 0 ≡ 36 → ⊥) → instantText t ≡ formOf Good
+unfolding instantText formOf failsIf
+instant-reference [] e h k f = absurd (h refl)
+instant-reference (a ∷ []) e h k f = absurd (k refl)
+instant-reference (a ∷ b ∷ t) e h k f = rw (eq-eqb a 36 e, ne-eqb b 36 f)
+
+pub instant-short : (t : Text) → (getD t 0 0 ≡ 36 → ⊥) → length t ≡ 1 → instantText t ≡ formOf (Bad Other)
+unfolding instantText formOf instantDetail failsIf
+instant-short [] e h = absurd (omega arith)
+instant-short (a ∷ []) e h = rw (ne-eqb a 36 e)
+instant-short (a ∷ b ∷ t) e h = absurd (omega arith)
+
+module _ (t : Text) (other : getD t 0 0 ≡ 36 → ⊥) (some-text : length t ≡ 0 → ⊥) (long : length t ≡ 1 → ⊥) where
+  pub instant-unread : instant t ≡ none → instantText t ≡ formOf (Bad Other)
+  unfolding instantText formOf instantDetail failsIf isNone
+  instant-unread r = by t other some-text long r
+    where
+      by : (t : Text) → (getD t 0 0 ≡ 36 → ⊥) → (length t ≡ 0 → ⊥) → (length t ≡ 1 → ⊥) → instant t ≡ none → instantText t ≡ formOf (Bad Other)
+      by [] e h k r = absurd (h refl)
+      by (a ∷ []) e h k r = absurd (k refl)
+      by (a ∷ b ∷ t) e h k r = rw (ne-eqb a 36 e, r)
+
+  pub instant-read : isNone (instant t) ≡ false → instantText t ≡ formOf Good
+  unfolding instantText formOf failsIf
+  instant-read r = by t other some-text long r
+    where
+      by : (t : Text) → (getD t 0 0 ≡ 36 → ⊥) → (length t ≡ 0 → ⊥) → (length t ≡ 1 → ⊥) → isNone (instant t) ≡ false → instantText t ≡ formOf Good
+      by [] e h k r = absurd (h refl)
+      by (a ∷ []) e h k r = absurd (k refl)
+      by (a ∷ b ∷ t) e h k r = rw (ne-eqb a 36 e, r)
+
+pub form-instant : {e : ℕ} {t text : Text} {q : Question} (v : Value) → v ≡ string e t → text ≡ t → instantText text ≡ q → instantForm v ≡ q
+unfolding instantForm
+form-instant v g s p = rw (g, sym s) p
+
+pub holder-instant : (v : Value) → isString v ≡ false → instantForm v ≡ formOf (Bad Other)
+unfolding instantForm formOf instantDetail isString
+holder-instant (constant e type) s = refl
+holder-instant (number e digits) s = refl
+holder-instant (string e t) s = let z : true ≡ false = s in let y : _≡_ {A = ℕ} 0 1 = cc in absurd (omega arith)
+holder-instant (array e values) s = refl
+holder-instant (object e pairs) s = refl
+
+-- Checks of an operand.
+
+pub value-entry : (rule words : List ℕ) (i : ℕ) (v : Value) → ValueAt rule words i v → entryOf v ≡ i + 1
+unfolding entryOf
+value-entry rule words i (constant e type) a = a .isEntry
+value-entry rule words i (number e digits) a = a .isEntry
+value-entry rule words i (string e t) a = a .isEntry
+value-entry rule words i (array e values) a = a .0 .isEntry
+value-entry rule words i (object e pairs) a = a .0 .isEntry
+
+pub asked-outcome : (setting : Setting) (tree : Schema) (binders : List Binder) (env : Environment) (n p : ℕ) (q : Question) (o : Outcome)
+    → environment tree binders ≡ some env
+    → q ≡ settled o
+    → outcome setting tree (check n p binders q) ≡ o
+unfolding outcome answerIn answer check
+asked-outcome setting tree binders env n p q o e s = rw (e, s)
+
+-- the check that an operand's form passes
+form-passes : {f : Frame} (n : ℕ) {q : Question} {b r : Answer} (semantics : ℕ) (tree : Schema) (binders : List Binder) (env : Environment) (v : Value)
+    → Stands f semantics tree binders env
+    → PassedOn b r
+    → q ≡ settled none
+    → GoesOn (outcome (settingIn f semantics) tree) b (check n (entryOf v) binders q ∷ []) r
+form-passes {f} n {q} semantics tree binders env v s p e =
+    p .goes (outcome (settingIn f semantics) tree) _ (asked-outcome (settingIn f semantics) tree binders env n (entryOf v) q none (s .bound) e)
+
+form-fails : {f : Frame} (n : ℕ) {q : Question} {fault : Fault} {place : ℕ} {b r : Answer} (semantics : ℕ) (tree : Schema) (binders : List Binder) (env : Environment) (v : Value)
+    → Stands f semantics tree binders env
+    → entryOf v ≡ place
+    → Failed b fault place (f .over) r
+    → n ≡ numberOf fault
+    → q ≡ settled (some (detailOf fault))
+    → (others : List Check)
+    → GoesOn (outcome (settingIn f semantics) tree) b (check n (entryOf v) binders q ∷ others) r
+unfolding check
+form-fails {f} n {q} {fault} semantics tree binders env v s w p m e others =
+    p .goes (outcome (settingIn f semantics) tree) _ others
+    (record { numbered = m; placed = w; held = s .held })
+    (asked-outcome (settingIn f semantics) tree binders env n (entryOf v) q (some (detailOf fault)) (s .bound) e)
+
+module _ {f : Frame} {start end : ℕ} {a : Answer} where
+  pub instant-passes : {x : InstantRead} {b r : Answer}
+      → ReferencesIn f start (end - start) a b
+      → ((v : Value) → ValueAt (f .rule) (f .words) start v → instantForm v ≡ formOf x)
+      → x ≡ Good
+      → PassedOn b r
+      → OperandJudged f instantOperand start end a r
+  unfolding instantOperand formOf
+  instant-passes l g y p =
+      record {
+        atMost = omega (arith, l .atMost, p .atMost);
+        goes =
+            λ semantics tree binders env v s w.
+            goes-then (references-judged l semantics tree binders env v s w)
+            (form-passes 20 semantics tree binders env v s p (rw y at (g v (w .stands))));
+      }
+
+  pub instant-fails : {x : InstantRead} {fault : InstantFault} {b r : Answer}
+      → ReferencesIn f start (end - start) a b
+      → ((v : Value) → ValueAt (f .rule) (f .words) start v → instantForm v ≡ formOf x)
+      → x ≡ Bad fault
+      → Failed b (Instant fault) (start + 1) (f .over) r
+      → OperandJudged f instantOperand start end a r
+  unfolding instantOperand formOf numberOf detailOf
+  instant-fails l g y p =
+      record {
+        atMost = omega (arith, l .atMost, p .same);
+        goes =
+            λ semantics tree binders env v s w.
+            goes-then (references-judged l semantics tree binders env v s w)
+            (form-fails 20 semantics tree binders env v s (value-entry (f .rule) (f .words) start v (w .stands)) p refl (rw y at (g v (w .stands))) []);
+      }
+
+  pub affix-passes : {x : Form} {part : Part} {b r : Answer}
+      → ReferencesIn f start (end - start) a b
+      → ((v : Value) → ValueAt (f .rule) (f .words) start v → FormIs (f .rule) x v)
+      → x ≡ Form.Text part
+      → PassedOn b r
+      → OperandJudged f affixOperand start end a r
+  unfolding affixOperand failsIf
+  affix-passes {x} {part} l g y p =
+      record {
+        atMost = omega (arith, l .atMost, p .atMost);
+        goes =
+            λ semantics tree binders env v s w.
+            let e : FormIs (f .rule) (Form.Text part) v = rw y at (g v (w .stands)) in
+            goes-then (references-judged l semantics tree binders env v s w)
+            (form-passes 19 semantics tree binders env v s p (rw (text-string v e .0)));
+      }
+
+  pub affix-fails : {b r : Answer}
+      → ReferencesIn f start (end - start) a b
+      → ((v : Value) → ValueAt (f .rule) (f .words) start v → isString v ≡ false)
+      → Failed b Affix (start + 1) (f .over) r
+      → OperandJudged f affixOperand start end a r
+  unfolding affixOperand failsIf numberOf detailOf
+  affix-fails l g p =
+      record {
+        atMost = omega (arith, l .atMost, p .same);
+        goes =
+            λ semantics tree binders env v s w.
+            goes-then (references-judged l semantics tree binders env v s w)
+            (form-fails 19 semantics tree binders env v s (value-entry (f .rule) (f .words) start v (w .stands)) p refl (rw (g v (w .stands))) []);
+      }
+
+  pub side-passes : (which : Side) {b r : Answer}
+      → ((v : Value) → ValueAt (f .rule) (f .words) start v → isHolder v ≡ false)
+      → PassedOn a b
+      → ReferencesIn f start (end - start) b r
+      → OperandJudged f (side which) start end a r
+  unfolding compareSide failsIf
+  side-passes which g p l =
+      record {
+        atMost = omega (arith, l .atMost, p .atMost);
+        goes =
+            λ semantics tree binders env v s w.
+            goes-then (form-passes 17 semantics tree binders env v s p (rw (g v (w .stands))))
+            (references-judged l semantics tree binders env v s w);
+      }
+
+  pub side-fails : (which : Side) {r : Answer}
+      → ((v : Value) → ValueAt (f .rule) (f .words) start v → isHolder v ≡ true)
+      → Failed a (Operand which) (start + 1) (f .over) r
+      → OperandJudged f (side which) start end a r
+  unfolding compareSide failsIf numberOf detailOf
+  side-fails which g p =
+      record {
+        atMost = omega (arith, p .same);
+        goes = λ semantics tree binders env v s w. form-fails 17 semantics tree binders env v s (value-entry (f .rule) (f .words) start v (w .stands)) p refl (rw (g v (w .stands))) (references binders v);
+      }
+
+  pub operand-instant : (op : ℕ) {r : Answer} → leb op 7 ≡ true → OperandJudged f instantOperand start end a r → OperandJudged f (operand op) start end a r
+  unfolding operand
+  operand-instant op e p = record { atMost = p .atMost; goes = λ semantics tree binders env v s w. rw e (p .goes semantics tree binders env v s w) }
+
+  pub operand-affix : (op : ℕ) {r : Answer} → leb op 7 ≡ false → leb 16 op ≡ true → OperandJudged f affixOperand start end a r → OperandJudged f (operand op) start end a r
+  unfolding operand
+  operand-affix op e k p = record { atMost = p .atMost; goes = λ semantics tree binders env v s w. rw (e, k) (p .goes semantics tree binders env v s w) }
+
+  pub operand-other : (op : ℕ) {r : Answer} → leb op 7 ≡ false → leb 16 op ≡ false → ReferencesIn f start (end - start) a r → OperandJudged f (operand op) start end a r
+  unfolding operand
+  operand-other op e k p =
+      record {
+        atMost = omega (arith, p .atMost);
+        goes = λ semantics tree binders env v s w. rw (e, k) (references-judged p semantics tree binders env v s w);
+      }
+
+  pub pair-judged : {first second : List Binder → Value → List Check} {mid : ℕ} {b r : Answer}
+      → start ≤ end
+      → Behind (f .words) start end mid
+      → OperandJudged f first start mid a b
+      → OperandJudged f second mid end b r
+      → PairJudged f first second start end a r
+  pair-judged {first} {second} {mid} {b} {r} inside k p q =
+      record {
+        atMost = omega (arith, p .atMost, q .atMost, k .most, k .least inside);
+        goes =
+            λ semantics tree binders env m left right s w u.
+            let n : endOf (f .words) start ≡ start + sizeOfValue left = value-next (f .rule) (f .words) start left (w .stands) in
+            let z : 1 ≤ sizeOfValue left = value-size left in
+            let e : mid ≡ m = k .exact (omega arith) (omega (arith, w .ends, u .ends)) ∙ n ∙ sym (w .ends) in
+            goes-then (p .goes semantics tree binders env left s (rw e w)) (q .goes semantics tree binders env right s (rw e u));
+      }

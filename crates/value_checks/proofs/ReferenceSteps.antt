@@ -1,0 +1,215 @@
+-- The references of a value, step by step.
+use Prim.Native.Nat.{ℕ, _+_, _-_, _≤_}
+use native.Mathlib.Omega.{arith}
+use mathlib.Core.Bool.{true, false}
+use mathlib.Core.List.{List, [], _∷_, _++_}
+use mathlib.Core.Option.{Option, none, some}
+use mathlib.Core.Path.{_≡_, refl, sym, ap, ap₂, _∙_}
+use lib.ListN.{length, getD, take, drop, length-drop}
+use lib.Seq.{take-all}
+use borrow.Author.Tests.{eq-eqb, ne-eqb}
+use Rattle.sheet.specs.Entries.{ValueHead, stringHead, valueHead}
+use Rattle.sheet.specs.Places.{ReadsTo}
+use Rattle.definition.specs.Tree.{Text, Schema, Value, constant, number, string, array, object, Values, noValues, value, Pairs, noPairs, pair}
+use Rattle.reference.specs.Setting.{Setting}
+use Rattle.reference.specs.Walk.{Reached, refused, unknown, known}
+use Rattle.reference.specs.Reference.{Environment, reference}
+use Rattle.rule.specs.Index.{startOf, sizeOfValue}
+use Rattle.walk.specs.Answers.{IsReached, ReadableIs}
+use Rattle.walk.specs.declared.answer.ReferenceFault.{ReferenceFault}
+use Rattle.walk.specs.declared.answer.Readable.{Readable}
+use Rattle.walk.specs.declared.answer.Readable.the-variants.{Yes, No}
+use Rattle.validation.specs.Check.{Binder, readable, check, referenceText, referenceCheck, references, referencesOfValues, referencesOfPairs}
+use Rattle.validation.specs.Judge.{outcome, environment, verdict, answer, answerIn}
+use Rattle.value_checks.specs.Leaves.{leaves, leavesOfValues, leavesOfPairs, saidIn, said-value}
+use Rattle.value_checks.specs.Nodes.{IsValue}
+use Rattle.value_checks.specs.Verdicts.{numberOf, detailOf, GoesOn, PassedOn, Failed}
+use Rattle.scope.specs.References.{ReferenceReads}
+use Rattle.value_checks.specs.Frames.{Frame, Stands, settingIn, IsReference, referenceSays, ReferencesIn}
+use Rattle.value_checks.specs.declared.verdict.Fault.the-variants.{Reference}
+use Rattle.value_checks.specs.declared.verdict.Answer.{Answer}
+use Rattle.value_checks.proofs.Going.{goes-nothing, goes-then, said-next}
+use Rattle.value_checks.proofs.LiteralSteps.{says-read, says-bad}
+
+-- Texts.
+
+pub empty-none : (t : Text) → length t ≡ 0 → referenceText t ≡ none
+unfolding referenceText
+empty-none [] h = refl
+empty-none (b ∷ t) h = absurd (omega arith)
+
+pub dollar-alone : (t : Text) → getD t 0 0 ≡ 36 → length t ≡ 1 → referenceText t ≡ some (drop 1 t)
+unfolding referenceText
+dollar-alone [] e h = absurd (omega arith)
+dollar-alone (a ∷ []) e h = rw (eq-eqb a 36 e)
+dollar-alone (a ∷ b ∷ t) e h = absurd (omega arith)
+
+pub dollars-none : (t : Text) → getD t 0 0 ≡ 36 → (length t ≡ 0 → ⊥) → (length t ≡ 1 → ⊥) → getD t 1 0 ≡ 36 → referenceText t ≡ none
+unfolding referenceText
+dollars-none [] e h k f = absurd (h refl)
+dollars-none (a ∷ []) e h k f = absurd (k refl)
+dollars-none (a ∷ b ∷ t) e h k f = rw (eq-eqb a 36 e, eq-eqb b 36 f)
+
+pub dollar-some : (t : Text) → getD t 0 0 ≡ 36 → (length t ≡ 0 → ⊥) → (length t ≡ 1 → ⊥) → (getD t 1 0 ≡ 36 → ⊥) → referenceText t ≡ some (drop 1 t)
+unfolding referenceText
+dollar-some [] e h k f = absurd (h refl)
+dollar-some (a ∷ []) e h k f = absurd (k refl)
+dollar-some (a ∷ b ∷ t) e h k f = rw (eq-eqb a 36 e, ne-eqb b 36 f)
+
+pub other-none : (t : Text) → (getD t 0 0 ≡ 36 → ⊥) → (length t ≡ 0 → ⊥) → referenceText t ≡ none
+unfolding referenceText
+other-none [] e h = absurd (h refl)
+other-none (a ∷ []) e h = rw (ne-eqb a 36 e)
+other-none (a ∷ b ∷ t) e h = rw (ne-eqb a 36 e)
+
+pub behind-dollar : (t : Text) → take (length t - 1) (drop 1 t) ≡ drop 1 t
+behind-dollar t = take-all (length t - 1) (drop 1 t) (omega (arith, length-drop 1 t))
+
+-- One reference.
+
+pub readable-outcome : (setting : Setting) (tree : Schema) (binders : List Binder) (env : Environment) (n p : ℕ) (t : Text)
+    → environment tree binders ≡ some env
+    → outcome setting tree (check n p binders (readable t)) ≡ verdict (reference setting tree env t)
+unfolding outcome answerIn answer check
+readable-outcome setting tree binders env n p t e = rw e
+
+reached-verdict : (x : Reached) → IsReached x → verdict x ≡ none
+unfolding verdict
+reached-verdict (refused d at left) h = absurd h
+reached-verdict unknown h = refl
+reached-verdict (known f) h = refl
+
+said-some : (f : Frame) (i : ℕ) {at next : ℕ} {text t : Text} (binders : List Binder)
+    → at ≡ startOf (f .words) i
+    → ReadsTo valueHead (f .rule) at (stringHead t) next
+    → text ≡ t
+    → IsReference text true
+    → saidIn (referenceSays binders) (f .rule) (f .words) 1 i ≡ check 18 (i + 1) binders (readable (drop 1 text)) ∷ []
+unfolding referenceSays referenceCheck
+said-some f i {at} {next} {text} {t} binders start reads same e =
+    let g : referenceText t ≡ some (drop 1 text) = sym (ap referenceText same) ∙ e in
+    rw (says-read (referenceSays binders) (f .rule) (f .words) i start reads, g)
+
+pub reference-long : (t : Text) → IsReference t true → 1 ≤ length t
+unfolding referenceText
+reference-long [] e = let z : _≡_ {A = Option Text} none (some (drop 1 [])) = e in let y : _≡_ {A = ℕ} 0 1 = cc in omega arith
+reference-long (b ∷ t) e = omega arith
+
+module _ {f : Frame} {i at : ℕ} {a : Answer} (start : at ≡ startOf (f .words) i) where
+  pub reference-bad : valueHead (drop at (f .rule)) ≡ none → ReferencesIn f i 1 a a
+  reference-bad r =
+      record { atMost = omega arith; goes = λ semantics tree binders env s. rw (says-bad (referenceSays binders) (f .rule) (f .words) i start r) goes-nothing }
+
+  pub reference-silent : {h : ValueHead} {next : ℕ}
+      → ReadsTo valueHead (f .rule) at h next
+      → ((binders : List Binder) → referenceSays binders (i + 1) h ≡ [])
+      → ReferencesIn f i 1 a a
+  reference-silent r e =
+      record {
+        atMost = omega arith;
+        goes = λ semantics tree binders env s. rw (says-read (referenceSays binders) (f .rule) (f .words) i start r, e binders) goes-nothing;
+      }
+
+  module _ {text t : Text} {next : ℕ} (reads : ReadsTo valueHead (f .rule) at (stringHead t) next) (same : text ≡ t) where
+    pub reference-none : IsReference text false → ReferencesIn f i 1 a a
+    unfolding referenceSays referenceCheck
+    reference-none e = reference-silent reads (λ binders. let g : referenceText t ≡ none = rw same at e in rw g)
+
+    pub reference-passes : {x : Readable} {r : Answer}
+        → IsReference text true
+        → ReferenceReads (f .schema) (f .rule) (f .words) (f .scope) (take (length text - 1) (drop 1 text)) x
+        → x ≡ Yes
+        → PassedOn a r
+        → ReferencesIn f i 1 a r
+    reference-passes {x} {r} e q y p =
+        record {
+          atMost = p .atMost;
+          goes =
+              λ semantics tree binders env s.
+              let m : ReadableIs Yes (reference (settingIn f semantics) tree env (drop 1 text)) =
+              rw (behind-dollar text, y) at (q .leads semantics tree env (s .scoped)) in
+              rw (said-some f i binders start reads same e)
+              (p .goes (outcome (settingIn f semantics) tree) _
+              (readable-outcome (settingIn f semantics) tree binders env 18 (i + 1) (drop 1 text) (s .bound) ∙ reached-verdict _ m));
+        }
+
+    pub reference-fails : {x : Readable} {fault : ReferenceFault} {place : ℕ} {r : Answer}
+        → IsReference text true
+        → ReferenceReads (f .schema) (f .rule) (f .words) (f .scope) (take (length text - 1) (drop 1 text)) x
+        → x ≡ No fault place
+        → Failed a (Reference fault place) (i + 1) (f .over) r
+        → ReferencesIn f i 1 a r
+    unfolding verdict numberOf detailOf check
+    reference-fails {x} {fault} {place} {r} e q y p =
+        record {
+          atMost = omega (arith, p .same);
+          goes =
+              λ semantics tree binders env s.
+              let m : ReadableIs (No fault place) (reference (settingIn f semantics) tree env (drop 1 text)) =
+              rw (behind-dollar text, y) at (q .leads semantics tree env (s .scoped)) in
+              rw (said-some f i binders start reads same e)
+              (p .goes (outcome (settingIn f semantics) tree) _ [] (record { numbered = refl; placed = refl; held = s .held })
+              (readable-outcome (settingIn f semantics) tree binders env 18 (i + 1) (drop 1 text) (s .bound) ∙ ap verdict (m .1)));
+        }
+
+-- Several words.
+
+module _ {f : Frame} {a : Answer} {start i : ℕ} where
+  pub references-next : {b r : Answer}
+      → start ≤ i
+      → ReferencesIn f start (i - start) a b
+      → ReferencesIn f i 1 b r
+      → ReferencesIn f start (i + 1 - start) a r
+  references-next h p q =
+      record {
+        atMost = omega (arith, p .atMost, q .atMost);
+        goes =
+            λ semantics tree binders env s.
+            rw (said-next (referenceSays binders) (f .rule) (f .words) h)
+            (goes-then (p .goes semantics tree binders env s) (q .goes semantics tree binders env s));
+      }
+
+  pub references-all : {end : ℕ} {r : Answer}
+      → end ≤ i
+      → i - start ≤ end - start
+      → ReferencesIn f start (i - start) a r
+      → ReferencesIn f start (end - start) a r
+  references-all {end} h k p = let e : i - start ≡ end - start = omega arith in rw e at p
+
+pub references-begin : {f : Frame} {a : Answer} {start : ℕ} → ReferencesIn f start (start - start) a a
+unfolding saidIn
+references-begin {f} {a} {start} =
+    let e : start - start ≡ 0 = omega arith in
+    record { atMost = omega arith; goes = λ semantics tree binders env s. rw e goes-nothing }
+
+-- A whole value.
+
+mutual
+  unfolding leaves references referenceSays
+
+  references-said : (binders : List Binder) (v : Value) → leaves (referenceSays binders) v ≡ references binders v
+  references-said binders (constant e type) = refl
+  references-said binders (number e digits) = refl
+  references-said binders (string e t) = refl
+  references-said binders (array e values) = references-of-values binders values
+  references-said binders (object e pairs) = references-of-pairs binders pairs
+
+  references-of-values : (binders : List Binder) (vs : Values) → leavesOfValues (referenceSays binders) vs ≡ referencesOfValues binders vs
+  references-of-values binders noValues = refl
+  references-of-values binders (value v others) = ap₂ _++_ (references-said binders v) (references-of-values binders others)
+
+  references-of-pairs : (binders : List Binder) (ps : Pairs) → leavesOfPairs (referenceSays binders) ps ≡ referencesOfPairs binders ps
+  references-of-pairs binders noPairs = refl
+  references-of-pairs binders (pair key v others) = ap₂ _++_ (references-said binders v) (references-of-pairs binders others)
+
+pub references-judged : {f : Frame} {start end : ℕ} {a r : Answer}
+    → ReferencesIn f start (end - start) a r
+    → (semantics : ℕ) (tree : Schema) (binders : List Binder) (env : Environment) (v : Value)
+    → Stands f semantics tree binders env
+    → IsValue (f .rule) (f .words) start end v
+    → GoesOn (outcome (settingIn f semantics) tree) a (references binders v) r
+references-judged {f} {start} {end} p semantics tree binders env v s w =
+    let n : end - start ≡ sizeOfValue v = omega (arith, w .ends) in
+    let e : saidIn (referenceSays binders) (f .rule) (f .words) (end - start) start ≡ references binders v =
+    rw n (said-value (referenceSays binders) (f .rule) (f .words) start v (w .stands) ∙ references-said binders v) in
+    rw e at (p .goes semantics tree binders env s)

@@ -1,0 +1,75 @@
+-- `value_checks::literal::validate_literal` meets its contract: only a number says something.
+use borrow.Author.Needs.{needs}
+use Rattle.value_checks.proofs.LiteralSteps.{literal-bad, literal-silent, literal-number}
+use Rattle.value_checks.specs.Literals.{literalSays}
+use Rattle.sheet.specs.Places.{valueOf}
+use Rattle.value_checks.proofs.literal.validate_literal.Statement.{statement}
+use Rattle.value_checks.proofs.literal.validate_literal.Tie as tie
+
+start-of-requires : tie.Need-start-of-requires
+start-of-requires c κs = search needs
+
+value-head-requires : tie.Need-value-head-requires
+value-head-requires c κs = search needs
+
+enum-known-head : tie.Need-enum-known-head
+enum-known-head c = search needs
+
+enum-told : tie.Need-enum-told
+enum-told c = search needs
+
+returns : tie.Need-returns
+returns c = literal-bad (c .before .before .before .start-of .ensures) (rw (c .enum-told .given .1) at (c .before .before .value-head .ensures))
+
+enum-told-2 : tie.Need-enum-told-2
+enum-told-2 c = search needs
+
+enum-known-head-2 : tie.Need-enum-known-head-2
+enum-known-head-2 c = search needs
+
+bytes-of-requires : tie.Need-bytes-of-requires
+bytes-of-requires c κs = search needs
+
+is-finite-requires : tie.Need-is-finite-requires
+is-finite-requires c κs = search needs
+
+add-require : tie.Need-add-require
+add-require c = search needs
+
+require-requires : tie.Need-require-requires
+require-requires c κs = search needs
+
+enum-told-3 : tie.Need-enum-told-3
+enum-told-3 c = search needs
+
+enum-told-4 : tie.Need-enum-told-4
+enum-told-4 c = search needs
+
+enum-told-5 : tie.Need-enum-told-5
+enum-told-5 c = search needs
+
+returns-2 : tie.Need-returns-2
+unfolding literalSays valueOf
+returns-2 c = literal-silent (c .before .before .before .before .before .before .start-of .ensures) (rw (c .before .before .before .head .given .1) at (c .before .before .before .before .before .value-head .ensures) .0) (rw (c .enum-told2 .given .1))
+
+returns-3 : tie.Need-returns-3
+unfolding valueOf
+returns-3 c =
+    literal-number (c .before .before .before .before .before .before .before .before .before .before .start-of .ensures)
+    (rw (c .before .before .before .before .before .before .before .head .given .1, c .before .before .before .before .head2 .given .1) at (c .before .before .before .before .before .before .before .before .before .value-head .ensures) .0)
+    (rw (c .before .is-finite .ensures, c .before .before .bytes-of .ensures) at (c .require .ensures))
+
+returns-4 : tie.Need-returns-4
+unfolding literalSays valueOf
+returns-4 c = literal-silent (c .before .before .before .before .before .before .start-of .ensures) (rw (c .before .before .before .head .given .1) at (c .before .before .before .before .before .value-head .ensures) .0) (rw (c .enum-told3 .given .1))
+
+returns-5 : tie.Need-returns-5
+unfolding literalSays valueOf
+returns-5 c = literal-silent (c .before .before .before .before .before .before .start-of .ensures) (rw (c .before .before .before .head .given .1) at (c .before .before .before .before .before .value-head .ensures) .0) (rw (c .enum-told4 .given .1))
+
+returns-6 : tie.Need-returns-6
+unfolding literalSays valueOf
+returns-6 c = literal-silent (c .before .before .before .before .before .before .start-of .ensures) (rw (c .before .before .before .head .given .1) at (c .before .before .before .before .before .value-head .ensures) .0) (rw (c .enum-told5 .given .1))
+
+pub validate-literal-spec : {M : Type 1} → statement M
+validate-literal-spec = tie.close (tie.spec start-of-requires value-head-requires enum-known-head enum-told returns enum-told-2 enum-known-head-2 bytes-of-requires is-finite-requires add-require require-requires enum-told-3 enum-told-4 enum-told-5 returns-2 returns-3 returns-4 returns-5 returns-6)

@@ -1,0 +1,35 @@
+-- `value_checks::references::validate_references` meets its contract: the words passed so far have been judged.
+use borrow.Author.Needs.{needs}
+use native.Mathlib.Omega.{arith}
+use Prim.Native.Nat.{_-_, _≤_}
+use Rattle.value_checks.specs.Frames.{frame, ReferencesIn}
+use Rattle.value_checks.proofs.ReferenceSteps.{references-begin, references-next, references-all}
+use Rattle.value_checks.proofs.references.validate_references.Statement.{statement}
+use Rattle.value_checks.proofs.references.validate_references.Tie as tie
+
+abbrev Inv-loop : tie.InvT-loop
+Inv-loop schema rule words scope over start end so-far₀ i₀ so-far i = (start ≤ i) × (i - start ≤ end - start) × ReferencesIn (frame schema rule words scope over) start (i - start) so-far₀ so-far
+
+abbrev μ-loop : tie.MeasureT-loop
+μ-loop schema rule words scope over start end so-far₀ i₀ so-far i = end - i
+
+loop-holds : tie.Need-loop-holds Inv-loop μ-loop
+loop-holds c = (omega arith, omega arith, references-begin)
+
+validate-value-reference-requires : tie.Need-validate-value-reference-requires Inv-loop μ-loop
+validate-value-reference-requires c κs = (record { fits = omega (arith, c .before .loop .inv .2 .atMost, c .before .before .before .before .before .pre .0 .fits) }, omega arith)
+
+add-i : tie.Need-add-i Inv-loop μ-loop
+add-i c = search needs
+
+loop-less : tie.Need-loop-less Inv-loop μ-loop
+loop-less c = omega arith
+
+loop-again : tie.Need-loop-again Inv-loop μ-loop
+loop-again c = (omega arith, omega arith, references-next (c .before .before .loop .inv .0) (c .before .before .loop .inv .2) (c .validate-value-reference .ensures))
+
+returns : tie.Need-returns Inv-loop μ-loop
+returns c = references-all (c .loop-test .left) (c .before .loop .inv .1) (c .before .loop .inv .2)
+
+pub validate-references-spec : {M : Type 1} → statement M
+validate-references-spec = tie.close (tie.spec Inv-loop μ-loop loop-holds validate-value-reference-requires add-i loop-less loop-again returns)

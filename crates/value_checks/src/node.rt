@@ -1,0 +1,34 @@
+// Where the words of an index lead.
+use rule::index::end_of;
+use sheet::rule::ConditionHead;
+ghost use Prim.Native.Nat.{_<_, _≤_};
+ghost use Rattle.value_checks.specs.Nodes.{Behind, ChildrenFrom};
+
+// The word behind the subtree of word `i`, `end` at most.
+pub fn behind(words: &[u32], i: usize, end: usize) -> usize
+    ensures { λ r. ⌜ Behind (now (words .entry)) i end r ⌝ }
+{
+    let next = end_of(words, i);
+    if i < next {
+        if next <= end {
+            return next;
+        }
+    }
+    end
+}
+
+// The first word of the conditions that a condition at word `i` holds; they end where it ends.
+pub fn children_from(words: &[u32], head: ConditionHead, i: usize, end: usize) -> usize
+    requires { ⌜ (i < end) × (end ≤ 4096) ⌝ }
+    ensures { λ r. ⌜ ChildrenFrom (now (words .entry)) head i end r ⌝ }
+{
+    match head {
+        ConditionHead::Literal(_) => end,
+        ConditionHead::Many(_, _) => i + 1,
+        ConditionHead::Negation => i + 1,
+        ConditionHead::One(_) => end,
+        ConditionHead::Two(_) => end,
+        ConditionHead::Comparison(_) => end,
+        ConditionHead::Quantifier(_, _) => behind(words, i + 1, end),
+    }
+}

@@ -1,0 +1,216 @@
+// Operands: what a value is asked besides its references.
+use crate::node::behind;
+use crate::references::validate_references;
+use crate::verdict::Answer;
+use crate::verdict::Fault;
+use crate::verdict::InstantFault;
+use crate::verdict::Over;
+use crate::verdict::Side;
+use crate::verdict::fail;
+use crate::verdict::pass;
+use rule::index::start_of;
+use scope::binder::Scope;
+use sheet::part::Part;
+use sheet::part::bytes_of;
+use sheet::rule::ValueHead;
+use sheet::rule::ValueRead;
+use sheet::rule::value_head;
+use timestamp::Parsed;
+ghost use mathlib.Core.Path.{_≡_};
+ghost use Prim.Native.Nat.{_+_, _-_, _<_, _≤_};
+ghost use Rattle.definition.specs.Tree.{Value};
+ghost use Rattle.rule.specs.Index.{ValueAt};
+ghost use Rattle.validation.specs.Check.{instantText, instantForm, instantOperand, affixOperand, operand};
+ghost use Rattle.value_checks.specs.Verdicts.{HasRoom};
+ghost use Rattle.value_checks.specs.Frames.{frame, FormIs, formOf, OperandJudged, PairJudged, side};
+
+pub enum Form {
+    Text(Part),
+    // An array or an object.
+    Holder,
+    Other,
+}
+
+// Whether an operand of `before` or `after` can be read.
+pub enum InstantRead {
+    Good,
+    Bad(InstantFault),
+}
+
+// The value of word `i`.
+pub fn form_of(rule: &[u8], words: &[u32], i: usize) -> Form
+    ensures { λ r. ⌜ ((v : Value) → ValueAt (now (rule .entry)) (now (words .entry)) i v → FormIs (now (rule .entry)) r v) ⌝ }
+{
+    let ValueRead::Is(head, _) = value_head(rule, start_of(words, i)) else {
+        return Form::Other;
+    };
+    match head {
+        ValueHead::Constant(_) => Form::Other,
+        ValueHead::Number(_) => Form::Other,
+        ValueHead::Text(part) => Form::Text(part),
+        ValueHead::Array(_) => Form::Holder,
+        ValueHead::Object(_) => Form::Holder,
+    }
+}
+
+// A reference may be an instant; text that begins with `$$` is none.
+fn instant_text(text: &[u8]) -> InstantRead
+    ensures { λ r. ⌜ instantText (now (text .entry)) ≡ formOf r ⌝ }
+{
+    if text.len() == 0 {
+        return InstantRead::Bad(InstantFault::Other);
+    }
+    if text[0] == b'$' {
+        if text.len() == 1 {
+            return InstantRead::Good;
+        }
+        if text[1] == b'$' {
+            return InstantRead::Bad(InstantFault::Dollars);
+        }
+        return InstantRead::Good;
+    }
+    if text.len() == 1 {
+        return InstantRead::Bad(InstantFault::Other);
+    }
+    let Parsed::Instant(_) = timestamp::parse(text) else {
+        return InstantRead::Bad(InstantFault::Other);
+    };
+    InstantRead::Good
+}
+
+fn instant_form(rule: &[u8], words: &[u32], i: usize) -> InstantRead
+    ensures { λ r. ⌜ ((v : Value) → ValueAt (now (rule .entry)) (now (words .entry)) i v → instantForm v ≡ formOf r) ⌝ }
+{
+    match form_of(rule, words, i) {
+        Form::Text(part) => instant_text(bytes_of(rule, part)),
+        Form::Holder => InstantRead::Bad(InstantFault::Other),
+        Form::Other => InstantRead::Bad(InstantFault::Other),
+    }
+}
+
+fn validate_instant(
+    a: Answer,
+    schema: &[u8],
+    rule: &[u8],
+    words: &[u32],
+    scope: Scope,
+    over: Over,
+    start: usize,
+    end: usize,
+) -> Answer
+    requires { ⌜ HasRoom a (end - start + 1) × (start < 4096) × (end ≤ 4096) ⌝ }
+    ensures { λ r. ⌜ OperandJudged (frame (now (schema .entry)) (now (rule .entry)) (now (words .entry)) scope over) instantOperand start end a r ⌝ }
+{
+    let b = validate_references(a, schema, rule, words, scope, over, start, end);
+    let form = instant_form(rule, words, start);
+    let InstantRead::Bad(fault) = form else {
+        return pass(b);
+    };
+    fail(b, Fault::Instant(fault), start + 1, over)
+}
+
+fn validate_affix(
+    a: Answer,
+    schema: &[u8],
+    rule: &[u8],
+    words: &[u32],
+    scope: Scope,
+    over: Over,
+    start: usize,
+    end: usize,
+) -> Answer
+    requires { ⌜ HasRoom a (end - start + 1) × (start < 4096) × (end ≤ 4096) ⌝ }
+    ensures { λ r. ⌜ OperandJudged (frame (now (schema .entry)) (now (rule .entry)) (now (words .entry)) scope over) affixOperand start end a r ⌝ }
+{
+    let b = validate_references(a, schema, rule, words, scope, over, start, end);
+    match form_of(rule, words, start) {
+        Form::Text(_) => pass(b),
+        Form::Holder => fail(b, Fault::Affix, start + 1, over),
+        Form::Other => fail(b, Fault::Affix, start + 1, over),
+    }
+}
+
+// A side of a comparison: no array and no object, and this before its references.
+fn validate_side(
+    a: Answer,
+    schema: &[u8],
+    rule: &[u8],
+    words: &[u32],
+    scope: Scope,
+    over: Over,
+    which: Side,
+    start: usize,
+    end: usize,
+) -> Answer
+    requires { ⌜ HasRoom a (end - start + 1) × (start < 4096) × (end ≤ 4096) ⌝ }
+    ensures { λ r. ⌜ OperandJudged (frame (now (schema .entry)) (now (rule .entry)) (now (words .entry)) scope over) (side which) start end a r ⌝ }
+{
+    match form_of(rule, words, start) {
+        Form::Text(_) => validate_references(pass(a), schema, rule, words, scope, over, start, end),
+        Form::Holder => fail(a, Fault::Operand(which), start + 1, over),
+        Form::Other => validate_references(pass(a), schema, rule, words, scope, over, start, end),
+    }
+}
+
+// An operand of a pair, by the operator's number: 6 before and 7 after, 16 starts_with and 17 ends_with, the others.
+fn validate_operand(
+    a: Answer,
+    schema: &[u8],
+    rule: &[u8],
+    words: &[u32],
+    scope: Scope,
+    over: Over,
+    op: usize,
+    start: usize,
+    end: usize,
+) -> Answer
+    requires { ⌜ HasRoom a (end - start + 1) × (start < 4096) × (end ≤ 4096) ⌝ }
+    ensures { λ r. ⌜ OperandJudged (frame (now (schema .entry)) (now (rule .entry)) (now (words .entry)) scope over) (operand op) start end a r ⌝ }
+{
+    if op <= 7 {
+        return validate_instant(a, schema, rule, words, scope, over, start, end);
+    }
+    if 16 <= op {
+        return validate_affix(a, schema, rule, words, scope, over, start, end);
+    }
+    validate_references(a, schema, rule, words, scope, over, start, end)
+}
+
+// Both operands of a pair.
+pub fn validate_pair(
+    a: Answer,
+    schema: &[u8],
+    rule: &[u8],
+    words: &[u32],
+    scope: Scope,
+    over: Over,
+    op: usize,
+    start: usize,
+    end: usize,
+) -> Answer
+    requires { ⌜ HasRoom a (end - start + 2) × (start ≤ end) × (end < 4096) ⌝ }
+    ensures { λ r. ⌜ PairJudged (frame (now (schema .entry)) (now (rule .entry)) (now (words .entry)) scope over) (operand op) (operand op) start end a r ⌝ }
+{
+    let mid = behind(words, start, end);
+    let b = validate_operand(a, schema, rule, words, scope, over, op, start, mid);
+    validate_operand(b, schema, rule, words, scope, over, op, mid, end)
+}
+
+// Both sides of a comparison.
+pub fn validate_comparison(
+    a: Answer,
+    schema: &[u8],
+    rule: &[u8],
+    words: &[u32],
+    scope: Scope,
+    over: Over,
+    start: usize,
+    end: usize,
+) -> Answer
+    requires { ⌜ HasRoom a (end - start + 2) × (start ≤ end) × (end < 4096) ⌝ }
+    ensures { λ r. ⌜ PairJudged (frame (now (schema .entry)) (now (rule .entry)) (now (words .entry)) scope over) (side Side.Left) (side Side.Right) start end a r ⌝ }
+{
+    let mid = behind(words, start, end);
+    let b = validate_side(a, schema, rule, words, scope, over, Side::Left, start, mid);
+    validate_side(b, schema, rule, words, scope, over, Side::Right, mid, end)
+}

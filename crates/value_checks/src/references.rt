@@ -1,0 +1,93 @@
+// The references of a value: its strings that begin with `$`, but not with `$$`.
+use crate::verdict::Answer;
+use crate::verdict::Fault;
+use crate::verdict::Over;
+use crate::verdict::fail;
+use crate::verdict::pass;
+use rule::index::start_of;
+use scope::binder::Scope;
+use scope::references::validate_reference;
+use sheet::part::bytes_of;
+use sheet::rule::ValueHead;
+use sheet::rule::ValueRead;
+use sheet::rule::value_head;
+use walk::answer::Readable;
+ghost use Prim.Native.Nat.{_-_, _<_, _≤_};
+ghost use Rattle.value_checks.specs.Verdicts.{HasRoom};
+ghost use Rattle.value_checks.specs.Frames.{frame, IsReference, ReferencesIn};
+
+fn is_reference(text: &[u8]) -> bool
+    ensures { λ r. ⌜ IsReference (now (text .entry)) r ⌝ }
+{
+    if text.len() == 0 {
+        return false;
+    }
+    if text[0] == b'$' {
+        if text.len() == 1 {
+            return true;
+        }
+        if text[1] == b'$' {
+            return false;
+        }
+        return true;
+    }
+    false
+}
+
+// The entry of word `i`, if it is a reference.
+fn validate_value_reference(
+    a: Answer,
+    schema: &[u8],
+    rule: &[u8],
+    words: &[u32],
+    scope: Scope,
+    over: Over,
+    i: usize,
+) -> Answer
+    requires { ⌜ HasRoom a 1 × (i < 4096) ⌝ }
+    ensures { λ r. ⌜ ReferencesIn (frame (now (schema .entry)) (now (rule .entry)) (now (words .entry)) scope over) i 1 a r ⌝ }
+{
+    let ValueRead::Is(head, _) = value_head(rule, start_of(words, i)) else {
+        return a;
+    };
+    match head {
+        ValueHead::Constant(_) => a,
+        ValueHead::Number(_) => a,
+        ValueHead::Text(part) => {
+            let text = bytes_of(rule, part);
+            if is_reference(text) {
+                let found = validate_reference(schema, rule, words, scope, &text[1..]);
+                let Readable::No(fault, at) = found else {
+                    return pass(a);
+                };
+                return fail(a, Fault::Reference(fault, at), i + 1, over);
+            }
+            a
+        }
+        ValueHead::Array(_) => a,
+        ValueHead::Object(_) => a,
+    }
+}
+
+// The references from word `start` up to word `end`, in the order of the sheet.
+pub fn validate_references(
+    a: Answer,
+    schema: &[u8],
+    rule: &[u8],
+    words: &[u32],
+    scope: Scope,
+    over: Over,
+    start: usize,
+    end: usize,
+) -> Answer
+    requires { ⌜ HasRoom a (end - start) × (end ≤ 4096) ⌝ }
+    ensures { λ r. ⌜ ReferencesIn (frame (now (schema .entry)) (now (rule .entry)) (now (words .entry)) scope over) start (end - start) a r ⌝ }
+{
+    let mut so_far = a;
+    let mut i = start;
+    while i < end {
+        so_far = validate_value_reference(so_far, schema, rule, words, scope, over, i);
+        i += 1;
+    }
+    so_far
+}

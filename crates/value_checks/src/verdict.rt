@@ -1,0 +1,95 @@
+// What judging answers, and how it goes on check by check.
+use walk::answer::CollectionFault;
+use walk::answer::ReferenceFault;
+ghost use Rattle.value_checks.specs.Verdicts.{HasRoom, PassedOn, Failed, Required};
+
+// A side of a comparison.
+pub enum Side {
+    Left,
+    Right,
+}
+
+// Why an operand of `before` or `after` is no instant.
+pub enum InstantFault {
+    // Text that begins with `$$`.
+    Dollars,
+    Other,
+}
+
+// Why a check fails; docs/FORMAT.md, "Answers", from 11 on, in its order.
+pub enum Fault {
+    Name,
+    Message,
+    Deep,
+    Literal,
+    Operator,
+    Empty,
+    // The side that is an array or an object.
+    Operand(Side),
+    // The fault, and the entry of the field that refused.
+    Reference(ReferenceFault, usize),
+    Affix,
+    Instant(InstantFault),
+    Bind,
+    // The same of the `in` value.
+    Collection(CollectionFault, usize),
+}
+
+// The innermost quantifier whose body holds a check.
+pub enum Over {
+    Outside,
+    // The entry of its `in` value.
+    In(usize),
+}
+
+pub enum Verdict {
+    Pass,
+    // The fault, the entry that it is found at, and the quantifier around it.
+    Defect(Fault, usize, Over),
+}
+
+pub struct Answer {
+    // The checks that passed, up to the first that does not.
+    pub passed: usize,
+    pub verdict: Verdict,
+}
+
+// One check more, which passes. A defect stays as it is.
+pub fn pass(a: Answer) -> Answer
+    requires { ⌜ HasRoom a 1 ⌝ }
+    ensures { λ r. ⌜ PassedOn a r ⌝ }
+{
+    let verdict = a.verdict;
+    let Verdict::Pass = verdict else {
+        return a;
+    };
+    Answer {
+        passed: a.passed + 1,
+        verdict: Verdict::Pass,
+    }
+}
+
+// One check more, which fails: the end. A defect stays as it is.
+pub fn fail(a: Answer, fault: Fault, place: usize, over: Over) -> Answer
+    ensures { λ r. ⌜ Failed a fault place over r ⌝ }
+{
+    let verdict = a.verdict;
+    let Verdict::Pass = verdict else {
+        return a;
+    };
+    Answer {
+        passed: a.passed,
+        verdict: Verdict::Defect(fault, place, over),
+    }
+}
+
+// One check more, which fails with the fault where `wrong` holds.
+pub fn require(a: Answer, wrong: bool, fault: Fault, place: usize, over: Over) -> Answer
+    requires { ⌜ HasRoom a 1 ⌝ }
+    ensures { λ r. ⌜ Required a wrong fault place over r ⌝ }
+{
+    if wrong {
+        return fail(a, fault, place, over);
+    }
+    pass(a)
+}
