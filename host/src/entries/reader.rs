@@ -80,7 +80,10 @@ impl<'a> Reader<'a> {
     /// The end of an entry, which says this.
     pub fn end(&mut self, content: Content<'a>) -> Read<()> {
         if !self.take(b"\n") {
-            return self.fail("the end of the entry, byte 0A");
+            return self.fail(match self.rest.first() {
+                Some(b'\r') => "the end of the entry, byte 0A alone, not 0D before it",
+                _ => "the end of the entry, byte 0A",
+            });
         }
         let byte = self.begun.take().unwrap_or_default();
         self.entries.push(Entry { byte, content });
