@@ -51,6 +51,31 @@ fn the_readme_shows_what_is_printed() {
     assert!(output.stderr.is_empty());
 }
 
+/// The sheet of a block in which words stand beside the entries.
+fn shown_sheet<'a>(blocks: &mut impl Iterator<Item = &'a str>) -> String {
+    let block = blocks.next().expect("a block");
+    let entries = block.trim_start().lines().map(|line| {
+        let (entry, _) = line.split_once("  ").expect("words beside the entry");
+        format!("{entry}\n")
+    });
+    entries.collect()
+}
+
+#[test]
+fn the_format_shows_two_sheets_that_are_accepted() {
+    let folder = folder("shown");
+    let format = include_str!("../../docs/FORMAT.md");
+    let (_, pair) = format
+        .split_once("\n### A pair of sheets\n")
+        .expect("a pair");
+    let mut blocks = pair.split("```").skip(1).step_by(2);
+    fs::write(folder.join("s"), shown_sheet(&mut blocks)).expect("a schema");
+    fs::write(folder.join("r"), shown_sheet(&mut blocks)).expect("a rule");
+    let (_, out, _) = run_check(&folder, "s r");
+    assert_eq!(out, "r: accepted, all 15 checks passed\n");
+    assert!(pair.contains("it is accepted with 15 checks passed"));
+}
+
 #[test]
 fn the_status_tells_the_worst_outcome() {
     let status = |words| run_check(&mill(), words).0;

@@ -1,5 +1,5 @@
--- The bounds of a call and the numbers of its answers (docs/FORMAT.md, "Answers", "Families"): each bound met and passed by one, each number
--- with its family. Edges.antt has what lies inside the check list.
+-- The bounds of a call and the numbers of its answers (docs/FORMAT.md, "Answers", "Families"): each bound met and passed by one, and the
+-- defects that Edges.antt does not show, with their families.
 use Prim.Native.Nat.{ℕ}
 use native.Mathlib.Omega.{arith}
 use mathlib.Core.List.{List, [], _∷_}
@@ -55,7 +55,7 @@ pub record Bounds : Type 0 where
   pub width-before-sheets : heard (lend (label 0) 0 0) ≡ refuses 3
   pub schema-before-rule : heard (ask 1 2 [] []) ≡ refuses 4
   pub no-rule : heard (ask 1 2 empty []) ≡ refuses 5
-  -- the numbers that Edges.antt does not show
+  -- defects
   pub name : heard (ask 1 2 empty (ascii "R,1,-, \nC,1,1,\n")) ≡ finds 11 1 0 1 0 0 1 (ascii "r")
   pub message : heard (ask 1 2 empty (ascii "R,-,0,\nC,1,1,\n")) ≡ finds 12 1 0 1 0 1 1 (ascii "r")
   pub operator : heard (ask 1 1 empty (ascii "R,-,-,\nC,19,0,\nV,5,3,$id\n")) ≡ finds 15 3 0 2 0 3 8 (ascii "r.assert")
