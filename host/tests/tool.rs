@@ -152,7 +152,9 @@ fn refusals_say_what_was_expected_and_where() {
     file("bad.schema", "H,0,1,-,0\nF,13,0,0,0,1,-,a\n");
     file("good.rule", "R,-,-,\nC,1,1,\n");
     file("bad.rule", "R,3,-,a\nb\nC,4,0,\nC,99,0,\n");
-    file("long.rule", &"R".repeat(30_001));
+    let string = format!("V,5,490,{}\n", "t".repeat(490));
+    file("long.rule", &format!("T\nV,6,61,\n{}", string.repeat(61)));
+    file("other.rule", &"R".repeat(30_001));
     file("returns.rule", "R,-,-,\r\nC,1,1,\r\n");
 
     let (status, out, _) = run_check(&folder, "good.schema bad.rule");
@@ -161,7 +163,11 @@ fn refusals_say_what_was_expected_and_where() {
     assert_eq!((status, out.as_str()), (Some(2), expected));
 
     let (_, out, _) = run_check(&folder, "good.schema long.rule");
-    assert!(out.ends_with("expected at most 30,000 bytes in the sheet\n"));
+    let expected = "long.rule:63: refused 5 (rule sheet): entry 63, byte 30000: expected at most 30,000 bytes in the sheet\n";
+    assert_eq!(out, expected);
+
+    let (_, out, _) = run_check(&folder, "good.schema other.rule");
+    assert!(out.ends_with(": entry 1, byte 1: expected a comma\n"));
 
     let (_, out, _) = run_check(&folder, "good.schema returns.rule");
     let expected = "returns.rule:1: refused 5 (rule sheet): entry 1, byte 6: \

@@ -3,7 +3,7 @@
 use crate::arguments::Arguments;
 use crate::hint::hint;
 use entity_rules::entries::{Content, Entry, Malformed, read_rule, read_schema};
-use entity_rules::limits::MAX_SHEET_BYTES;
+use entity_rules::limits::{MAX_SHEET_BYTES, MAX_TEXT_BYTES};
 use entity_rules::{Defect, Refusal, Verdict, check};
 use std::fs::File;
 use std::io::{self, Read};
@@ -100,11 +100,12 @@ pub fn read_sheet(file: &Path, sheet: Sheet) -> Result<Vec<u8>, Unreadable> {
     })
 }
 
-/// One byte past the longest sheet is enough to tell that it is too long.
+/// As much as is needed of a sheet that is too long: the limit, and the rest of the entry that passes it, which has two texts at most.
 fn start(input: impl Read) -> io::Result<Vec<u8>> {
-    let most = u64::try_from(MAX_SHEET_BYTES)
-        .unwrap_or(u64::MAX)
-        .saturating_add(1);
+    let most = MAX_TEXT_BYTES
+        .saturating_mul(4)
+        .saturating_add(MAX_SHEET_BYTES);
+    let most = u64::try_from(most).unwrap_or(u64::MAX);
     let mut bytes = Vec::new();
     input.take(most).read_to_end(&mut bytes)?;
     Ok(bytes)
