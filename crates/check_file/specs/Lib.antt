@@ -1,7 +1,6 @@
 pub mod File
 pub mod Places
 pub mod Line
-pub mod Wrote
 pub mod LineLaws
 pub mod Output
 pub mod OutputLaws

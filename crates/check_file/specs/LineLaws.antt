@@ -1,35 +1,16 @@
--- How long a line is, and that it stands in the lent bytes where it fits.
-use Prim.Native.Nat.{ℕ, zero, suc, _+_, _*_, _/_, _%_, _^_, _≤_, _<_}
+-- How long a line is.
+use Prim.Native.Nat.{ℕ, zero, suc, _+_, _/_, _%_, _^_, _≤_, _<_}
 use mathlib.Core.List.{List, [], _∷_, _++_}
-use mathlib.Core.Path.{_≡_, refl, sym, ap, _∙_}
+use mathlib.Core.Path.{ap}
 use native.Mathlib.Omega.{arith}
-use lib.ListN.{length, take, drop, length-append}
-use lib.Seq.{sets, sets-eq, take-at}
+use lib.ListN.{length, length-append}
 use lib.Dec.{ltb}
 use borrow.Author.Tests.{ltb-true, ltb-false}
 use Rattle.sheet.specs.Numeral.{decimalOf}
-use Rattle.sheet.specs.NumeralLaws.{decimalOf-one, decimalOf-digit}
+use Rattle.sheet.specs.NumeralLaws.{decimalOf-one}
 use Rattle.sheet.specs.ReaderLaws.{by-test}
+use Rattle.buffer.specs.DigitLaws.{decimalOf-last}
 use Rattle.check_file.specs.Line.{fieldOf, written, lineOf, numbers}
-use Rattle.check_file.specs.Wrote.{Wrote}
-
-pub sets-front : (bytes before : List ℕ) → length bytes ≤ length before → take (length bytes) (sets before 0 bytes) ≡ bytes
-sets-front bytes before fits =
-    ap (λ (l : List ℕ). take (length bytes) l) (sets-eq bytes before 0 (omega arith))
-    ∙ take-at bytes (drop (0 + length bytes) before) (length bytes) refl
-
--- what is written at the start is what stands up to `next`
-pub wrote-front : {before after : List ℕ} {next : ℕ} {bytes : List ℕ} → Wrote before after 0 bytes next → length bytes ≤ length before
-    → take next after ≡ bytes
-wrote-front {before} {after} {next} {bytes} w fits =
-    let all : next ≡ length bytes = omega (arith, w .ends) in
-    rw (all, w .stands) (sets-front bytes before fits)
-
--- a number's last digit stands last
-pub decimalOf-last : (n : ℕ) → 10 ≤ n → decimalOf n ≡ decimalOf (n / 10) ++ ((48 + n % 10) ∷ [])
-decimalOf-last n h =
-    let whole : n / 10 * 10 + n % 10 ≡ n = omega arith in
-    ap decimalOf (sym whole) ∙ decimalOf-digit (n / 10) (n % 10) (omega arith) (omega arith)
 
 decimalOf-length : (k n : ℕ) → n < 10 ^ suc k → length (decimalOf n) ≤ suc k
 decimalOf-length zero n h = omega (arith, ap length (decimalOf-one n (omega arith)))

@@ -5,11 +5,11 @@ use mathlib.Core.Option.{Option, none, some, Option·map}
 use mathlib.Core.Path.{_≡_, refl, sym, ap, _∙_}
 use native.Mathlib.Omega.{arith}
 use lib.ListN.{length, take}
+use Rattle.buffer.specs.WroteLaws.{sets-front}
 use Rattle.validation.specs.Result.{Answer, refused, accepted, defect, resultOf, numbersOf, pathAfter, Run, callOf, Meets}
 use Rattle.validation.specs.RefusalLaws.{capped, capped-same}
 use Rattle.check_file.specs.File.{Parts, takenApart}
 use Rattle.check_file.specs.Line.{lineOf}
-use Rattle.check_file.specs.LineLaws.{sets-front}
 use Rattle.check_file.specs.Places.{tooLarge, partsAt, answerable}
 use Rattle.check_file.specs.Output.{callFor, pathIn, answered, printed, outputOf}
 use Rattle.check_file.specs.declared.file.Placed.{Placed}

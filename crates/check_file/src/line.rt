@@ -1,54 +1,17 @@
 // The line: numbers with a comma behind each, the path, and the line's end. What does not fit is left out.
-ghost use mathlib.Core.List.{[], _∷_};
+use buffer::push;
+use buffer::put;
+use buffer::put_decimal;
 ghost use mathlib.Core.Path.{_≡_};
-ghost use Prim.Native.Nat.{_≤_};
-ghost use lib.ListN.{length, take};
-ghost use Rattle.sheet.specs.Numeral.{decimalOf};
+ghost use lib.ListN.{take};
+ghost use Rattle.buffer.specs.Wrote.{Wrote};
 ghost use Rattle.check_file.specs.Line.{fieldOf, lineOf, numbers};
-ghost use Rattle.check_file.specs.Wrote.{Wrote};
 
-// Writes one byte; the place behind it is returned, as by each function here that writes.
-fn push(out: &mut [u8], at: usize, byte: u8) -> usize
-    requires { ⌜ at ≤ length (now out) ⌝ }
-    ensures { λ r. ⌜ Wrote (now (out .entry)) (now (out .exit)) at (byte ∷ []) r ⌝ }
-{
-    if at < out.len() {
-        out[at] = byte;
-        return at + 1;
-    }
-    at
-}
-
-fn put(out: &mut [u8], at: usize, bytes: &[u8]) -> usize
-    requires { ⌜ at ≤ length (now out) ⌝ }
-    ensures { λ r. ⌜ Wrote (now (out .entry)) (now (out .exit)) at (now (bytes .entry)) r ⌝ }
-{
-    let mut next = at;
-    let mut i = 0;
-    while i < bytes.len() {
-        next = push(out, next, bytes[i]);
-        i += 1;
-    }
-    next
-}
-
-fn put_decimal(out: &mut [u8], at: usize, n: u32) -> usize
-    requires { ⌜ at ≤ length (now out) ⌝ }
-    ensures { λ r. ⌜ Wrote (now (out .entry)) (now (out .exit)) at (decimalOf n) r ⌝ }
-{
-    if n < 10 {
-        return push(out, at, 48 + n as u8);
-    }
-    let next = put_decimal(out, at, n / 10);
-    push(out, next, 48 + (n % 10) as u8)
-}
-
-// A number and the comma behind it.
+// Writes a number and the comma behind it; the place behind that is returned.
 fn put_field(out: &mut [u8], at: usize, n: u32) -> usize
-    requires { ⌜ at ≤ length (now out) ⌝ }
     ensures { λ r. ⌜ Wrote (now (out .entry)) (now (out .exit)) at (fieldOf n) r ⌝ }
 {
-    let next = put_decimal(out, at, n);
+    let next = put_decimal(out, at, n as usize);
     push(out, next, b',')
 }
 

@@ -2,9 +2,11 @@
 use Prim.Native.Nat.{ℕ, _<_, _^_}
 use mathlib.Core.List.{List}
 use mathlib.Core.Option.{none, some, Option·map}
-use mathlib.Core.Path.{_≡_, refl}
+use mathlib.Core.Path.{_≡_}
 use native.Mathlib.Omega.{arith}
 use lib.ListN.{length, take}
+use Rattle.buffer.specs.Wrote.{Wrote}
+use Rattle.buffer.specs.WroteLaws.{wrote-nothing}
 use Rattle.validation.specs.Result.{pathBytes, scratchWords, resultOf, numbersOf, callOf, Meets}
 use Rattle.validator.specs.Outcomes.{numbersBy}
 use Rattle.validator.specs.Sheets.{takesOf}
@@ -18,7 +20,6 @@ use Rattle.check_file.specs.Line.{lineOf, numbers}
 use Rattle.check_file.specs.LineLaws.{line-length}
 use Rattle.check_file.specs.Output.{callFor, pathIn, answered, outputOf}
 use Rattle.check_file.specs.OutputLaws.{output-apart, output-other, answered-run}
-use Rattle.check_file.specs.Wrote.{Wrote}
 use Rattle.file_answer.specs.Printed.{Printed}
 use Rattle.file_answer.specs.PrintedLaws.{path-fits}
 
@@ -48,7 +49,7 @@ module _ (p : Parts) (o : Outcome) (pathBefore scratchBefore path scratch : List
       record { wrote = rw line w; short = rw (← result-is) (omega arith) }
 
 pub printed-none : (file before : List ℕ) → takenApart file ≡ none → Printed (outputOf file) before before 0
-printed-none file before e = rw (output-other file e) (record { wrote = record { stands = refl; ends = omega arith; within = omega arith }; short = omega arith })
+printed-none file before e = rw (output-other file e) (record { wrote = wrote-nothing before 0; short = omega arith })
 
 pub printed-apart : (file : List ℕ) (p : Placed) {label schema rule before after : List ℕ} {next : ℕ}
     → Option·map answerable (takenApart file) ≡ some (partsAt file p)

@@ -2,7 +2,7 @@
 use Prim.Native.Nat.{ℕ, _≤_}
 use mathlib.Core.List.{List}
 use lib.ListN.{length}
-use Rattle.check_file.specs.Wrote.{Wrote}
+use Rattle.buffer.specs.Wrote.{Wrote}
 
 -- six numbers of ten digits with a comma behind each, the longest path, and the line's end
 abbrev pub maxOutput : ℕ

@@ -17,8 +17,8 @@ use Rattle.reference.specs.Setting.{Setting}
 use Rattle.validation.specs.Check.{checks}
 use Rattle.validation.specs.Judge.{Verdict, allPass, failsAt, judge}
 use Rattle.validation.specs.Result.{Call, Answer, maxLabelBytes, pathBytes, settingFor, isWithin, refusals, firstRefusal, answerOf, checked, judged, refusedOr, resultOf}
+use Rattle.buffer.specs.WroteLaws.{wrote-front}
 use Rattle.location.specs.LengthLaws.{path-length}
-use Rattle.check_file.specs.LineLaws.{wrote-front}
 use Rattle.check_file.specs.Output.{pathIn}
 use Rattle.file_answer.specs.Printed.{maxOutput, Printed}
 

@@ -16,11 +16,11 @@ use Rattle.rule.specs.Index.{startOf, endOf, sizeOfValue, sizeOfCondition, coun
 use Rattle.rule.specs.IndexLaws.{value-next, condition-next}
 use Rattle.validation.specs.Check.{entryOf}
 use Rattle.validation.specs.Location.{operatorName, dotted, index, through, hereOr, hereAs, inValue, inSide, atQuantifier, inCondition, inConditions}
-use Rattle.location.specs.Buffer.{Wrote}
+use Rattle.buffer.specs.Wrote.{Wrote}
 use Rattle.location.specs.Siblings.{Reaches}
 use Rattle.location.specs.Heads.{partAt, isValueAt, isWhole, ownPart}
 use Rattle.location.specs.Descent.{ValueWritten, ConditionWritten, ConditionLeads, OperandLeads}
-use Rattle.location.proofs.BufferLaws.{wrote-nothing, wrote-then}
+use Rattle.buffer.specs.WroteLaws.{wrote-nothing, wrote-then}
 use Rattle.location.proofs.Ranges.{Among, none-found, either-found, here-found, here-or-found, value-among, value-size, condition-among, condition-size}
 use Rattle.location.proofs.Reached.{Standing, firstOf, Found, reached}
 use Rattle.location.proofs.ValueSteps.{same-head, refused-head, not-own, own-empty}

@@ -1,4 +1,3 @@
-mod BufferLaws
 mod Words
 mod Names
 mod Ranges

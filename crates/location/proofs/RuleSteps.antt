@@ -13,10 +13,10 @@ use Rattle.sheet.specs.Entries as entries
 use Rattle.definition.specs.Tree.{Text, Value, Condition, Rule, rule, template}
 use Rattle.rule.specs.Index.{startOf, ConditionAt, RuleAt}
 use Rattle.validation.specs.Location.{through, inValue, inCondition, behindLabel}
-use Rattle.location.specs.Buffer.{Wrote}
+use Rattle.buffer.specs.Wrote.{Wrote}
 use Rattle.location.specs.Descent.{ValueWritten, ConditionWritten, AssertWritten, RuleWritten}
 use Rattle.location.specs.Path.{PathWritten}
-use Rattle.location.proofs.BufferLaws.{wrote-nothing, wrote-then}
+use Rattle.buffer.specs.WroteLaws.{wrote-nothing, wrote-then}
 use Rattle.location.proofs.Ranges.{through-found, value-among, condition-among}
 use Rattle.location.proofs.ValueSteps.{same-head, refused-head}
 

@@ -14,11 +14,11 @@ use Rattle.definition.specs.Tree.{Text, Value, constant, number, string, array,
 use Rattle.rule.specs.Index.{startOf, endOf, sizeOfValue, sizeOfValues, sizeOfPairs, countOfValues, countOfPairs, EntryAt, ValueAt, ValuesAt, PairsAt}
 use Rattle.rule.specs.IndexLaws.{value-next}
 use Rattle.validation.specs.Location.{dotted, index, through, hereOr, inValue, inValues, inPairs}
-use Rattle.location.specs.Buffer.{Wrote}
+use Rattle.buffer.specs.Wrote.{Wrote}
 use Rattle.location.specs.Siblings.{Reaches}
 use Rattle.location.specs.Keys.{KeyWritten}
 use Rattle.location.specs.Descent.{ValueWritten, ValueLeads}
-use Rattle.location.proofs.BufferLaws.{wrote-nothing, wrote-then}
+use Rattle.buffer.specs.WroteLaws.{wrote-nothing, wrote-then}
 use Rattle.location.proofs.Ranges.{Among, none-found, here-or-found, value-among, value-size}
 use Rattle.location.proofs.Reached.{Standing, firstOf, Found, reached}
 

@@ -9,7 +9,7 @@ use Rattle.sheet.specs.Ascii.{ascii}
 use Rattle.definition.specs.Tree.{Text, Value, Condition, Rule}
 use Rattle.rule.specs.Index.{ValueAt, ConditionAt, RuleAt}
 use Rattle.validation.specs.Location.{through, inValue, inCondition, behindLabel}
-use Rattle.location.specs.Buffer.{Wrote}
+use Rattle.buffer.specs.Wrote.{Wrote}
 
 -- the way from the value at word `i`
 pub record ValueWritten (sheet words : List ℕ) (target i : ℕ) (before after : List ℕ) (at next : ℕ) : Type 0 where

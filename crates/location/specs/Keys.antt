@@ -8,7 +8,7 @@ use Rattle.sheet.specs.Entries.{keyHead}
 use Rattle.definition.specs.Tree.{Text}
 use Rattle.rule.specs.Index.{startOf}
 use Rattle.validation.specs.Location.{dotted}
-use Rattle.location.specs.Buffer.{Wrote}
+use Rattle.buffer.specs.Wrote.{Wrote}
 
 -- the key that the sheet has at word `i`, behind a dot
 pub record KeyWritten (sheet words : List ℕ) (i : ℕ) (before after : List ℕ) (at next : ℕ) : Type 0 where

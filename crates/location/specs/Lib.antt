@@ -1,5 +1,4 @@
 pub mod Path
-pub mod Buffer
 pub mod Siblings
 pub mod Heads
 pub mod Keys

@@ -6,7 +6,7 @@ use mathlib.Core.Path.{_≡_}
 use Rattle.definition.specs.Tree.{Text, Rule}
 use Rattle.rule.specs.Index.{RuleAt}
 use Rattle.validation.specs.Location.{behindLabel}
-use Rattle.location.specs.Buffer.{Wrote}
+use Rattle.buffer.specs.Wrote.{Wrote}
 
 -- places are numbers of 32 bits
 abbrev pub placeBound : ℕ

@@ -37,6 +37,5 @@ path-stands {label} {defect = defect} {place = place} {before = before} {after =
     by-way (some p) e h fits =
         let bytes : length (label ++ p) ≤ 32768 = rw e at fits in
         let whole = w .written tree p stands e in
-        let b = whole .stands (omega arith) in
-        let n = whole .ends (omega arith) in
-        rw e (record { buffer = b; count = omega arith })
+        let n = whole .ends in
+        rw e (record { buffer = whole .stands; count = omega arith })

@@ -1,10 +1,10 @@
 // Down through conditions.
-use crate::buffer::put;
-use crate::buffer::put_index;
+use crate::bracket::put_index;
 use crate::operator::put_operator;
 use crate::value::put_value;
 use crate::word::find_sibling;
 use crate::word::start_of;
+use buffer::put;
 use sheet::rule::ConditionHead;
 use sheet::rule::ConditionRead;
 use sheet::rule::condition_head;
@@ -15,7 +15,7 @@ ghost use lib.Dec.{eqb};
 ghost use Prim.Native.Nat.{ℕ, _<_};
 ghost use Rattle.sheet.specs.Ascii.{ascii};
 ghost use Rattle.validation.specs.Location.{operatorName, dotted, index};
-ghost use Rattle.location.specs.Buffer.{Wrote};
+ghost use Rattle.buffer.specs.Wrote.{Wrote};
 ghost use Rattle.location.specs.Heads.{partAt, isValueAt, isWhole, ownPart};
 ghost use Rattle.location.specs.Descent.{ConditionWritten};
 ghost use Rattle.location.specs.Next.{NextLeads};

@@ -1,15 +1,15 @@
 // The path of a defect, from the label to its entry: a descent over the index of the rule sheet.
-mod buffer; // buffer.rt: bytes behind one another in the lent path
+mod bracket; // bracket.rt: indexes in brackets
 mod operator; // operator.rt: the operators' names
 mod word; // word.rt: the words of the index
 mod value; // value.rt: down through values
 mod condition; // condition.rt: down through conditions
 
-use crate::buffer::put;
 use crate::condition::put_condition;
 use crate::value::put_value;
 use crate::word::start_of;
 use crate::word::wide;
+use buffer::put;
 use sheet::rule::RuleHead;
 use sheet::rule::RuleRead;
 use sheet::rule::rule_head;

@@ -1,9 +1,9 @@
 // Operators by number, as they stand in a path.
-use crate::buffer::push;
-use crate::buffer::put;
+use buffer::push;
+use buffer::put;
 ghost use Prim.Native.Nat.{_≤_, _<_};
 ghost use Rattle.validation.specs.Location.{operatorName, dotted};
-ghost use Rattle.location.specs.Buffer.{Wrote};
+ghost use Rattle.buffer.specs.Wrote.{Wrote};
 
 // 2 all to 7 after.
 fn put_first(path: &mut [u8], at: usize, op: usize) -> usize

@@ -1,9 +1,9 @@
 // Down through values.
-use crate::buffer::push;
-use crate::buffer::put;
-use crate::buffer::put_index;
+use crate::bracket::put_index;
 use crate::word::find_sibling;
 use crate::word::start_of;
+use buffer::push;
+use buffer::put;
 use sheet::part::bytes_of;
 use sheet::rule::KeyRead;
 use sheet::rule::ValueHead;

@@ -1,4 +1,4 @@
-use Rattle.location.proofs.BufferLaws.{wrote-then, wrote-nothing}
+use Rattle.buffer.specs.WroteLaws.{wrote-then}
 use borrow.Author.Needs.{needs}
 use Rattle.location.proofs.condition.put_child.Statement.{statement}
 use Rattle.location.proofs.condition.put_child.Tie as tie

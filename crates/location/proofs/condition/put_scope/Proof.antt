@@ -1,6 +1,6 @@
 use Rattle.sheet.specs.Ascii.{ascii}
 use borrow.Author.Tests.{eq-eqb, ne-eqb, le-leb, lt-leb}
-use Rattle.location.proofs.BufferLaws.{wrote-then, wrote-nothing}
+use Rattle.buffer.specs.WroteLaws.{wrote-then}
 use borrow.Author.Needs.{needs}
 use Rattle.location.proofs.condition.put_scope.Statement.{statement}
 use Rattle.location.proofs.condition.put_scope.Tie as tie

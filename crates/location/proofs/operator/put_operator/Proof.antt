@@ -1,5 +1,5 @@
 use Rattle.validation.specs.Location.{dotted}
-use Rattle.location.proofs.BufferLaws.{wrote-then}
+use Rattle.buffer.specs.WroteLaws.{wrote-then}
 use borrow.Author.Needs.{needs}
 use Rattle.location.proofs.operator.put_operator.Statement.{statement}
 use Rattle.location.proofs.operator.put_operator.Tie as tie

@@ -1,5 +1,5 @@
 use Rattle.location.proofs.ValueSteps.{key-refused, key-written}
-use Rattle.location.proofs.BufferLaws.{wrote-then, wrote-nothing}
+use Rattle.buffer.specs.WroteLaws.{wrote-then}
 use Rattle.validation.specs.Location.{dotted}
 use borrow.Author.Needs.{needs}
 use Rattle.location.proofs.value.put_key.Statement.{statement}

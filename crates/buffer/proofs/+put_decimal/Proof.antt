@@ -1,15 +1,16 @@
--- `check_file::line::put_decimal` meets its contract: all digits but the last, and the last. The measure is the number.
-use Rattle.check_file.proofs.Writing.{wrote-digit, wrote-digits}
+-- `buffer::put_decimal` meets its contract: all digits but the last, and the last. The measure is the number.
+use Rattle.buffer.proofs.Steps.{wrote-digit, wrote-digits}
+use native.Mathlib.Omega.{arith}
 use borrow.Author.Needs.{needs}
 use Prim.Native.Nat.{ℕ, _<_}
 use borrow.Fn.Kinds.{In}
 use borrow.Fn.PlainCycle.{Measures, is, falls, and}
-use Rattle.check_file.proofs.line.put_decimal.Reads as put-decimal
-use Rattle.check_file.proofs.line.put_decimal.Kinds as put-decimal-kinds
-use Rattle.check_file.proofs.line.+put_decimal.Lts-put_decimal as put-decimal-lts
-use Rattle.check_file.proofs.line.push.Reads as push-reads
-use Rattle.check_file.proofs.line.+put_decimal.{statement}
-use Rattle.check_file.proofs.line.+put_decimal.Tie.{close}
+use Rattle.buffer.proofs.put_decimal.Reads as put-decimal
+use Rattle.buffer.proofs.put_decimal.Kinds as put-decimal-kinds
+use Rattle.buffer.proofs.+put_decimal.Lts-put_decimal as put-decimal-lts
+use Rattle.buffer.proofs.push.Reads as push-reads
+use Rattle.buffer.proofs.+put_decimal.{statement}
+use Rattle.buffer.proofs.+put_decimal.Tie.{close}
 
 abbrev μ-put-decimal : Measures 1 put-decimal-kinds.ps ℕ
 μ-put-decimal κs a = a .1 .1 .0
@@ -38,7 +39,7 @@ put-decimal-same-length : (t : ℕ) → put-decimal-lts.Need-same-length (cs-put
 put-decimal-same-length t c = search needs
 
 put-decimal-returns : (t : ℕ) → put-decimal-lts.Need-returns (cs-put-decimal t) (put-decimal-at t) put-decimal.Post
-put-decimal-returns t c = search (wrote-digit, needs)
+put-decimal-returns t c = wrote-digit (c .before .before .before .before .before .before .args .n) (omega arith) (c .before .before .push .ensures)
 
 put-decimal-put-decimal-requires : (t : ℕ) → put-decimal-lts.Need-put-decimal-requires (cs-put-decimal t) (put-decimal-at t) put-decimal.Post
 put-decimal-put-decimal-requires t c κs = search needs
@@ -56,7 +57,7 @@ put-decimal-same-length-2 : (t : ℕ) → put-decimal-lts.Need-same-length-2 (cs
 put-decimal-same-length-2 t c = search needs
 
 put-decimal-returns-2 : (t : ℕ) → put-decimal-lts.Need-returns-2 (cs-put-decimal t) (put-decimal-at t) put-decimal.Post
-put-decimal-returns-2 t c = search (wrote-digits, needs)
+put-decimal-returns-2 t c = wrote-digits (c .before .before .before .before .before .before .before .before .before .before .args .n) (omega arith) (c .before .before .before .before .before .before .put-decimal .ensures) (c .before .before .push2 .ensures)
 
 pub +put-decimal-spec : {M : Type 1} → statement M
 +put-decimal-spec = close μ-put-decimal λ t. put-decimal-lts.spec (cs-put-decimal t)

@@ -1,8 +1,8 @@
--- `check_file::line::push` meets its contract.
-use Rattle.check_file.proofs.Writing.{wrote-byte, wrote-full}
+-- `buffer::push` meets its contract.
+use Rattle.buffer.proofs.Steps.{wrote-byte, wrote-full}
 use borrow.Author.Needs.{needs}
-use Rattle.check_file.proofs.line.push.Statement.{statement}
-use Rattle.check_file.proofs.line.push.Tie as tie
+use Rattle.buffer.proofs.push.Statement.{statement}
+use Rattle.buffer.proofs.push.Tie as tie
 
 slice-write-out : tie.Need-slice-write-out
 slice-write-out c = search needs

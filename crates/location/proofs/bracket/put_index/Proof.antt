@@ -1,9 +1,9 @@
 use Rattle.sheet.specs.Ascii.{ascii}
 use Rattle.validation.specs.Location.{index}
-use Rattle.location.proofs.BufferLaws.{wrote-then}
+use Rattle.buffer.specs.WroteLaws.{wrote-then}
 use borrow.Author.Needs.{needs}
-use Rattle.location.proofs.buffer.put_index.Statement.{statement}
-use Rattle.location.proofs.buffer.put_index.Tie as tie
+use Rattle.location.proofs.bracket.put_index.Statement.{statement}
+use Rattle.location.proofs.bracket.put_index.Tie as tie
 
 push-requires : tie.Need-push-requires
 push-requires c κs = search needs

@@ -1,5 +1,5 @@
--- What is written into the lent bytes.
-use Prim.Native.Nat.{ℕ, _+_, _≤_, min}
+-- What is written into a lent buffer.
+use Prim.Native.Nat.{ℕ, _+_, _-_, min}
 use mathlib.Core.List.{List}
 use mathlib.Core.Path.{_≡_}
 use lib.ListN.{length}
@@ -8,5 +8,4 @@ use lib.Seq.{sets}
 -- the bytes stand from `at` on, as many as there is room for, and `next` is behind them
 pub record Wrote (before after : List ℕ) (at : ℕ) (bytes : List ℕ) (next : ℕ) : Type 0 where
   pub stands : after ≡ sets before at bytes
-  pub ends : next ≡ min (at + length bytes) (length before)
-  pub within : next ≤ length after
+  pub ends : next ≡ at + min (length bytes) (length before - at)

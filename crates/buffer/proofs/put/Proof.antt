@@ -1,21 +1,22 @@
-use mathlib.Core.Path.{_≡_, refl}
+-- `buffer::put` meets its contract: after `i` turns the first `i` bytes are written. The measure is what is left of the bytes.
 use Prim.Native.Nat.{_≤_, _-_}
 use lib.ListN.{length, take}
-use Rattle.location.specs.Buffer.{Wrote}
-use Rattle.location.proofs.BufferLaws.{wrote-nothing, wrote-more, wrote-all}
+use Rattle.buffer.specs.Wrote.{Wrote}
+use Rattle.buffer.specs.WroteLaws.{wrote-nothing, wrote-kept}
+use Rattle.buffer.proofs.Steps.{wrote-more, wrote-all}
 use native.Mathlib.Omega.{arith}
 use borrow.Author.Needs.{needs}
-use Rattle.location.proofs.buffer.put.Statement.{statement}
-use Rattle.location.proofs.buffer.put.Tie as tie
+use Rattle.buffer.proofs.put.Statement.{statement}
+use Rattle.buffer.proofs.put.Tie as tie
 
 abbrev Inv-loop : tie.InvT-loop
-Inv-loop path₀ at bytes next₀ i₀ path next i = (i ≤ length bytes) × (length path ≡ length path₀) × Wrote path₀ path at (take i bytes) next
+Inv-loop out₀ at bytes next₀ i₀ out next i = (i ≤ length bytes) × Wrote out₀ out at (take i bytes) next
 
 abbrev μ-loop : tie.MeasureT-loop
-μ-loop path₀ at bytes next₀ i₀ path next i = length bytes - i
+μ-loop out₀ at bytes next₀ i₀ out next i = length bytes - i
 
 loop-holds : tie.Need-loop-holds Inv-loop μ-loop
-loop-holds c = (omega arith, refl, wrote-nothing _ _)
+loop-holds c = (omega arith, wrote-nothing _ _)
 
 shared-slice-read-push : tie.Need-shared-slice-read-push Inv-loop μ-loop
 shared-slice-read-push c = search needs
@@ -30,10 +31,10 @@ loop-less : tie.Need-loop-less Inv-loop μ-loop
 loop-less c = search needs
 
 loop-again : tie.Need-loop-again Inv-loop μ-loop
-loop-again c = (search needs, search needs, search (wrote-more, needs))
+loop-again c = (search needs, search (wrote-more, needs))
 
 same-length : tie.Need-same-length Inv-loop μ-loop
-same-length c = search needs
+same-length c = wrote-kept (c .before .loop .inv .1)
 
 returns : tie.Need-returns Inv-loop μ-loop
 returns c = search (wrote-all, needs)

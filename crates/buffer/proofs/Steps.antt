@@ -1,0 +1,45 @@
+-- Each step of the code, as a law.
+use Prim.Native.Nat.{ℕ, _+_, _/_, _%_, _≤_, _<_}
+use native.Mathlib.Numerals.{add-one}
+use native.Mathlib.Omega.{arith}
+use mathlib.Core.List.{List, [], _∷_}
+use mathlib.Core.Path.{refl, sym}
+use lib.ListN.{length, take, getD, set}
+use lib.Seq.{set-out, take-suc, take-all}
+use Rattle.sheet.specs.Numeral.{decimalOf}
+use Rattle.sheet.specs.NumeralLaws.{decimalOf-one}
+use Rattle.buffer.specs.Wrote.{Wrote}
+use Rattle.buffer.specs.WroteLaws.{wrote-then}
+use Rattle.buffer.specs.DigitLaws.{decimalOf-last}
+
+pub wrote-byte : (l : List ℕ) (at b : ℕ) → at < length l → Wrote l (set l at b) at (b ∷ []) (at + 1)
+wrote-byte l at b less = record { stands = refl; ends = omega arith }
+
+pub wrote-full : (l : List ℕ) (at b : ℕ) → length l ≤ at → Wrote l l at (b ∷ []) at
+wrote-full l at b full = record { stands = sym (set-out l at b full); ends = omega arith }
+
+pub wrote-more : (bytes : List ℕ) (i : ℕ) {before middle after : List ℕ} {at m next : ℕ}
+    → Wrote before middle at (take i bytes) m
+    → i < length bytes
+    → Wrote middle after m (getD bytes i 0 ∷ []) next
+    → Wrote before after at (take (i + 1) bytes) next
+wrote-more bytes i u less w = rw (add-one, take-suc bytes i 0) (wrote-then u w)
+
+pub wrote-all : (bytes : List ℕ) (i : ℕ) {before after : List ℕ} {at next : ℕ}
+    → Wrote before after at (take i bytes) next
+    → length bytes ≤ i
+    → Wrote before after at bytes next
+wrote-all bytes i u end = rw (take-all i bytes end) at u
+
+pub wrote-digit : (n : ℕ) {before after : List ℕ} {at next : ℕ}
+    → n < 10
+    → Wrote before after at ((48 + n) ∷ []) next
+    → Wrote before after at (decimalOf n) next
+wrote-digit n less w = rw (decimalOf-one n less) w
+
+pub wrote-digits : (n : ℕ) {before middle after : List ℕ} {at m next : ℕ}
+    → 10 ≤ n
+    → Wrote before middle at (decimalOf (n / 10)) m
+    → Wrote middle after m ((48 + n % 10) ∷ []) next
+    → Wrote before after at (decimalOf n) next
+wrote-digits n more u w = rw (decimalOf-last n more) (wrote-then u w)
