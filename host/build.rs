@@ -1,6 +1,6 @@
 //! Finds the static library `libentity_rules.a` and links it.
 //!
-//! It is taken from the folder that `ENTITY_RULES_LIB_DIR` names. Without that variable it is the one below the repository's `target/`,
+//! It is taken from the folder that `ENTITY_RULES_LIB_DIR` names by an absolute path. Without that variable it is the one below the repository's `target/`,
 //! which `rt staticlib entity_rules` proves and writes where it is missing.
 
 use std::env;
@@ -29,10 +29,19 @@ fn stop(message: &str) -> ! {
 
 /// The folder of the variable; it must hold the archive.
 fn given(folder: PathBuf) -> PathBuf {
+    let hint = match folder.is_relative() {
+        true => format!(
+            " (a relative path is taken from {}; expected an absolute path)",
+            env!("CARGO_MANIFEST_DIR")
+        ),
+        false => String::new(),
+    };
     let folder = folder.canonicalize().unwrap_or(folder);
     if !folder.join(ARCHIVE).is_file() {
         let folder = folder.display();
-        stop(&format!("{VARIABLE} names {folder}, where no {ARCHIVE} is"));
+        stop(&format!(
+            "{VARIABLE} names {folder}, where no {ARCHIVE} is{hint}"
+        ));
     }
     folder
 }

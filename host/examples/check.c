@@ -1,6 +1,11 @@
 /* Checks a good and a bad rule of a mill from C. In this folder, after `rt staticlib entity_rules` in the repository's root:
  *
- *   cc check.c -I../include -L../../target/staticlib -lentity_rules -o check && ./check
+ *   cc check.c -I../include -L../../target/staticlib -lentity_rules -o ../../target/check && ../../target/check
+ *
+ * It prints
+ *
+ *   good: accepted, 9 checks passed
+ *   bad: defect 18 of family 8, detail 3, at entry 5, bad.assert.for_all.that.eq[0], after 8 checks
  */
 #include <entity_rules.h>
 #include <stdio.h>

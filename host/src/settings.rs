@@ -55,6 +55,48 @@ impl Kind {
             Self::Invariant | Self::Precondition | Self::OutcomeSelector | Self::CreateSelector
         )
     }
+
+    /// The names that it may read, each without its `$`. Binds of quantifiers come in addition, in their bodies.
+    ///
+    /// ```
+    /// use entity_rules::Kind;
+    ///
+    /// assert_eq!(Kind::CreateSelector.names(), ["id", "entity", "version", "args"]);
+    /// ```
+    #[must_use]
+    pub const fn names(self) -> &'static [&'static str] {
+        match self {
+            Self::Invariant => &["id", "entity", "version", "fields", "state"],
+            Self::Precondition => &[
+                "id",
+                "entity",
+                "version",
+                "fields",
+                "to_state",
+                "from_state",
+                "args",
+                "old_fields",
+            ],
+            Self::CreateTemplate => &["id", "entity", "version", "fields", "state", "to_state"],
+            Self::OperationTemplate => &[
+                "id",
+                "entity",
+                "version",
+                "fields",
+                "state",
+                "to_state",
+                "from_state",
+                "args",
+                "old_fields",
+            ],
+            Self::OutcomeSelector => &["id", "entity", "version", "fields", "from_state", "args"],
+            Self::CreateSelector => &["id", "entity", "version", "args"],
+            Self::CreateSet => &["id", "entity", "version", "state", "to_state", "args"],
+            Self::CreateOutcomeTemplate => &[
+                "id", "entity", "version", "fields", "state", "to_state", "args",
+            ],
+        }
+    }
 }
 
 numbered! {

@@ -120,7 +120,7 @@ numbered! {
         /// As in `$fields.` or `$fields.a..b`.
         EmptyPath = 1, "the path, or the next segment of it, is empty";
         /// A field of the record or an argument.
-        UnknownRoot = 2, "no field of that name, and none may be added";
+        UnknownRoot = 2, "the record or the arguments have no field of that name and are closed";
         /// A property of a closed object.
         UnknownProperty = 3, "the closed object has no property of that name";
         /// Neither an ordinal nor `count`.
@@ -279,7 +279,7 @@ impl fmt::Display for Detail {
 /// assert_eq!(defect.place, 3);
 /// assert_eq!(
 ///     defect.to_string(),
-///     "threaded.assert.exists: a reference cannot be read: no field of that name, and none may be added (entry 3)"
+///     "threaded.assert.exists: a reference cannot be read: the record or the arguments have no field of that name and are closed (entry 3)"
 /// );
 /// # Ok::<(), Box<dyn std::error::Error>>(())
 /// ```
@@ -396,6 +396,8 @@ impl Verdict {
 impl fmt::Display for Verdict {
     fn fmt(&self, f: &mut fmt::Formatter<'_>) -> fmt::Result {
         match self {
+            Self::Accepted { passed: 0 } => f.pad("accepted: there was nothing to check"),
+            Self::Accepted { passed: 1 } => f.pad("accepted: its 1 check passed"),
             Self::Accepted { passed } => write!(f, "accepted: all {passed} checks passed"),
             Self::Defect(defect) => defect.fmt(f),
         }

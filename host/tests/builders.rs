@@ -92,28 +92,30 @@ fn nested_condition(depth: usize) -> Condition {
     )
 }
 
+/// What nests too deep, if something does.
+fn too_deep(built: Result<Vec<u8>, BuildError>) -> Result<Vec<u8>, Nesting> {
+    built.map_err(|error| match error {
+        BuildError::TooDeep { nesting, .. } => nesting,
+        other => panic!("{other}"),
+    })
+}
+
 #[test]
 fn nesting_has_limits() {
-    let fields = |depth| Schema::new().field(nested_field(depth)).sheet();
+    let fields = |depth| too_deep(Schema::new().field(nested_field(depth)).sheet());
     assert!(fields(MAX_FIELD_NESTING).is_ok_and(|sheet| takes_schema(&sheet)));
-    assert_eq!(
-        fields(MAX_FIELD_NESTING + 1),
-        Err(BuildError::TooDeep(Nesting::Fields))
-    );
+    assert_eq!(fields(MAX_FIELD_NESTING + 1), Err(Nesting::Fields));
 
-    let conditions = |depth| Rule::new(nested_condition(depth)).sheet();
+    let conditions = |depth| too_deep(Rule::new(nested_condition(depth)).sheet());
     assert!(conditions(MAX_CONDITION_NESTING).is_ok_and(|sheet| takes_rule(&sheet)));
     assert_eq!(
         conditions(MAX_CONDITION_NESTING + 1),
-        Err(BuildError::TooDeep(Nesting::Conditions))
+        Err(Nesting::Conditions)
     );
 
-    let values = |depth| Template::new(nested_value(depth)).sheet();
+    let values = |depth| too_deep(Template::new(nested_value(depth)).sheet());
     assert!(values(MAX_VALUE_NESTING).is_ok_and(|sheet| takes_rule(&sheet)));
-    assert_eq!(
-        values(MAX_VALUE_NESTING + 1),
-        Err(BuildError::TooDeep(Nesting::Values))
-    );
+    assert_eq!(values(MAX_VALUE_NESTING + 1), Err(Nesting::Values));
 }
 
 #[test]
@@ -123,22 +125,22 @@ fn the_deepest_of_several_counts() {
         Condition::literal(true),
     ]);
     assert_eq!(
-        Rule::new(conditions).sheet(),
-        Err(BuildError::TooDeep(Nesting::Conditions))
+        too_deep(Rule::new(conditions).sheet()),
+        Err(Nesting::Conditions)
     );
 
     let values = Value::array([nested_value(MAX_VALUE_NESTING), Value::null()]);
     assert_eq!(
-        Template::new(values).sheet(),
-        Err(BuildError::TooDeep(Nesting::Values))
+        too_deep(Template::new(values).sheet()),
+        Err(Nesting::Values)
     );
 
     let fields = nested_field(1)
         .property(nested_field(MAX_FIELD_NESTING))
         .property(Field::new("z", FieldKind::Json));
     assert_eq!(
-        Schema::new().field(fields).sheet(),
-        Err(BuildError::TooDeep(Nesting::Fields))
+        too_deep(Schema::new().field(fields).sheet()),
+        Err(Nesting::Fields)
     );
 }
 
@@ -152,9 +154,14 @@ fn the_deepest_towers_cost_no_stack() {
 
 #[test]
 fn sheets_have_at_most_2048_entries() {
+    let too_many = |entry: &str| {
+        Err(BuildError::TooManyEntries {
+            entry: entry.to_owned(),
+        })
+    };
     let nulls = |count| Template::new(Value::array((0..count).map(|_| Value::null()))).sheet();
     assert!(nulls(2_046).is_ok_and(|sheet| takes_rule(&sheet)));
-    assert_eq!(nulls(2_047), Err(BuildError::TooManyEntries));
+    assert_eq!(nulls(2_047), too_many("V,6,2047,"));
 
     let children = |count| {
         Rule::new(Condition::any(
@@ -163,11 +170,11 @@ fn sheets_have_at_most_2048_entries() {
         .sheet()
     };
     assert!(children(2_046).is_ok_and(|sheet| takes_rule(&sheet)));
-    assert_eq!(children(2_047), Err(BuildError::TooManyEntries));
+    assert_eq!(children(2_047), too_many("C,3,2047,"));
 
     // Entries of fields have at least 15 bytes, so the bytes run out first.
     let endless = Template::new(Value::array(std::iter::repeat_with(Value::null))).sheet();
-    assert_eq!(endless, Err(BuildError::TooManyEntries));
+    assert_eq!(endless, too_many("V,1,0,"));
 }
 
 #[test]
@@ -181,7 +188,28 @@ fn sheets_have_at_most_30000_bytes() {
     let room = 30_000 - bytes(100).expect("a sheet with room left");
     assert_eq!(bytes(100 + room), Ok(30_000));
     assert!(filled(100 + room).is_ok_and(|sheet| takes_rule(&sheet)));
-    assert_eq!(bytes(101 + room), Err(BuildError::TooManyBytes));
+    let entry = "V,6,58,".to_owned();
+    assert_eq!(bytes(101 + room), Err(BuildError::TooManyBytes { entry }));
+}
+
+#[test]
+fn what_passes_a_limit_is_named() {
+    let deep =
+        Schema::new().field(Field::new("bars", FieldKind::Object).property(nested_field(64)));
+    assert_eq!(
+        deep.sheet().map_err(|error| error.to_string()),
+        Err("fields nest deeper than 64, under the entry \"F,7,0,0,1,4,-,bars\"".to_owned())
+    );
+    let long = (0..60).fold(Schema::new(), |schema, i| {
+        schema.field(Field::new(
+            format!("{i:02}{}", "x".repeat(500)),
+            FieldKind::Json,
+        ))
+    });
+    assert_eq!(
+        long.sheet().map_err(|error| error.to_string()),
+        Err("with the entry \"F,8,0,0,0,502,-,57xxxxxxxxxxxxxxxxxxxxxx…\" the sheet has more than 30000 bytes".to_owned())
+    );
 }
 
 #[test]

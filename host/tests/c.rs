@@ -20,11 +20,13 @@ fn compiler() -> Command {
     compiler
 }
 
-fn built() -> PathBuf {
-    let program = Path::new(env!("CARGO_TARGET_TMPDIR")).join("check");
+/// The example, compiled by these flags to a program of that name.
+fn built(name: &str, flags: &[&str]) -> PathBuf {
+    let program = Path::new(env!("CARGO_TARGET_TMPDIR")).join(name);
     let output = compiler()
-        .arg("-std=c99")
+        .args(flags)
         .arg(host().join("examples/check.c"))
+        .args(["-x", "none"])
         .arg(format!("-L{}", env!("ENTITY_RULES_LIB_DIR")))
         .args(["-lentity_rules", "-o"])
         .arg(&program)
@@ -38,15 +40,25 @@ fn built() -> PathBuf {
     program
 }
 
-#[test]
-fn the_c_example_runs() {
-    let output = Command::new(built()).output().expect("the example runs");
+/// Runs the example, which prints what its comment shows.
+fn runs(program: &Path) {
+    let output = Command::new(program).output().expect("the example runs");
     assert!(output.status.success());
+    let printed = String::from_utf8_lossy(&output.stdout).into_owned();
     assert_eq!(
-        String::from_utf8_lossy(&output.stdout),
+        printed,
         "good: accepted, 9 checks passed\n\
          bad: defect 18 of family 8, detail 3, at entry 5, bad.assert.for_all.that.eq[0], after 8 checks\n"
     );
+    let source = include_str!("../examples/check.c");
+    for line in printed.lines() {
+        assert!(source.contains(&format!("\n *   {line}\n")), "{line}");
+    }
+}
+
+#[test]
+fn the_c_example_runs() {
+    runs(&built("check", &["-std=c99"]));
 }
 
 /// Whether the compiler finds nothing amiss with a file, read as C++.
@@ -61,9 +73,11 @@ fn is_cpp(file: &Path) -> bool {
 }
 
 #[test]
-fn the_header_is_cpp_too() {
-    let reads_cpp = is_cpp(Path::new("/dev/null"));
-    assert!(!reads_cpp || is_cpp(&host().join("include/entity_rules.h")));
+fn the_header_and_the_library_serve_cpp_too() {
+    if is_cpp(Path::new("/dev/null")) {
+        assert!(is_cpp(&host().join("include/entity_rules.h")));
+        runs(&built("check_cpp", &["-x", "c++"]));
+    }
 }
 
 /// A name of Rust as the header spells it: `CreateSet` as `CREATE_SET`, `Service1` as `SERVICE_1`.

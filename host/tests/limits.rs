@@ -84,6 +84,10 @@ fn bytes_up_to_30000() {
         assert_eq!(sheet.len(), bytes);
         rule(&sheet, is_good);
     }
+    let too_long = format!("{head}{}", string(512).repeat(3));
+    let fault = read_rule(too_long.as_bytes()).unwrap_err();
+    assert_eq!((fault.entry, fault.byte), (60, 30_000));
+    rule(&format!("T\nV,1,0,\n{}", " ".repeat(30_000)), false);
 }
 
 #[test]

@@ -1,8 +1,10 @@
 //! The tool as people and programs run it.
 
+use entity_rules::{Kind, Semantics, check_template};
 use std::fs;
+use std::io::Write;
 use std::path::{Path, PathBuf};
-use std::process::{Command, Output};
+use std::process::{Command, Output, Stdio};
 
 fn mill() -> PathBuf {
     Path::new(env!("CARGO_MANIFEST_DIR")).join("examples/mill")
@@ -49,6 +51,31 @@ fn the_readme_shows_what_is_printed() {
     assert!(output.stderr.is_empty());
 }
 
+/// The sheet of a block in which words stand beside the entries.
+fn shown_sheet<'a>(blocks: &mut impl Iterator<Item = &'a str>) -> String {
+    let block = blocks.next().expect("a block");
+    let entries = block.trim_start().lines().map(|line| {
+        let (entry, _) = line.split_once("  ").expect("words beside the entry");
+        format!("{entry}\n")
+    });
+    entries.collect()
+}
+
+#[test]
+fn the_format_shows_two_sheets_that_are_accepted() {
+    let folder = folder("shown");
+    let format = include_str!("../../docs/FORMAT.md");
+    let (_, pair) = format
+        .split_once("\n### A pair of sheets\n")
+        .expect("a pair");
+    let mut blocks = pair.split("```").skip(1).step_by(2);
+    fs::write(folder.join("s"), shown_sheet(&mut blocks)).expect("a schema");
+    fs::write(folder.join("r"), shown_sheet(&mut blocks)).expect("a rule");
+    let (_, out, _) = run_check(&folder, "s r");
+    assert_eq!(out, "r: accepted, all 15 checks passed\n");
+    assert!(pair.contains("it is accepted with 15 checks passed"));
+}
+
 #[test]
 fn the_status_tells_the_worst_outcome() {
     let status = |words| run_check(&mill(), words).0;
@@ -74,8 +101,33 @@ fn one_accepted_rule_is_one_line() {
         (out.as_str(), err.as_str()),
         ("release.rule: accepted, all 19 checks passed\n", "")
     );
-    let (_, out, _) = run_check(&mill(), "pattern.schema release.rule --quiet");
-    assert_eq!(out, "");
+}
+
+#[test]
+fn quiet_is_silent_if_all_are_accepted() {
+    let (status, out, _) = run_check(&mill(), "pattern.schema release.rule --quiet");
+    assert_eq!((status, out.as_str()), (Some(0), ""));
+    let (status, out, _) = run_check(&mill(), "pattern.schema release.rule release.rule --quiet");
+    assert_eq!((status, out.as_str()), (Some(0), ""));
+    let (_, out, _) = run_check(&mill(), "pattern.schema release.rule misspelt.rule --quiet");
+    assert!(out.starts_with("misspelt.rule:5: defect 18"));
+    assert!(out.ends_with("2 rules: 1 accepted, 1 with a defect, 0 refused\n"));
+}
+
+#[test]
+fn a_count_of_one_or_none_is_said_as_such() {
+    let folder = folder("counts");
+    fs::write(folder.join("s"), "H,0,0,-,0\n").expect("a schema");
+    fs::write(folder.join("none"), "T\nV,1,0,\n").expect("a template");
+    fs::write(folder.join("one"), "T\nV,5,3,$id\n").expect("a template");
+    fs::write(folder.join("second"), "T\nV,6,2,\nV,5,3,$id\nV,5,3,$ix\n").expect("a template");
+    let out = |words| run_check(&folder, words).1;
+    assert_eq!(
+        out("s none"),
+        "none: accepted, there was nothing to check\n"
+    );
+    assert_eq!(out("s one"), "one: accepted, its 1 check passed\n");
+    assert!(out("s second").ends_with("  passed  1 check before this one\n"));
 }
 
 #[test]
@@ -100,27 +152,157 @@ fn refusals_say_what_was_expected_and_where() {
     file("bad.schema", "H,0,1,-,0\nF,13,0,0,0,1,-,a\n");
     file("good.rule", "R,-,-,\nC,1,1,\n");
     file("bad.rule", "R,3,-,a\nb\nC,4,0,\nC,99,0,\n");
-    file("long.rule", &"R".repeat(30_001));
+    let string = format!("V,5,490,{}\n", "t".repeat(490));
+    file("long.rule", &format!("T\nV,6,61,\n{}", string.repeat(61)));
+    file("other.rule", &"R".repeat(30_001));
+    file("returns.rule", "R,-,-,\r\nC,1,1,\r\n");
 
     let (status, out, _) = run_check(&folder, "good.schema bad.rule");
-    let expected = "bad.rule: refused 5 (rule sheet): bad.rule:4: entry 3, byte 19: expected an operator, 1 to 21\n";
+    let expected =
+        "bad.rule:4: refused 5 (rule sheet): entry 3, byte 19: expected an operator, 1 to 21\n";
     assert_eq!((status, out.as_str()), (Some(2), expected));
 
     let (_, out, _) = run_check(&folder, "good.schema long.rule");
-    assert!(out.ends_with("expected at most 30,000 bytes in the sheet\n"));
+    let expected = "long.rule:63: refused 5 (rule sheet): entry 63, byte 30000: expected at most 30,000 bytes in the sheet\n";
+    assert_eq!(out, expected);
 
-    let (_, out, _) = run_check(&folder, "bad.schema good.rule bad.rule");
+    let (_, out, _) = run_check(&folder, "good.schema other.rule");
+    assert!(out.ends_with(": entry 1, byte 1: expected a comma\n"));
+
+    let (_, out, _) = run_check(&folder, "good.schema returns.rule");
+    let expected = "returns.rule:1: refused 5 (rule sheet): entry 1, byte 6: \
+                    expected the end of the entry, byte 0A alone, not 0D before it\n";
+    assert_eq!(out, expected);
+
+    let (status, out, err) = run_check(&folder, "bad.schema good.rule bad.rule");
+    assert_eq!((status, err.as_str()), (Some(2), ""));
     assert_eq!(
         out,
-        "good.rule: refused 4 (schema sheet): bad.schema:2: entry 2, byte 12: expected the field's kind, 1 to 12\n\
-         2 rules: 0 accepted, 0 with a defect, 1 refused, 1 not checked\n"
+        "bad.schema:2: refused 4 (schema sheet): entry 2, byte 12: expected the field's kind, 1 to 12\n\
+         2 rules: 0 accepted, 0 with a defect, 0 refused, 2 not checked\n"
     );
+}
 
-    let (_, out, err) = run_check(&folder, "none.schema good.rule");
-    assert_eq!(out, "");
-    assert!(err.starts_with(
-        "entity-rules: none.schema: expected a schema sheet, but it cannot be read: "
-    ));
+#[test]
+fn unreadable_files_are_named_and_counted_apart() {
+    let (status, out, err) = run_check(&mill(), "none.schema release.rule misspelt.rule");
+    assert_eq!((status, err.as_str()), (Some(2), ""));
+    assert!(
+        out.starts_with("none.schema: unreadable: expected a file that holds a schema sheet: ")
+    );
+    assert!(out.ends_with("\n2 rules: 0 accepted, 0 with a defect, 0 refused, 2 not checked\n"));
+
+    let (_, out, _) = run_check(&mill(), "pattern.schema none.rule pattern.schema");
+    assert!(out.starts_with("none.rule: unreadable: expected a file that holds a rule sheet: "));
+    assert!(out.ends_with("\n2 rules: 0 accepted, 0 with a defect, 1 refused, 1 unreadable\n"));
+}
+
+/// What is printed for a rule that has this text as an instant.
+fn string(schema: &str, text: &str, settings: &str) -> String {
+    let folder = folder("strings");
+    let sheet = format!("R,-,-,\nC,6,0,\nV,5,{},{text}\nV,5,3,$id\n", text.len());
+    fs::write(folder.join("s"), schema).expect("a schema");
+    fs::write(folder.join("r"), sheet).expect("a rule");
+    let output = run(&folder, &format!("check s r {settings}"));
+    String::from_utf8(output.stdout).expect("UTF-8")
+}
+
+#[test]
+fn hints_help_to_mend_a_defect() {
+    let none = "H,0,1,-,0\nF,1,0,0,0,1,-,a\n";
+    for (text, settings, hint) in [
+        (
+            "$fields.a",
+            "--kind create_selector --semantics service/1",
+            Some(
+                "the kind create_selector may read $id, $entity, $version, $args, and binds in their bodies",
+            ),
+        ),
+        (
+            "$args.a",
+            "--kind create_selector --semantics service/1",
+            Some("the schema has no arguments"),
+        ),
+        (
+            "$state.a",
+            "--kind invariant --semantics service/1",
+            Some("no path may follow $state"),
+        ),
+        (
+            "$fields.a.count",
+            "--kind invariant --semantics kernel/1",
+            Some("under kernel/1 only objects and json fields have members"),
+        ),
+        (
+            "$fields.a.b",
+            "--kind invariant --semantics service/1",
+            None,
+        ),
+        (
+            "2024-01-01T00:00:00+01:00",
+            "--kind invariant --semantics kernel/1",
+            Some(
+                "an instant is YYYY-MM-DD or YYYY-MM-DDTHH:MM:SS, the latter with up to 9 digits after a dot and a Z if wanted; it has no offset",
+            ),
+        ),
+    ] {
+        let out = string(none, text, settings);
+        let rows: Vec<&str> = out.lines().collect();
+        let hints: Vec<&str> = rows
+            .iter()
+            .filter_map(|row| row.strip_prefix("  hint    "))
+            .collect();
+        assert_eq!(hints, Vec::from_iter(hint), "{out}");
+        let json = string(none, text, &format!("{settings} --json"));
+        match hint {
+            Some(hint) => assert!(
+                json.ends_with(&format!("\"hint\":\"{hint}\"}}\n")),
+                "{json}"
+            ),
+            None => assert!(!json.contains("\"hint\""), "{json}"),
+        }
+    }
+}
+
+#[test]
+fn the_names_of_a_kind_are_those_that_it_may_read() {
+    let all = Kind::OperationTemplate.names();
+    assert_eq!(all.len(), 9);
+    for kind in Kind::ALL {
+        for name in all.iter().chain(&["", "name", "field"]) {
+            let sheet = format!("T\nV,5,{},${name}\n", name.len() + 1);
+            let verdict = check_template(
+                *kind,
+                Semantics::Kernel1,
+                "t",
+                b"H,0,0,-,0\n",
+                sheet.as_bytes(),
+            );
+            let is_read = verdict.expect("a verdict").is_accepted();
+            assert_eq!(is_read, kind.names().contains(name), "{kind} ${name}");
+        }
+    }
+}
+
+#[test]
+fn a_dash_is_standard_input() {
+    let mut tool = Command::new(env!("CARGO_BIN_EXE_entity-rules"))
+        .args(format!("check {SETTINGS} pattern.schema -").split_whitespace())
+        .current_dir(mill())
+        .stdin(Stdio::piped())
+        .stdout(Stdio::piped())
+        .spawn()
+        .expect("the tool runs");
+    let mut input = tool.stdin.take().expect("standard input");
+    input
+        .write_all(include_bytes!("../examples/mill/release.rule"))
+        .expect("a rule is sent");
+    drop(input);
+    let output = tool.wait_with_output().expect("the tool ends");
+    assert_eq!(
+        String::from_utf8_lossy(&output.stdout),
+        "-: accepted, all 19 checks passed\n"
+    );
 }
 
 #[test]
@@ -149,12 +331,40 @@ fn machines_read_json() {
 fn json_answers_for_every_rule_even_under_a_bad_schema() {
     let (status, out, _) = run_check(&mill(), "release.rule release.rule misspelt.rule --json");
     assert_eq!(status, Some(2));
-    assert_eq!(
-        out.lines()
-            .filter(|line| line.contains(r#""verdict":"refused","number":4"#))
-            .count(),
-        2
-    );
+    let line = |file: &str| {
+        format!(
+            r#"{{"file":"{file}","verdict":"refused","number":4,"word":"schema sheet","explanation":"entry 1, byte 0: expected `H`, which begins a schema sheet","fault_file":"release.rule","line":1,"place":1,"byte":0}}"#
+        )
+    };
+    let expected = format!("{}\n{}\n", line("release.rule"), line("misspelt.rule"));
+    assert_eq!(out, expected);
+
+    let (status, out, err) = run_check(&mill(), "none.schema release.rule misspelt.rule --json");
+    assert_eq!((status, err.as_str()), (Some(2), ""));
+    let lines: Vec<&str> = out.lines().collect();
+    assert_eq!(lines.len(), 2);
+    for (line, file) in lines.iter().zip(["release.rule", "misspelt.rule"]) {
+        let start = format!(r#"{{"file":"{file}","verdict":"unreadable","explanation":"expected"#);
+        assert!(line.starts_with(&start), "{line}");
+        assert!(line.ends_with(r#","fault_file":"none.schema"}"#), "{line}");
+    }
+}
+
+/// Every key that the tool writes has a row in the README.
+#[test]
+fn the_readme_has_every_key() {
+    let readme = include_str!("../README.md");
+    let words = "pattern.schema release.rule misspelt.rule missing.rule pattern.schema --json";
+    let (_, out, _) = run_check(&mill(), words);
+    for line in out.lines() {
+        for key in line
+            .split(['{', ','])
+            .filter_map(|part| part.split_once("\":"))
+        {
+            let key = key.0.trim_start_matches('"');
+            assert!(readme.contains(&format!("| `{key}` |")), "{key}");
+        }
+    }
 }
 
 #[test]
@@ -182,6 +392,6 @@ fn sheets_cannot_steer_the_terminal() {
 fn bad_usage_goes_to_standard_error() {
     let (status, out, err) = run_check(&mill(), "pattern.schema release.rule --sematics kernel/1");
     assert_eq!((status, out.as_str()), (Some(2), ""));
-    let expected = "entity-rules: expected an option that there is, not \"--sematics\"\nTry `entity-rules --help`.\n";
+    let expected = "entity-rules: unknown option \"--sematics\"\nTry `entity-rules --help`.\n";
     assert_eq!(err, expected);
 }

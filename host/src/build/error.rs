@@ -89,11 +89,22 @@ pub enum BuildError {
         name: String,
     },
     /// Fields, conditions or values nest too deep.
-    TooDeep(Nesting),
+    TooDeep {
+        /// What nests.
+        nesting: Nesting,
+        /// How the entry begins under which it is too deep.
+        entry: String,
+    },
     /// The sheet has over 2,048 entries.
-    TooManyEntries,
+    TooManyEntries {
+        /// How the entry begins that passes the limit, with those that belong to it.
+        entry: String,
+    },
     /// The sheet has over 30,000 bytes.
-    TooManyBytes,
+    TooManyBytes {
+        /// How the entry begins that passes the limit, with those that belong to it.
+        entry: String,
+    },
 }
 
 impl fmt::Display for BuildError {
@@ -121,9 +132,19 @@ impl fmt::Display for BuildError {
             Self::NamedElement { name } => {
                 write!(f, "an element is named {name:?}; expected `Field::element`")
             }
-            Self::TooDeep(nesting) => write!(f, "{nesting} nest deeper than {}", nesting.limit()),
-            Self::TooManyEntries => write!(f, "the sheet has more than {MAX_ENTRIES} entries"),
-            Self::TooManyBytes => write!(f, "the sheet has more than {MAX_SHEET_BYTES} bytes"),
+            Self::TooDeep { nesting, entry } => write!(
+                f,
+                "{nesting} nest deeper than {}, under the entry {entry:?}",
+                nesting.limit()
+            ),
+            Self::TooManyEntries { entry } => write!(
+                f,
+                "with the entry {entry:?} the sheet has more than {MAX_ENTRIES} entries"
+            ),
+            Self::TooManyBytes { entry } => write!(
+                f,
+                "with the entry {entry:?} the sheet has more than {MAX_SHEET_BYTES} bytes"
+            ),
         }
     }
 }

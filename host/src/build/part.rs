@@ -28,11 +28,8 @@ impl Part {
 
     /// Adds one entry: its head up to the last comma or without a text, and its texts.
     pub fn add_entry(&mut self, head: &str, texts: &[&str]) -> Result<(), BuildError> {
-        self.append(1, head.as_bytes())?;
-        for text in texts {
-            self.append(0, text.as_bytes())?;
-        }
-        self.append(0, b"\n")
+        let entry = [&[head], texts, &["\n"]].concat().concat();
+        self.append(1, entry.as_bytes())
     }
 
     /// These entries under one that holds them, one level deeper.
@@ -43,7 +40,10 @@ impl Part {
         part.nesting = self.nesting.saturating_add(1);
         match part.nesting <= nesting.limit() {
             true => Ok(part),
-            false => Err(BuildError::TooDeep(nesting)),
+            false => Err(BuildError::TooDeep {
+                nesting,
+                entry: first_entry(&part.bytes),
+            }),
         }
     }
 
@@ -58,14 +58,24 @@ impl Part {
     fn append(&mut self, entries: usize, bytes: &[u8]) -> Result<(), BuildError> {
         self.entries = self.entries.saturating_add(entries);
         if self.entries > MAX_ENTRIES {
-            return Err(BuildError::TooManyEntries);
+            return Err(BuildError::TooManyEntries {
+                entry: first_entry(bytes),
+            });
         }
         if self.bytes.len().saturating_add(bytes.len()) > MAX_SHEET_BYTES {
-            return Err(BuildError::TooManyBytes);
+            return Err(BuildError::TooManyBytes {
+                entry: first_entry(bytes),
+            });
         }
         self.bytes.extend_from_slice(bytes);
         Ok(())
     }
+}
+
+/// How the first of these entries begins, for an error.
+fn first_entry(bytes: &[u8]) -> String {
+    let line = bytes.split(|&byte| byte == b'\n').next();
+    start(&String::from_utf8_lossy(line.unwrap_or_default()))
 }
 
 /// The part of a builder, or its error.

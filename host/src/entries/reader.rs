@@ -6,6 +6,29 @@ use crate::limits::{MAX_ENTRIES, MAX_SHEET_BYTES, MAX_TEXT_BYTES};
 
 pub type Read<T> = Result<T, Malformed>;
 
+/// The entries of a sheet, as one of these readers reads it.
+pub type Entries = for<'a> fn(Reader<'a>) -> Read<Vec<Entry<'a>>>;
+
+/// Reads a sheet. One that is too long is at fault where it passes the limit, unless it stops being a sheet before that.
+pub fn read(sheet: &[u8], entries: Entries) -> Read<Vec<Entry<'_>>> {
+    let whole = entries(Reader::new(sheet));
+    let start = match sheet.split_at_checked(MAX_SHEET_BYTES) {
+        Some((start, [_, ..])) => entries(Reader::new(start)),
+        _ => return whole,
+    };
+    match (start, whole) {
+        (Err(first), Err(same)) if first == same => Err(first),
+        (start, _) => Err(Malformed {
+            entry: start.map_or_else(
+                |fault| fault.entry,
+                |entries| entries.len().saturating_add(1),
+            ),
+            byte: MAX_SHEET_BYTES,
+            expected: "at most 30,000 bytes in the sheet".to_owned(),
+        }),
+    }
+}
+
 /// What is left of a sheet, and the entries before it.
 pub struct Reader<'a> {
     sheet: &'a [u8],
@@ -17,17 +40,18 @@ pub struct Reader<'a> {
 
 /// Each of these takes what it reads off the sheet.
 impl<'a> Reader<'a> {
-    pub fn new(sheet: &'a [u8]) -> Read<Self> {
-        let reader = Self {
+    fn new(sheet: &'a [u8]) -> Self {
+        Self {
             sheet,
             rest: sheet,
             entries: Vec::new(),
             begun: None,
-        };
-        match sheet.len() <= MAX_SHEET_BYTES {
-            true => Ok(reader),
-            false => reader.fail("at most 30,000 bytes in the sheet"),
         }
+    }
+
+    /// The first byte of the sheet.
+    pub fn first(&self) -> Option<u8> {
+        self.sheet.first().copied()
     }
 
     pub fn byte(&self) -> usize {
@@ -80,7 +104,10 @@ impl<'a> Reader<'a> {
     /// The end of an entry, which says this.
     pub fn end(&mut self, content: Content<'a>) -> Read<()> {
         if !self.take(b"\n") {
-            return self.fail("the end of the entry, byte 0A");
+            return self.fail(match self.rest.first() {
+                Some(b'\r') => "the end of the entry, byte 0A alone, not 0D before it",
+                _ => "the end of the entry, byte 0A",
+            });
         }
         let byte = self.begun.take().unwrap_or_default();
         self.entries.push(Entry { byte, content });

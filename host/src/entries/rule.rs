@@ -1,7 +1,7 @@
 //! Rule sheets: rules and templates.
 
 use super::number::is_number;
-use super::reader::{Read, Reader};
+use super::reader::{Read, Reader, read};
 use super::{Content, Entry, Malformed, Operator};
 use crate::build::{CompareOp, Nesting};
 
@@ -22,8 +22,11 @@ use crate::build::{CompareOp, Nesting};
 ///
 /// If the sheet is not well formed.
 pub fn read_rule(sheet: &[u8]) -> Result<Vec<Entry<'_>>, Malformed> {
-    let mut reader = Reader::new(sheet)?;
-    let mut tasks = vec![match sheet.first() {
+    read(sheet, entries)
+}
+
+fn entries(mut reader: Reader<'_>) -> Read<Vec<Entry<'_>>> {
+    let mut tasks = vec![match reader.first() {
         Some(b'T') => reader.template()?,
         _ => reader.rule()?,
     }];

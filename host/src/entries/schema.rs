@@ -1,6 +1,6 @@
 //! Schema sheets.
 
-use super::reader::{Read, Reader};
+use super::reader::{Read, Reader, read};
 use super::{Content, Entry, Malformed};
 use crate::build::{FieldKind, Nesting};
 
@@ -18,7 +18,10 @@ use crate::build::{FieldKind, Nesting};
 ///
 /// If the sheet is not well formed.
 pub fn read_schema(sheet: &[u8]) -> Result<Vec<Entry<'_>>, Malformed> {
-    let mut reader = Reader::new(sheet)?;
+    read(sheet, entries)
+}
+
+fn entries(mut reader: Reader<'_>) -> Read<Vec<Entry<'_>>> {
     let mut tasks = reader.schema()?;
     while let Some(task) = tasks.pop() {
         match task {

@@ -10,13 +10,15 @@ Checks rules and templates against the schema of their record.
 
 usage: entity-rules check SCHEMA RULE.. --kind KIND --semantics SEMANTICS [OPTION..]
 
-  SCHEMA, RULE        files that hold a schema sheet, and rule sheets or templates
+  SCHEMA, RULE        files that hold a schema sheet, and rule sheets or templates; one of them
+                      may be -, which is standard input
   --kind KIND         invariant, precondition, create_template, operation_template,
                       outcome_selector, create_selector, create_set or create_outcome_template
-  --semantics NAME    kernel/1, service/1, service/2 or service/3
+  --semantics SEMANTICS
+                      kernel/1, service/1, service/2 or service/3
   --label TEXT        what each path begins with (default: the rule's file name without its end)
-  --json              one line of JSON for each rule
-  --quiet             print only what is not accepted
+  --json              one line of JSON for each rule, and no summary
+  --quiet             print nothing for what is accepted, and no summary if all are
   --                  all words after this are files
   --help, --version
 
@@ -25,6 +27,9 @@ Example, in the crate's folder examples/mill:
 
 Exit status: 0 all are accepted; 1 one has a defect; 2 one is refused or cannot be read, or the
 command line is wrong.
+
+Colours and a progress bar appear on a terminal only. NO_COLOR, set to anything, switches the
+colours off; TERM=dumb switches off both.
 ";
 
 /// What the command line asks for.
@@ -121,7 +126,7 @@ impl Options {
             "--kind" => self.kind = Some(named(name, &value()?)?),
             "--semantics" => self.semantics = Some(named(name, &value()?)?),
             "--label" => self.label = Some(value()?),
-            _ => return Err(format!("expected an option that there is, not {word:?}")),
+            _ => return Err(format!("unknown option {name:?}")),
         }
         Ok(())
     }
@@ -137,13 +142,17 @@ impl Options {
                 "check: expected at least one file RULE after {schema:?}"
             ));
         }
+        let files = std::iter::once(&schema).chain(&rules);
+        if files.filter(|file| file.as_os_str() == "-").count() > 1 {
+            return Err("check: expected `-`, standard input, at most once".to_owned());
+        }
         Ok(Arguments {
             schema,
             rules,
             kind: self.kind.ok_or_else(|| missing("--kind KIND", Kind::ALL))?,
             semantics: self
                 .semantics
-                .ok_or_else(|| missing("--semantics NAME", Semantics::ALL))?,
+                .ok_or_else(|| missing("--semantics SEMANTICS", Semantics::ALL))?,
             label: self.label,
             json: self.json,
             quiet: self.quiet,
@@ -223,13 +232,10 @@ mod tests {
             "--kind: expected a value after it"
         );
         assert_eq!(error("check s r --quiet=1"), "--quiet takes no value");
+        assert_eq!(error("check s r -k"), "unknown option \"-k\"");
         assert_eq!(
-            error("check s r -k"),
-            "expected an option that there is, not \"-k\""
-        );
-        assert_eq!(
-            error("check s r --colour"),
-            "expected an option that there is, not \"--colour\""
+            error("check s r --colour=no"),
+            "unknown option \"--colour\""
         );
         assert!(
             error("check s r --kind rule")
@@ -241,7 +247,12 @@ mod tests {
         );
         let without_semantics = error("check s r --kind invariant");
         assert!(
-            without_semantics.starts_with("check: expected --semantics NAME, one of kernel/1,")
+            without_semantics
+                .starts_with("check: expected --semantics SEMANTICS, one of kernel/1,")
+        );
+        assert_eq!(
+            error("check - - --kind invariant --semantics kernel/1"),
+            "check: expected `-`, standard input, at most once"
         );
     }
 

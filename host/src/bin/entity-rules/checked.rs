@@ -1,8 +1,9 @@
 //! One rule, checked, with what a person wants to know about the answer.
 
 use crate::arguments::Arguments;
-use entity_rules::entries::{Entry, Malformed, read_rule, read_schema};
-use entity_rules::limits::MAX_SHEET_BYTES;
+use crate::hint::hint;
+use entity_rules::entries::{Content, Entry, Malformed, read_rule, read_schema};
+use entity_rules::limits::{MAX_SHEET_BYTES, MAX_TEXT_BYTES};
 use entity_rules::{Defect, Refusal, Verdict, check};
 use std::fs::File;
 use std::io::{self, Read};
@@ -22,12 +23,13 @@ pub enum Outcome {
         defect: Defect,
         at: Option<Spot>,
         over: Option<Spot>,
+        hint: Option<String>,
     },
     Refused {
         refusal: Refusal,
         fault: Option<Fault>,
     },
-    Unreadable(io::Error),
+    Unreadable(Unreadable),
 }
 
 /// An entry of the rule sheet.
@@ -45,24 +47,38 @@ pub struct Fault {
     pub malformed: Malformed,
 }
 
+/// A file that cannot be read.
+#[derive(Clone)]
+pub struct Unreadable {
+    pub file: PathBuf,
+    pub sheet: Sheet,
+    pub reason: String,
+}
+
+/// What a file should hold.
+#[derive(Clone, Copy, PartialEq, Eq)]
+pub enum Sheet {
+    Schema,
+    Rule,
+}
+
 impl Outcome {
     /// Whether the schema is at fault, so that every other rule would fare the same.
     pub fn blames_the_schema(&self) -> bool {
-        matches!(
-            self,
-            Self::Refused {
-                refusal: Refusal::SchemaSheet,
-                ..
-            }
-        )
+        match self {
+            Self::Refused { refusal, .. } => *refusal == Refusal::SchemaSheet,
+            Self::Unreadable(unreadable) => unreadable.sheet == Sheet::Schema,
+            _ => false,
+        }
     }
 }
 
 impl Checked {
-    pub fn new(arguments: &Arguments, schema: &[u8], file: &Path) -> Self {
-        let outcome = match read_sheet(file) {
-            Ok(rule) => outcome(arguments, schema, file, &rule),
-            Err(error) => Outcome::Unreadable(error),
+    pub fn new(arguments: &Arguments, schema: &Result<Vec<u8>, Unreadable>, file: &Path) -> Self {
+        let outcome = match (schema, read_sheet(file, Sheet::Rule)) {
+            (Ok(schema), Ok(rule)) => outcome(arguments, schema, file, &rule),
+            (Err(unreadable), _) => Outcome::Unreadable(unreadable.clone()),
+            (_, Err(unreadable)) => Outcome::Unreadable(unreadable),
         };
         Self {
             file: file.to_owned(),
@@ -71,14 +87,28 @@ impl Checked {
     }
 }
 
-/// A file's bytes. One byte past the longest sheet is enough to tell that it is too long.
-pub fn read_sheet(file: &Path) -> io::Result<Vec<u8>> {
-    let most = u64::try_from(MAX_SHEET_BYTES)
-        .unwrap_or(u64::MAX)
-        .saturating_add(1);
-    let mut sheet = Vec::new();
-    File::open(file)?.take(most).read_to_end(&mut sheet)?;
-    Ok(sheet)
+/// A file's bytes, or those of standard input for `-`.
+pub fn read_sheet(file: &Path, sheet: Sheet) -> Result<Vec<u8>, Unreadable> {
+    let bytes = match file.as_os_str() == "-" {
+        true => start(io::stdin()),
+        false => File::open(file).and_then(start),
+    };
+    bytes.map_err(|error| Unreadable {
+        file: file.to_owned(),
+        sheet,
+        reason: error.to_string(),
+    })
+}
+
+/// As much as is needed of a sheet that is too long: the limit, and the rest of the entry that passes it, which has two texts at most.
+fn start(input: impl Read) -> io::Result<Vec<u8>> {
+    let most = MAX_TEXT_BYTES
+        .saturating_mul(4)
+        .saturating_add(MAX_SHEET_BYTES);
+    let most = u64::try_from(most).unwrap_or(u64::MAX);
+    let mut bytes = Vec::new();
+    input.take(most).read_to_end(&mut bytes)?;
+    Ok(bytes)
 }
 
 fn outcome(arguments: &Arguments, schema: &[u8], file: &Path, rule: &[u8]) -> Outcome {
@@ -92,7 +122,7 @@ fn outcome(arguments: &Arguments, schema: &[u8], file: &Path, rule: &[u8]) -> Ou
     };
     match check(arguments.kind, arguments.semantics, label, schema, rule) {
         Ok(Verdict::Accepted { passed }) => Outcome::Accepted { passed },
-        Ok(Verdict::Defect(defect)) => located(defect, rule),
+        Ok(Verdict::Defect(defect)) => located(arguments, defect, rule),
         Err(refusal) => {
             let fault = match refusal {
                 Refusal::SchemaSheet => fault(&arguments.schema, schema, read_schema),
@@ -105,19 +135,27 @@ fn outcome(arguments: &Arguments, schema: &[u8], file: &Path, rule: &[u8]) -> Ou
 }
 
 /// A defect with the entries that it names.
-fn located(defect: Defect, rule: &[u8]) -> Outcome {
+fn located(arguments: &Arguments, defect: Defect, rule: &[u8]) -> Outcome {
     let entries = read_rule(rule).unwrap_or_default();
+    let entry = |place: u32| entries.get(usize::try_from(place).ok()?.checked_sub(1)?);
     let spot = |place: u32| {
-        let index = usize::try_from(place).ok()?.checked_sub(1)?;
-        let entry = entries.get(index)?;
+        let entry = entry(place)?;
         Some(Spot {
             place,
             line: line_of(rule, entry.byte),
             text: entry.to_string(),
         })
     };
-    let (at, over) = (spot(defect.place), defect.over_place.and_then(spot));
-    Outcome::Defect { defect, at, over }
+    let text = match entry(defect.place).map(|entry| entry.content) {
+        Some(Content::String(text)) => text,
+        _ => "",
+    };
+    Outcome::Defect {
+        at: spot(defect.place),
+        over: defect.over_place.and_then(spot),
+        hint: hint(arguments.kind, arguments.semantics, defect.detail, text),
+        defect,
+    }
 }
 
 type Reader = for<'a> fn(&'a [u8]) -> Result<Vec<Entry<'a>>, Malformed>;

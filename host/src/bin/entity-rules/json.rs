@@ -1,7 +1,7 @@
 //! Outcomes as JSON (RFC 8259), one object on one line.
 
 use crate::checked::{Checked, Outcome, Spot};
-use crate::report::refused;
+use crate::report::{not_read, refused};
 use entity_rules::Defect;
 
 /// The line for one rule.
@@ -14,18 +14,33 @@ pub fn line(checked: &Checked) -> String {
             object.number("number", 0);
             object.number("passed", *passed);
         }
-        Outcome::Defect { defect, at, over } => {
-            defect_members(&mut object, defect, at.as_ref(), over.as_ref())
+        Outcome::Defect {
+            defect,
+            at,
+            over,
+            hint,
+        } => {
+            defect_members(&mut object, defect, at.as_ref(), over.as_ref());
+            if let Some(hint) = hint {
+                object.text("hint", hint);
+            }
         }
         Outcome::Refused { refusal, fault } => {
             object.text("verdict", "refused");
             object.number("number", refusal.number());
             object.text("word", refusal.word());
             object.text("explanation", &refused(*refusal, fault.as_ref()));
+            if let Some(fault) = fault {
+                object.text("fault_file", &fault.file.to_string_lossy());
+                object.number("line", fault.line);
+                object.number("place", fault.malformed.entry);
+                object.number("byte", fault.malformed.byte);
+            }
         }
-        Outcome::Unreadable(error) => {
+        Outcome::Unreadable(unreadable) => {
             object.text("verdict", "unreadable");
-            object.text("explanation", &error.to_string());
+            object.text("explanation", &not_read(unreadable));
+            object.text("fault_file", &unreadable.file.to_string_lossy());
         }
     }
     object.line()

@@ -12,14 +12,16 @@
 
 mod arguments;
 mod checked;
+mod hint;
 mod json;
 mod progress;
 mod report;
+mod terminal;
 
 use arguments::{Arguments, Command};
-use checked::{Checked, Outcome, read_sheet};
+use checked::{Checked, Outcome, Sheet, read_sheet};
 use progress::Progress;
-use report::{Palette, Tally, visible};
+use report::{Palette, Tally};
 use std::env;
 use std::io::{self, ErrorKind, IsTerminal, Write};
 use std::process::ExitCode;
@@ -55,26 +57,16 @@ fn run(command: &Command) -> io::Result<u8> {
     Ok(0)
 }
 
-fn check(arguments: &Arguments, out: &mut impl Write) -> io::Result<u8> {
-    match read_sheet(&arguments.schema) {
-        Ok(schema) => check_all(arguments, &schema, out),
-        Err(error) => {
-            let file = visible(&arguments.schema.to_string_lossy());
-            Ok(complain(&format!(
-                "{file}: expected a schema sheet, but it cannot be read: {error}"
-            )))
-        }
-    }
-}
-
 /// Checks every rule, and prints what comes of it.
-fn check_all(arguments: &Arguments, schema: &[u8], out: &mut impl Write) -> io::Result<u8> {
+fn check(arguments: &Arguments, out: &mut impl Write) -> io::Result<u8> {
+    let schema = read_sheet(&arguments.schema, Sheet::Schema);
     let total = arguments.rules.len();
     let palette = Palette::new(io::stdout().is_terminal());
-    let mut progress = Progress::new(io::stderr(), io::stderr().is_terminal(), total);
+    let has_bar = io::stderr().is_terminal() && !terminal::is_dumb();
+    let mut progress = Progress::new(io::stderr(), has_bar, total);
     let mut tally = Tally::default();
     for rule in &arguments.rules {
-        let checked = Checked::new(arguments, schema, rule);
+        let checked = Checked::new(arguments, &schema, rule);
         tally.count(&checked.outcome);
         if arguments.shows(&checked.outcome) {
             progress.clear();
@@ -86,11 +78,12 @@ fn check_all(arguments: &Arguments, schema: &[u8], out: &mut impl Write) -> io::
         }
     }
     progress.clear();
-    if !arguments.json && total > 1 {
+    let status = tally.status();
+    if !arguments.json && total > 1 && !(arguments.quiet && status == 0) {
         writeln!(out, "{}", tally.summary(total))?;
     }
     out.flush()?;
-    Ok(tally.status())
+    Ok(status)
 }
 
 fn show(arguments: &Arguments, palette: &Palette, checked: &Checked) -> String {

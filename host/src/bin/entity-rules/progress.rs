@@ -19,7 +19,7 @@ pub struct Progress<W: Write> {
 }
 
 impl<W: Write> Progress<W> {
-    /// A bar for several rules, drawn only on a terminal.
+    /// A bar for several rules, drawn only on a terminal that can take it off again.
     pub fn new(out: W, is_terminal: bool, total: usize) -> Self {
         let next = Instant::now().checked_add(PAUSE);
         Self {

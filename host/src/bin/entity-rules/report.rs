@@ -1,8 +1,9 @@
 //! Outcomes in words.
 
-use crate::checked::{Checked, Fault, Outcome, Spot};
+use crate::checked::{Checked, Fault, Outcome, Sheet, Spot, Unreadable};
+use crate::terminal::{is_dumb, is_plain};
 use entity_rules::{Defect, Refusal};
-use std::env;
+use std::path::Path;
 
 /// The colours, or none.
 pub struct Palette {
@@ -18,12 +19,10 @@ enum Colour {
 }
 
 impl Palette {
-    /// Colours for a terminal, unless its user wants none (<https://no-color.org>) or it has none.
+    /// Colours for a terminal, unless its user wants none or it has none.
     pub fn new(is_terminal: bool) -> Self {
-        let unwanted = env::var_os("NO_COLOR").is_some_and(|value| !value.is_empty());
-        let dumb = env::var_os("TERM").is_some_and(|term| term == "dumb");
         Self {
-            on: is_terminal && !unwanted && !dumb,
+            on: is_terminal && !is_plain() && !is_dumb(),
         }
     }
 
@@ -35,38 +34,63 @@ impl Palette {
     }
 }
 
-/// What is printed for one rule.
+/// What is printed for one rule. A sheet that is at fault is named itself, be it the rule's or the schema's.
 pub fn text(palette: &Palette, checked: &Checked) -> String {
-    let file = visible(&checked.file.to_string_lossy());
     match &checked.outcome {
         Outcome::Accepted { passed } => {
             let word = palette.paint(Colour::Green, "accepted");
-            format!("{file}: {word}, all {passed} checks passed\n")
+            format!("{}: {word}, {}\n", name(&checked.file), accepted(*passed))
         }
-        Outcome::Defect { defect, at, over } => {
-            defect_text(palette, &file, defect, at.as_ref(), over.as_ref())
+        Outcome::Defect {
+            defect,
+            at,
+            over,
+            hint,
+        } => {
+            let rows = rows(defect, at.as_ref(), over.as_ref(), hint.as_deref());
+            defect_text(palette, &checked.file, defect, at.as_ref(), &rows)
         }
         Outcome::Refused { refusal, fault } => {
             let word = palette.paint(
                 Colour::Yellow,
                 &format!("refused {} ({})", refusal.number(), refusal.word()),
             );
-            format!("{file}: {word}: {}\n", refused(*refusal, fault.as_ref()))
+            let place = match fault {
+                Some(fault) => format!("{}:{}", name(&fault.file), fault.line),
+                None => name(&checked.file),
+            };
+            format!("{place}: {word}: {}\n", refused(*refusal, fault.as_ref()))
         }
-        Outcome::Unreadable(error) => {
+        Outcome::Unreadable(unreadable) => {
             let word = palette.paint(Colour::Yellow, "unreadable");
-            format!("{file}: {word}: expected a file that holds a rule sheet: {error}\n")
+            let file = name(&unreadable.file);
+            format!("{file}: {word}: {}\n", not_read(unreadable))
         }
+    }
+}
+
+/// A file's name as it is printed.
+fn name(file: &Path) -> String {
+    visible(&file.to_string_lossy())
+}
+
+/// That so many checks, which are all, passed.
+fn accepted(passed: u32) -> String {
+    match passed {
+        0 => "there was nothing to check".to_owned(),
+        1 => "its 1 check passed".to_owned(),
+        passed => format!("all {passed} checks passed"),
     }
 }
 
 fn defect_text(
     palette: &Palette,
-    file: &str,
+    file: &Path,
     defect: &Defect,
     at: Option<&Spot>,
-    over: Option<&Spot>,
+    rows: &[(&'static str, String)],
 ) -> String {
+    let file = name(file);
     let line = at.map_or_else(String::new, |spot| format!(":{}", spot.line));
     let number = format!(
         "defect {} ({})",
@@ -75,25 +99,34 @@ fn defect_text(
     );
     let word = palette.paint(Colour::Red, &number);
     let mut text = format!("{file}{line}: {word}: {}\n", defect.explanation());
-    for (name, value) in rows(defect, at, over) {
+    for (name, value) in rows {
         text.push_str(&format!("  {name:<8}{value}\n"));
     }
     text
 }
 
 /// The rows under a defect: their names and what they say.
-fn rows(defect: &Defect, at: Option<&Spot>, over: Option<&Spot>) -> Vec<(&'static str, String)> {
+fn rows(
+    defect: &Defect,
+    at: Option<&Spot>,
+    over: Option<&Spot>,
+    hint: Option<&str>,
+) -> Vec<(&'static str, String)> {
     let family = defect.family;
     let mut rows = vec![("path", visible(&defect.path))];
     rows.extend(at.map(|spot| ("at", spot_text(spot))));
     rows.extend(over.map(|spot| ("over", spot_text(spot))));
+    rows.extend(hint.map(|hint| ("hint", hint.to_owned())));
     rows.push((
         "family",
         format!("{} {}, {family}", family.number(), family.name()),
     ));
     rows.push((
         "passed",
-        format!("{} checks before this one", defect.passed),
+        match defect.passed {
+            1 => "1 check before this one".to_owned(),
+            passed => format!("{passed} checks before this one"),
+        },
     ));
     rows
 }
@@ -102,16 +135,23 @@ fn spot_text(spot: &Spot) -> String {
     format!("entry {}, {}", spot.place, spot.text)
 }
 
-/// Why a call was refused, and where.
+/// Why a call was refused.
 pub fn refused(refusal: Refusal, fault: Option<&Fault>) -> String {
     match (refusal, fault) {
-        (_, Some(fault)) => {
-            let file = visible(&fault.file.to_string_lossy());
-            format!("{file}:{}: {}", fault.line, fault.malformed)
-        }
+        (_, Some(fault)) => fault.malformed.to_string(),
         (Refusal::Label, None) => format!("{refusal}; expected a shorter one, as by --label"),
         (refusal, None) => refusal.to_string(),
     }
+}
+
+/// What a file that cannot be read should have held, and why it cannot.
+pub fn not_read(unreadable: &Unreadable) -> String {
+    let sheet = match unreadable.sheet {
+        Sheet::Schema => "schema",
+        Sheet::Rule => "rule",
+    };
+    let reason = &unreadable.reason;
+    format!("expected a file that holds a {sheet} sheet: {reason}")
 }
 
 /// A text in which nothing can steer a terminal.
@@ -132,23 +172,32 @@ pub struct Tally {
     accepted: usize,
     defects: usize,
     refused: usize,
+    unreadable: usize,
+    /// Whether the schema is refused or unreadable. No rule is checked then.
+    without_schema: bool,
 }
 
 impl Tally {
     pub fn count(&mut self, outcome: &Outcome) {
+        if outcome.blames_the_schema() {
+            self.without_schema = true;
+            return;
+        }
         let counter = match outcome {
             Outcome::Accepted { .. } => &mut self.accepted,
             Outcome::Defect { .. } => &mut self.defects,
-            Outcome::Refused { .. } | Outcome::Unreadable(_) => &mut self.refused,
+            Outcome::Refused { .. } => &mut self.refused,
+            Outcome::Unreadable(_) => &mut self.unreadable,
         };
         *counter = counter.saturating_add(1);
     }
 
     /// The exit status: that of the worst outcome.
     pub fn status(&self) -> u8 {
-        match (self.defects, self.refused) {
-            (0, 0) => 0,
-            (_, 0) => 1,
+        match (self.defects, self.refused, self.unreadable) {
+            _ if self.without_schema => 2,
+            (0, 0, 0) => 0,
+            (_, 0, 0) => 1,
             _ => 2,
         }
     }
@@ -159,14 +208,20 @@ impl Tally {
             accepted,
             defects,
             refused,
+            unreadable,
+            ..
         } = self;
-        let checked = accepted.saturating_add(*defects).saturating_add(*refused);
-        let left = match total.saturating_sub(checked) {
+        let checked = [accepted, defects, refused, unreadable]
+            .into_iter()
+            .fold(0, |sum: usize, count| sum.saturating_add(*count));
+        let some = |count: usize, word: &str| match count {
             0 => String::new(),
-            left => format!(", {left} not checked"),
+            count => format!(", {count} {word}"),
         };
+        let unreadable = some(*unreadable, "unreadable");
+        let left = some(total.saturating_sub(checked), "not checked");
         format!(
-            "{total} rules: {accepted} accepted, {defects} with a defect, {refused} refused{left}"
+            "{total} rules: {accepted} accepted, {defects} with a defect, {refused} refused{unreadable}{left}"
         )
     }
 }
@@ -194,22 +249,37 @@ mod tests {
 
     #[test]
     fn the_status_is_that_of_the_worst() {
-        let tally = |accepted, defects, refused| {
-            Tally {
-                accepted,
-                defects,
-                refused,
-            }
-            .status()
+        let tally = |accepted, defects, refused, unreadable| Tally {
+            accepted,
+            defects,
+            refused,
+            unreadable,
+            without_schema: false,
         };
+        let worst = [
+            tally(2, 0, 0, 0),
+            tally(1, 1, 0, 0),
+            tally(1, 1, 1, 0),
+            tally(0, 0, 1, 0),
+            tally(1, 1, 0, 1),
+        ];
+        assert_eq!(worst.map(|tally| tally.status()), [0, 1, 2, 2, 2]);
+        let without_schema = Tally {
+            without_schema: true,
+            ..Tally::default()
+        };
+        assert_eq!(without_schema.status(), 2);
+    }
+
+    #[test]
+    fn one_is_not_many() {
         assert_eq!(
+            [0, 1, 2].map(accepted),
             [
-                tally(2, 0, 0),
-                tally(1, 1, 0),
-                tally(1, 1, 1),
-                tally(0, 0, 1)
-            ],
-            [0, 1, 2, 2]
+                "there was nothing to check",
+                "its 1 check passed",
+                "all 2 checks passed"
+            ]
         );
     }
 }
