@@ -7,10 +7,9 @@ use mathlib.Core.Path.{refl, sym}
 use lib.ListN.{length, take, getD, set}
 use lib.Seq.{set-out, take-suc, take-all}
 use Rattle.sheet.specs.Numeral.{decimalOf}
-use Rattle.sheet.specs.NumeralLaws.{decimalOf-one}
+use Rattle.sheet.specs.NumeralLaws.{decimalOf-one, decimalOf-last}
 use Rattle.buffer.specs.Wrote.{Wrote}
 use Rattle.buffer.specs.WroteLaws.{wrote-then}
-use Rattle.buffer.specs.DigitLaws.{decimalOf-last}
 
 pub wrote-byte : (l : List ℕ) (at b : ℕ) → at < length l → Wrote l (set l at b) at (b ∷ []) (at + 1)
 wrote-byte l at b less = record { stands = refl; ends = omega arith }

@@ -7,9 +7,8 @@ use lib.ListN.{length, length-append}
 use lib.Dec.{ltb}
 use borrow.Author.Tests.{ltb-true, ltb-false}
 use Rattle.sheet.specs.Numeral.{decimalOf}
-use Rattle.sheet.specs.NumeralLaws.{decimalOf-one}
+use Rattle.sheet.specs.NumeralLaws.{decimalOf-one, decimalOf-last}
 use Rattle.sheet.specs.ReaderLaws.{by-test}
-use Rattle.buffer.specs.DigitLaws.{decimalOf-last}
 use Rattle.check_file.specs.Line.{fieldOf, written, lineOf, numbers}
 
 decimalOf-length : (k n : ℕ) → n < 10 ^ suc k → length (decimalOf n) ≤ suc k

@@ -1,14 +1,14 @@
 -- Laws of the order of two texts: by their first bytes, and by their bytes from a place on.
-use Prim.Native.Nat.{ℕ, zero, suc, _+_, _-_, _<_, _≤_}
-use mathlib.Core.Path.{_≡_, refl, ap, sym, _∙_}
+use Prim.Native.Nat.{ℕ, _+_, _<_, _≤_}
+use mathlib.Core.Path.{_≡_, refl}
 use mathlib.Core.Bool.{Bool, true, false}
 use mathlib.Core.List.{List, [], _∷_}
 use native.Mathlib.Omega.{arith}
 use native.Mathlib.Numerals.{add-one}
 use lib.ListN.{length, drop, getD, drop-of-length-le}
-use lib.Dec.{ltb}
 use lib.Seq.{drop-cons}
-use borrow.Author.Tests.{lt-ltb, le-ltb, eq-eqb, ne-eqb, ltb-true, ltb-false}
+use borrow.Author.Tests.{lt-ltb, le-ltb, eq-eqb, ne-eqb}
+use Rattle.text.proofs.Below.{below-more, reached}
 use Rattle.sheet.specs.Order.{precedes, sameBytes}
 use Rattle.sheet.specs.Compares.{Stand, SameAt, SameStart}
 
@@ -88,21 +88,11 @@ pub same-more
     → i + 8 ≤ length b
     → SameAt a b i 8
     → SameStart a b (i + 8)
-same-more a b i h p q at = record { in-first = p; in-second = q; same = λ k l. go k l (ltb k i) refl }
-  where
-    go : (k : ℕ) → k < i + 8 → (t : Bool) → ltb k i ≡ t → getD a k 0 ≡ getD b k 0
-    go k l true e = h .same k (ltb-true k i e)
-    go k l false e =
-        let below = ltb-false k i e in
-        let back : i + (k - i) ≡ k = omega arith in
-        ap (λ (j : ℕ). getD a j 0) (sym back) ∙ at (k - i) (omega arith) ∙ ap (λ (j : ℕ). getD b j 0) back
-
-goes-from : (a b : List ℕ) (n : ℕ) → SameStart a b n → (i : ℕ) → i ≤ n → Goes a b i
-goes-from a b n h zero l = λ p q r s. s
-goes-from a b n h (suc i) l =
-    rw (sym (add-one i))
-    (goes-on a b i (goes-from a b n h i (omega arith)) (omega (arith, h .in-first)) (omega (arith, h .in-second)) (h .same i (omega arith)))
+same-more a b i h p q at =
+    record { in-first = p; in-second = q; same = below-more (λ k. getD a k 0 ≡ getD b k 0) i 8 (h .same) at }
 
 -- so do the texts stand behind the bytes that are the same
 pub goes-start : (a b : List ℕ) (n : ℕ) → SameStart a b n → Goes a b n
-goes-start a b n h = goes-from a b n h n (omega arith)
+goes-start a b n h =
+    reached (Goes a b) n (λ p q r s. s)
+    (λ i l goes. goes-on a b i goes (omega (arith, h .in-first)) (omega (arith, h .in-second)) (h .same i l))

@@ -56,6 +56,11 @@ decimalOf-digit v d h k =
     ∙ rw (q, r) (decimalIn-turns (v * 10 + d) (suc v) v ((48 + d) ∷ []) (omega arith) (omega arith))
     ∙ decimalIn-append (suc v) v [] ((48 + d) ∷ [])
 
+pub decimalOf-last : (n : ℕ) → 10 ≤ n → decimalOf n ≡ decimalOf (n / 10) ++ ((48 + n % 10) ∷ [])
+decimalOf-last n h =
+    let whole : n / 10 * 10 + n % 10 ≡ n = omega arith in
+    ap decimalOf (sym whole) ∙ decimalOf-digit (n / 10) (n % 10) (omega arith) (omega arith)
+
 pub decimalOf-one : (d : ℕ) → d < 10 → decimalOf d ≡ (48 + d) ∷ []
 unfolding decimalOf
 decimalOf-one d h = decimalIn-small d d [] (lt-ltb d 10 h)

@@ -1,11 +1,12 @@
 -- What the loops over a text keep from turn to turn: the answer for the rest is the answer for the whole.
-use Prim.Native.Nat.{ℕ, zero, suc, _+_, _≤_, _<_}
+use Prim.Native.Nat.{ℕ, _+_, _≤_, _<_}
 use mathlib.Core.Path.{_≡_, refl, sym, ap, _∙_}
 use mathlib.Core.Bool.{Bool, true, false}
 use mathlib.Core.List.{List}
 use mathlib.Core.Option.{none, some}
 use native.Mathlib.Omega.{arith}
 use lib.ListN.{length, getD, drop, length-drop, drop-of-length-le}
+use Rattle.text.proofs.Below.{reached}
 use Rattle.text.specs.Utf8.{utf8-1, utf8-2, utf8-3, utf8-4, orElse, decodeOne, isUtf8}
 use Rattle.text.specs.WhiteSpace.{isWhiteSpace}
 use Rattle.text.specs.Blank.{isBlank, trimStart}
@@ -29,10 +30,10 @@ pub ascii-steps
     → at + n ≤ length s
     → ((k : ℕ) → k < n → getD s (at + k) 0 ≤ 0x7F)
     → isUtf8 (drop (at + n) s) ≡ isUtf8 (drop at s)
-ascii-steps s at zero h l = let e : at + 0 ≡ at = omega arith in ap (λ (i : ℕ). isUtf8 (drop i s)) e
-ascii-steps s at (suc n) h l =
-    ascii-step s (at + n) (at + suc n) (omega arith) (omega arith) (l n (omega arith))
-    ∙ ascii-steps s at n (omega arith) (λ k b. l k (omega arith))
+ascii-steps s at n h l =
+    let here : at + 0 ≡ at = omega arith in
+    reached (λ m. isUtf8 (drop (at + m) s) ≡ isUtf8 (drop at s)) n (rw here)
+    (λ m b e. ascii-step s (at + m) (at + (m + 1)) (omega arith) (omega arith) (l m b) ∙ e)
 
 pub passed-none : (s : List ℕ) (from : ℕ) → from ≤ length s → PassedTo s from from
 passed-none s from h = record { forward = omega arith; within = h; kept = refl }

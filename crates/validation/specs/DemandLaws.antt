@@ -20,7 +20,26 @@ use Rattle.validation.specs.CheckLaws.{every-check, sure-checks}
 use Rattle.validation.specs.CountLaws.{VerdictIs, every-judged}
 use Rattle.validation.specs.WideningLaws.{VerdictFares, stillAccepted, sameDefect, later, passedOf, judge-fares}
 use Rattle.validation.specs.Result.{Takes, Call, Defect, Answer, refused, accepted, defect, Heard, refusal, acceptance, finding, answerOf, isTaken, Refusal, refusals, firstRefusal, Unrefused, settingFor, checked, judged, refusedOr, resultOf, numbersOf, pathAfter, Run, callOf, Meets}
-use Rattle.validation.specs.Growth.{against, Widens, NotRefused, passed, SameDefect, Writes, SameFinding}
+use Rattle.validation.specs.Growth.{against, Widens, Writes, SameFinding}
+
+-- acceptance or a defect
+abbrev pub NotRefused : Answer → Type 0
+NotRefused (refused n) = ⊥
+NotRefused (accepted n) = Unit {0}
+NotRefused (defect d) = Unit {0}
+
+abbrev pub passed : Answer → ℕ
+passed (refused n) = 0
+passed (accepted n) = n
+passed (defect d) = d .passed
+
+-- the same number, family, path, place and over place
+pub record SameDefect (d d′ : Defect) : Type 0 where
+  pub number : d′ .number ≡ d .number
+  pub family : d′ .family ≡ d .family
+  pub path : d′ .path ≡ d .path
+  pub place : d′ .place ≡ d .place
+  pub overPlace : d′ .overPlace ≡ d .overPlace
 
 accepted-no-defect : (n : ℕ) (d : Defect) → accepted n ≡ defect d → ⊥
 accepted-no-defect n d e = let z : _≡_ {A = ℕ} 0 1 = cc in omega arith

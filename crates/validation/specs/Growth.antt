@@ -1,14 +1,14 @@
 -- One rule or template checked against a schema and against a widening of it.
 use Prim.Native.Nat.{ℕ}
 use mathlib.Core.List.{List}
-use mathlib.Core.Option.{Option, none, some}
+use mathlib.Core.Option.{some}
 use mathlib.Core.Path.{_≡_}
 use lib.ListN.{length}
 use lib.Seq.{sets}
 use Rattle.definition.specs.Tree.{Schema}
 use Rattle.definition.specs.Decode.{decodeSchema}
 use Rattle.widening.specs.Widening.{Level, WiderSchema}
-use Rattle.validation.specs.Result.{Call, Defect, Answer, refused, accepted, defect, Run}
+use Rattle.validation.specs.Result.{Call, Run}
 
 -- the same rule or template under the same settings, against another schema and with other buffers
 unfoldable pub against : Call → (schema : List ℕ) → (pathLength scratchLength : ℕ) → Call
@@ -31,25 +31,6 @@ pub record Widens (l : Level) (sheet sheet′ : List ℕ) : Type 0 where
   pub decodesFirst : decodeSchema sheet ≡ some first
   pub decodesSecond : decodeSchema sheet′ ≡ some second
   pub isWider : WiderSchema l first second
-
--- acceptance or a defect
-abbrev pub NotRefused : Answer → Type 0
-NotRefused (refused n) = ⊥
-NotRefused (accepted n) = Unit {0}
-NotRefused (defect d) = Unit {0}
-
-abbrev pub passed : Answer → ℕ
-passed (refused n) = 0
-passed (accepted n) = n
-passed (defect d) = d .passed
-
--- the same number, family, path, place and over place
-pub record SameDefect (d d′ : Defect) : Type 0 where
-  pub number : d′ .number ≡ d .number
-  pub family : d′ .family ≡ d .family
-  pub path : d′ .path ≡ d .path
-  pub place : d′ .place ≡ d .place
-  pub overPlace : d′ .overPlace ≡ d .overPlace
 
 -- the run wrote that path to the start of its buffer, kept all other bytes, and says how long the path is; that every path has room
 -- in a buffer that is not refused is a law of crate `location`

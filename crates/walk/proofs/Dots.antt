@@ -1,17 +1,17 @@
 -- The search for the first dot: what was passed is the beginning of the first segment.
-use Prim.Native.Nat.{ℕ, zero, suc, _+_, _-_, _<_, _≤_}
+use Prim.Native.Nat.{ℕ, zero, suc, _+_, _<_, _≤_}
 use Prim.Native.Char.{code}
 use native.Mathlib.Omega.{arith}
-use native.Mathlib.Nat.{add-zero}
 use native.Mathlib.Numerals.{add-one}
 use mathlib.Core.List.{List, [], _∷_, _++_, append-nil, append-assoc}
 use mathlib.Core.Path.{_≡_, refl, ap, sym, _∙_}
 use lib.ListN.{length, take, drop, getD, drop-of-length-le}
 use lib.Seq.{drop-cons, take-suc, take-all, take-length}
-use lib.Dec.{ltb, eqb}
-use mathlib.Core.Bool.{Bool, true, false, not, _&&_, false≢true}
-use borrow.Author.Tests.{eq-eqb, ne-eqb, eqb-false, ltb-true, ltb-false, not-true}
+use lib.Dec.{eqb}
+use mathlib.Core.Bool.{Bool, true, not, _&&_, and-eq-true-iff}
+use borrow.Author.Tests.{eq-eqb, ne-eqb, eqb-false, not-true}
 use Rattle.reference.specs.Path.{Segments, split, cut, extend}
+use Rattle.text.proofs.Below.{below-more, reached}
 use Rattle.walk.specs.Dots.{Cuts, Ends, DotlessAt, DotlessStart}
 use Rattle.walk.specs.declared.path.Dot.{Dot}
 use Rattle.walk.specs.declared.path.Dot.the-variants.{At, Nowhere}
@@ -43,10 +43,6 @@ passed-all path i h end = h ∙ rw (drop-of-length-le path end, take-all i path,
 
 -- Bytes that are passed over by eights
 
-both : (p q : Bool) → (p && q) ≡ true → (p ≡ true) × (q ≡ true)
-both true q e = (refl, e)
-both false q e = absurd (false≢true e)
-
 unfoldable pub all : ℕ → (ℕ → Bool) → Bool
 all zero p = true
 all (suc n) p = all n p && p n
@@ -54,11 +50,9 @@ all (suc n) p = all n p && p n
 all-true : (n : ℕ) (p : ℕ → Bool) → all n p ≡ true → (k : ℕ) → k < n → p k ≡ true
 unfolding all
 all-true zero p e k h = absurd (omega arith)
-all-true (suc n) p e k h = go (ltb k n) refl (all-true n p (both (all n p) (p n) e .0) k)
-  where
-    go : (t : Bool) → ltb k n ≡ t → (k < n → p k ≡ true) → p k ≡ true
-    go true u before = before (ltb-true k n u)
-    go false u before = let above = ltb-false k n u in let last : k ≡ n = omega arith in rw last (both (all n p) (p n) e .1)
+all-true (suc n) p e k h =
+    let (before, last) = and-eq-true-iff (all n p) (p n) .0 e in
+    below-more (λ j. p j ≡ true) n 1 (all-true n p before) (λ j l. let z : n + j ≡ n = omega arith in rw z last) k (omega arith)
 
 -- the bytes from place `i` on, tested
 abbrev pub other : List ℕ → ℕ → ℕ → Bool
@@ -76,22 +70,12 @@ pub dotless-more
     → i + 8 ≤ length path
     → DotlessAt path i 8
     → DotlessStart path (i + 8)
-dotless-more path i h p at = record { within = p; dotless = λ k l. go k l (ltb k i) refl }
-  where
-    go : (k : ℕ) → k < i + 8 → (t : Bool) → ltb k i ≡ t → getD path k 0 ≡ code "." → ⊥
-    go k l true e = h .dotless k (ltb-true k i e)
-    go k l false e =
-        let above = ltb-false k i e in
-        let back : i + (k - i) ≡ k = omega arith in
-        λ dot. at (k - i) (omega arith) (ap (λ (j : ℕ). getD path j 0) back ∙ dot)
-
-passed-from : (path : List ℕ) (n : ℕ) → DotlessStart path n → (i : ℕ) → i ≤ n → Passed path i
-passed-from path n h zero l = passed-none path
-passed-from path n h (suc i) l =
-    rw (sym (add-one i)) (passed-more path i (passed-from path n h i (omega arith)) (omega (arith, h .within)) (h .dotless i (omega arith)))
+dotless-more path i h p at =
+    record { within = p; dotless = below-more (λ k. getD path k 0 ≡ code "." → ⊥) i 8 (h .dotless) at }
 
 pub passed-start : (path : List ℕ) (n : ℕ) → DotlessStart path n → Passed path n
-passed-start path n h = passed-from path n h n (omega arith)
+passed-start path n h =
+    reached (Passed path) n (passed-none path) (λ i l passed. passed-more path i passed (omega (arith, h .within)) (h .dotless i l))
 
 -- Where the first segment ends
 
