@@ -7,7 +7,7 @@ use mathlib.Core.Path.{_≡_, refl}
 use Rattle.sheet.specs.Ascii.{ascii}
 use Rattle.sheet.specs.Numeral.{decimalIn, decimalOf}
 use Rattle.sheet.specs.Write.{writeEnd, writeItem, markOf, writeMark, writeLength, writeText, writeHolderHead, writeArgumentsHead, writeSchemaHead, writeFieldHead, writeRuleHead, writeLast, writeOperator, writeConditionHead, writeType, writeValueHead, writeKeyHead}
-use Rattle.definition.specs.Tree.{Schema, field, absent, element, noMembers, member, Value, number, string, constant, array, object, noValues, value, noPairs, pair, Rule, rule, template, quantifier, two, negation}
+use Rattle.definition.specs.Tree.{Schema, field, absent, element, noMembers, member, number, string, constant, array, object, noValues, value, noPairs, pair, rule, template, quantifier, two, negation}
 use Rattle.definition.specs.Write.{hasItems, memberCount, writeField, headOf, headOfArguments, writeArguments, writeSchema, valueCount, pairCount, writeValue, conditionCount, writeCondition, writeRule}
 
 -- opens every writer, so that an example computes

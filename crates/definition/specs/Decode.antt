@@ -8,7 +8,7 @@ use lib.ListN.{length}
 use lib.Dec.{leb, eqb}
 use Rattle.sheet.specs.Reader.{Reader, _>>=_, _>>_, ensure, pure, refuse}
 use Rattle.sheet.specs.Order.{follows}
-use Rattle.sheet.specs.Entries.{HolderHead, SchemaHead, schemaHead, FieldHead, fieldHead, RuleHead, ruleHead, ConditionHead, literalHead, manyHead, negationHead, oneHead, twoHead, comparisonHead, quantifierHead, conditionHead, ValueHead, constantHead, numberHead, stringHead, arrayHead, objectHead, valueHead, keyHead}
+use Rattle.sheet.specs.Entries.{HolderHead, schemaHead, fieldHead, RuleHead, ruleHead, ConditionHead, literalHead, manyHead, negationHead, oneHead, twoHead, comparisonHead, quantifierHead, conditionHead, ValueHead, constantHead, numberHead, stringHead, arrayHead, objectHead, valueHead, keyHead}
 use Rattle.sheet.specs.Entries as Entries
 use Rattle.definition.specs.Tree.{Text, Field, field, Items, absent, element, Members, noMembers, member, Holder, Schema, Value, constant, number, string, array, object, Values, noValues, value, Pairs, noPairs, pair, Condition, literal, many, negation, one, two, comparison, quantifier, Conditions, noConditions, condition, Rule, rule, template}
 use Rattle.definition.specs.Limits.{maxSheetBytes, maxSchemaEntries, maxRuleEntries, maxFieldNesting, maxConditionNesting, maxValueNesting}

@@ -16,7 +16,7 @@ use Rattle.sheet.specs.HeadLaws.{schemaHead-exact}
 use Rattle.sheet.specs.HeadLaws as HeadLaws
 use Rattle.sheet.specs.RuleHeadLaws.{RuleHeadFits, ruleHead-exact}
 use Rattle.definition.specs.Tree.{Holder, Schema, Rule, rule, template}
-use Rattle.definition.specs.Limits.{maxSheetBytes, maxFieldNesting, maxConditionNesting}
+use Rattle.definition.specs.Limits.{maxSheetBytes, maxFieldNesting}
 use Rattle.definition.specs.Decode.{Ahead, announce, atEnd, whole, membersOf, fieldIn, holderOf, argumentsOf, schema, ruleOf, anyRule}
 use Rattle.definition.specs.Write.{memberCount, writeMembers, headOf, headOfArguments, writeArguments, writeSchema, writeValue, writeCondition, writeRule}
 use Rattle.definition.specs.Within.{membersEntries, argumentsEntries, schemaEntries, ruleEntries, membersNesting, argumentsNesting, schemaNesting, SchemaRises, MembersFit, ArgumentsFit, MembersRise, ArgumentsRise, MembersFrom, ArgumentsFrom, RuleFits, RuleFrom}

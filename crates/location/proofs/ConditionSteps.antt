@@ -21,7 +21,7 @@ use Rattle.location.specs.Siblings.{Reaches}
 use Rattle.location.specs.Heads.{partAt, isValueAt, isWhole, ownPart}
 use Rattle.location.specs.Descent.{ValueWritten, ConditionWritten, ConditionLeads, OperandLeads}
 use Rattle.buffer.specs.WroteLaws.{wrote-nothing, wrote-then}
-use Rattle.location.proofs.Ranges.{Among, none-found, either-found, here-found, here-or-found, value-among, value-size, condition-among, condition-size}
+use Rattle.location.proofs.Ranges.{Among, none-found, either-found, here-found, value-among, value-size, condition-among, condition-size}
 use Rattle.location.proofs.Reached.{Standing, firstOf, Found, reached}
 use Rattle.location.proofs.ValueSteps.{same-head, refused-head, not-own, own-empty}
 

@@ -1,7 +1,7 @@
 -- Operators that are the last of their group.
 use Prim.Native.Nat.{ℕ, _+_, _≤_, _<_}
 use native.Mathlib.Omega.{arith}
-use mathlib.Core.Path.{_≡_, refl}
+use mathlib.Core.Path.{_≡_}
 use borrow.Author.Tests.{ne-eqb}
 use Rattle.sheet.specs.Ascii.{ascii}
 use Rattle.validation.specs.Location.{operatorName}

@@ -10,7 +10,7 @@ use borrow.Author.Tests.{eqb-true}
 use Rattle.sheet.specs.Ascii.{ascii}
 use Rattle.sheet.specs.Reader.{orElse}
 use Rattle.definition.specs.Tree.{Text, Value, constant, number, string, array, object, Values, noValues, value, Pairs, noPairs, pair, Condition, literal, many, negation, one, two, comparison, quantifier, Conditions, noConditions, condition}
-use Rattle.rule.specs.Index.{sizeOfValue, sizeOfValues, sizeOfPairs, sizeOfCondition, sizeOfConditions, EntryAt, ValueAt, ValuesAt, PairsAt, ConditionAt, ConditionsAt}
+use Rattle.rule.specs.Index.{sizeOfValue, sizeOfValues, sizeOfPairs, sizeOfCondition, sizeOfConditions, ValueAt, ValuesAt, PairsAt, ConditionAt, ConditionsAt}
 use Rattle.validation.specs.Check.{entryOf}
 use Rattle.validation.specs.Location.{operatorName, dotted, index, through, hereOr, hereAs, inValue, inValues, inPairs, inSide, atQuantifier, inCondition, inConditions}
 

@@ -4,15 +4,15 @@ use native.Mathlib.Omega.{arith}
 use mathlib.Core.Bool.{Bool, true, false, cond}
 use mathlib.Core.List.{List, [], _∷_, _++_}
 use mathlib.Core.Option.{Option, none, some}
-use mathlib.Core.Path.{_≡_, refl, sym, _∙_}
+use mathlib.Core.Path.{_≡_, _∙_}
 use lib.Dec.{leb}
 use lib.ListN.{drop}
 use borrow.Author.Tests.{le-leb, lt-leb}
 use Rattle.sheet.specs.Ascii.{ascii}
 use Rattle.sheet.specs.Entries as entries
-use Rattle.definition.specs.Tree.{Text, Value, Condition, Rule, rule, template}
+use Rattle.definition.specs.Tree.{Text, Condition, Rule, rule, template}
 use Rattle.rule.specs.Index.{startOf, ConditionAt, RuleAt}
-use Rattle.validation.specs.Location.{through, inValue, inCondition, behindLabel}
+use Rattle.validation.specs.Location.{through, inCondition, behindLabel}
 use Rattle.buffer.specs.Wrote.{Wrote}
 use Rattle.location.specs.Descent.{ValueWritten, ConditionWritten, AssertWritten, RuleWritten}
 use Rattle.location.specs.Path.{PathWritten}

@@ -1,7 +1,6 @@
 -- One step down from a value, and the end of the way.
 use Prim.Native.Nat.{ℕ, _+_, _≤_, _<_}
 use native.Mathlib.Omega.{arith}
-use mathlib.Core.Bool.{Bool, true, false}
 use mathlib.Core.List.{List, [], _∷_, _++_}
 use mathlib.Core.Option.{Option, none, some}
 use mathlib.Core.Path.{_≡_, refl, ap, sym, _∙_}
@@ -11,7 +10,7 @@ use borrow.Author.Tests.{eqb-true, eq-eqb}
 use Rattle.sheet.specs.Reader.{orElse}
 use Rattle.sheet.specs.Entries.{ValueHead, constantHead, numberHead, stringHead, arrayHead, objectHead, valueHead, keyHead}
 use Rattle.definition.specs.Tree.{Text, Value, constant, number, string, array, object, Values, noValues, value, Pairs, noPairs, pair}
-use Rattle.rule.specs.Index.{startOf, endOf, sizeOfValue, sizeOfValues, sizeOfPairs, countOfValues, countOfPairs, EntryAt, ValueAt, ValuesAt, PairsAt}
+use Rattle.rule.specs.Index.{startOf, sizeOfValue, countOfValues, countOfPairs, EntryAt, ValueAt, ValuesAt, PairsAt}
 use Rattle.rule.specs.IndexLaws.{value-next}
 use Rattle.validation.specs.Location.{dotted, index, through, hereOr, inValue, inValues, inPairs}
 use Rattle.buffer.specs.Wrote.{Wrote}
@@ -19,7 +18,7 @@ use Rattle.location.specs.Siblings.{Reaches}
 use Rattle.location.specs.Keys.{KeyWritten}
 use Rattle.location.specs.Descent.{ValueWritten, ValueLeads}
 use Rattle.buffer.specs.WroteLaws.{wrote-nothing, wrote-then}
-use Rattle.location.proofs.Ranges.{Among, none-found, here-or-found, value-among, value-size}
+use Rattle.location.proofs.Ranges.{none-found, here-or-found, value-among, value-size}
 use Rattle.location.proofs.Reached.{Standing, firstOf, Found, reached}
 
 -- what a reader read

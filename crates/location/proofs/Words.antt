@@ -8,12 +8,6 @@ use Rattle.rule.specs.Index.{startOf, endOf}
 use Rattle.location.specs.Siblings.{Reaches, here, past}
 
 -- a word that is not there is 0
-pub start-absent : (words : List ℕ) (i : ℕ) → length words ≤ i → 0 ≡ startOf words i
-start-absent words i absent = let e = List·getD-eq-default words 0 absent in rw e
-
-pub end-absent : (words : List ℕ) (i : ℕ) → length words ≤ i → 0 ≡ endOf words i
-end-absent words i absent = let e = List·getD-eq-default words 0 absent in rw e
-
 -- the search stands at `word`, whose subtree ends before `end`
 pub record Passing (words : List ℕ) (target from word index end : ℕ) : Type 0 where
   pub ends : end ≡ endOf words word

@@ -1,8 +1,8 @@
 -- What stands in a path for a part of a condition, by the condition's head.
 use Prim.Native.Nat.{ℕ}
 use mathlib.Core.Bool.{Bool, true, false, cond}
-use mathlib.Core.List.{List, [], _∷_, _++_}
-use lib.Dec.{leb, eqb}
+use mathlib.Core.List.{[], _∷_, _++_}
+use lib.Dec.{eqb}
 use Rattle.sheet.specs.Ascii.{ascii}
 use Rattle.sheet.specs.Entries.{ConditionHead, literalHead, manyHead, negationHead, oneHead, twoHead, comparisonHead, quantifierHead}
 use Rattle.definition.specs.Tree.{Text}

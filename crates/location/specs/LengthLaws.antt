@@ -1,19 +1,18 @@
 -- A path behind its label is no longer than the rule's sheet: each part of the path is paid for by entries on the way to the defect.
 use Prim.Native.Nat.{ℕ, zero, suc, _+_, _/_, _%_, _≤_}
-use Prim.Native.Char.{code}
 use native.Mathlib.Omega.{arith}
 use mathlib.Core.Bool.{Bool, true, false, cond}
 use mathlib.Core.List.{List, [], _∷_, _++_}
 use mathlib.Core.Option.{Option, none, some, Option·getD}
-use mathlib.Core.Path.{_≡_, refl, ap, sym, _∙_}
+use mathlib.Core.Path.{_≡_, refl, ap, _∙_}
 use lib.Dec.{ltb, leb, eqb}
 use lib.ListN.{length, length-append}
-use borrow.Author.Tests.{eqb-true, eqb-false, eq-eqb, ne-eqb}
+use borrow.Author.Tests.{eqb-true, eqb-false}
 use Rattle.sheet.specs.Ascii.{ascii}
 use Rattle.sheet.specs.Reader.{orElse}
 use Rattle.sheet.specs.Numeral.{decimalIn, decimalOf}
 use Rattle.sheet.specs.NumeralLaws.{decimalOf-begins}
-use Rattle.sheet.specs.Write.{writeEnd, writeItem, writeLength, writeText, writeLast, writeOperator, writeType, writeRuleHead, writeConditionHead, writeValueHead, writeKeyHead}
+use Rattle.sheet.specs.Write.{writeEnd, writeItem, writeLength, writeLast, writeOperator, writeType, writeRuleHead, writeConditionHead, writeValueHead, writeKeyHead}
 use Rattle.sheet.specs.Entries.{ConditionHead, literalHead, manyHead, negationHead, oneHead, twoHead, comparisonHead, quantifierHead, ValueHead, constantHead, numberHead, stringHead, arrayHead, objectHead}
 use Rattle.sheet.specs.Entries as entries
 use Rattle.definition.specs.Tree.{Text, Value, constant, number, string, array, object, Values, noValues, value, Pairs, noPairs, pair, Condition, literal, many, negation, one, two, comparison, quantifier, Conditions, noConditions, condition, Rule, rule, template}

@@ -1,10 +1,9 @@
 -- Every check of a rule has a path: its place is the number of an entry that its path can reach.
 use Prim.Native.Nat.{ℕ, _+_}
-use native.Mathlib.Omega.{arith}
 use mathlib.Core.Bool.{Bool, true, false, cond, _&&_}
 use mathlib.Core.List.{List, [], _∷_, _++_, map}
 use mathlib.Core.Option.{Option, none, some, IsSome}
-use mathlib.Core.Path.{_≡_, refl, ap, sym, _∙_}
+use mathlib.Core.Path.{_≡_, refl, _∙_}
 use lib.Dec.{leb, eqb}
 use borrow.Author.Tests.{eq-eqb}
 use Rattle.sheet.specs.Ascii.{ascii}
@@ -12,7 +11,7 @@ use Rattle.sheet.specs.Reader.{orElse}
 use Rattle.definition.specs.Tree.{Text, Value, constant, number, string, array, object, Values, noValues, value, Pairs, noPairs, pair, Condition, literal, many, negation, one, two, comparison, quantifier, Conditions, noConditions, condition, Rule, rule, template}
 use Rattle.definition.specs.Within.{ConditionFrom, RuleFrom}
 use Rattle.reference.specs.Setting.{Setting}
-use Rattle.validation.specs.Check.{Binder, Question, failsIf, Check, check, referenceText, referenceCheck, references, referencesOfValues, referencesOfPairs, Literal, numbers, numbersOfValues, numbersOfPairs, literals, literalsOfConditions, literalCheck, entryOf, isString, instantForm, instantOperand, affixOperand, compareSide, operand, operatorCheck, isEmpty, body, bodies, literalChecks, checks}
+use Rattle.validation.specs.Check.{Binder, Question, Check, check, referenceText, referenceCheck, references, referencesOfValues, referencesOfPairs, Literal, numbers, numbersOfValues, numbersOfPairs, literals, literalsOfConditions, literalCheck, entryOf, instantForm, instantOperand, affixOperand, compareSide, operand, operatorCheck, body, bodies, literalChecks, checks}
 use Rattle.validation.specs.CheckLaws.{Every, every-append, every-if}
 use Rattle.validation.specs.Location.{operatorName, dotted, index, through, hereOr, hereAs, inValue, inValues, inPairs, inSide, atQuantifier, inCondition, inConditions, behindLabel}
 

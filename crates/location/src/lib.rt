@@ -7,9 +7,9 @@ mod condition; // condition.rt: down through conditions
 
 use crate::condition::put_condition;
 use crate::value::put_value;
-use crate::word::start_of;
 use crate::word::wide;
 use buffer::put;
+use rule::index::start_of;
 use sheet::rule::RuleHead;
 use sheet::rule::RuleRead;
 use sheet::rule::rule_head;

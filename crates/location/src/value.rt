@@ -1,9 +1,9 @@
 // Down through values.
 use crate::bracket::put_index;
 use crate::word::find_sibling;
-use crate::word::start_of;
 use buffer::push;
 use buffer::put;
+use rule::index::start_of;
 use sheet::part::bytes_of;
 use sheet::rule::KeyRead;
 use sheet::rule::ValueHead;

@@ -1,7 +1,7 @@
-// The words of the index: where an entry starts, and the word behind its subtree.
+// Siblings, found over the words of the index.
+use rule::index::end_of;
 ghost use mathlib.Core.Path.{_≡_};
 ghost use Prim.Native.Nat.{_≤_, _<_};
-ghost use Rattle.rule.specs.Index.{startOf, endOf};
 ghost use Rattle.location.specs.Siblings.{Reaches};
 
 pub struct Sibling {
@@ -13,24 +13,6 @@ pub fn wide(word: u32) -> usize
     ensures { λ r. ⌜ r ≡ word ⌝ }
 {
     word as usize
-}
-
-pub fn start_of(words: &[u32], i: usize) -> usize
-    ensures { λ r. ⌜ r ≡ startOf (now (words .entry)) i ⌝ }
-{
-    if i < words.len() {
-        return wide(words[i]) / 4096;
-    }
-    0
-}
-
-pub fn end_of(words: &[u32], i: usize) -> usize
-    ensures { λ r. ⌜ r ≡ endOf (now (words .entry)) i ⌝ }
-{
-    if i < words.len() {
-        return wide(words[i]) % 4096;
-    }
-    0
 }
 
 // The first sibling, from the one at word `from` on, whose subtree ends behind word `target`.

@@ -1,11 +1,10 @@
 -- Small examples of references and collections, by computation.
-use Prim.Native.Nat.{ℕ}
 use Prim.Native.String.{String}
 use mathlib.Core.Bool.{Bool, true, false}
 use mathlib.Core.List.{[], _∷_}
 use mathlib.Core.Option.{none, some}
 use mathlib.Core.Path.{_≡_, refl}
-use Rattle.definition.specs.Tree.{Field, field, Items, absent, element, Members, noMembers, member, Schema, string}
+use Rattle.definition.specs.Tree.{Field, field, Items, absent, element, noMembers, member, Schema, string}
 use Rattle.sheet.specs.Ascii.{ascii}
 use Rattle.reference.specs.Setting.{settingOf}
 use Rattle.reference.specs.Walk.{Reached, refused, unknown, known}

@@ -9,7 +9,7 @@ use Rattle.definition.specs.Tree.{Text, Field, Holder, Schema, Value, constant,
 use Rattle.sheet.specs.Order.{sameBytes}
 use Rattle.reference.specs.Setting.{Name, id, entity, version, fields, state, toState, fromState, args, oldFields, nameOf, Setting}
 use Rattle.reference.specs.Path.{Segments, split}
-use Rattle.reference.specs.Walk.{Step, refuse, lookup, memberStep, Reached, refused, unknown, known, arrive, travel, isEmpty, walkStep, fieldStep, elementOf}
+use Rattle.reference.specs.Walk.{Step, lookup, memberStep, Reached, refused, unknown, arrive, travel, isEmpty, walkStep, fieldStep, elementOf}
 
 -- a binder in scope, with the element of its collection where the schema declares one
 pub record Bound : Type 0 where

@@ -2,4 +2,3 @@ pub mod Index
 pub mod IndexLaws
 pub mod Read
 pub mod Rule
-pub mod UniqueLaws

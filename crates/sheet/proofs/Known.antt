@@ -2,8 +2,8 @@
 use Prim.Native.Nat.{ℕ, _+_}
 use mathlib.Core.List.{List, _∷_, _++_}
 use mathlib.Core.Option.{Option, some}
-use mathlib.Core.Path.{_≡_, refl, sym, ap, _∙_}
-use lib.ListN.{length, take, drop}
+use mathlib.Core.Path.{_≡_, sym, ap, _∙_}
+use lib.ListN.{take, drop}
 use lib.Seq.{drop-drop, take-append-seam, drop-append-seam}
 use Rattle.sheet.specs.Reader.{Reader, _>>=_, _>>_, andThen, pure}
 use Rattle.sheet.specs.ReaderLaws.{Reads, bind-inv, then-inv, pure-inv}

@@ -1,7 +1,7 @@
 -- The entries of both sheets: a reader for each kind of entry, with a line for each of its fields (docs/FORMAT.md, "Sheets").
 use Prim.Native.Nat.{ℕ}
 use Prim.Native.Char.{Char, code}
-use mathlib.Core.Bool.{Bool, true, false, cond}
+use mathlib.Core.Bool.{Bool, cond}
 use mathlib.Core.List.{List, [], _∷_}
 use mathlib.Core.Option.{Option, none, some}
 use lib.ListN.{length, take, drop}

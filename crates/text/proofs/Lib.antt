@@ -8,5 +8,4 @@ pub mod Points
 pub mod DigitLaws
 pub mod Passes
 pub mod End
-pub mod TextLaws
 pub mod Samples

@@ -1,7 +1,7 @@
 -- Programs that the promise of a whole call shuts out (docs/FORMAT.md, "Promises"). A program is known here by the seven numbers with which it answers.
 use Prim.Native.Nat.{ℕ, _≤_}
 use native.Mathlib.Omega.{arith}
-use mathlib.Core.Bool.{Bool, true, false, cond, not}
+use mathlib.Core.Bool.{Bool, true, false, cond}
 use mathlib.Core.List.{List, [], _∷_}
 use mathlib.Core.Option.{Option, none, some}
 use mathlib.Core.Path.{_≡_, refl, ap, sym, _∙_}
@@ -14,7 +14,7 @@ use Rattle.definition.specs.Decode.{decodeSchema, decodeRule}
 use Rattle.reference.specs.Setting.{Setting}
 use Rattle.validation.specs.Check.{isNone}
 use Rattle.validation.specs.Judge.{Verdict, allPass, failsAt}
-use Rattle.validation.specs.Result.{Takes, any, rules, templates, Call, Defect, Answer, refused, accepted, defect, Heard, refusal, acceptance, finding, answerOf, isTaken, Refusal, refusals, firstRefusal, checked, judged, refusedOr, settingFor, resultOf, Numbers, numbersOf, Run, callOf, Meets}
+use Rattle.validation.specs.Result.{Takes, any, rules, templates, Call, Answer, refused, Heard, refusal, acceptance, finding, answerOf, isTaken, Refusal, refusals, firstRefusal, checked, judged, refusedOr, settingFor, resultOf, Numbers, numbersOf, Run, callOf, Meets}
 use Rattle.validation.specs.DemandLaws.{heard}
 use Rattle.validation.specs.Computing.{computing}
 use Rattle.validation.proofs.Calls.{ask}

@@ -9,7 +9,7 @@ use Rattle.definition.specs.Tree.{Text, Schema, Rule}
 use Rattle.definition.specs.Decode.{decodeSchema, decodeRule}
 use Rattle.definition.specs.RoundTrip.{schema-round-trip}
 use Rattle.reference.specs.Setting.{Setting}
-use Rattle.widening.specs.Widening.{Level, marks, anything, WiderSchema}
+use Rattle.widening.specs.Widening.{Level, marks}
 use Rattle.widening.specs.Distinct.{DistinctSchema}
 use Rattle.widening.specs.DistinctLaws.{schema-distinct}
 use Rattle.widening.specs.WalkLaws.{Details, equal, differ}

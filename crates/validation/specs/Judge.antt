@@ -2,10 +2,10 @@
 use Prim.Native.Nat.{ℕ, _+_}
 use mathlib.Core.List.{List, [], _∷_}
 use mathlib.Core.Option.{Option, none, some}
-use Rattle.definition.specs.Tree.{Text, Field, Schema, Value}
+use Rattle.definition.specs.Tree.{Text, Schema}
 use Rattle.reference.specs.Setting.{Setting}
 use Rattle.reference.specs.Walk.{Reached, refused, unknown, known}
-use Rattle.reference.specs.Reference.{Bound, Environment, reference, collection}
+use Rattle.reference.specs.Reference.{Environment, reference, collection}
 use Rattle.validation.specs.Check.{Binder, Question, settled, readable, walkable, Check}
 
 -- none passes, a detail fails

@@ -2,7 +2,7 @@
 use Prim.Native.Nat.{ℕ, _+_}
 use Prim.Native.Char.{code}
 use mathlib.Core.Bool.{Bool, true, false, cond, _||_}
-use mathlib.Core.List.{List, [], _∷_, _++_}
+use mathlib.Core.List.{[], _∷_, _++_}
 use mathlib.Core.Option.{Option, none, some, Option·map, Option·getD}
 use lib.Dec.{leb, eqb}
 use Rattle.sheet.specs.Ascii.{ascii}

@@ -8,10 +8,10 @@ use lib.Seq.{sets}
 use lib.Dec.{leb, eqb}
 use mathlib.Core.Path.{_≡_}
 use Rattle.text.specs.Utf8.{isUtf8}
-use Rattle.definition.specs.Tree.{Text, Schema, Value, Rule, rule, template}
+use Rattle.definition.specs.Tree.{Text, Schema, Rule, rule, template}
 use Rattle.definition.specs.Decode.{decodeSchema, decodeRule}
 use Rattle.reference.specs.Setting.{Setting, settingOf}
-use Rattle.validation.specs.Check.{isNone, Binder, Check, IsDefect, checks, entryOf}
+use Rattle.validation.specs.Check.{isNone, Binder, IsDefect, checks, entryOf}
 use Rattle.validation.specs.Judge.{Verdict, allPass, failsAt, judge}
 use Rattle.validation.specs.Location.{pathOf}
 

@@ -2,17 +2,16 @@
 -- schemas differ in the detail at most.
 use Prim.Native.Nat.{ℕ, _+_, _<_, _≤_}
 use native.Mathlib.Omega.{arith}
-use mathlib.Core.Bool.{Bool, true, false, cond}
 use mathlib.Core.List.{List, [], _∷_}
 use mathlib.Core.Option.{Option, none, some, IsSome}
 use mathlib.Core.Path.{_≡_, refl}
-use Rattle.definition.specs.Tree.{Text, Schema, Value}
+use Rattle.definition.specs.Tree.{Text, Schema}
 use Rattle.reference.specs.Setting.{Setting}
-use Rattle.reference.specs.Walk.{Reached, refused, unknown, known}
-use Rattle.reference.specs.Reference.{Environment, reference, collection}
-use Rattle.widening.specs.Widening.{Level, marks, anything}
-use Rattle.widening.specs.WalkLaws.{Details, equal, differ, Fares, stillRefused, nowUnknown, nowKnown, stillUnknown, stillKnown}
-use Rattle.widening.specs.ReferenceLaws.{GrownSchema, ElementFares, bothUnknown, bothKnown, EnvironmentFares, noBinders, binder, reference-fares, collection-fares}
+use Rattle.reference.specs.Walk.{Reached}
+use Rattle.reference.specs.Reference.{Environment}
+use Rattle.widening.specs.Widening.{Level}
+use Rattle.widening.specs.WalkLaws.{Details, equal, Fares, stillRefused, nowUnknown, nowKnown, stillUnknown, stillKnown}
+use Rattle.widening.specs.ReferenceLaws.{GrownSchema, bothUnknown, bothKnown, EnvironmentFares, noBinders, binder, reference-fares, collection-fares}
 use Rattle.validation.specs.Check.{Binder, Question, settled, readable, walkable, Check}
 use Rattle.validation.specs.Judge.{Outcome, verdict, extend, enter, environment, answer, answerIn, outcome, Verdict, allPass, failsAt, decide, judgeFrom, judge}
 use Rattle.validation.specs.CheckLaws.{Resolved, Sure}

@@ -6,9 +6,8 @@ use mathlib.Core.List.{List, [], _∷_}
 use mathlib.Core.Option.{Option, none, some, IsSome}
 use mathlib.Core.Path.{_≡_, refl, sym, ap, _∙_}
 use lib.Dec.{eqb}
-use lib.ListN.{length}
 use Rattle.definition.specs.Tree as Tree
-use Rattle.definition.specs.Tree.{Text, Rule}
+use Rattle.definition.specs.Tree.{Rule}
 use Rattle.definition.specs.Within.{ruleEntries, RuleFrom, RuleWithin}
 use Rattle.reference.specs.Setting.{Setting, settingOf, oneOf}
 use Rattle.schema.specs.Read.{SchemaAt}
@@ -17,12 +16,12 @@ use Rattle.rule.specs.Index.{RuleAt}
 use Rattle.scope.specs.Scopes.{Unbound}
 use Rattle.scope.specs.ScopeLaws.{scope-unbound}
 use Rattle.scope.specs.declared.binder.Scope.{Scope}
-use Rattle.validation.specs.Check.{Binder, Check, checks}
+use Rattle.validation.specs.Check.{Binder, checks}
 use Rattle.validation.specs.Judge as Judge
 use Rattle.validation.specs.Judge.{allPass, failsAt, judge}
 use Rattle.validation.specs.WideningLaws.{passedOf}
 use Rattle.validation.specs.CountLaws.{VerdictIs, every-judged, passes-at-most, checks-at-most, HeldSmall, Small, checks-small}
-use Rattle.validation.specs.Location.{behindLabel, pathOf}
+use Rattle.validation.specs.Location.{behindLabel}
 use Rattle.validation.specs.Result as Result
 use Rattle.validation.specs.Result.{Answer, checked, ownFamily, numbersOf, pathAfter}
 use Rattle.value_checks.specs.Shown.{overOf, Shown, passes, fails, shownOf, familyOf, overPlaceOf, answerShown, answer-shown}
@@ -38,7 +37,7 @@ use Rattle.location.specs.LengthLaws.{path-length}
 use Rattle.location.specs.WholeLaws.{path-stands}
 use Rattle.validator.specs.Outcomes.{numbersBy}
 use Rattle.validator.specs.Findings.{FindingIs}
-use Rattle.validator.specs.Answers.{Narrow, Tells, Answered}
+use Rattle.validator.specs.Answers.{Narrow, Answered}
 use Rattle.validator.specs.declared.finding.Finding.{Finding}
 use Rattle.validator.specs.declared.outcome.Outcome.{Outcome}
 

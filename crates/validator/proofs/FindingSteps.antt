@@ -1,20 +1,13 @@
 -- Number, family and detail of a fault, and what a quantifier's body makes of them.
 use Prim.Native.Nat.{ℕ}
-use mathlib.Core.Bool.{Bool, true, false, cond}
-use mathlib.Core.Path.{_≡_, refl, sym, _∙_}
-use lib.Dec.{eqb}
+use mathlib.Core.Bool.{Bool}
+use mathlib.Core.Path.{_≡_, _∙_}
 use borrow.Author.Tests.{eq-eqb, ne-eqb}
 use Rattle.reference.specs.Setting.{Setting}
-use Rattle.walk.specs.Answers.{referenceDetail, collectionDetail}
-use Rattle.walk.specs.declared.answer.ReferenceFault.{ReferenceFault}
-use Rattle.walk.specs.declared.answer.CollectionFault.{CollectionFault}
 use Rattle.validation.specs.Result.{ownFamily}
 use Rattle.value_checks.specs.Shown.{familyOf, overPlaceOf}
-use Rattle.value_checks.specs.Verdicts.{numberOf, detailOf, overBy, sideDetail, instantDetail}
-use Rattle.value_checks.specs.declared.verdict.Side.{Side}
-use Rattle.value_checks.specs.declared.verdict.InstantFault.{InstantFault}
+use Rattle.value_checks.specs.Verdicts.{numberOf, detailOf, overBy}
 use Rattle.value_checks.specs.declared.verdict.Fault.{Fault}
-use Rattle.value_checks.specs.declared.verdict.Fault.the-variants.{Name, Message, Deep, Literal, Operator, Empty, Operand, Reference, Affix, Instant, Bind, Collection}
 use Rattle.value_checks.specs.declared.verdict.Over.{Over}
 use Rattle.value_checks.specs.declared.verdict.Over.the-variants.{In}
 use Rattle.validator.specs.Findings.{FindingIs}

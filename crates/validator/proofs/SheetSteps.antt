@@ -5,9 +5,7 @@ use mathlib.Core.Bool.{Bool, true, false}
 use mathlib.Core.List.{List}
 use mathlib.Core.Option.{none, some}
 use mathlib.Core.Path.{_≡_, refl, sym, _∙_}
-use lib.ListN.{length, getD}
 use Rattle.definition.specs.Tree.{Rule, rule, template}
-use Rattle.definition.specs.Decode.{decodeRule}
 use Rattle.definition.specs.Limits.{maxRuleEntries}
 use Rattle.schema.specs.Kept as SchemaKept
 use Rattle.schema.specs.Read.{SchemaPost}

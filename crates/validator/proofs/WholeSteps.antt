@@ -1,12 +1,12 @@
 -- The whole call: each way to its end gives what the definitions say of the call.
 use Prim.Native.Nat.{ℕ, _≤_, _<_, _+_, _-_}
 use native.Mathlib.Omega.{arith}
-use mathlib.Core.Bool.{Bool, true, false, not, cond, _&&_}
+use mathlib.Core.Bool.{Bool, true, false, _&&_}
 use mathlib.Core.List.{List, []}
-use mathlib.Core.Option.{Option, none, some}
+use mathlib.Core.Option.{none, some}
 use mathlib.Core.Path.{_≡_, refl, sym, ap, _∙_}
 use lib.Dec.{leb}
-use lib.ListN.{length, getD, drop, length-drop}
+use lib.ListN.{length, drop, length-drop}
 use lib.Seq.{ext-getD, getD-drop}
 use borrow.Author.Tests.{leb-true}
 use Rattle.text.specs.Utf8.{isUtf8}
@@ -20,7 +20,7 @@ use Rattle.schema.specs.declared.read.Schema.{Schema}
 use Rattle.validation.specs.Check.{isNone, checks}
 use Rattle.validation.specs.Judge.{Verdict, allPass, failsAt, judge}
 use Rattle.validation.specs.Result as Result
-use Rattle.validation.specs.Result.{Call, Answer, isWithin, maxLabelBytes, pathBytes, scratchWords, isTaken, settingFor, refusals, firstRefusal, answerOf, checked, judged, refusedOr, resultOf, numbersOf, pathAfter, keptScratch, ScratchAfter, Run, callOf, Meets}
+use Rattle.validation.specs.Result.{Call, Answer, isWithin, maxLabelBytes, pathBytes, scratchWords, isTaken, settingFor, refusals, firstRefusal, answerOf, checked, judged, refusedOr, resultOf, numbersOf, pathAfter, keptScratch, ScratchAfter, callOf, Meets}
 use Rattle.validator.specs.Outcomes.{numbersBy}
 use Rattle.validator.specs.Settings.{settingsRefusal}
 use Rattle.validator.specs.Sheets.{takesOf, FrontOnly, SheetsAre}

@@ -10,7 +10,7 @@ use Rattle.sheet.specs.Parts.{partOf}
 use Rattle.definition.specs.Tree.{Text, Schema, Value, string}
 use Rattle.reference.specs.Setting.{Setting, settingOf}
 use Rattle.reference.specs.Reference.{Environment}
-use Rattle.validation.specs.Check.{Binder, Question, settled, Check, entryOf, isString, isHolder, referenceText, referenceCheck, references, compareSide}
+use Rattle.validation.specs.Check.{Binder, Question, settled, Check, entryOf, isString, isHolder, referenceText, referenceCheck, compareSide}
 use Rattle.validation.specs.Judge.{outcome, environment}
 use Rattle.value_checks.specs.Leaves.{saidIn}
 use Rattle.value_checks.specs.Shown.{overOf}

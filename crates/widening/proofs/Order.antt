@@ -1,9 +1,8 @@
 -- Every schema widens to itself, and a widening of a widening is a widening, at each level.
-use Prim.Native.Nat.{ℕ}
-use mathlib.Core.Bool.{Bool, true, false}
+use mathlib.Core.Bool.{Bool}
 use mathlib.Core.Option.{Option, none, some}
-use Rattle.definition.specs.Tree.{Text, Field, field, Items, absent, element, Members, noMembers, member, Holder, Schema}
-use Rattle.widening.specs.Widening.{Level, Opened, kept, opened, MayGrow, closed, WiderField, wider, WiderItems, neither, both, WiderMembers, end, keep, more, WiderHolder, WiderArguments, without, appear, stay, WiderSchema}
+use Rattle.definition.specs.Tree.{Field, field, Items, absent, element, Members, noMembers, member, Holder, Schema}
+use Rattle.widening.specs.Widening.{Level, Opened, kept, opened, MayGrow, WiderField, wider, WiderItems, neither, both, WiderMembers, end, keep, more, WiderHolder, WiderArguments, without, appear, stay, WiderSchema}
 
 mutual
   field-reflexive : (l : Level) (f : Field) → WiderField l f f

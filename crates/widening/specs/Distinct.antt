@@ -1,7 +1,7 @@
 -- Schemas in which no two siblings have one name.
 use mathlib.Core.Path.{_≡_}
 use mathlib.Core.Option.{Option, none, some}
-use Rattle.definition.specs.Tree.{Text, Field, field, Items, absent, element, Members, noMembers, member, Holder, Schema}
+use Rattle.definition.specs.Tree.{Field, field, Items, absent, element, Members, noMembers, member, Holder, Schema}
 use Rattle.reference.specs.Walk.{lookup}
 
 abbrev mutual

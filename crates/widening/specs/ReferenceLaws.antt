@@ -7,11 +7,11 @@ use Rattle.definition.specs.Tree.{Text, Field, Holder, Schema, Value, constant,
 use Rattle.sheet.specs.Order.{sameBytes}
 use Rattle.reference.specs.Setting.{Name, id, entity, version, fields, state, toState, fromState, args, oldFields, nameOf, Setting}
 use Rattle.reference.specs.Path.{Segments, split}
-use Rattle.reference.specs.Walk.{Step, Reached, refused, unknown, known, travel, isEmpty, walkStep, fieldStep, elementOf}
-use Rattle.reference.specs.Reference.{Bound, Environment, bound, Root, noRoot, missing, root, argumentsRoot, rootOf, fromHolder, rootWalk, fromRoot, fromName, fromElement, fromBound, reference, behindFirst, beginsWithDollar, collectionIn, collectionNamed, collectionElement, collectionBound, collectionText, collection}
-use Rattle.widening.specs.Widening.{Level, marks, anything, WiderHolder, WiderArguments, without, appear, stay, WiderSchema}
+use Rattle.reference.specs.Walk.{Step, isEmpty}
+use Rattle.reference.specs.Reference.{Environment, bound, Root, noRoot, missing, root, argumentsRoot, rootOf, fromHolder, rootWalk, fromRoot, fromName, fromElement, fromBound, reference, behindFirst, beginsWithDollar, collectionIn, collectionNamed, collectionElement, collectionBound, collectionText, collection}
+use Rattle.widening.specs.Widening.{Level, anything, WiderHolder, WiderArguments, without, appear, stay, WiderSchema}
 use Rattle.widening.specs.Distinct.{DistinctMembers, DistinctArguments, DistinctSchema}
-use Rattle.widening.specs.WalkLaws.{Grown, equal, Fares, stillRefused, stillUnknown, stillKnown, refused-fares, StepFares, lookup-finds, member-fares, arrive-fares, travel-fares, walk-step-fares, field-step-fares, walk-fares, field-fares, if-fares, element-fares}
+use Rattle.widening.specs.WalkLaws.{Grown, equal, Fares, stillRefused, stillUnknown, refused-fares, StepFares, lookup-finds, member-fares, arrive-fares, travel-fares, walk-step-fares, field-step-fares, walk-fares, field-fares, if-fares, element-fares}
 
 -- a schema and its widening, with no sibling name twice in the latter
 pub record GrownSchema (l : Level) (s s′ : Schema) : Type 0 where

@@ -5,12 +5,12 @@ use mathlib.Core.List.{List, [], _∷_}
 use mathlib.Core.Option.{Option, none, some}
 use mathlib.Core.Path.{_≡_, refl}
 use lib.Dec.{eqb}
-use Rattle.definition.specs.Tree.{Text, Field, field, Items, absent, element, Members, noMembers, member, Holder, Schema}
+use Rattle.definition.specs.Tree.{Text, Field, Items, Members}
 use Rattle.sheet.specs.Order.{sameBytes}
 use Rattle.sheet.specs.OrderLaws.{sameBytes-equal}
 use Rattle.reference.specs.Path.{isOrdinal, isCount}
 use Rattle.reference.specs.Walk.{Step, refuse, leaf, free, into, lookup, memberStep, itemStep, Reached, refused, unknown, known, lastOr, arrive, entryOf, travel, isEmpty, arrayStep, mapStep, isTag, contentKey, unionStep, walkStep, fieldStep, elementOr, elementOfField, elementOf}
-use Rattle.widening.specs.Widening.{Level, marks, anything, Opened, kept, opened, MayGrow, closed, WiderField, wider, WiderItems, neither, both, WiderMembers, end, keep, more}
+use Rattle.widening.specs.Widening.{Level, anything, Opened, kept, opened, MayGrow, closed, WiderField, wider, WiderItems, neither, both, WiderMembers, end, keep, more}
 use Rattle.widening.specs.Distinct.{DistinctField, DistinctItems, DistinctMembers}
 
 -- a field and its widening, with no sibling name twice in the latter

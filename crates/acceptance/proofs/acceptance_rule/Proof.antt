@@ -1,4 +1,3 @@
-use native.Mathlib.Omega.{arith}
 use borrow.Author.Needs.{needs}
 use Rattle.acceptance.proofs.acceptance_rule.Statement.{statement}
 use Rattle.acceptance.proofs.acceptance_rule.Tie as tie

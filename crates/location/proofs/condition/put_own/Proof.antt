@@ -1,7 +1,7 @@
 use Rattle.buffer.specs.WroteLaws.{wrote-nothing}
-use Rattle.location.specs.Heads.{partAt, isValueAt, isWhole, ownPart}
+use Rattle.location.specs.Heads.{ownPart}
 use Rattle.sheet.specs.Places.{conditionOf}
-use borrow.Author.Tests.{eq-eqb, ne-eqb, le-leb, lt-leb}
+use borrow.Author.Tests.{le-leb, lt-leb}
 use Rattle.validation.specs.Location.{atQuantifier}
 use borrow.Author.Needs.{needs}
 use Rattle.location.proofs.condition.put_own.Statement.{statement}

@@ -1,5 +1,5 @@
 use Rattle.buffer.specs.WroteLaws.{wrote-nothing}
-use Rattle.location.specs.Heads.{partAt, isValueAt, isWhole, ownPart}
+use Rattle.location.specs.Heads.{partAt}
 use Rattle.sheet.specs.Places.{conditionOf}
 use Rattle.sheet.specs.Ascii.{ascii}
 use borrow.Author.Needs.{needs}

@@ -4,7 +4,7 @@ use Prim.Native.Nat.{_≤_, _-_, _+_, _*_}
 use mathlib.Core.Path.{_≡_, refl, sym, _∙_}
 use native.Mathlib.Omega.{arith}
 use borrow.Author.Needs.{needs}
-use lib.ListN.{length, drop, getD}
+use lib.ListN.{length, drop}
 use Rattle.sheet.specs.Numeral.{digits}
 use Rattle.sheet.specs.NumeralLaws.{isDigit-range}
 use Rattle.sheet.proofs.Numerals.{digits-end, digits-stop, digits-more, digits-above}

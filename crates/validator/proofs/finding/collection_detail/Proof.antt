@@ -1,4 +1,3 @@
-use native.Mathlib.Omega.{arith}
 use borrow.Author.Needs.{needs}
 use Rattle.walk.specs.Answers.{collectionDetail}
 use Rattle.validator.proofs.finding.collection_detail.Statement.{statement}

@@ -1,4 +1,3 @@
-use native.Mathlib.Omega.{arith}
 use borrow.Author.Needs.{needs}
 use Rattle.validator.proofs.FindingSteps.{family-body, family-own}
 use Rattle.value_checks.specs.Shown.{familyOf}

@@ -1,7 +1,5 @@
 use borrow.Author.Needs.{needs}
-use mathlib.Core.Path.{refl, ap}
-use mathlib.Core.Bool.{Bool, cond}
-use Prim.Native.Nat.{ℕ}
+use mathlib.Core.Path.{refl}
 use Rattle.value_checks.specs.Verdicts.{numberOf, detailOf}
 use Rattle.validation.specs.Result.{ownFamily}
 use Rattle.validator.proofs.FindingSteps.{finding-of}

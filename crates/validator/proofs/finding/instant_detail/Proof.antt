@@ -1,4 +1,3 @@
-use native.Mathlib.Omega.{arith}
 use borrow.Author.Needs.{needs}
 use Rattle.value_checks.specs.Verdicts.{instantDetail}
 use Rattle.validator.proofs.finding.instant_detail.Statement.{statement}

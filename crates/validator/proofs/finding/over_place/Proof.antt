@@ -1,4 +1,3 @@
-use native.Mathlib.Omega.{arith}
 use borrow.Author.Needs.{needs}
 use Rattle.validator.proofs.FindingSteps.{place-body, place-none}
 use Rattle.value_checks.specs.Shown.{overPlaceOf}

@@ -1,4 +1,3 @@
-use native.Mathlib.Omega.{arith}
 use borrow.Author.Needs.{needs}
 use Rattle.walk.specs.Answers.{referenceDetail}
 use Rattle.validator.proofs.finding.reference_detail.Statement.{statement}

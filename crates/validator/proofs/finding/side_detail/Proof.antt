@@ -1,4 +1,3 @@
-use native.Mathlib.Omega.{arith}
 use borrow.Author.Needs.{needs}
 use Rattle.value_checks.specs.Verdicts.{sideDetail}
 use Rattle.validator.proofs.finding.side_detail.Statement.{statement}

@@ -1,4 +1,3 @@
-use native.Mathlib.Omega.{arith}
 use borrow.Author.Needs.{needs}
 use Rattle.validator.specs.Sheets.{isLetIn}
 use Rattle.validator.proofs.sheets.is_let_in.Statement.{statement}

@@ -2,7 +2,6 @@
 use Prim.Native.Nat.{_≤_, _-_}
 use lib.ListN.{length}
 use Rattle.walk.proofs.Dots.{Passed, passed-start, passed-more, passed-dot, passed-all}
-use native.Mathlib.Omega.{arith}
 use borrow.Author.Needs.{needs}
 use Rattle.walk.proofs.path.first_dot.Statement.{statement}
 use Rattle.walk.proofs.path.first_dot.Tie as tie
