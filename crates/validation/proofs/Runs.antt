@@ -3,7 +3,7 @@ use Prim.Native.Nat.{ℕ}
 use mathlib.Core.List.{List}
 use mathlib.Core.Path.{_≡_, refl, ap, sym}
 use lib.ListN.{replicate, length-replicate}
-use Rattle.validation.specs.Result.{Call, Unrefused, Numbers, numbersOf, resultOf, pathAfter, Run, lentOf, callOf, Meets}
+use Rattle.validation.specs.Result.{Call, Unrefused, Numbers, numbersOf, resultOf, pathAfter, Run, callOf, Meets}
 
 -- with that result, and that path buffer after the call
 unfoldable pub runWith : Numbers → (path : List ℕ) → Call → Run
@@ -19,7 +19,7 @@ runWith result path c =
     }
 
 pub call-of-run : (result : Numbers) (path : List ℕ) (c : Call) → callOf (runWith result path c) ≡ c
-unfolding callOf lentOf runWith
+unfolding callOf runWith
 call-of-run result path c = λ i.
     record {
       asked = c .asked;

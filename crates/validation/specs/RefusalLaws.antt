@@ -49,6 +49,10 @@ pub number-later : {n : ℕ} (r : Refusal) (rs : List Refusal) → r .isDue ≡ 
 unfolding firstRefusal
 number-later r rs e f = rw e f
 
+pub none-left : 0 ≡ numberIn (firstRefusal [])
+unfolding firstRefusal numberIn
+none-left = refl
+
 number-some : (n : ℕ) (o : Option ℕ) → n ≡ numberIn o → (n ≡ 0 → ⊥) → o ≡ some n
 unfolding numberIn
 number-some n none e h = absurd (h e)
@@ -127,11 +131,9 @@ early-first : (c : Call) (n : ℕ) → firstRefusal (early c) ≡ some n → fir
 unfolding refusals orElse
 early-first c n e = rw (first-append (early c) (ofSheets c), e)
 
-pub early-refused : (c : Call) (n : ℕ) → n ≡ numberIn (firstRefusal (early c)) → (n ≡ 0 → ⊥) → (resultOf c ≡ refused n) × (isOfSheets n ≡ false)
+pub early-refused : (c : Call) (n : ℕ) → n ≡ numberIn (firstRefusal (early c)) → (n ≡ 0 → ⊥) → resultOf c ≡ refused n
 unfolding resultOf refusedOr
-early-refused c n e h =
-    let due = number-some n (firstRefusal (early c)) e h in
-    (rw (early-first c n due), early-no-sheet c n due)
+early-refused c n e h = rw (early-first c n (number-some n (firstRefusal (early c)) e h))
 
 pub early-none : (c : Call) → 0 ≡ numberIn (firstRefusal (early c)) → firstRefusal (early c) ≡ none
 early-none c e =
