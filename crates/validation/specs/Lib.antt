@@ -9,4 +9,8 @@ pub mod CountLaws
 pub mod Growth
 pub mod DemandLaws
 pub mod Demands
+pub mod KernelLaws
+pub mod KeyPath
+pub mod KeyLaws
+pub mod KeyDemands
 pub mod Computing

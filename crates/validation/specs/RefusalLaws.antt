@@ -65,21 +65,21 @@ number-none (some n) h e = absurd (h n refl (sym e))
 
 -- What a test says of every number in a list is true of each of them.
 
-unfoldable every : {A : Type 0} → (A → Bool) → List A → Bool
+unfoldable pub every : {A : Type 0} → (A → Bool) → List A → Bool
 every p [] = true
 every p (x ∷ xs) = p x && every p xs
 
-of-listed : (p : ℕ → Bool) (n : ℕ) (ns : List ℕ) → every p ns ≡ true → oneOf n ns ≡ true → p n ≡ true
+pub of-listed : (p : ℕ → Bool) (n : ℕ) (ns : List ℕ) → every p ns ≡ true → oneOf n ns ≡ true → p n ≡ true
 unfolding every oneOf
 of-listed p n [] e h = absurd (false≢true h)
 of-listed p n (m ∷ ns) e h =
     by-test (eqb n m) (λ q. rw (eqb-true n m q) (and-true-0 (p m) (every p ns) e))
     (λ q. of-listed p n ns (and-true-1 (p m) (every p ns) e) (rw q at h))
 
-abbrev numbersPass : (ℕ → Bool) → List Refusal → Bool
+abbrev pub numbersPass : (ℕ → Bool) → List Refusal → Bool
 numbersPass p rs = every (λ (r : Refusal). p (r .number)) rs
 
-of-first : (p : ℕ → Bool) (n : ℕ) (rs : List Refusal) → numbersPass p rs ≡ true → firstRefusal rs ≡ some n → p n ≡ true
+pub of-first : (p : ℕ → Bool) (n : ℕ) (rs : List Refusal) → numbersPass p rs ≡ true → firstRefusal rs ≡ some n → p n ≡ true
 unfolding every firstRefusal
 of-first p n [] e f = absurd (Option·none-ne-some n f)
 of-first p n (r ∷ rs) e f =
