@@ -53,12 +53,12 @@ pub none-left : 0 ≡ numberIn (firstRefusal [])
 unfolding firstRefusal numberIn
 none-left = refl
 
-number-some : (n : ℕ) (o : Option ℕ) → n ≡ numberIn o → (n ≡ 0 → ⊥) → o ≡ some n
+pub number-some : (n : ℕ) (o : Option ℕ) → n ≡ numberIn o → (n ≡ 0 → ⊥) → o ≡ some n
 unfolding numberIn
 number-some n none e h = absurd (h e)
 number-some n (some m) e h = ap some (sym e)
 
-number-none : (o : Option ℕ) → ((n : ℕ) → o ≡ some n → n ≡ 0 → ⊥) → 0 ≡ numberIn o → o ≡ none
+pub number-none : (o : Option ℕ) → ((n : ℕ) → o ≡ some n → n ≡ 0 → ⊥) → 0 ≡ numberIn o → o ≡ none
 unfolding numberIn
 number-none none h e = refl
 number-none (some n) h e = absurd (h n refl (sym e))

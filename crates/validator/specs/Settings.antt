@@ -19,6 +19,6 @@ callBy takes kind semantics label schema rule path scratch =
 pub record EarlyIs (kind semantics : ℕ) (label : List ℕ) (path scratch number : ℕ) : Type 0 where
   pub first : (takes : Takes) (schema rule : List ℕ) → number ≡ numberIn (firstRefusal (early (callBy takes kind semantics label schema rule path scratch)))
 
--- the code's setting as one of the definitions
+-- the code's setting as one of the definitions; rules and templates are the kernel's
 abbrev pub settingBy : Setting → Reference.Setting
-settingBy s = record { mayRead = mayReadBy (s .row); isRuleKind = s .«rule_kind»; isService = s .service }
+settingBy s = record { mayRead = mayReadBy (s .row); reader = Reference.kernel; isRuleKind = s .«rule_kind»; isService = s .service }
