@@ -1,19 +1,22 @@
 -- The laws that the demands on keys cite.
-use Prim.Native.Nat.{ℕ}
+use Prim.Native.Nat.{ℕ, _<_, min}
 use native.Mathlib.Omega.{arith}
-use mathlib.Core.Bool.{true}
+use mathlib.Core.Bool.{true, false, _&&_, and-false}
 use mathlib.Core.List.{List}
 use mathlib.Core.Option.{Option, none, some}
-use mathlib.Core.Path.{_≡_, refl}
+use mathlib.Core.Path.{_≡_, refl, sym, _∙_}
+use lib.Dec.{leb}
+use borrow.Author.Tests.{leb-true, leb-false}
+use Rattle.sheet.specs.ReaderLaws.{by-test}
 use Rattle.definition.specs.Tree.{Schema}
 use Rattle.definition.specs.Decode.{decodeSchema}
 use Rattle.reference.specs.Setting.{Reader, oneOf}
 use Rattle.reference.specs.Walk as Walk
 use Rattle.reference.specs.Walk.{Reached, unknown, known}
 use Rattle.reference.specs.DetailLaws.{Has, WalkDetail, key-detail}
-use Rattle.validation.specs.Result.{Answer, refusalNumbers, Heard, firstRefusal, refusedOr}
+use Rattle.validation.specs.Result.{Answer, refusalNumbers, Heard, isWithin, firstRefusal, refusedOr}
 use Rattle.validation.specs.Result as Result
-use Rattle.validation.specs.RefusalLaws.{every, of-first, of-listed}
+use Rattle.validation.specs.RefusalLaws.{every, of-first, of-listed, outside}
 use Rattle.validation.specs.KeyPath.{KeyCall, keyNumbers, KeyHeard, refusal, acceptance, finding, readerOf, keyEarly, keyRefusals, KeyUnrefused, keyDefect, keyAnswer, keyChecked, keyJudged, keyResultOf}
 
 walk-heard : (reader : Reader) (x : Reached) → Has (WalkDetail reader) x → KeyHeard reader (keyAnswer x)
@@ -60,3 +63,46 @@ pub answers-by-walk : (c : KeyCall) (s : Schema)
     → keyResultOf c ≡ keyChecked (c .semantics) (c .reader) (c .path) s
 unfolding keyResultOf refusedOr keyJudged
 answers-by-walk c s e n = rw (n, e)
+
+-- Semantics or a reader beyond its range is refusal 1, whatever else the call holds.
+
+settings-refused : (c : KeyCall) → (isWithin 1 4 (c .semantics) && isWithin 1 2 (c .reader)) ≡ false → keyResultOf c ≡ Result.refused 1
+unfolding keyResultOf keyRefusals keyEarly firstRefusal refusedOr
+settings-refused c e = rw e
+
+pub key-semantics-refused : (c : KeyCall) → 4 < c .semantics → keyResultOf c ≡ Result.refused 1
+key-semantics-refused c more = settings-refused c (rw (outside 4 (c .semantics) more))
+
+pub key-reader-refused : (c : KeyCall) → 2 < c .reader → keyResultOf c ≡ Result.refused 1
+key-reader-refused c more = settings-refused c (rw (outside 2 (c .reader) more, and-false))
+
+-- the call with settings that are at most `most`
+unfoldable pub keyCapped : (most : ℕ) → KeyCall → KeyCall
+keyCapped most c =
+    record {
+      semantics = min (c .semantics) most;
+      reader = min (c .reader) most;
+      path = c .path;
+      schema = c .schema;
+      scratchLength = c .scratchLength;
+    }
+
+-- so a number beyond both ranges may stand for every larger one
+pub key-capped-same : (most : ℕ) (c : KeyCall) → 4 < most → keyResultOf (keyCapped most c) ≡ keyResultOf c
+unfolding keyCapped
+key-capped-same most c beyond =
+    by-test (leb (c .semantics) most)
+    (λ k.
+    let semantics-low = leb-true (c .semantics) most k in
+    let semantics-is : min (c .semantics) most ≡ c .semantics = omega arith in
+    by-test (leb (c .reader) most)
+    (λ s.
+    let reader-low = leb-true (c .reader) most s in
+    let reader-is : min (c .reader) most ≡ c .reader = omega arith in
+    rw (semantics-is, reader-is))
+    (λ s.
+    let reader-high = leb-false (c .reader) most s in
+    key-reader-refused (keyCapped most c) (omega arith) ∙ sym (key-reader-refused c (omega arith))))
+    (λ k.
+    let semantics-high = leb-false (c .semantics) most k in
+    key-semantics-refused (keyCapped most c) (omega arith) ∙ sym (key-semantics-refused c (omega arith)))

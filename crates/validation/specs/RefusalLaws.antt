@@ -168,7 +168,7 @@ sheet-refused c n s e =
 
 -- A kind or semantics beyond its range is refusal 1, whatever else the call holds.
 
-outside : (high n : ℕ) → high < n → isWithin 1 high n ≡ false
+pub outside : (high n : ℕ) → high < n → isWithin 1 high n ≡ false
 unfolding isWithin
 outside high n more = rw (lt-leb n high more, and-false)
 
