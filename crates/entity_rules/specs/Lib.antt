@@ -1,3 +1,5 @@
 pub mod Bytes
 pub mod Entry
 pub mod EntryLaws
+pub mod KeyEntry
+pub mod KeyEntryLaws
