@@ -11,7 +11,7 @@ ghost use Rattle.schema.specs.Slot.{elementFrom, IndexedIs};
 ghost use Rattle.sheet.specs.Places.{KnownFieldIs};
 
 // No schema has more entries.
-pub const MAX_SCHEMA_ENTRIES: usize = 2048;
+pub const MAX_SCHEMA_ENTRIES: usize = 1024;
 
 // Every entry but the sheet's head has a slot.
 pub const MAX_SLOTS: usize = MAX_SCHEMA_ENTRIES - 1;
