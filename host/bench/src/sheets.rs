@@ -33,7 +33,7 @@ pub struct Group {
 pub const GROUPS: [Group; 7] = [
     Group { name: "small", unit: "fields and conditions", sizes: &[1, 2, 4, 6, 8, 12, 16], listed: 4, make: small },
     Group { name: "typical", unit: "schema entries", sizes: &[51, 101, 201, 301, 401, 511, 611], listed: 611, make: typical },
-    Group { name: "wide", unit: "siblings", sizes: &[100, 200, 400, 700, 1_000, 1_300, 1_700], listed: 1_700, make: wide },
+    Group { name: "wide", unit: "siblings", sizes: &[100, 200, 350, 500, 650, 800, 1_000], listed: 1_000, make: wide },
     Group { name: "deep", unit: "levels", sizes: &[8, 16, 24, 32, 40, 52, 64], listed: 64, make: deep },
     Group {
         name: "long texts",
@@ -186,7 +186,7 @@ pub fn sheets() -> Vec<Sheet> {
     let pair = format!("C,8,0,\n{}{}", text("$fields.bars"), number("12.5"));
     let sheet = |name, text: String| Sheet { name, bytes: text.into_bytes() };
     vec![
-        sheet("schema, 1,700 siblings", wide_schema(1_700)),
+        sheet("schema, 1,000 siblings", wide_schema(1_000)),
         Sheet { name: "schema, 611 entries", bytes: typical(611).schema },
         sheet("schema, names of 500 bytes", long_schema(57)),
         sheet("schema, 64 levels", deep_schema(64)),
