@@ -5,7 +5,7 @@ ghost use mathlib.Core.Path.{_≡_};
 ghost use Rattle.definition.specs.Decode.{decodeSchema, decodeRule};
 ghost use Rattle.acceptance.specs.Accepted.{accepted};
 
-const SCRATCH_WORDS: usize = 8192;
+const SCRATCH_WORDS: usize = 4096;
 
 // 1 for a schema sheet that is well formed, else 0.
 #[no_mangle]

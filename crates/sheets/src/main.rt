@@ -39,7 +39,7 @@ fn three(s: &[u8], at: usize) -> usize
 }
 
 fn accepts_schema(sheet: &[u8]) -> bool {
-    let mut scratch = [0u32; 8192];
+    let mut scratch = [0u32; 4096];
     match schema::read::read_schema(sheet, &mut scratch) {
         SchemaRead::Good(_) => true,
         SchemaRead::Bad => false,
@@ -47,7 +47,7 @@ fn accepts_schema(sheet: &[u8]) -> bool {
 }
 
 fn accepts_rule(sheet: &[u8]) -> bool {
-    let mut scratch = [0u32; 8192];
+    let mut scratch = [0u32; 4096];
     match rule::read_rule(sheet, &mut scratch) {
         RuleRead::Good(_) => true,
         RuleRead::Bad => false,

@@ -17,7 +17,7 @@ ask kind semantics schema rule =
       schema = schema;
       rule = rule;
       pathLength = 32768;
-      scratchLength = 8192;
+      scratchLength = 4096;
     }
 
 -- the seven numbers, and the path

@@ -2,15 +2,17 @@
 -- `Meets r` says that the run r gave what the definitions say (specs/Result.antt); it is what the call ensures, with nothing required.
 use Prim.Native.Nat.{ℕ, _≤_}
 use native.Mathlib.Omega.{arith}
+use mathlib.Core.Bool.{Bool}
 use mathlib.Core.List.{List}
 use mathlib.Core.Option.{some}
-use mathlib.Core.Path.{_≡_, ap, sym, _∙_}
+use mathlib.Core.Path.{_≡_, refl, ap, sym, _∙_}
 use lib.ListN.{length}
+use lib.Dec.{leb}
 use borrow.Author.Tests.{le-leb}
 use Rattle.definition.specs.Tree.{Schema, Rule}
 use Rattle.definition.specs.Decode.{decodeSchema, decodeRule}
 use Rattle.widening.specs.Widening.{Level, marks}
-use Rattle.validation.specs.Result.{Call, Defect, Answer, defect, Heard, refusal, acceptance, finding, settingFor, Unrefused, checked, resultOf, numbersOf, pathAfter, keptScratch, ScratchAfter, Run, callOf, Meets}
+use Rattle.validation.specs.Result.{scratchWords, Defect, Answer, defect, Heard, refusal, acceptance, finding, settingFor, refusals, Unrefused, checked, resultOf, numbersOf, pathAfter, keptScratch, ScratchAfter, Run, callOf, Meets}
 use Rattle.validation.specs.Growth.{against, Widens, SameFinding}
 use Rattle.validation.specs.DemandLaws.{heard, unrefused-answer, answers-by-checks, AnswersFare, results-fare, number-accepted, number-defect, passed-number, Gives, meets-gives, same-acceptance, same-finding, same-passed}
 
@@ -23,7 +25,7 @@ pub record Demand1 (r : Run) : Type 0 where
   -- refusals 1 to 3 come before any sheet is read
   pub spares : 1 ≤ r .result .number → r .result .number ≤ 3 → r .scratch ≡ r .scratchBefore
 
--- two runs that differ at most in what the scratch held before, and in what it holds after
+-- two runs that differ in the scratch alone: in how long it is, in what it held before, and in what it holds after
 pub record SameButScratch (r r′ : Run) : Type 0 where
   pub takes : r .takes ≡ r′ .takes
   pub kind : r .kind ≡ r′ .kind
@@ -32,7 +34,10 @@ pub record SameButScratch (r r′ : Run) : Type 0 where
   pub schema : r .schema ≡ r′ .schema
   pub rule : r .rule ≡ r′ .rule
   pub pathBefore : r .pathBefore ≡ r′ .pathBefore
-  pub scratchLength : length (r .scratchBefore) ≡ length (r′ .scratchBefore)
+
+-- whether the scratch is long enough
+abbrev pub hasRoom : Run → Bool
+hasRoom r = leb scratchWords (length (r .scratchBefore))
 
 pub record Demand1Scratch (r r′ : Run) : Type 0 where
   pub result : r .result ≡ r′ .result
@@ -63,26 +68,27 @@ demand-1 r m =
       spares = λ l h. spares-scratch (heard (callOf r)) (m .scratch) (rw (m .result) at l) (rw (m .result) at h);
     }
 
-same-call : {r r′ : Run} → SameButScratch r r′ → callOf r ≡ callOf r′
-unfolding callOf
-same-call s = λ i.
+same-answer : (r r′ : Run) → SameButScratch r r′ → hasRoom r ≡ hasRoom r′ → resultOf (callOf r) ≡ resultOf (callOf r′)
+unfolding callOf resultOf refusals
+same-answer r r′ s room = rw (s .takes, s .kind, s .semantics, s .label, s .schema, s .rule, s .pathBefore, room) refl
+
+pub demand-1-scratch : (r r′ : Run) → SameButScratch r r′ → hasRoom r ≡ hasRoom r′ → Meets r → Meets r′ → Demand1Scratch r r′
+demand-1-scratch r r′ s room m m′ =
+    let same = same-answer r r′ s room in
     record {
-      takes = s .takes i;
-      kind = s .kind i;
-      semantics = s .semantics i;
-      label = s .label i;
-      schema = s .schema i;
-      rule = s .rule i;
-      pathLength = length (s .pathBefore i);
-      scratchLength = s .scratchLength i;
+      result = m .result ∙ ap numbersOf same ∙ sym (m′ .result);
+      path = m .path ∙ (λ i. pathAfter (same i) (s .pathBefore i)) ∙ sym (m′ .path);
     }
 
-pub demand-1-scratch : (r r′ : Run) → SameButScratch r r′ → Meets r → Meets r′ → Demand1Scratch r r′
-demand-1-scratch r r′ s m m′ =
-    record {
-      result = m .result ∙ ap (λ (c : Call). numbersOf (resultOf c)) (same-call s) ∙ sym (m′ .result);
-      path = m .path ∙ (λ i. pathAfter (resultOf (same-call s i)) (s .pathBefore i)) ∙ sym (m′ .path);
-    }
+-- so a scratch of 4,096 elements serves as well as any longer one
+pub lean-scratch : (r r′ : Run)
+    → SameButScratch r r′
+    → scratchWords ≤ length (r .scratchBefore)
+    → scratchWords ≤ length (r′ .scratchBefore)
+    → Meets r
+    → Meets r′
+    → Demand1Scratch r r′
+lean-scratch r r′ s enough enough′ = demand-1-scratch r r′ s (le-leb _ _ enough ∙ sym (le-leb _ _ enough′))
 
 -- Demand 2, its proved half: for two sheets that meet none of the refusals the answer is that of the check list (specs/Check.antt,
 -- specs/Judge.antt), its numbers and its path. That acceptance, family, detail and path are the Rust's is shown by the differential runs.

@@ -93,7 +93,7 @@ abbrev pub pathBytes : ℕ
 pathBytes = 32768
 
 abbrev pub scratchWords : ℕ
-scratchWords = 8192
+scratchWords = 4096
 
 unfoldable pub isWithin : ℕ → ℕ → ℕ → Bool
 isWithin low high n = leb low n && leb n high

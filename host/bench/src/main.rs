@@ -1,5 +1,6 @@
 //! Measures the library beside the Rust on the same sheets and writes the figures, and a plot, into a document: `bench DOCUMENT`.
-//! `bench once GROUP SIDE SIZE` makes a single call for valgrind to count; `bench plain` prints the figures only, without counting.
+//! `bench once GROUP SIDE SIZE` makes a single call for valgrind to count, `bench time GROUP SIDE SIZE` prints how many nanoseconds it takes;
+//! `bench plain` prints the figures only, without counting.
 
 mod library;
 mod measure;
@@ -42,10 +43,11 @@ fn main() -> ExitCode {
     let words: Vec<String> = std::env::args().skip(1).collect();
     let words: Vec<&str> = words.iter().map(String::as_str).collect();
     let done = match words[..] {
-        ["once", group, side, size] => once(group, side, size),
+        ["once", group, side, size] => on_sample(group, side, size, |call| measure::counted_call(call)),
+        ["time", group, side, size] => on_sample(group, side, size, |call| println!("{:.0}", measure::time(call))),
         ["plain"] => all(false).map(|figures| println!("{}", figures.tables())),
         [document] => all(true).and_then(|figures| figures.write(document)),
-        _ => Err("usage: bench DOCUMENT | bench plain | bench once GROUP SIDE SIZE".to_owned()),
+        _ => Err("usage: bench DOCUMENT | bench plain | bench once GROUP SIDE SIZE | bench time GROUP SIDE SIZE".to_owned()),
     };
     match done {
         Ok(()) => ExitCode::SUCCESS,
@@ -56,12 +58,13 @@ fn main() -> ExitCode {
     }
 }
 
-fn once(group: &str, side: &str, size: &str) -> Result<(), String> {
+/// Hands on the call of one side for the sample of that group and size.
+fn on_sample(group: &str, side: &str, size: &str, measured: impl FnOnce(&mut dyn FnMut() -> bool)) -> Result<(), String> {
     let group = GROUPS.iter().find(|known| known.name == group).ok_or("no such group")?;
     let side = Side::named(side).ok_or("no such side")?;
     let size = size.parse().map_err(|_| "the size is no number")?;
     let sample = (group.make)(size);
-    with_call(&sample, side, |call| measure::counted_call(call));
+    with_call(&sample, side, measured);
     Ok(())
 }
 
