@@ -1,14 +1,17 @@
--- Refusals 1 to 3, test by test.
+-- Refusals 1 to 3, test by test, and what a check is set to.
 use Prim.Native.Nat.{ℕ, _≤_, _<_}
 use mathlib.Core.Bool.{Bool, true, false, not, _&&_}
-use mathlib.Core.List.{List}
+use mathlib.Core.List.{List, [], _∷_}
 use mathlib.Core.Path.{_≡_, refl, sym}
-use lib.Dec.{leb}
+use lib.Dec.{leb, eqb}
 use lib.ListN.{length}
 use borrow.Author.Tests.{le-leb, lt-leb}
 use Rattle.text.specs.Utf8.{isUtf8}
+use Rattle.reference.specs.Setting.{oneOf, stock, settingOf}
+use Rattle.scope.specs.Names.{mayReadBy}
+use Rattle.scope.specs.declared.name.Row.{Row}
 use Rattle.validation.specs.Result.{isWithin, maxLabelBytes, pathBytes, scratchWords}
-use Rattle.validator.specs.Settings.{settingsRefusal}
+use Rattle.validator.specs.Settings.{settingsRefusal, settingBy}
 
 pub and-le : {a b : ℕ} {q r : Bool} → a ≤ b → r ≡ q → r ≡ (leb a b && q)
 and-le {a} {b} h e = rw (le-leb a b h) e
@@ -59,3 +62,11 @@ module _ (kind semantics : ℕ) (label : List ℕ) (path scratch : ℕ) where
       → 0 ≡ settingsRefusal kind semantics label path scratch
   unfolding settingsRefusal
   refusal-none {x} {y} e f e′ f′ e″ f″ = rw (sym e, set x f, sym e′, set y f′, sym e″, f″)
+
+pub setting-is : (kind semantics : ℕ) (row : Row) {isRule : Bool}
+    → mayReadBy row ≡ stock kind
+    → isRule ≡ oneOf kind (1 ∷ 2 ∷ 5 ∷ 6 ∷ [])
+    → settingBy (record { row = row; «rule_kind» = isRule; service = not (eqb semantics 1) }) ≡ settingOf kind semantics
+unfolding settingOf
+setting-is kind semantics row reads isRule = λ i.
+    record { mayRead = reads i; isRuleKind = isRule i; isService = not (eqb semantics 1) }
