@@ -61,7 +61,7 @@ demand-1 r m =
     }
 
 same-call : {r r′ : Run} → SameButScratch r r′ → callOf r ≡ callOf r′
-unfolding callOf lentOf
+unfolding callOf
 same-call s = λ i.
     record {
       asked = s .asked i;

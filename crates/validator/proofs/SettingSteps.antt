@@ -1,15 +1,18 @@
--- What is refused before a sheet is read, test by test.
+-- What is refused before a sheet is read, test by test, and what a check is set to.
 use Prim.Native.Nat.{ℕ, _≤_, _<_}
 use mathlib.Core.Bool.{Bool, true, false, not, _&&_}
-use mathlib.Core.List.{List}
+use mathlib.Core.List.{List, [], _∷_}
 use mathlib.Core.Path.{_≡_, sym, ap, _∙_}
-use lib.Dec.{leb}
+use lib.Dec.{leb, eqb}
 use lib.ListN.{length}
 use borrow.Author.Tests.{le-leb, lt-leb}
 use Rattle.text.specs.Utf8.{isUtf8}
+use Rattle.reference.specs.Setting.{oneOf, stock, settingOf}
+use Rattle.scope.specs.Names.{mayReadBy}
+use Rattle.scope.specs.declared.name.Row.{Row}
 use Rattle.validation.specs.Result.{isWithin, maxLabelBytes, pathBytes, scratchWords, early}
 use Rattle.validation.specs.RefusalLaws.{number-due, number-later, none-left}
-use Rattle.validator.specs.Settings.{EarlyIs}
+use Rattle.validator.specs.Settings.{EarlyIs, settingBy}
 
 pub and-le : {a b : ℕ} {q r : Bool} → a ≤ b → r ≡ q → r ≡ (leb a b && q)
 and-le {a} {b} h e = rw (le-leb a b h) e
@@ -49,3 +52,11 @@ module _ (kind semantics : ℕ) (label : List ℕ) (path scratch : ℕ) {x : Boo
                 number-later _ _ (turned settings f)
                 (number-later _ _ (turned labelled g) (number-later _ _ (turned room (ap not h)) none-left));
           }
+
+pub setting-is : (kind semantics : ℕ) (row : Row) {isRule : Bool}
+    → mayReadBy row ≡ stock kind
+    → isRule ≡ oneOf kind (1 ∷ 2 ∷ 5 ∷ 6 ∷ [])
+    → settingBy (record { row = row; «rule_kind» = isRule; service = not (eqb semantics 1) }) ≡ settingOf kind semantics
+unfolding settingOf
+setting-is kind semantics row reads isRule = λ i.
+    record { mayRead = reads i; isRuleKind = isRule i; isService = not (eqb semantics 1) }

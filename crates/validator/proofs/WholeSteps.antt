@@ -145,14 +145,16 @@ module _ (takes : Takes) (kind semantics : ℕ) (label schema sheet pathBefore b
           meets (Result.refused 5) (here .badRule (bad .0) (bad .1) (bad .2)) (record { result = g; path = refl })
           (front-scratch (Result.refused 5) (sheets .front) refl)
 
-      pub meets-good : {s : Schema} {path : List ℕ} {r : Outcome}
+      pub meets-good : {s : Schema} {setting : Setting} {path : List ℕ} {r : Outcome}
           → q ≡ Good s
-          → Answered kind semantics label schema sheet s after pathBefore path r
+          → setting ≡ settingOf kind semantics
+          → Answered setting label schema sheet s after pathBefore path r
           → Meets (runOf takes kind semantics label schema sheet pathBefore before r path after)
-      meets-good f g =
+      meets-good {s} {setting} {path} {r} f set-so g =
           let both = rw f at (sheets .answer) in
           let within = rule-round-trip sheet (both .rule) .0 (both .readsRule) .1 in
           let answer = checked (settingOf kind semantics) label (both .tree) (both .rule) in
+          let answered : Answered (settingOf kind semantics) label schema sheet s after pathBefore path r = rw set-so at g in
           meets answer (here .good (both .tree) (both .rule) (both .reads) (both .readsRule) (both .taken))
-          (g .tells (both .tree) (both .rule) (both .indexed) (both .indexedRule) within (here .small) (here .room))
+          (answered .tells (both .tree) (both .rule) (both .indexed) (both .indexedRule) within (here .small) (here .room))
           (front-scratch answer (sheets .front) (checked-kept (settingOf kind semantics) label (both .tree) (both .rule)))
