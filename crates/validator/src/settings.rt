@@ -12,7 +12,7 @@ ghost use lib.ListN.{length};
 ghost use Rattle.text.specs.Utf8.{isUtf8};
 ghost use Rattle.reference.specs.Setting.{oneOf, settingOf};
 ghost use Rattle.validation.specs.Result.{isWithin, maxLabelBytes, pathBytes, scratchWords};
-ghost use Rattle.validator.specs.Settings.{settingBy, settingsRefusal};
+ghost use Rattle.validator.specs.Settings.{settingBy, EarlyIs};
 
 const MAX_LABEL_BYTES: usize = 256;
 
@@ -40,9 +40,9 @@ fn is_room(path: usize, scratch: usize) -> bool
     PATH_BYTES <= path && SCRATCH_WORDS <= scratch
 }
 
-// The first of refusals 1 to 3 that is due, or 0. `path` and `scratch` are how many elements the lent buffers have.
+// The refusal that is due before a sheet is read, or 0. `path` and `scratch` are how many elements the lent buffers have.
 pub fn refused_settings(kind: u32, semantics: u32, label: &[u8], path: usize, scratch: usize) -> u32
-    ensures { λ r. ⌜ r ≡ settingsRefusal kind semantics (now (label .entry)) path scratch ⌝ }
+    ensures { λ r. ⌜ EarlyIs kind semantics (now (label .entry)) path scratch r ⌝ }
 {
     if !are_settings(kind, semantics) {
         return 1;
