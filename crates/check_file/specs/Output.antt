@@ -10,14 +10,9 @@ use Rattle.check_file.specs.Line.{lineOf}
 unfoldable pub callFor : Parts → Call
 callFor p =
     record {
-      takes = any;
-      kind = p .kind;
-      semantics = p .semantics;
-      label = p .label;
+      asked = record { takes = any; kind = p .kind; semantics = p .semantics; label = p .label; rule = p .rule };
       schema = p .schema;
-      rule = p .rule;
-      pathLength = pathBytes;
-      scratchLength = scratchWords;
+      lent = record { path = pathBytes; scratch = scratchWords };
     }
 
 unfoldable pub pathIn : Answer → List ℕ

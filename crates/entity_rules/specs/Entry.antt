@@ -40,14 +40,9 @@ pathLent pathLength resultLength = cond (leb resultBytes resultLength) pathLengt
 unfoldable pub entryCall : Takes → (kind semantics : ℕ) (label schema rule : List ℕ) (pathLength resultLength : ℕ) → Call
 entryCall takes kind semantics label schema rule pathLength resultLength =
     record {
-      takes = takes;
-      kind = kind;
-      semantics = semantics;
-      label = label;
+      asked = record { takes = takes; kind = kind; semantics = semantics; label = label; rule = rule };
       schema = schema;
-      rule = rule;
-      pathLength = pathLent pathLength resultLength;
-      scratchLength = scratchWords;
+      lent = record { path = pathLent pathLength resultLength; scratch = scratchWords };
     }
 
 unfoldable pub entryAnswer : Takes → (kind semantics : ℕ) (label schema rule : List ℕ) (pathLength resultLength : ℕ) → Answer
@@ -79,12 +74,8 @@ numbersIn bytes =
 unfoldable pub entryRun : Takes → (kind semantics : ℕ) (label schema rule pathBefore pathNow resultNow : List ℕ) → Run
 entryRun takes kind semantics label schema rule pathBefore pathNow resultNow =
     record {
-      takes = takes;
-      kind = kind;
-      semantics = semantics;
-      label = label;
+      asked = record { takes = takes; kind = kind; semantics = semantics; label = label; rule = rule };
       schema = schema;
-      rule = rule;
       pathBefore = pathBefore;
       scratchBefore = replicate scratchWords 0;
       result = numbersIn resultNow;

@@ -11,7 +11,7 @@ use lib.ListN.{length, drop, getD, length-replicate}
 use lib.Seq.{sets-eq, length-sets}
 use borrow.Author.Tests.{le-leb, lt-leb}
 use Rattle.text.specs.Utf8.{isUtf8}
-use Rattle.validation.specs.Result.{Takes, Call, Answer, refused, Numbers, numbersOf, isWithin, maxLabelBytes, scratchWords, resultOf, refusals, firstRefusal, refusedOr, pathAfter, callOf, Meets}
+use Rattle.validation.specs.Result.{Takes, Call, Answer, refused, Numbers, numbersOf, isWithin, maxLabelBytes, scratchWords, resultOf, early, refusals, firstRefusal, refusedOr, pathAfter, callOf, Meets}
 use Rattle.validation.specs.RefusalLaws.{kind-refused, semantics-refused}
 use Rattle.entity_rules.specs.Bytes.{littleEndian, bytesOf, Small, no-more, one-more, numberAt, fieldAt}
 use Rattle.entity_rules.specs.Entry.{resultBytes, fieldsOf, resultAfter, pathLent, entryCall, entryAnswer, Answered, numbersIn, entryRun}
@@ -130,13 +130,13 @@ refused-first true true rest = refl
 refused-first true false rest = refl
 refused-first false b rest = refl
 
-no-path-refused : (c : Call) → c .pathLength ≡ 0
+no-path-refused : (c : Call) → c .lent .path ≡ 0
     → resultOf c
-    ≡ refused (cond (isWithin 1 8 (c .kind) && isWithin 1 4 (c .semantics)) (cond (leb (length (c .label)) maxLabelBytes && isUtf8 (c .label)) 3 2) 1)
-unfolding resultOf refusals firstRefusal
+    ≡ refused (cond (isWithin 1 8 (c .asked .kind) && isWithin 1 4 (c .asked .semantics)) (cond (leb (length (c .asked .label)) maxLabelBytes && isUtf8 (c .asked .label)) 3 2) 1)
+unfolding resultOf refusals early firstRefusal
 no-path-refused c e =
     rw e
-    (refused-first (isWithin 1 8 (c .kind) && isWithin 1 4 (c .semantics)) (leb (length (c .label)) maxLabelBytes && isUtf8 (c .label)) _)
+    (refused-first (isWithin 1 8 (c .asked .kind) && isWithin 1 4 (c .asked .semantics)) (leb (length (c .asked .label)) maxLabelBytes && isUtf8 (c .asked .label)) _)
 
 module _ (takes : Takes) (kind semantics : ℕ) (label schema rule : List ℕ) (pathLength resultLength : ℕ) where
   -- a setting is refused for its whole value, and not for its last 32 bits

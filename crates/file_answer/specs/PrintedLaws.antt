@@ -1,7 +1,7 @@
 -- Every path fits the lent buffer, and the whole output stands where there is room.
 use Prim.Native.Nat.{ℕ, _≤_}
 use mathlib.Core.Bool.{Bool, true, false, cond, not, _&&_}
-use mathlib.Core.List.{List, []}
+use mathlib.Core.List.{List}
 use mathlib.Core.Option.{Option, none, some}
 use mathlib.Core.Path.{_≡_, refl}
 use native.Mathlib.Omega.{arith}
@@ -16,7 +16,7 @@ use Rattle.definition.specs.RoundTrip.{rule-round-trip}
 use Rattle.reference.specs.Setting.{Setting}
 use Rattle.validation.specs.Check.{checks}
 use Rattle.validation.specs.Judge.{Verdict, allPass, failsAt, judge}
-use Rattle.validation.specs.Result.{Call, Answer, maxLabelBytes, pathBytes, settingFor, isWithin, refusals, firstRefusal, answerOf, checked, judged, refusedOr, resultOf}
+use Rattle.validation.specs.Result.{Call, Answer, maxLabelBytes, pathBytes, settingFor, isWithin, early, refusals, firstRefusal, answerOf, checked, judged, refusedOr, resultOf}
 use Rattle.buffer.specs.WroteLaws.{wrote-front}
 use Rattle.location.specs.LengthLaws.{path-length}
 use Rattle.check_file.specs.Output.{pathIn}
@@ -54,12 +54,12 @@ first-refused true a = omega arith
 first-refused false a = omega arith
 
 pub path-fits : (c : Call) → length (pathIn (resultOf c)) ≤ pathBytes
-unfolding resultOf refusals firstRefusal
+unfolding resultOf refusals early firstRefusal
 path-fits c =
-    let verdict = judged (settingFor c) (c .label) (decodeSchema (c .schema)) (decodeRule (c .rule)) in
-    by-test (leb (length (c .label)) maxLabelBytes)
+    let verdict = judged (settingFor c) (c .asked .label) (decodeSchema (c .schema)) (decodeRule (c .asked .rule)) in
+    by-test (leb (length (c .asked .label)) maxLabelBytes)
     (λ e.
     refused-fits (firstRefusal (refusals c)) verdict
-    (judged-fits (settingFor c) (c .label) (decodeSchema (c .schema)) (decodeRule (c .rule)) (leb-true (length (c .label)) maxLabelBytes e)
-    (λ t read. rule-round-trip (c .rule) t .0 read .1)))
-    (λ e. rw e (first-refused (not (isWithin 1 8 (c .kind) && isWithin 1 4 (c .semantics))) verdict))
+    (judged-fits (settingFor c) (c .asked .label) (decodeSchema (c .schema)) (decodeRule (c .asked .rule)) (leb-true (length (c .asked .label)) maxLabelBytes e)
+    (λ t read. rule-round-trip (c .asked .rule) t .0 read .1)))
+    (λ e. rw e (first-refused (not (isWithin 1 8 (c .asked .kind) && isWithin 1 4 (c .asked .semantics))) verdict))

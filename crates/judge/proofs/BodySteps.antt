@@ -2,7 +2,7 @@
 use Prim.Native.Nat.{ℕ, zero, suc, _+_, _*_, _-_, _≤_, _<_}
 use native.Mathlib.Omega.{arith}
 use native.Mathlib.Numerals.{add-one}
-use mathlib.Core.Bool.{Bool, true, false, not}
+use mathlib.Core.Bool.{Bool, true, false}
 use mathlib.Core.List.{List, [], _∷_, append-nil}
 use mathlib.Core.Option.{none, some}
 use mathlib.Core.Path.{_≡_, refl, sym, ap, _∙_}
@@ -15,7 +15,7 @@ use Rattle.sheet.specs.Places.{ReadsTo, conditionOf}
 use Rattle.sheet.specs.declared.rule.ConditionHead.{ConditionHead as Head}
 use Rattle.definition.specs.Tree.{Text, Schema, Value, string, Condition, literal, many, negation, one, two, comparison, quantifier, Conditions, noConditions, condition}
 use Rattle.definition.specs.Tree as Tree
-use Rattle.reference.specs.Setting.{settingOf}
+use Rattle.reference.specs.Setting.{Setting}
 use Rattle.reference.specs.Walk.{refused}
 use Rattle.reference.specs.Reference.{Environment, collection}
 use Rattle.rule.specs.Index.{startOf, sizeOfValue, sizeOfCondition, sizeOfConditions, countOfConditions, ValueAt}
@@ -28,7 +28,7 @@ use Rattle.validation.specs.Judge.{outcome}
 use Rattle.value_checks.specs.Nodes.{IsCondition, AreConditions, Behind}
 use Rattle.value_checks.specs.Verdicts.{numberOf, detailOf, sideDetail, failed, GoesOn, PassedOn, Failed, Required}
 use Rattle.scope.specs.Collections.{CollectionIs}
-use Rattle.value_checks.specs.Frames.{Frame, frame, Stands, settingIn, ReferencesIn, PairJudged, side}
+use Rattle.value_checks.specs.Frames.{Frame, frame, Stands, ReferencesIn, PairJudged, side}
 use Rattle.judge.specs.Bodies.{operatorIn, OperatorJudged, CollectionOf, BodyJudged, BodiesJudged, QuantifierJudged}
 use Rattle.scope.specs.declared.binder.Scope.{Scope}
 use Rattle.value_checks.specs.declared.verdict.Over.{Over}
@@ -50,36 +50,36 @@ module _ {scope : Scope} {over : Over} {h : Head} {i : ℕ} {a r : Answer} (op :
       record {
         atMost = p .atMost;
         goes =
-            λ schema rule words semantics tree binders env s.
-            p .goes (outcome (settingOf (scope .kind) semantics) tree) _
-            (asked-outcome (settingOf (scope .kind) semantics) tree binders env 15 (i + 1) _ none (s .bound)
+            λ schema rule words setting tree binders env s.
+            p .goes (outcome setting tree) _
+            (asked-outcome setting tree binders env 15 (i + 1) _ none (s .bound)
             (rw (sym (said rule), lt-leb 18 op l)));
       }
 
   pub operator-service : 18 ≤ op → scope .service ≡ true → PassedOn a r → OperatorJudged scope over h i a r
-  unfolding operatorCheck failsIf settingOf
+  unfolding operatorCheck failsIf
   operator-service l t p =
       record {
         atMost = p .atMost;
         goes =
-            λ schema rule words semantics tree binders env s.
-            let m : not (eqb semantics 1) ≡ true = sym (s .scoped .service) ∙ t in
-            p .goes (outcome (settingOf (scope .kind) semantics) tree) _
-            (asked-outcome (settingOf (scope .kind) semantics) tree binders env 15 (i + 1) _ none (s .bound)
+            λ schema rule words setting tree binders env s.
+            let m : setting .isService ≡ true = sym (s .scoped .set .service) ∙ t in
+            p .goes (outcome setting tree) _
+            (asked-outcome setting tree binders env 15 (i + 1) _ none (s .bound)
             (rw (sym (said rule), le-leb 18 op l, m)));
       }
 
   pub operator-fails : 18 ≤ op → scope .service ≡ false → Failed a Operator (i + 1) over r → OperatorJudged scope over h i a r
-  unfolding operatorCheck failsIf settingOf check numberOf detailOf
+  unfolding operatorCheck failsIf check numberOf detailOf
   operator-fails l t p =
       record {
         atMost = omega (arith, p .same);
         goes =
-            λ schema rule words semantics tree binders env s.
-            let m : not (eqb semantics 1) ≡ false = sym (s .scoped .service) ∙ t in
-            p .goes (outcome (settingOf (scope .kind) semantics) tree) _ []
+            λ schema rule words setting tree binders env s.
+            let m : setting .isService ≡ false = sym (s .scoped .set .service) ∙ t in
+            p .goes (outcome setting tree) _ []
             (record { numbered = refl; placed = refl; held = s .held })
-            (asked-outcome (settingOf (scope .kind) semantics) tree binders env 15 (i + 1) _ (some 0) (s .bound)
+            (asked-outcome setting tree binders env 15 (i + 1) _ (some 0) (s .bound)
             (rw (sym (said rule), le-leb 18 op l, m)));
       }
 
@@ -122,14 +122,14 @@ module _ {schema rule words : List ℕ} {scope : Scope} {i : ℕ} where
   collection-text {text} {t} {x} g same p =
       record {
         leads =
-            λ semantics tree env v s w.
-            let q : CollectedIs schema words x (collection tree env (string (entryOf v) t)) = rw same at (p .leads semantics tree env (entryOf v) s) in
+            λ setting tree env v s w.
+            let q : CollectedIs schema words x (collection tree env (string (entryOf v) t)) = rw same at (p .leads setting tree env (entryOf v) s) in
             rw (g v w) q;
       }
 
   pub collection-other : ((v : Value) → ValueAt rule words i v → isString v ≡ false) → CollectionOf schema rule words scope i (Collected.No NotString 0)
   unfolding collectionDetail
-  collection-other g = record { leads = λ semantics tree env v s w. (1, [], no-text tree env v (g v w), λ h. refl) }
+  collection-other g = record { leads = λ setting tree env v s w. (1, [], no-text tree env v (g v w), λ h. refl) }
 
 -- A condition, by its head.
 
@@ -162,26 +162,26 @@ module _ {schema rule words : List ℕ} {scope : Scope} {over : Over} {i end lef
   body-zero z =
       record {
         atMost = omega arith;
-        goes = λ semantics tree binders env c s w d k. absurd (omega (arith, depth-some c, d, z));
+        goes = λ setting tree binders env c s w d k. absurd (omega (arith, depth-some c, d, z));
       }
 
   pub body-bad : {at : ℕ} → at ≡ startOf words i → conditionHead (drop at rule) ≡ none → BodyJudged (frame schema rule words scope over) i end left a a
   body-bad start r =
       record {
         atMost = omega arith;
-        goes = λ semantics tree binders env c s w d k. absurd (condition-unread rule words i c (w .stands) start r);
+        goes = λ setting tree binders env c s w d k. absurd (condition-unread rule words i c (w .stands) start r);
       }
 
 module _ (schema rule words : List ℕ) (scope : Scope) (over : Over) (i end left : ℕ) {a b : Answer} (r : Answer) {h : Head} (some-left : left ≡ 0 → ⊥) (judged : OperatorJudged scope over h i a b) (inner : Inner (frame schema rule words scope over) i end left b r (conditionOf rule h)) where
-  module _ (semantics : ℕ) (tree : Schema) (binders : List Binder) (env : Environment) {at next : ℕ} (start : at ≡ startOf words i) (reads : ReadsTo conditionHead rule at (conditionOf rule h) next) (s : Stands (frame schema rule words scope over) semantics tree binders env) where
+  module _ (setting : Setting) (tree : Schema) (binders : List Binder) (env : Environment) {at next : ℕ} (start : at ≡ startOf words i) (reads : ReadsTo conditionHead rule at (conditionOf rule h) next) (s : Stands (frame schema rule words scope over) setting tree binders env) where
     -- the operator's check, by the head that the tree has
-    operator-goes : (k : ConditionHead) → conditionOf rule h ≡ k → GoesOn (outcome (settingOf (scope .kind) semantics) tree) a (operatorCheck (settingOf (scope .kind) semantics) binders (i + 1) (operatorIn k) ∷ []) b
-    operator-goes k e = rw e at (judged .goes schema rule words semantics tree binders env s)
+    operator-goes : (k : ConditionHead) → conditionOf rule h ≡ k → GoesOn (outcome setting tree) a (operatorCheck setting binders (i + 1) (operatorIn k) ∷ []) b
+    operator-goes k e = rw e at (judged .goes schema rule words setting tree binders env s)
 
     inner-by : (k : ConditionHead) → conditionOf rule h ≡ k → Inner (frame schema rule words scope over) i end left b r k
     inner-by k e = rw e at inner
 
-    body-goes : (c : Condition) → IsCondition rule words i end c → depth c ≤ left → scope .count + left ≤ 32 → GoesOn (outcome (settingOf (scope .kind) semantics) tree) a (body (settingOf (scope .kind) semantics) binders c) r
+    body-goes : (c : Condition) → IsCondition rule words i end c → depth c ≤ left → scope .count + left ≤ 32 → GoesOn (outcome setting tree) a (body setting binders c) r
     unfolding body operatorIn depth depthOfConditions sizeOfCondition sizeOfConditions bodies sideDetail compareSide numberOf detailOf check
     body-goes (literal e truth) w d k =
         let q = same-head start reads (w .stands) in
@@ -192,38 +192,38 @@ module _ (schema rule words : List ℕ) (scope : Scope) (over : Over) (i end lef
         rw (w .stands .0 .isEntry)
         (goes-then (operator-goes _ q)
         (goes-then
-        (n .1 .goes (outcome (settingOf (scope .kind) semantics) tree) (check 16 (i + 1) binders (failsIf (isEmpty children) 0))
+        (n .1 .goes (outcome setting tree) (check 16 (i + 1) binders (failsIf (isEmpty children) 0))
         (record { numbered = refl; placed = refl; held = s .held })
-        (settled-outcome (settingOf (scope .kind) semantics) tree binders env 16 (i + 1) (isEmpty children) 0 (s .bound) ∙ ap (λ (x : Bool). failed x 0) (empty-count children)))
-        (n .2 .goes semantics tree binders env children s (record { stand = w .stands .1; ends = omega (arith, w .ends) }) (omega arith) (omega arith))))
+        (settled-outcome setting tree binders env 16 (i + 1) (isEmpty children) 0 (s .bound) ∙ ap (λ (x : Bool). failed x 0) (empty-count children)))
+        (n .2 .goes setting tree binders env children s (record { stand = w .stands .1; ends = omega (arith, w .ends) }) (omega arith) (omega arith))))
     body-goes (negation e child) w d k =
         let q = same-head start reads (w .stands .0) in
-        let g = (inner-by _ q) .goes semantics tree binders env (condition child noConditions) s (record { stand = (w .stands .1, tt); ends = omega (arith, w .ends) }) (omega arith) (omega arith) in
+        let g = (inner-by _ q) .goes setting tree binders env (condition child noConditions) s (record { stand = (w .stands .1, tt); ends = omega (arith, w .ends) }) (omega arith) (omega arith) in
         rw (w .stands .0 .isEntry) (goes-then (operator-goes _ q) (rw append-nil at g))
     body-goes (one e op v) w d k =
         let q = same-head start reads (w .stands .0) in
         rw (w .stands .0 .isEntry)
         (goes-then (operator-goes _ q)
-        (references-judged (inner-by _ q) semantics tree binders env v s (record { stands = w .stands .1; ends = omega (arith, w .ends) })))
+        (references-judged (inner-by _ q) setting tree binders env v s (record { stands = w .stands .1; ends = omega (arith, w .ends) })))
     body-goes (two e op left right) w d k =
         let q = same-head start reads (w .stands .0) in
         rw (w .stands .0 .isEntry)
         (goes-then (operator-goes _ q)
-        ((inner-by _ q) .goes semantics tree binders env (i + 1 + sizeOfValue left) left right s
+        ((inner-by _ q) .goes setting tree binders env (i + 1 + sizeOfValue left) left right s
         (record { stands = w .stands .1; ends = refl })
         (record { stands = w .stands .2; ends = omega (arith, w .ends) })))
     body-goes (comparison e which left right) w d k =
         let q = same-head start reads (w .stands .0) in
         rw (w .stands .0 .isEntry)
         (goes-then (operator-goes _ q)
-        ((inner-by _ q) .goes semantics tree binders env (i + 1 + sizeOfValue left) left right s
+        ((inner-by _ q) .goes setting tree binders env (i + 1 + sizeOfValue left) left right s
         (record { stands = w .stands .1; ends = refl })
         (record { stands = w .stands .2; ends = omega (arith, w .ends) })))
     body-goes (quantifier e op bind in-value that) w d k =
         let q = same-head start reads (w .stands .0) in
         rw (w .stands .0 .isEntry)
         (goes-then (operator-goes _ q)
-        ((inner-by _ q) .goes semantics tree binders env in-value that s (w .stands .1) (w .stands .2) (omega (arith, w .ends)) (omega arith) (omega arith)))
+        ((inner-by _ q) .goes setting tree binders env in-value that s (w .stands .1) (w .stands .2) (omega (arith, w .ends)) (omega arith) (omega arith)))
 
   pub body-judged : {at next : ℕ}
       → at ≡ startOf words i
@@ -231,7 +231,7 @@ module _ (schema rule words : List ℕ) (scope : Scope) (over : Over) (i end lef
       → r .passed ≤ a .passed + 8 * (end - i)
       → BodyJudged (frame schema rule words scope over) i end left a r
   body-judged start reads most =
-      record { atMost = most; goes = λ semantics tree binders env c s w d k. body-goes semantics tree binders env start reads s c w d k }
+      record { atMost = most; goes = λ setting tree binders env c s w d k. body-goes setting tree binders env start reads s c w d k }
 
 -- Several conditions.
 
@@ -240,12 +240,12 @@ pub record BodiesLeft (f : Frame) (start i end left : ℕ) (a b : Answer) : Type
   pub rest : (cs : Conditions) → AreConditions (f .rule) (f .words) start end cs → Conditions
   pub stand : (cs : Conditions) (w : AreConditions (f .rule) (f .words) start end cs) → AreConditions (f .rule) (f .words) i end (rest cs w)
   pub deep : (cs : Conditions) (w : AreConditions (f .rule) (f .words) start end cs) → depthOfConditions (rest cs w) ≤ depthOfConditions cs
-  pub onward : (semantics : ℕ) (tree : Schema) (binders : List Binder) (env : Environment) (cs : Conditions) (w : AreConditions (f .rule) (f .words) start end cs) (r : Answer)
-      → Stands f semantics tree binders env
+  pub onward : (setting : Setting) (tree : Schema) (binders : List Binder) (env : Environment) (cs : Conditions) (w : AreConditions (f .rule) (f .words) start end cs) (r : Answer)
+      → Stands f setting tree binders env
       → depthOfConditions cs ≤ left
       → f .scope .count + left ≤ 32
-      → GoesOn (outcome (settingIn f semantics) tree) b (bodies (settingIn f semantics) binders (rest cs w)) r
-      → GoesOn (outcome (settingIn f semantics) tree) a (bodies (settingIn f semantics) binders cs) r
+      → GoesOn (outcome setting tree) b (bodies setting binders (rest cs w)) r
+      → GoesOn (outcome setting tree) a (bodies setting binders cs) r
 
 pub bodies-begin : {f : Frame} {start end left : ℕ} {a : Answer} → BodiesLeft f start start end left a a
 bodies-begin =
@@ -254,7 +254,7 @@ bodies-begin =
       rest = λ cs w. cs;
       stand = λ cs w. w;
       deep = λ cs w. omega arith;
-      onward = λ semantics tree binders env cs w r s d k g. g;
+      onward = λ setting tree binders env cs w r s d k g. g;
     }
 
 tail-deep : (cs : Conditions) → depthOfConditions (tailOf cs) ≤ depthOfConditions cs
@@ -263,17 +263,17 @@ tail-deep noConditions = omega arith
 tail-deep (condition c others) = omega arith
 
 module _ {f : Frame} {i end next left : ℕ} {b d : Answer} (inside : i < end) (k : Behind (f .words) i end next) (p : BodyJudged f i next left b d) where
-  first-goes : (semantics : ℕ) (tree : Schema) (binders : List Binder) (env : Environment) (cs : Conditions) (r : Answer)
+  first-goes : (setting : Setting) (tree : Schema) (binders : List Binder) (env : Environment) (cs : Conditions) (r : Answer)
       → AreConditions (f .rule) (f .words) i end cs
-      → Stands f semantics tree binders env
+      → Stands f setting tree binders env
       → depthOfConditions cs ≤ left
       → f .scope .count + left ≤ 32
-      → GoesOn (outcome (settingIn f semantics) tree) d (bodies (settingIn f semantics) binders (tailOf cs)) r
-      → GoesOn (outcome (settingIn f semantics) tree) b (bodies (settingIn f semantics) binders cs) r
+      → GoesOn (outcome setting tree) d (bodies setting binders (tailOf cs)) r
+      → GoesOn (outcome setting tree) b (bodies setting binders cs) r
   unfolding tailOf bodies depthOfConditions
-  first-goes semantics tree binders env noConditions r w s m n g = absurd (omega (arith, none-ends w, inside))
-  first-goes semantics tree binders env (condition c others) r w s m n g =
-      goes-then (p .goes semantics tree binders env c s (first-stands inside k w) (omega arith) n) g
+  first-goes setting tree binders env noConditions r w s m n g = absurd (omega (arith, none-ends w, inside))
+  first-goes setting tree binders env (condition c others) r w s m n g =
+      goes-then (p .goes setting tree binders env c s (first-stands inside k w) (omega arith) n) g
 
   pub bodies-next : {start : ℕ} {a : Answer} → start ≤ i → BodiesLeft f start i end left a b → BodiesLeft f start next end left a d
   bodies-next {start} {a} low l =
@@ -283,9 +283,9 @@ module _ {f : Frame} {i end next left : ℕ} {b d : Answer} (inside : i < end) (
         stand = λ cs w. tail-stands inside k (l .rest cs w) (l .stand cs w);
         deep = λ cs w. omega (arith, tail-deep (l .rest cs w), l .deep cs w);
         onward =
-            λ semantics tree binders env cs w r s m n g.
-            l .onward semantics tree binders env cs w r s m n
-            (first-goes semantics tree binders env (l .rest cs w) r (l .stand cs w) s (omega (arith, l .deep cs w)) n g);
+            λ setting tree binders env cs w r s m n g.
+            l .onward setting tree binders env cs w r s m n
+            (first-goes setting tree binders env (l .rest cs w) r (l .stand cs w) s (omega (arith, l .deep cs w)) n g);
       }
 
 pub bodies-all : {f : Frame} {start i end left : ℕ} {a b : Answer} → end ≤ i → i - start ≤ end - start → BodiesLeft f start i end left a b → BodiesJudged f start end left a b
@@ -294,7 +294,7 @@ bodies-all {f} {start} {i} {end} {left} {a} {b} h m l =
     record {
       atMost = omega (arith, l .atMost);
       goes =
-          λ semantics tree binders env cs s w d n.
+          λ setting tree binders env cs s w d n.
           let e : l .rest cs w ≡ noConditions = none-left (l .rest cs w) h (l .stand cs w) in
-          l .onward semantics tree binders env cs w b s d n (rw e goes-nothing);
+          l .onward setting tree binders env cs w b s d n (rw e goes-nothing);
     }

@@ -12,7 +12,7 @@ use Rattle.text.specs.Blank.{isBlank}
 use Rattle.sheet.specs.Parts.{partOf}
 use Rattle.sheet.specs.declared.part.Part.{Part}
 use Rattle.definition.specs.Tree.{Text, Field, Schema, Value, constant, number, string, array, object, Condition, noConditions, condition}
-use Rattle.reference.specs.Setting.{Setting, settingOf}
+use Rattle.reference.specs.Setting.{Setting}
 use Rattle.reference.specs.Walk.{Reached, refused, unknown, known}
 use Rattle.reference.specs.Reference.{Environment, reference, collectionText, collection}
 use Rattle.reference.specs.CollectionLaws.{Reads, Listed, Explained, text-explained}
@@ -28,7 +28,8 @@ use Rattle.value_checks.specs.Shown.{Shown, passes, fails, overOf, shownOf, goO
 use Rattle.value_checks.specs.Nodes.{Behind}
 use Rattle.value_checks.specs.Verdicts.{numberOf, detailOf, overBy, shownBy, failed, GoesOn, PassedOn, Failed, Required}
 use Rattle.scope.specs.Scopes.{BoundElement, Binds}
-use Rattle.value_checks.specs.Frames.{Frame, frame, Stands, settingIn, ReferencesIn}
+use Rattle.scope.specs.ScopeLaws.{scope-bound}
+use Rattle.value_checks.specs.Frames.{Frame, frame, Stands, ReferencesIn}
 use Rattle.judge.specs.Bodies.{CollectionOf, BodiesJudged, QuantifierJudged}
 use Rattle.scope.specs.declared.binder.Element.{Element}
 use Rattle.scope.specs.declared.binder.Element.the-variants as Element
@@ -129,18 +130,18 @@ one-fails ask c d e (passes n) =
 one-fails ask c d e (fails n m place over detail) =
     record { n = n; number = m; place = place; over = over; detail = detail; shown = refl }
 
-unread-shows : (f : Frame) (semantics : ℕ) (tree : Schema) (binders : List Binder) (env : Environment) (v : Value) {b d : Answer}
-    → Stands f semantics tree binders env
-    → Unread (settingIn f semantics) tree env v
-    → GoesOn (outcome (settingIn f semantics) tree) b (references binders v) d
+unread-shows : (f : Frame) (setting : Setting) (tree : Schema) (binders : List Binder) (env : Environment) (v : Value) {b d : Answer}
+    → Stands f setting tree binders env
+    → Unread setting tree env v
+    → GoesOn (outcome setting tree) b (references binders v) d
     → Shows (shownBy d)
 unfolding references referenceCheck
-unread-shows f semantics tree binders env v {b} {d} s n g =
+unread-shows f setting tree binders env v {b} {d} s n g =
     let e : references binders v ≡ check 18 (n .entry) binders (readable (n .behind)) ∷ [] = rw (n .isText, n .isReference) in
-    let h : GoesOn (outcome (settingIn f semantics) tree) b (check 18 (n .entry) binders (readable (n .behind)) ∷ []) d = rw e at g in
+    let h : GoesOn (outcome setting tree) b (check 18 (n .entry) binders (readable (n .behind)) ∷ []) d = rw e at g in
     rw (h .shows)
-    (one-fails (outcome (settingIn f semantics) tree) _ (n .detail)
-    (readable-outcome (settingIn f semantics) tree binders env 18 (n .entry) (n .behind) (s .bound) ∙ n .refuses)
+    (one-fails (outcome setting tree) _ (n .detail)
+    (readable-outcome setting tree binders env 18 (n .entry) (n .behind) (s .bound) ∙ n .refuses)
     (shownBy b))
 
 known-extends : (name : Text) (env : Environment) (x : Reached) (f : Field) → x ≡ known f → extend name env x ≡ some (record { name = name; element = some f } ∷ env)
@@ -152,28 +153,28 @@ unfolding verdict
 known-passes x f e = rw e
 
 module _ (schema rule words : List ℕ) (scope : Scope) (over : Over) (name : Part) (i end left : ℕ) {wrong : Bool} {text : Text} {middle : ℕ} {a b d : Answer} (inside : i < end) (k : Behind words (i + 1) end middle) (same : text ≡ partOf rule name) (said : wrong ≡ (isBlank text || hasDot text)) (bound : Required a wrong Bind (i + 1) over b) (refs : ReferencesIn (frame schema rule words scope over) (i + 1) (middle - (i + 1)) b d) where
-  module _ (semantics : ℕ) (tree : Schema) (binders : List Binder) (env : Environment) (v : Value) (that : Condition) (s : Stands (frame schema rule words scope over) semantics tree binders env) (w : ValueAt rule words (i + 1) v) (ends : end ≡ i + 1 + sizeOfValue v + sizeOfCondition that) where
+  module _ (setting : Setting) (tree : Schema) (binders : List Binder) (env : Environment) (v : Value) (that : Condition) (s : Stands (frame schema rule words scope over) setting tree binders env) (w : ValueAt rule words (i + 1) v) (ends : end ≡ i + 1 + sizeOfValue v + sizeOfCondition that) where
     middle-is : middle ≡ i + 1 + sizeOfValue v
     middle-is =
         let n : endOf words (i + 1) ≡ i + 1 + sizeOfValue v = value-next rule words (i + 1) v w in
         let p : 1 ≤ sizeOfValue v = value-size v in
         k .exact (omega arith) (omega arith) ∙ n
 
-    bind-goes : GoesOn (outcome (settingOf (scope .kind) semantics) tree) a (check 21 (i + 1) binders (failsIf (isBlank (partOf rule name) || hasDot (partOf rule name)) 0) ∷ []) b
+    bind-goes : GoesOn (outcome setting tree) a (check 21 (i + 1) binders (failsIf (isBlank (partOf rule name) || hasDot (partOf rule name)) 0) ∷ []) b
     unfolding numberOf detailOf check
     bind-goes =
         let q : wrong ≡ (isBlank (partOf rule name) || hasDot (partOf rule name)) = rw same at said in
-        bound .goes (outcome (settingOf (scope .kind) semantics) tree) _ (record { numbered = refl; placed = refl; held = s .held })
-        (settled-outcome (settingOf (scope .kind) semantics) tree binders env 21 (i + 1) (isBlank (partOf rule name) || hasDot (partOf rule name)) 0 (s .bound)
+        bound .goes (outcome setting tree) _ (record { numbered = refl; placed = refl; held = s .held })
+        (settled-outcome setting tree binders env 21 (i + 1) (isBlank (partOf rule name) || hasDot (partOf rule name)) 0 (s .bound)
         ∙ ap (λ (x : Bool). failed x 0) (sym q))
 
-    over-goes : GoesOn (outcome (settingOf (scope .kind) semantics) tree) b (references binders v) d
-    over-goes = references-judged refs semantics tree binders env v s (record { stands = w; ends = middle-is })
+    over-goes : GoesOn (outcome setting tree) b (references binders v) d
+    over-goes = references-judged refs setting tree binders env v s (record { stands = w; ends = middle-is })
 
   -- the body, where the value is walked
   module _ {element : Element} {inner : Scope} {g r : Answer} (binds : Binds scope name element inner) (goes-on : PassedOn d g) (judged : BodiesJudged (frame schema rule words inner (In (i + 1 + 1))) middle end left g r) where
-    walked : (semantics : ℕ) (tree : Schema) (binders : List Binder) (env : Environment) (v : Value) (that : Condition) (o : Option Field)
-        → Stands (frame schema rule words scope over) semantics tree binders env
+    walked : (setting : Setting) (tree : Schema) (binders : List Binder) (env : Environment) (v : Value) (that : Condition) (o : Option Field)
+        → Stands (frame schema rule words scope over) setting tree binders env
         → ValueAt rule words (i + 1) v
         → ConditionAt rule words (i + 1 + sizeOfValue v) that
         → end ≡ i + 1 + sizeOfValue v + sizeOfCondition that
@@ -182,38 +183,33 @@ module _ (schema rule words : List ℕ) (scope : Scope) (over : Over) (name : Pa
         → BoundElement schema words element o
         → extend (partOf rule name) env (collection tree env v) ≡ some (record { name = partOf rule name; element = o } ∷ env)
         → verdict (collection tree env v) ≡ none
-        → GoesOn (outcome (settingOf (scope .kind) semantics) tree) a
+        → GoesOn (outcome setting tree) a
         (check 21 (i + 1) binders (failsIf (isBlank (partOf rule name) || hasDot (partOf rule name)) 0)
         ∷ (references binders v
         ++ (check 22 (i + 1) binders (walkable v)
-        ∷ body (settingOf (scope .kind) semantics) (record { name = partOf rule name; over = v } ∷ binders) that)))
+        ∷ body setting (record { name = partOf rule name; over = v } ∷ binders) that)))
         r
     unfolding environment enter overOf overBy bodies depthOfConditions sizeOfConditions
-    walked semantics tree binders env v that o s w u ends deep room element-is entered walks =
+    walked setting tree binders env v that o s w u ends deep room element-is entered walks =
         let few : scope .count < 31 = omega (arith, depth-some that) in
-        let m : middle ≡ i + 1 + sizeOfValue v = middle-is semantics tree binders env v that s w ends in
-        let stands : Stands (frame schema rule words inner (In (i + 1 + 1))) semantics tree (record { name = partOf rule name; over = v } ∷ binders) (record { name = partOf rule name; element = o } ∷ env) =
+        let m : middle ≡ i + 1 + sizeOfValue v = middle-is setting tree binders env v that s w ends in
+        let stands : Stands (frame schema rule words inner (In (i + 1 + 1))) setting tree (record { name = partOf rule name; over = v } ∷ binders) (record { name = partOf rule name; element = o } ∷ env) =
         record {
-          scoped =
-              record {
-                service = binds .service ∙ s .scoped .service;
-                schema = rw (binds .schema) (s .scoped .schema);
-                binders = binds .binders few schema rule words env o (s .scoped .binders) element-is;
-              };
+          scoped = scope-bound schema rule words scope name element inner o setting tree env binds few element-is (s .scoped);
           bound = rw (s .bound) entered;
           held = ap some (value-entry rule words (i + 1) v w);
         } in
         let q =
-        judged .goes semantics tree (record { name = partOf rule name; over = v } ∷ binders) (record { name = partOf rule name; element = o } ∷ env)
+        judged .goes setting tree (record { name = partOf rule name; over = v } ∷ binders) (record { name = partOf rule name; element = o } ∷ env)
         (condition that noConditions) stands
         (record { stand = (rw m u, tt); ends = omega arith })
         (omega arith) (omega (arith, binds .counted few)) in
-        goes-then (bind-goes semantics tree binders env v that s w ends)
-        (goes-then (over-goes semantics tree binders env v that s w ends)
+        goes-then (bind-goes setting tree binders env v that s w ends)
+        (goes-then (over-goes setting tree binders env v that s w ends)
         (goes-then
-        (goes-on .goes (outcome (settingOf (scope .kind) semantics) tree) _
-        (walkable-outcome (settingOf (scope .kind) semantics) tree binders env 22 (i + 1) v (s .bound) ∙ walks))
-        (rw (binds .kind, append-nil) at q)))
+        (goes-on .goes (outcome setting tree) _
+        (walkable-outcome setting tree binders env 22 (i + 1) v (s .bound) ∙ walks))
+        (rw append-nil at q)))
 
     most : r .passed ≤ a .passed + 2 + 8 * (end - (i + 1))
     most = omega (arith, bound .atMost, refs .atMost, goes-on .atMost, judged .atMost, k .most, k .least (omega arith))
@@ -230,9 +226,9 @@ module _ (schema rule words : List ℕ) (scope : Scope) (over : Over) (name : Pa
       record {
         atMost = most binds goes-on judged;
         goes =
-            λ semantics tree binders env v that s w u ends deep room.
-            let q : CollectedIs schema words (Collected.Known slot) (collection tree env v) = rw y at (collects .leads semantics tree env v (s .scoped) w) in
-            walked binds goes-on judged semantics tree binders env v that (some (q .0)) s w u ends deep room (q .2)
+            λ setting tree binders env v that s w u ends deep room.
+            let q : CollectedIs schema words (Collected.Known slot) (collection tree env v) = rw y at (collects .leads setting tree env v (s .scoped) w) in
+            walked binds goes-on judged setting tree binders env v that (some (q .0)) s w u ends deep room (q .2)
             (known-extends (partOf rule name) env (collection tree env v) (q .0) (q .1)) (known-passes (collection tree env v) (q .0) (q .1));
       }
 
@@ -248,9 +244,9 @@ module _ (schema rule words : List ℕ) (scope : Scope) (over : Over) (name : Pa
       record {
         atMost = most binds goes-on judged;
         goes =
-            λ semantics tree binders env v that s w u ends deep room.
-            let q : collection tree env v ≡ unknown = rw y at (collects .leads semantics tree env v (s .scoped) w) in
-            walked binds goes-on judged semantics tree binders env v that none s w u ends deep room tt (rw q) (rw q);
+            λ setting tree binders env v that s w u ends deep room.
+            let q : collection tree env v ≡ unknown = rw y at (collects .leads setting tree env v (s .scoped) w) in
+            walked binds goes-on judged setting tree binders env v that none s w u ends deep room tt (rw q) (rw q);
       }
 
   pub quantifier-refused : {x : Collected} {fault : CollectionFault} {place : ℕ} {r : Answer}
@@ -263,32 +259,32 @@ module _ (schema rule words : List ℕ) (scope : Scope) (over : Over) (name : Pa
       record {
         atMost = omega (arith, bound .atMost, refs .atMost, p .same, k .most, k .least (omega arith));
         goes =
-            λ semantics tree binders env v that s w u ends deep room.
-            let q : CollectedIs schema words (Collected.No fault place) (collection tree env v) = rw y at (collects .leads semantics tree env v (s .scoped) w) in
-            let o : outcome (settingOf (scope .kind) semantics) tree (check 22 (i + 1) binders (walkable v)) ≡ some (q .0) =
-            walkable-outcome (settingOf (scope .kind) semantics) tree binders env 22 (i + 1) v (s .bound) ∙ ap verdict (q .2) in
-            goes-then (bind-goes semantics tree binders env v that s w ends)
-            (goes-then (over-goes semantics tree binders env v that s w ends)
-            (refuse semantics tree binders env v s
-            (body (settingOf (scope .kind) semantics) (record { name = partOf rule name; over = v } ∷ binders) that)
-            (over-goes semantics tree binders env v that s w ends) (q .0) (q .1) (q .2) o (q .3) (leb (q .0) 5) refl));
+            λ setting tree binders env v that s w u ends deep room.
+            let q : CollectedIs schema words (Collected.No fault place) (collection tree env v) = rw y at (collects .leads setting tree env v (s .scoped) w) in
+            let o : outcome setting tree (check 22 (i + 1) binders (walkable v)) ≡ some (q .0) =
+            walkable-outcome setting tree binders env 22 (i + 1) v (s .bound) ∙ ap verdict (q .2) in
+            goes-then (bind-goes setting tree binders env v that s w ends)
+            (goes-then (over-goes setting tree binders env v that s w ends)
+            (refuse setting tree binders env v s
+            (body setting (record { name = partOf rule name; over = v } ∷ binders) that)
+            (over-goes setting tree binders env v that s w ends) (q .0) (q .1) (q .2) o (q .3) (leb (q .0) 5) refl));
       }
     where
-      refuse : (semantics : ℕ) (tree : Schema) (binders : List Binder) (env : Environment) (v : Value)
-          → Stands (frame schema rule words scope over) semantics tree binders env
+      refuse : (setting : Setting) (tree : Schema) (binders : List Binder) (env : Environment) (v : Value)
+          → Stands (frame schema rule words scope over) setting tree binders env
           → (others : List Check)
-          → GoesOn (outcome (settingOf (scope .kind) semantics) tree) b (references binders v) d
+          → GoesOn (outcome setting tree) b (references binders v) d
           → (detail : ℕ) (path : List Text)
           → collection tree env v ≡ refused detail place path
-          → outcome (settingOf (scope .kind) semantics) tree (check 22 (i + 1) binders (walkable v)) ≡ some detail
+          → outcome setting tree (check 22 (i + 1) binders (walkable v)) ≡ some detail
           → (detail ≤ 5 → detail ≡ collectionDetail fault)
           → (few : Bool) → leb detail 5 ≡ few
-          → GoesOn (outcome (settingOf (scope .kind) semantics) tree) d (check 22 (i + 1) binders (walkable v) ∷ others) r
-      refuse semantics tree binders env v s others before detail path c o listed true e =
-          p .goes (outcome (settingOf (scope .kind) semantics) tree) _ others (record { numbered = refl; placed = refl; held = s .held })
+          → GoesOn (outcome setting tree) d (check 22 (i + 1) binders (walkable v) ∷ others) r
+      refuse setting tree binders env v s others before detail path c o listed true e =
+          p .goes (outcome setting tree) _ others (record { numbered = refl; placed = refl; held = s .held })
           (o ∙ ap some (listed (leb-true detail 5 e)))
-      refuse semantics tree binders env v s others before detail path c o listed false e =
-          let n : Unread (settingOf (scope .kind) semantics) tree env v =
-          unread (settingOf (scope .kind) semantics) tree env v detail place path c (leb-false detail 5 e) in
-          p .stays (outcome (settingOf (scope .kind) semantics) tree) (check 22 (i + 1) binders (walkable v) ∷ others)
-          ((unread-shows (frame schema rule words scope over) semantics tree binders env v s n before) .shown)
+      refuse setting tree binders env v s others before detail path c o listed false e =
+          let n : Unread setting tree env v =
+          unread setting tree env v detail place path c (leb-false detail 5 e) in
+          p .stays (outcome setting tree) (check 22 (i + 1) binders (walkable v) ∷ others)
+          ((unread-shows (frame schema rule words scope over) setting tree binders env v s n before) .shown)

@@ -14,7 +14,7 @@ use Rattle.sheet.specs.Places.{ReadsTo}
 use Rattle.sheet.specs.Parts.{optionalOf}
 use Rattle.sheet.specs.declared.part.OptionalPart.{OptionalPart}
 use Rattle.definition.specs.Tree.{Schema, Condition, noConditions, condition, Rule, rule, template}
-use Rattle.reference.specs.Setting.{Setting, settingOf}
+use Rattle.reference.specs.Setting.{Setting}
 use Rattle.rule.specs.Index.{startOf, endOf, sizeOfConditions, RuleAt}
 use Rattle.validation.specs.Check.{Check, check, failsIf, literalCheck, literals, literalsOfConditions, literalChecks, isBlankText, depth, references, checks}
 use Rattle.validation.specs.Judge.{outcome, environment, judge}
@@ -51,9 +51,9 @@ unfolding chainOf
 no-binders schema sheet words zero bs c = refl
 no-binders schema sheet words (suc n) bs c = absurd c
 
-outermost : {schema sheet words : List ℕ} {scope : Scope} {semantics : ℕ} {tree : Schema}
-    → ScopeAt schema sheet words scope semantics tree []
-    → Stands (frame schema sheet words scope Outside) semantics tree [] []
+outermost : {schema sheet words : List ℕ} {scope : Scope} {setting : Setting} {tree : Schema}
+    → ScopeAt schema sheet words scope setting tree []
+    → Stands (frame schema sheet words scope Outside) setting tree [] []
 unfolding environment overOf overBy
 outermost s = record { scoped = s; bound = refl; held = refl }
 
@@ -120,7 +120,7 @@ both-go sheet name message setting tree blank-name blank-message named told =
 module _ {schema sheet words : List ℕ} {scope : Scope} {name message : OptionalPart} {end : ℕ} {unnamed untold : Bool} {b c : Answer} (blank-name : unnamed ≡ isBlankText (optionalOf sheet name)) (blank-message : untold ≡ isBlankText (optionalOf sheet message)) (named : Required begin unnamed Name 1 Outside b) (told : Required b untold Message 1 Outside c) where
   pub definition-none : end ≤ 1 → DefinitionJudged schema sheet words scope name message end c
   definition-none h =
-      record { shows = λ semantics tree assert s w. absurd (omega (arith, w .ends, condition-size assert)) }
+      record { shows = λ setting tree assert s w. absurd (omega (arith, w .ends, condition-size assert)) }
 
   pub definition-deep : {n : ℕ} {r : Answer}
       → DepthIs sheet words 1 end 33 n
@@ -131,13 +131,13 @@ module _ {schema sheet words : List ℕ} {scope : Scope} {name message : Optiona
   definition-deep {n} {r} m h p =
       record {
         shows =
-            λ semantics tree assert s w.
+            λ setting tree assert s w.
             let e : n ≡ min 33 (depth assert) = m .exact assert w in
             let k : leb (depth assert) 32 ≡ false = lt-leb (depth assert) 32 (omega arith) in
-            begin-judges (settingOf (scope .kind) semantics) tree _ r
-            (goes-then (both-go sheet name message (settingOf (scope .kind) semantics) tree blank-name blank-message named told)
-            (p .goes (outcome (settingOf (scope .kind) semantics) tree) _ _ (record { numbered = refl; placed = refl; held = refl })
-            (settled-outcome (settingOf (scope .kind) semantics) tree [] [] 13 2 (not (leb (depth assert) 32)) 0 refl ∙ ap (λ (x : Bool). failed (not x) 0) k)));
+            begin-judges setting tree _ r
+            (goes-then (both-go sheet name message setting tree blank-name blank-message named told)
+            (p .goes (outcome setting tree) _ _ (record { numbered = refl; placed = refl; held = refl })
+            (settled-outcome setting tree [] [] 13 2 (not (leb (depth assert) 32)) 0 refl ∙ ap (λ (x : Bool). failed (not x) 0) k)));
       }
 
   pub definition-judged : {n : ℕ} {d g r : Answer}
@@ -147,22 +147,22 @@ module _ {schema sheet words : List ℕ} {scope : Scope} {name message : Optiona
       → PassJudged sheet words (scope .service) end d g
       → BodyJudged (frame schema sheet words scope Outside) 1 end 32 g r
       → DefinitionJudged schema sheet words scope name message end r
-  unfolding checks environment settingOf failed
+  unfolding checks environment failed
   definition-judged {n} {d} {g} {r} m h p l q =
       record {
         shows =
-            λ semantics tree assert s w.
+            λ setting tree assert s w.
             let e : n ≡ min 33 (depth assert) = m .exact assert w in
             let few : depth assert ≤ 32 = omega arith in
             let k : leb (depth assert) 32 ≡ true = le-leb (depth assert) 32 few in
             let z : scope .count ≡ 0 = no-binders schema sheet words (scope .count) (scope .binders) (s .binders .chain) in
-            begin-judges (settingOf (scope .kind) semantics) tree _ r
-            (goes-then (both-go sheet name message (settingOf (scope .kind) semantics) tree blank-name blank-message named told)
+            begin-judges setting tree _ r
+            (goes-then (both-go sheet name message setting tree blank-name blank-message named told)
             (goes-then
-            (p .goes (outcome (settingOf (scope .kind) semantics) tree) _
-            (settled-outcome (settingOf (scope .kind) semantics) tree [] [] 13 2 (not (leb (depth assert) 32)) 0 refl ∙ passes-if (leb (depth assert) 32) k))
-            (goes-then (l .goes (settingOf (scope .kind) semantics) tree assert (s .service) w)
-            (q .goes semantics tree [] [] assert (outermost s) w few (omega arith)))));
+            (p .goes (outcome setting tree) _
+            (settled-outcome setting tree [] [] 13 2 (not (leb (depth assert) 32)) 0 refl ∙ passes-if (leb (depth assert) 32) k))
+            (goes-then (l .goes setting tree assert (s .set .service) w)
+            (q .goes setting tree [] [] assert (outermost s) w few (omega arith)))));
       }
     where
       passes-if : (x : Bool) → x ≡ true → failed (not x) 0 ≡ none
@@ -172,7 +172,7 @@ module _ {schema sheet words : List ℕ} {scope : Scope} {name message : Optiona
 
 module _ {schema sheet words : List ℕ} {scope : Scope} {at end : ℕ} (start : at ≡ startOf words 0) (ends : end ≡ endOf words 0) where
   pub judge-bad : ruleHead (drop at sheet) ≡ none → RuleJudged schema sheet words scope begin
-  judge-bad r = record { shows = λ semantics tree x s w. absurd (unread x w) }
+  judge-bad r = record { shows = λ setting tree x s w. absurd (unread x w) }
     where
       clash : (h : RuleHead) (rest : List ℕ) → ruleHead (drop (startOf words 0) sheet) ≡ some (h, rest) → ⊥
       clash h rest q =
@@ -188,19 +188,19 @@ module _ {schema sheet words : List ℕ} {scope : Scope} {at end : ℕ} (start :
       → ReadsTo ruleHead sheet at (Entries.rule (optionalOf sheet name) (optionalOf sheet message)) next
       → DefinitionJudged schema sheet words scope name message end r
       → RuleJudged schema sheet words scope r
-  judge-rule {next} {name} {message} {r} reads p = record { shows = λ semantics tree x s w. shows semantics tree x s w }
+  judge-rule {next} {name} {message} {r} reads p = record { shows = λ setting tree x s w. shows setting tree x s w }
     where
-      shows : (semantics : ℕ) (tree : Schema) (x : Rule)
-          → ScopeAt schema sheet words scope semantics tree []
+      shows : (setting : Setting) (tree : Schema) (x : Rule)
+          → ScopeAt schema sheet words scope setting tree []
           → RuleAt sheet words x
-          → shownBy r ≡ shownOf (judge (settingOf (scope .kind) semantics) tree (checks (settingOf (scope .kind) semantics) x))
-      shows semantics tree (rule n m assert) s w =
+          → shownBy r ≡ shownOf (judge setting tree (checks setting x))
+      shows setting tree (rule n m assert) s w =
           let q : Entries.rule (optionalOf sheet name) (optionalOf sheet message) ≡ Entries.rule n m = same-head start reads (w .0) in
           let e : optionalOf sheet name ≡ n = cc in
           let f : optionalOf sheet message ≡ m = cc in
-          let g = p .shows semantics tree assert s (record { stands = w .1; ends = ends ∙ w .0 .ends ∙ omega arith }) in
+          let g = p .shows setting tree assert s (record { stands = w .1; ends = ends ∙ w .0 .ends ∙ omega arith }) in
           rw (e, f) at g
-      shows semantics tree (template v) s w =
+      shows setting tree (template v) s w =
           let q : Entries.rule (optionalOf sheet name) (optionalOf sheet message) ≡ Entries.template = same-head start reads (w .0) in
           let z : _≡_ {A = ℕ} 0 1 = cc in
           absurd (omega arith)
@@ -210,16 +210,16 @@ module _ {schema sheet words : List ℕ} {scope : Scope} {at end : ℕ} (start :
       → ReferencesIn (frame schema sheet words scope Outside) 1 (end - 1) begin r
       → RuleJudged schema sheet words scope r
   unfolding checks
-  judge-template {next} {r} reads p = record { shows = λ semantics tree x s w. shows semantics tree x s w }
+  judge-template {next} {r} reads p = record { shows = λ setting tree x s w. shows setting tree x s w }
     where
-      shows : (semantics : ℕ) (tree : Schema) (x : Rule)
-          → ScopeAt schema sheet words scope semantics tree []
+      shows : (setting : Setting) (tree : Schema) (x : Rule)
+          → ScopeAt schema sheet words scope setting tree []
           → RuleAt sheet words x
-          → shownBy r ≡ shownOf (judge (settingOf (scope .kind) semantics) tree (checks (settingOf (scope .kind) semantics) x))
-      shows semantics tree (rule n m assert) s w =
+          → shownBy r ≡ shownOf (judge setting tree (checks setting x))
+      shows setting tree (rule n m assert) s w =
           let q : Entries.template ≡ Entries.rule n m = same-head start reads (w .0) in
           let z : _≡_ {A = ℕ} 0 1 = cc in
           absurd (omega arith)
-      shows semantics tree (template v) s w =
-          begin-judges (settingOf (scope .kind) semantics) tree (references [] v) r
-          (references-judged p semantics tree [] [] v (outermost s) (record { stands = w .1; ends = ends ∙ w .0 .ends ∙ omega arith }))
+      shows setting tree (template v) s w =
+          begin-judges setting tree (references [] v) r
+          (references-judged p setting tree [] [] v (outermost s) (record { stands = w .1; ends = ends ∙ w .0 .ends ∙ omega arith }))

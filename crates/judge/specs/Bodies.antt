@@ -8,7 +8,7 @@ use Rattle.sheet.specs.Entries.{ConditionHead, literalHead, manyHead, negationH
 use Rattle.sheet.specs.Places.{conditionOf}
 use Rattle.sheet.specs.declared.rule.ConditionHead.{ConditionHead as Head}
 use Rattle.definition.specs.Tree.{Text, Schema, Value, Condition, Conditions}
-use Rattle.reference.specs.Setting.{settingOf}
+use Rattle.reference.specs.Setting.{Setting}
 use Rattle.reference.specs.Reference.{Environment, collection}
 use Rattle.rule.specs.Index.{sizeOfValue, sizeOfCondition, ValueAt, ConditionAt}
 use Rattle.walk.specs.Answers.{CollectedIs}
@@ -18,7 +18,7 @@ use Rattle.validation.specs.Judge.{outcome}
 use Rattle.value_checks.specs.Nodes.{IsCondition, AreConditions}
 use Rattle.value_checks.specs.Verdicts.{GoesOn}
 use Rattle.scope.specs.Scopes.{ScopeAt}
-use Rattle.value_checks.specs.Frames.{Frame, frame, Stands, settingIn}
+use Rattle.value_checks.specs.Frames.{Frame, frame, Stands}
 use Rattle.scope.specs.declared.binder.Scope.{Scope}
 use Rattle.value_checks.specs.declared.verdict.Over.{Over}
 use Rattle.value_checks.specs.declared.verdict.Answer.{Answer}
@@ -35,51 +35,51 @@ operatorIn (quantifierHead op bind) = op
 
 pub record OperatorJudged (scope : Scope) (over : Over) (h : Head) (i : ℕ) (a r : Answer) : Type 0 where
   pub atMost : r .passed ≤ a .passed + 1
-  pub goes : (schema rule words : List ℕ) (semantics : ℕ) (tree : Schema) (binders : List Binder) (env : Environment)
-      → Stands (frame schema rule words scope over) semantics tree binders env
-      → GoesOn (outcome (settingOf (scope .kind) semantics) tree) a
-      (operatorCheck (settingOf (scope .kind) semantics) binders (i + 1) (operatorIn (conditionOf rule h)) ∷ [])
+  pub goes : (schema rule words : List ℕ) (setting : Setting) (tree : Schema) (binders : List Binder) (env : Environment)
+      → Stands (frame schema rule words scope over) setting tree binders env
+      → GoesOn (outcome setting tree) a
+      (operatorCheck setting binders (i + 1) (operatorIn (conditionOf rule h)) ∷ [])
       r
 
 -- what the value of word `i` leads to as the value of `in`
 pub record CollectionOf (schema rule words : List ℕ) (scope : Scope) (i : ℕ) (r : Collected) : Type 0 where
-  pub leads : (semantics : ℕ) (tree : Schema) (env : Environment) (v : Value)
-      → ScopeAt schema rule words scope semantics tree env
+  pub leads : (setting : Setting) (tree : Schema) (env : Environment) (v : Value)
+      → ScopeAt schema rule words scope setting tree env
       → ValueAt rule words i v
       → CollectedIs schema words r (collection tree env v)
 
 -- a condition that is at most `left` deep, with room for as many binders
 pub record BodyJudged (f : Frame) (i end left : ℕ) (a r : Answer) : Type 0 where
   pub atMost : r .passed ≤ a .passed + 8 * (end - i)
-  pub goes : (semantics : ℕ) (tree : Schema) (binders : List Binder) (env : Environment) (c : Condition)
-      → Stands f semantics tree binders env
+  pub goes : (setting : Setting) (tree : Schema) (binders : List Binder) (env : Environment) (c : Condition)
+      → Stands f setting tree binders env
       → IsCondition (f .rule) (f .words) i end c
       → depth c ≤ left
       → f .scope .count + left ≤ 32
-      → GoesOn (outcome (settingIn f semantics) tree) a (body (settingIn f semantics) binders c) r
+      → GoesOn (outcome setting tree) a (body setting binders c) r
 
 pub record BodiesJudged (f : Frame) (start end left : ℕ) (a r : Answer) : Type 0 where
   pub atMost : r .passed ≤ a .passed + 8 * (end - start)
-  pub goes : (semantics : ℕ) (tree : Schema) (binders : List Binder) (env : Environment) (cs : Conditions)
-      → Stands f semantics tree binders env
+  pub goes : (setting : Setting) (tree : Schema) (binders : List Binder) (env : Environment) (cs : Conditions)
+      → Stands f setting tree binders env
       → AreConditions (f .rule) (f .words) start end cs
       → depthOfConditions cs ≤ left
       → f .scope .count + left ≤ 32
-      → GoesOn (outcome (settingIn f semantics) tree) a (bodies (settingIn f semantics) binders cs) r
+      → GoesOn (outcome setting tree) a (bodies setting binders cs) r
 
 -- what a quantifier at word `i` is asked behind its operator
 pub record QuantifierJudged (f : Frame) (bind : Text) (i end left : ℕ) (a r : Answer) : Type 0 where
   pub atMost : r .passed ≤ a .passed + 2 + 8 * (end - (i + 1))
-  pub goes : (semantics : ℕ) (tree : Schema) (binders : List Binder) (env : Environment) (over : Value) (that : Condition)
-      → Stands f semantics tree binders env
+  pub goes : (setting : Setting) (tree : Schema) (binders : List Binder) (env : Environment) (over : Value) (that : Condition)
+      → Stands f setting tree binders env
       → ValueAt (f .rule) (f .words) (i + 1) over
       → ConditionAt (f .rule) (f .words) (i + 1 + sizeOfValue over) that
       → end ≡ i + 1 + sizeOfValue over + sizeOfCondition that
       → depth that ≤ left
       → f .scope .count + suc left ≤ 32
-      → GoesOn (outcome (settingIn f semantics) tree) a
+      → GoesOn (outcome setting tree) a
       (check 21 (i + 1) binders (failsIf (isBlank bind || hasDot bind) 0)
       ∷ (references binders over
       ++ (check 22 (i + 1) binders (walkable over)
-      ∷ body (settingIn f semantics) (record { name = bind; over = over } ∷ binders) that)))
+      ∷ body setting (record { name = bind; over = over } ∷ binders) that)))
       r

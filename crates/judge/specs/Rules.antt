@@ -6,7 +6,7 @@ use mathlib.Core.Path.{_≡_}
 use Rattle.sheet.specs.Parts.{optionalOf}
 use Rattle.sheet.specs.declared.part.OptionalPart.{OptionalPart}
 use Rattle.definition.specs.Tree.{Schema, Condition, Rule, rule}
-use Rattle.reference.specs.Setting.{Setting, settingOf}
+use Rattle.reference.specs.Setting.{Setting}
 use Rattle.rule.specs.Index.{RuleAt}
 use Rattle.validation.specs.Check.{literalChecks, checks}
 use Rattle.validation.specs.Judge.{outcome, judge}
@@ -27,17 +27,17 @@ pub record PassJudged (rule words : List ℕ) (isService : Bool) (end : ℕ) (a 
 
 -- a rule with that name and that message, whose condition stands from word 1 on
 pub record DefinitionJudged (schema sheet words : List ℕ) (scope : Scope) (name message : OptionalPart) (end : ℕ) (r : Answer) : Type 0 where
-  pub shows : (semantics : ℕ) (tree : Schema) (assert : Condition)
-      → ScopeAt schema sheet words scope semantics tree []
+  pub shows : (setting : Setting) (tree : Schema) (assert : Condition)
+      → ScopeAt schema sheet words scope setting tree []
       → IsCondition sheet words 1 end assert
       → shownBy r
       ≡ shownOf
-      (judge (settingOf (scope .kind) semantics) tree
-      (checks (settingOf (scope .kind) semantics) (rule (optionalOf sheet name) (optionalOf sheet message) assert)))
+      (judge setting tree
+      (checks setting (rule (optionalOf sheet name) (optionalOf sheet message) assert)))
 
 -- what the sheet holds, whatever it is
 pub record RuleJudged (schema sheet words : List ℕ) (scope : Scope) (r : Answer) : Type 0 where
-  pub shows : (semantics : ℕ) (tree : Schema) (x : Rule)
-      → ScopeAt schema sheet words scope semantics tree []
+  pub shows : (setting : Setting) (tree : Schema) (x : Rule)
+      → ScopeAt schema sheet words scope setting tree []
       → RuleAt sheet words x
-      → shownBy r ≡ shownOf (judge (settingOf (scope .kind) semantics) tree (checks (settingOf (scope .kind) semantics) x))
+      → shownBy r ≡ shownOf (judge setting tree (checks setting x))

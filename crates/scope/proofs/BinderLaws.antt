@@ -16,6 +16,7 @@ use Rattle.reference.specs.Reference as Reference
 use Rattle.reference.specs.Reference.{Environment, bound}
 use Rattle.schema.specs.declared.read.Schema.{Schema}
 use Rattle.scope.specs.Scopes.{noBinder, chainOf, BinderAt, ChainAt, Unbound, Binds, BoundIs}
+use Rattle.scope.specs.declared.name.Row.{Row}
 use Rattle.scope.specs.declared.binder.Element.{Element}
 use Rattle.scope.specs.declared.binder.Binder.{Binder}
 use Rattle.scope.specs.declared.binder.Scope.{Scope}
@@ -111,7 +112,7 @@ bound-crowded rule name scope many = record { leads = λ sheet words env at. abs
 
 pub bind-crowded : (scope : Scope) (name : Part) (element : Element) → 31 ≤ scope .count → Binds scope name element scope
 bind-crowded scope name element many = record {
-  kind = refl;
+  row = refl;
   service = refl;
   schema = refl;
   counted = λ room. absurd (omega arith);
@@ -129,14 +130,14 @@ chain-more bs v n h = rw (add-one, getD-set-same bs n v noBinder h, chain-kept b
 
 pub bind-more : (scope : Scope) (name : Part) (element : Element) → scope .count < 31 → length (scope .binders) ≡ 31
     → Binds scope name element (record {
-      kind = scope .kind;
+      row = scope .row;
       service = scope .service;
       schema = scope .schema;
       binders = set (scope .binders) (scope .count) (record { name = name; element = element });
       count = scope .count + 1;
     })
 bind-more scope name element few whole = record {
-  kind = refl;
+  row = refl;
   service = refl;
   schema = refl;
   counted = λ room. add-one (scope .count);
@@ -147,11 +148,11 @@ bind-more scope name element few whole = record {
   };
 }
 
-pub unbound-none : (k : ℕ) (isService : Bool) (s : Schema) (bs : List Binder)
-    → Unbound k isService s (record { kind = k; service = isService; schema = s; binders = bs; count = 0 })
+pub unbound-none : (x : Row) (isService : Bool) (s : Schema) (bs : List Binder)
+    → Unbound x isService s (record { row = x; service = isService; schema = s; binders = bs; count = 0 })
 unfolding chainOf
-unbound-none k isService s bs = record {
-  kind = refl;
+unbound-none x isService s bs = record {
+  row = refl;
   service = refl;
   schema = refl;
   binders = λ sheet rule words. record { few = omega arith; chain = tt };

@@ -243,14 +243,14 @@ module _ (sheet rule words text z : List ℕ) (behind : z ≡ behindFirst text) 
   pub collection-named : (b : Bool) (r : Collected) → found ≡ Bound.Nothing → b ≡ beginsWithDollar text → b ≡ true → NameCollects sheet words scope z end r
       → CollectionIs sheet rule words scope text r
   collection-named b r e d q m = record {
-    leads = λ semantics t env entry at.
+    leads = λ setting t env entry at.
         rw (text-named t env entry text z behind (free e env (at .binders)) (sym d ∙ q)) (m .leads t (at .schema) ends);
   }
 
   pub collection-plain : (b : Bool) → found ≡ Bound.Nothing → b ≡ beginsWithDollar text → b ≡ false → CollectionIs sheet rule words scope text (Collected.No NoCollection 0)
   unfolding collectionDetail
   collection-plain b e d q = record {
-    leads = λ semantics t env entry at. (5, [], text-plain t env entry text z behind (free e env (at .binders)) (sym d ∙ q), λ small. refl);
+    leads = λ setting t env entry at. (5, [], text-plain t env entry text z behind (free e env (at .binders)) (sym d ∙ q), λ small. refl);
   }
 
   module _ (x : Element) (to : found ≡ Bound.To x) where
@@ -259,7 +259,7 @@ module _ (sheet rule words text z : List ℕ) (behind : z ≡ behindFirst text) 
 
     pub collection-any : x ≡ Unknown → CollectionIs sheet rule words scope text Collected.Unknown
     collection-any e = record {
-      leads = λ semantics t env entry at.
+      leads = λ setting t env entry at.
           let q = bound-to env (at .binders) in
           text-any t env entry text z behind (same-name env ∙ q .1 ∙ ap some (element-unknown sheet words x (q .0) e (q .2)));
     }
@@ -273,7 +273,7 @@ module _ (sheet rule words text z : List ℕ) (behind : z ≡ behindFirst text) 
 
       pub collection-whole : end ≡ length z → CollectionIs sheet rule words scope text Collected.Unknown
       collection-whole whole = record {
-        leads = λ semantics t env entry at.
+        leads = λ setting t env entry at.
             let q = to-field env (at .binders) in
             text-whole t env entry text z behind (q .0) (q .1) (ends .last whole);
       }
@@ -281,7 +281,7 @@ module _ (sheet rule words text z : List ℕ) (behind : z ≡ behindFirst text) 
       pub collection-path : (c r : Collected) → (end ≡ length z → ⊥) → FieldsAt sheet words k (take (length z - (end + 1)) (drop (end + 1) z)) c → ElementIs sheet words c r
           → CollectionIs sheet rule words scope text r
       collection-path c r more m element = record {
-        leads = λ semantics t env entry at.
+        leads = λ setting t env entry at.
             let q = to-field env (at .binders) in
             let onward : FieldsAt sheet words k (drop (end + 1) z) c = rw (rest-whole z end) at m in
             rw (text-path t env entry text z behind (q .0) (split (drop (end + 1) z) .first) (split (drop (end + 1) z) .others) (q .1) (ends .more (less more)))

@@ -1,17 +1,18 @@
--- The nine names and the stock table.
+-- The nine names, and the rows of the table.
 use Prim.Native.Nat.{ℕ, _+_, _<_, _≤_}
 use native.Mathlib.Numerals.{add-one}
 use mathlib.Core.Bool.{Bool, true, false, not}
 use mathlib.Core.List.{List, [], _∷_}
 use mathlib.Core.Option.{none, some}
-use mathlib.Core.Path.{_≡_, refl, sym, _∙_}
+use mathlib.Core.Path.{_≡_, refl, ap, sym, _∙_}
 use lib.ListN.{length, drop, getD, drop-of-length-le}
 use lib.Seq.{drop-cons}
 use borrow.Author.Tests.{eq-eqb, ne-eqb}
 use Rattle.sheet.specs.Order.{sameBytes}
 use Rattle.reference.specs.Setting as Setting
 use Rattle.reference.specs.Setting.{spelling, named, oneOf, stock}
-use Rattle.scope.specs.Names.{nameIs}
+use Rattle.scope.specs.Names.{nameIs, mayReadBy}
+use Rattle.scope.specs.declared.name.Row.{Row}
 use Rattle.scope.specs.declared.name.Name.{Name}
 use Rattle.scope.specs.declared.name.Name.the-variants.{Id, Entity, Version, Fields, State, ToState, FromState, Args, OldFields}
 
@@ -46,41 +47,67 @@ pub one-none : (kind : ℕ) (kinds : List ℕ) (i : ℕ) → SoFar kind kinds i 
 unfolding oneOf
 one-none kind kinds i h end = sym (h ∙ rw (drop-of-length-le kinds end))
 
--- The stock table
+-- A row of the table
 
-module _ (kind : ℕ) (name : Name) where
-  pub read-id : name ≡ Id → true ≡ stock kind (nameIs name)
-  unfolding stock nameIs
+module _ (kind : ℕ) {f s t d a o : Bool}
+    (fields-so : f ≡ oneOf kind (6 ∷ 7 ∷ []))
+    (state-so : s ≡ oneOf kind (2 ∷ 5 ∷ 6 ∷ []))
+    (target-so : t ≡ oneOf kind (1 ∷ 5 ∷ 6 ∷ []))
+    (source-so : d ≡ oneOf kind (2 ∷ 4 ∷ 5 ∷ []))
+    (args-so : a ≡ oneOf kind (2 ∷ 4 ∷ 5 ∷ 6 ∷ 7 ∷ 8 ∷ []))
+    (old-so : o ≡ oneOf kind (2 ∷ 4 ∷ []))
+  where
+    abbrev stock-marks : Row
+    stock-marks = record { id = true; entity = true; version = true; fields = not f; state = not s; target = not t; source = d; args = a; old = o }
+
+    mark : (n : Setting.Name) → mayReadBy stock-marks n ≡ stock kind n
+    unfolding stock mayReadBy
+    mark Setting.id = refl
+    mark Setting.entity = refl
+    mark Setting.version = refl
+    mark Setting.fields = ap not fields-so
+    mark Setting.state = ap not state-so
+    mark Setting.toState = ap not target-so
+    mark Setting.fromState = source-so
+    mark Setting.args = args-so
+    mark Setting.oldFields = old-so
+
+    pub stock-row-is : mayReadBy stock-marks ≡ stock kind
+    stock-row-is = λ i n. mark n i
+
+module _ (row : Row) (name : Name) where
+  pub read-id : name ≡ Id → row .id ≡ mayReadBy row (nameIs name)
+  unfolding mayReadBy nameIs
   read-id e = rw e
 
-  pub read-entity : name ≡ Entity → true ≡ stock kind (nameIs name)
-  unfolding stock nameIs
+  pub read-entity : name ≡ Entity → row .entity ≡ mayReadBy row (nameIs name)
+  unfolding mayReadBy nameIs
   read-entity e = rw e
 
-  pub read-version : name ≡ Version → true ≡ stock kind (nameIs name)
-  unfolding stock nameIs
+  pub read-version : name ≡ Version → row .version ≡ mayReadBy row (nameIs name)
+  unfolding mayReadBy nameIs
   read-version e = rw e
 
-  pub read-fields : (b : Bool) → name ≡ Fields → b ≡ oneOf kind (6 ∷ 7 ∷ []) → not b ≡ stock kind (nameIs name)
-  unfolding stock nameIs
-  read-fields b e q = rw (e, q)
+  pub read-fields : name ≡ Fields → row .fields ≡ mayReadBy row (nameIs name)
+  unfolding mayReadBy nameIs
+  read-fields e = rw e
 
-  pub read-state : (b : Bool) → name ≡ State → b ≡ oneOf kind (2 ∷ 5 ∷ 6 ∷ []) → not b ≡ stock kind (nameIs name)
-  unfolding stock nameIs
-  read-state b e q = rw (e, q)
+  pub read-state : name ≡ State → row .state ≡ mayReadBy row (nameIs name)
+  unfolding mayReadBy nameIs
+  read-state e = rw e
 
-  pub read-to-state : (b : Bool) → name ≡ ToState → b ≡ oneOf kind (1 ∷ 5 ∷ 6 ∷ []) → not b ≡ stock kind (nameIs name)
-  unfolding stock nameIs
-  read-to-state b e q = rw (e, q)
+  pub read-to-state : name ≡ ToState → row .target ≡ mayReadBy row (nameIs name)
+  unfolding mayReadBy nameIs
+  read-to-state e = rw e
 
-  pub read-from-state : (b : Bool) → name ≡ FromState → b ≡ oneOf kind (2 ∷ 4 ∷ 5 ∷ []) → b ≡ stock kind (nameIs name)
-  unfolding stock nameIs
-  read-from-state b e q = rw (e, q)
+  pub read-from-state : name ≡ FromState → row .source ≡ mayReadBy row (nameIs name)
+  unfolding mayReadBy nameIs
+  read-from-state e = rw e
 
-  pub read-args : (b : Bool) → name ≡ Args → b ≡ oneOf kind (2 ∷ 4 ∷ 5 ∷ 6 ∷ 7 ∷ 8 ∷ []) → b ≡ stock kind (nameIs name)
-  unfolding stock nameIs
-  read-args b e q = rw (e, q)
+  pub read-args : name ≡ Args → row .args ≡ mayReadBy row (nameIs name)
+  unfolding mayReadBy nameIs
+  read-args e = rw e
 
-  pub read-old-fields : (b : Bool) → name ≡ OldFields → b ≡ oneOf kind (2 ∷ 4 ∷ []) → b ≡ stock kind (nameIs name)
-  unfolding stock nameIs
-  read-old-fields b e q = rw (e, q)
+  pub read-old-fields : name ≡ OldFields → row .old ≡ mayReadBy row (nameIs name)
+  unfolding mayReadBy nameIs
+  read-old-fields e = rw e

@@ -1,17 +1,16 @@
 -- References: how each way through the code answers what the definition says.
 use Prim.Native.Nat.{ℕ, _+_, _-_, _<_, _≤_}
 use native.Mathlib.Omega.{arith}
-use mathlib.Core.Bool.{Bool, true, false, not}
+use mathlib.Core.Bool.{Bool, true, false}
 use mathlib.Core.List.{List, [], _∷_}
 use mathlib.Core.Option.{Option, none, some}
 use mathlib.Core.Path.{_≡_, refl, ap, sym, _∙_}
-use lib.Dec.{eqb}
 use lib.ListN.{length, take, drop}
 use Rattle.definition.specs.Tree as Tree
 use Rattle.definition.specs.Tree.{Text, Field}
 use Rattle.reference.specs.Path.{split}
 use Rattle.reference.specs.Setting as Setting
-use Rattle.reference.specs.Setting.{Setting, settingOf, stock, nameOf}
+use Rattle.reference.specs.Setting.{Setting, nameOf}
 use Rattle.reference.specs.Walk.{lookup, memberStep, Reached, refused, unknown, arrive, travel, isEmpty, walkStep}
 use Rattle.reference.specs.Reference as Reference
 use Rattle.reference.specs.Reference.{Environment, bound, rootOf, fromHolder, rootWalk, fromRoot, fromName, fromElement, fromBound, reference}
@@ -28,8 +27,8 @@ use Rattle.walk.specs.Steps.{Walks}
 use Rattle.walk.specs.declared.answer.ReferenceFault.the-variants.{EmptyPath, UnknownRoot, NotAvailable, NoReference}
 use Rattle.walk.specs.declared.answer.Readable.{Readable}
 use Rattle.walk.specs.declared.answer.Readable.the-variants.{Yes, No}
-use Rattle.scope.specs.Names.{nameIs, NamedIs}
-use Rattle.scope.specs.Scopes.{BoundElement, EnvironmentAt, BoundIs}
+use Rattle.scope.specs.Names.{nameIs, mayReadBy, NamedIs}
+use Rattle.scope.specs.Scopes.{BoundElement, EnvironmentAt, SettingAt, BoundIs}
 use Rattle.scope.specs.Roots.{RootIs}
 use Rattle.scope.specs.References.{RootWalks, RootReads, NameReads, ReferenceReads}
 use Rattle.scope.specs.declared.name.Name.{Name}
@@ -115,22 +114,25 @@ module _ (sheet words path : List ℕ) (at : ℕ) (h : Holder) (service : Bool) 
 
 -- A name with a path
 
-module _ (kind semantics : ℕ) (n : Setting.Name) (s : Text) (path : List Text) where
-  read-root : (service : Bool) (at : ℕ) (t : Tree.Holder) (x : Reference.Root) → service ≡ not (eqb semantics 1) → x ≡ Reference.root at t → stock kind n ≡ true
-      → fromRoot (settingOf kind semantics) n x s path ≡ rootWalk service at t s path
-  unfolding fromRoot settingOf
+may : {scope : Scope} {setting : Setting} → SettingAt scope setting → (n : Setting.Name) → setting .mayRead n ≡ mayReadBy (scope .row) n
+may v n = ap (λ (reads : Setting.Name → Bool). reads n) (sym (v .names))
+
+module _ (setting : Setting) (n : Setting.Name) (s : Text) (path : List Text) where
+  read-root : (service : Bool) (at : ℕ) (t : Tree.Holder) (x : Reference.Root) → service ≡ setting .isService → x ≡ Reference.root at t → setting .mayRead n ≡ true
+      → fromRoot setting n x s path ≡ rootWalk service at t s path
+  unfolding fromRoot
   read-root service at t x v e m = rw (e, m, v)
 
-  unread-root : (at : ℕ) (t : Tree.Holder) (x : Reference.Root) → x ≡ Reference.root at t → stock kind n ≡ false
-      → fromRoot (settingOf kind semantics) n x s path ≡ refused 11 0 (s ∷ path)
-  unfolding fromRoot settingOf
+  unread-root : (at : ℕ) (t : Tree.Holder) (x : Reference.Root) → x ≡ Reference.root at t → setting .mayRead n ≡ false
+      → fromRoot setting n x s path ≡ refused 11 0 (s ∷ path)
+  unfolding fromRoot
   unread-root at t x e m = rw (e, m)
 
-  missing-root : (x : Reference.Root) → x ≡ Reference.missing → fromRoot (settingOf kind semantics) n x s path ≡ refused 11 0 (s ∷ path)
+  missing-root : (x : Reference.Root) → x ≡ Reference.missing → fromRoot setting n x s path ≡ refused 11 0 (s ∷ path)
   unfolding fromRoot
   missing-root x e = rw e
 
-  no-root : (x : Reference.Root) → x ≡ Reference.noRoot → fromRoot (settingOf kind semantics) n x s path ≡ refused 12 0 (s ∷ path)
+  no-root : (x : Reference.Root) → x ≡ Reference.noRoot → fromRoot setting n x s path ≡ refused 12 0 (s ∷ path)
   unfolding fromRoot
   no-root x e = rw e
 
@@ -138,90 +140,90 @@ module _ (sheet words path : List ℕ) (scope : Scope) (name : Name) (root : Roo
   pub root-no-path : root ≡ Root.Nothing → RootReads sheet words scope name path (No NoReference 0)
   unfolding referenceDetail
   root-no-path e = record {
-    leads = λ semantics t v at.
+    leads = λ setting t v at.
         let q : rootOf t (nameIs name) ≡ Reference.noRoot = rw e at (is .leads sheet words t at) in
-        (split path .first ∷ split path .others, no-root (scope .kind) semantics (nameIs name) (split path .first) (split path .others) (rootOf t (nameIs name)) q);
+        (split path .first ∷ split path .others, no-root setting (nameIs name) (split path .first) (split path .others) (rootOf t (nameIs name)) q);
   }
 
   pub root-absent : root ≡ Root.Missing → RootReads sheet words scope name path (No NotAvailable 0)
   unfolding referenceDetail
   root-absent e = record {
-    leads = λ semantics t v at.
+    leads = λ setting t v at.
         let q : rootOf t (nameIs name) ≡ Reference.missing = rw e at (is .leads sheet words t at) in
-        (split path .first ∷ split path .others, missing-root (scope .kind) semantics (nameIs name) (split path .first) (split path .others) (rootOf t (nameIs name)) q);
+        (split path .first ∷ split path .others, missing-root setting (nameIs name) (split path .first) (split path .others) (rootOf t (nameIs name)) q);
   }
 
-  module _ (at : ℕ) (h : Holder) (there : root ≡ Root.At at h) (b : Bool) (allowed : b ≡ stock (scope .kind) (nameIs name)) where
+  module _ (at : ℕ) (h : Holder) (there : root ≡ Root.At at h) (b : Bool) (allowed : b ≡ mayReadBy (scope .row) (nameIs name)) where
     the-root : (t : Tree.Schema) → SchemaAt sheet words (scope .schema) t
         → (u : Tree.Holder) × (rootOf t (nameIs name) ≡ Reference.root at u) × HolderAt sheet words h u
     the-root t here = rw there at (is .leads sheet words t here)
 
     pub root-read : (r : Readable) → b ≡ true → RootWalks sheet words at h path (scope .service) r → RootReads sheet words scope name path r
     root-read r can m = record {
-      leads = λ semantics t v here.
+      leads = λ setting t v here.
           let q = the-root t here in
-          rw (read-root (scope .kind) semantics (nameIs name) (split path .first) (split path .others) (scope .service) at (q .0) (rootOf t (nameIs name)) v (q .1) (sym allowed ∙ can))
+          rw (read-root setting (nameIs name) (split path .first) (split path .others) (scope .service) at (q .0) (rootOf t (nameIs name)) (v .service) (q .1) (may v (nameIs name) ∙ sym allowed ∙ can))
           (m .leads (q .0) (q .2));
     }
 
     pub root-unread : b ≡ false → RootReads sheet words scope name path (No NotAvailable 0)
     unfolding referenceDetail
     root-unread cannot = record {
-      leads = λ semantics t v here.
+      leads = λ setting t v here.
           let q = the-root t here in
-          (split path .first ∷ split path .others, unread-root (scope .kind) semantics (nameIs name) (split path .first) (split path .others) at (q .0) (rootOf t (nameIs name)) (q .1) (sym allowed ∙ cannot));
+          (split path .first ∷ split path .others, unread-root setting (nameIs name) (split path .first) (split path .others) at (q .0) (rootOf t (nameIs name)) (q .1) (may v (nameIs name) ∙ sym allowed ∙ cannot));
     }
 
 -- A reference whose name is no binder's
 
-module _ (kind semantics : ℕ) (t : Tree.Schema) (path : List Text) where
-  no-name : (x : Option Setting.Name) → x ≡ none → fromName (settingOf kind semantics) t x path ≡ refused 12 0 path
+module _ (setting : Setting) (t : Tree.Schema) (path : List Text) where
+  no-name : (x : Option Setting.Name) → x ≡ none → fromName setting t x path ≡ refused 12 0 path
   unfolding fromName
   no-name x e = rw e
 
-  name-alone : (x : Option Setting.Name) (n : Setting.Name) → x ≡ some n → path ≡ [] → stock kind n ≡ true → fromName (settingOf kind semantics) t x path ≡ unknown
-  unfolding fromName settingOf
+  name-alone : (x : Option Setting.Name) (n : Setting.Name) → x ≡ some n → path ≡ [] → setting .mayRead n ≡ true → fromName setting t x path ≡ unknown
+  unfolding fromName
   name-alone x n e p m = rw (e, p, m)
 
-  name-unread : (x : Option Setting.Name) (n : Setting.Name) → x ≡ some n → path ≡ [] → stock kind n ≡ false → fromName (settingOf kind semantics) t x path ≡ refused 12 0 []
-  unfolding fromName settingOf
+  name-unread : (x : Option Setting.Name) (n : Setting.Name) → x ≡ some n → path ≡ [] → setting .mayRead n ≡ false → fromName setting t x path ≡ refused 12 0 []
+  unfolding fromName
   name-unread x n e p m = rw (e, p, m)
 
   name-path : (x : Option Setting.Name) (n : Setting.Name) (s : Text) (rest : List Text) → x ≡ some n → path ≡ s ∷ rest
-      → fromName (settingOf kind semantics) t x path ≡ fromRoot (settingOf kind semantics) n (rootOf t n) s rest
+      → fromName setting t x path ≡ fromRoot setting n (rootOf t n) s rest
   unfolding fromName
   name-path x n s rest e p = rw (e, p)
 
 module _ (sheet words text : List ℕ) (scope : Scope) (end : ℕ) where
   pub name-behind : length text < end → NameReads sheet words scope text end Yes
-  name-behind past = record { leads = λ semantics t v at ends. absurd (omega (arith, ends .within)) }
+  name-behind past = record { leads = λ setting t v at ends. absurd (omega (arith, ends .within)) }
 
   module _ (named : Named) (is : NamedIs (take end text) named) where
     pub name-none : named ≡ Named.Nothing → NameReads sheet words scope text end (No NoReference 0)
     unfolding referenceDetail
     name-none e = record {
-      leads = λ semantics t v at ends.
+      leads = λ setting t v at ends.
           let q : nameOf (take end text) ≡ none = rw e at is in
-          (split text .others, no-name (scope .kind) semantics t (split text .others) (nameOf (split text .first)) (ap nameOf (ends .first) ∙ q));
+          (split text .others, no-name setting t (split text .others) (nameOf (split text .first)) (ap nameOf (ends .first) ∙ q));
     }
 
     module _ (name : Name) (found : named ≡ Named.Is name) where
       so-named : Ends text end → nameOf (split text .first) ≡ some (nameIs name)
       so-named ends = let q : nameOf (take end text) ≡ some (nameIs name) = rw found at is in ap nameOf (ends .first) ∙ q
 
-      pub name-read : (b : Bool) → b ≡ stock (scope .kind) (nameIs name) → b ≡ true → length text ≤ end → NameReads sheet words scope text end Yes
+      pub name-read : (b : Bool) → b ≡ mayReadBy (scope .row) (nameIs name) → b ≡ true → length text ≤ end → NameReads sheet words scope text end Yes
       name-read b allowed can last = record {
-        leads = λ semantics t v at ends.
-            rw (name-alone (scope .kind) semantics t (split text .others) (nameOf (split text .first)) (nameIs name) (so-named ends) (ends .last (whole ends)) (sym allowed ∙ can)) tt;
+        leads = λ setting t v at ends.
+            rw (name-alone setting t (split text .others) (nameOf (split text .first)) (nameIs name) (so-named ends) (ends .last (whole ends)) (may v (nameIs name) ∙ sym allowed ∙ can)) tt;
       } where
         whole : Ends text end → end ≡ length text
         whole ends = let within = ends .within in omega arith
 
-      pub name-refused : (b : Bool) → b ≡ stock (scope .kind) (nameIs name) → b ≡ false → length text ≤ end → NameReads sheet words scope text end (No NoReference 0)
+      pub name-refused : (b : Bool) → b ≡ mayReadBy (scope .row) (nameIs name) → b ≡ false → length text ≤ end → NameReads sheet words scope text end (No NoReference 0)
       unfolding referenceDetail
       name-refused b allowed cannot last = record {
-        leads = λ semantics t v at ends.
-            ([], name-unread (scope .kind) semantics t (split text .others) (nameOf (split text .first)) (nameIs name) (so-named ends) (ends .last (whole ends)) (sym allowed ∙ cannot));
+        leads = λ setting t v at ends.
+            ([], name-unread setting t (split text .others) (nameOf (split text .first)) (nameIs name) (so-named ends) (ends .last (whole ends)) (may v (nameIs name) ∙ sym allowed ∙ cannot));
       } where
         whole : Ends text end → end ≡ length text
         whole ends = let within = ends .within in omega arith
@@ -229,19 +231,19 @@ module _ (sheet words text : List ℕ) (scope : Scope) (end : ℕ) where
       pub name-rooted : (r : Readable) → end < length text → RootReads sheet words scope name (take (length text - (end + 1)) (drop (end + 1) text)) r
           → NameReads sheet words scope text end r
       name-rooted r less m = record {
-        leads = λ semantics t v at ends.
+        leads = λ setting t v at ends.
             let onward : RootReads sheet words scope name (drop (end + 1) text) r = rw (rest-whole text end) at m in
-            rw (name-path (scope .kind) semantics t (split text .others) (nameOf (split text .first)) (nameIs name) (split (drop (end + 1) text) .first) (split (drop (end + 1) text) .others) (so-named ends) (ends .more less))
-            (onward .leads semantics t v at);
+            rw (name-path setting t (split text .others) (nameOf (split text .first)) (nameIs name) (split (drop (end + 1) text) .first) (split (drop (end + 1) text) .others) (so-named ends) (ends .more less))
+            (onward .leads setting t v at);
       }
 
 -- A reference
 
-module _ (kind semantics : ℕ) (t : Tree.Schema) (env : Environment) (text : List ℕ) where
+module _ (setting : Setting) (t : Tree.Schema) (env : Environment) (text : List ℕ) where
   abbrev here : Reached
-  here = reference (settingOf kind semantics) t env text
+  here = reference setting t env text
 
-  reference-unbound : bound (split text .first) env ≡ none → here ≡ fromName (settingOf kind semantics) t (nameOf (split text .first)) (split text .others)
+  reference-unbound : bound (split text .first) env ≡ none → here ≡ fromName setting t (nameOf (split text .first)) (split text .others)
   unfolding reference fromBound
   reference-unbound e = rw e
 
@@ -249,9 +251,9 @@ module _ (kind semantics : ℕ) (t : Tree.Schema) (env : Environment) (text : Li
   unfolding reference fromBound fromElement
   reference-any e = rw e
 
-  reference-known : (service : Bool) (f : Field) → service ≡ not (eqb semantics 1) → bound (split text .first) env ≡ some (some f)
+  reference-known : (service : Bool) (f : Field) → service ≡ setting .isService → bound (split text .first) env ≡ some (some f)
       → here ≡ travel (walkStep service) (split text .others) f
-  unfolding reference fromBound fromElement settingOf
+  unfolding reference fromBound fromElement
   reference-known service f v e = rw (e, v)
 
 known-element : (sheet words : List ℕ) (k : ℕ) (o : Option Field) → BoundElement sheet words (Known k) o → (f : Field) × (o ≡ some f) × SlotHolds sheet words k f
@@ -274,9 +276,9 @@ module _ (sheet rule words text : List ℕ) (scope : Scope) (end : ℕ) (ends : 
 
   pub reference-free : (r : Readable) → found ≡ Bound.Nothing → NameReads sheet words scope text end r → ReferenceReads sheet rule words scope text r
   reference-free r e m = record {
-    leads = λ semantics t env at.
+    leads = λ setting t env at.
         let q : bound (take end text) env ≡ none = rw e at (is .leads sheet words env (at .binders)) in
-        rw (reference-unbound (scope .kind) semantics t env text (same-name env ∙ q)) (m .leads semantics t (at .service) (at .schema) ends);
+        rw (reference-unbound setting t env text (same-name env ∙ q)) (m .leads setting t (at .set) (at .schema) ends);
   }
 
   module _ (x : Element) (to : found ≡ Bound.To x) where
@@ -285,9 +287,9 @@ module _ (sheet rule words text : List ℕ) (scope : Scope) (end : ℕ) (ends : 
 
     pub reference-unknown : x ≡ Unknown → ReferenceReads sheet rule words scope text Yes
     reference-unknown e = record {
-      leads = λ semantics t env at.
+      leads = λ setting t env at.
           let q = bound-to env (at .binders) in
-          rw (reference-any (scope .kind) semantics t env text (same-name env ∙ q .1 ∙ ap some (element-unknown sheet words x (q .0) e (q .2)))) tt;
+          rw (reference-any setting t env text (same-name env ∙ q .1 ∙ ap some (element-unknown sheet words x (q .0) e (q .2)))) tt;
     }
 
     module _ (k : ℕ) (known-at : x ≡ Known k) where
@@ -300,18 +302,18 @@ module _ (sheet rule words text : List ℕ) (scope : Scope) (end : ℕ) (ends : 
       pub reference-whole : end ≡ length text → ReferenceReads sheet rule words scope text Yes
       unfolding travel
       reference-whole whole = record {
-        leads = λ semantics t env at.
+        leads = λ setting t env at.
             let q = to-field env (at .binders) in
-            rw (reference-known (scope .kind) semantics t env text (scope .service) (q .0) (at .service) (q .1), ends .last whole) tt;
+            rw (reference-known setting t env text (scope .service) (q .0) (at .set .service) (q .1), ends .last whole) tt;
       }
 
       pub reference-path : (r : Readable) → (end ≡ length text → ⊥) → Walks sheet words k (take (length text - (end + 1)) (drop (end + 1) text)) (scope .service) r
           → ReferenceReads sheet rule words scope text r
       reference-path r more m = record {
-        leads = λ semantics t env at.
+        leads = λ setting t env at.
             let q = to-field env (at .binders) in
             let onward : Walks sheet words k (drop (end + 1) text) (scope .service) r = rw (rest-whole text end) at m in
-            rw (reference-known (scope .kind) semantics t env text (scope .service) (q .0) (at .service) (q .1), ends .more less) (onward .leads (q .0) (q .2));
+            rw (reference-known setting t env text (scope .service) (q .0) (at .set .service) (q .1), ends .more less) (onward .leads (q .0) (q .2));
       } where
         less : end < length text
         less = let within = ends .within in omega arith

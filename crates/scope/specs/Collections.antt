@@ -4,7 +4,7 @@ use mathlib.Core.List.{List}
 use Rattle.definition.specs.Tree as Tree
 use Rattle.definition.specs.Tree.{Text, string}
 use Rattle.reference.specs.Path.{split}
-use Rattle.reference.specs.Setting.{nameOf}
+use Rattle.reference.specs.Setting.{Setting, nameOf}
 use Rattle.reference.specs.Reference as Reference
 use Rattle.reference.specs.Reference.{Environment, collectionIn, collectionNamed, collection}
 use Rattle.schema.specs.Slot.{HolderAt}
@@ -28,5 +28,5 @@ pub record NameCollects (sheet words : List ℕ) (scope : Scope) (text : Text) (
 
 -- the text of an `in` value, as `collection_element` reads it
 pub record CollectionIs (sheet rule words : List ℕ) (scope : Scope) (text : Text) (r : Collected) : Type 0 where
-  pub leads : (semantics : ℕ) (t : Tree.Schema) (env : Environment) (e : ℕ) → ScopeAt sheet rule words scope semantics t env
+  pub leads : (setting : Setting) (t : Tree.Schema) (env : Environment) (e : ℕ) → ScopeAt sheet rule words scope setting t env
       → CollectedIs sheet words r (collection t env (string e text))

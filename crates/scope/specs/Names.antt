@@ -1,4 +1,5 @@
 -- The code's names beside those of the definitions.
+use mathlib.Core.Bool.{Bool}
 use mathlib.Core.Option.{none, some}
 use mathlib.Core.Path.{_≡_}
 use Rattle.definition.specs.Tree.{Text}
@@ -6,6 +7,7 @@ use Rattle.reference.specs.Setting as Setting
 use Rattle.reference.specs.Setting.{nameOf}
 use Rattle.scope.specs.declared.name.Name.{Name}
 use Rattle.scope.specs.declared.name.Name.the-variants.{Id, Entity, Version, Fields, State, ToState, FromState, Args, OldFields}
+use Rattle.scope.specs.declared.name.Row.{Row}
 use Rattle.scope.specs.declared.name.Named.{Named}
 use Rattle.scope.specs.declared.name.Named.the-variants.{Is, Nothing}
 
@@ -19,6 +21,18 @@ nameIs ToState = Setting.toState
 nameIs FromState = Setting.fromState
 nameIs Args = Setting.args
 nameIs OldFields = Setting.oldFields
+
+-- a row of the name table, mark by mark
+unfoldable pub mayReadBy : Row → Setting.Name → Bool
+mayReadBy r Setting.id = r .id
+mayReadBy r Setting.entity = r .entity
+mayReadBy r Setting.version = r .version
+mayReadBy r Setting.fields = r .fields
+mayReadBy r Setting.state = r .state
+mayReadBy r Setting.toState = r .target
+mayReadBy r Setting.fromState = r .source
+mayReadBy r Setting.args = r .args
+mayReadBy r Setting.oldFields = r .old
 
 abbrev pub NamedIs : Text → Named → Type 0
 NamedIs t (Is n) = nameOf t ≡ some (nameIs n)

@@ -1,20 +1,22 @@
 -- The code's scope beside the binders of the definitions.
 use Prim.Native.Nat.{ℕ, zero, suc, _≤_, _<_}
-use mathlib.Core.Bool.{Bool, not}
+use mathlib.Core.Bool.{Bool}
 use mathlib.Core.List.{List, [], _∷_}
 use mathlib.Core.Option.{Option, none, some}
 use mathlib.Core.Path.{_≡_}
-use lib.Dec.{eqb}
 use lib.ListN.{getD}
 use Rattle.sheet.specs.Parts.{partOf}
 use Rattle.sheet.specs.declared.part.Part.{Part}
 use Rattle.definition.specs.Tree as Tree
 use Rattle.definition.specs.Tree.{Text, Field}
+use Rattle.reference.specs.Setting.{Setting}
 use Rattle.reference.specs.Reference as Reference
 use Rattle.reference.specs.Reference.{Environment, bound}
 use Rattle.schema.specs.Slot.{SlotHolds}
 use Rattle.schema.specs.Read.{SchemaAt}
 use Rattle.schema.specs.declared.read.Schema.{Schema}
+use Rattle.scope.specs.Names.{mayReadBy}
+use Rattle.scope.specs.declared.name.Row.{Row}
 use Rattle.scope.specs.declared.binder.Element.{Element}
 use Rattle.scope.specs.declared.binder.Element.the-variants.{Known, Unknown}
 use Rattle.scope.specs.declared.binder.Binder.{Binder}
@@ -52,21 +54,26 @@ pub record EnvironmentAt (sheet rule words : List ℕ) (scope : Scope) (env : En
   pub few : scope .count ≤ 31
   pub chain : ChainAt sheet rule words (chainOf (scope .count) (scope .binders)) env
 
--- a scope of the code, beside the semantics, the schema and the binders that it stands for
-pub record ScopeAt (sheet rule words : List ℕ) (scope : Scope) (semantics : ℕ) (t : Tree.Schema) (env : Environment) : Type 0 where
-  pub service : scope .service ≡ not (eqb semantics 1)
+-- what a call is set to, as the code has it
+pub record SettingAt (scope : Scope) (setting : Setting) : Type 0 where
+  pub service : scope .service ≡ setting .isService
+  pub names : mayReadBy (scope .row) ≡ setting .mayRead
+
+-- a scope of the code, beside the setting, the schema and the binders that it stands for
+pub record ScopeAt (sheet rule words : List ℕ) (scope : Scope) (setting : Setting) (t : Tree.Schema) (env : Environment) : Type 0 where
+  pub set : SettingAt scope setting
   pub schema : SchemaAt sheet words (scope .schema) t
   pub binders : EnvironmentAt sheet rule words scope env
 
-pub record Unbound (k : ℕ) (isService : Bool) (s : Schema) (r : Scope) : Type 0 where
-  pub kind : r .kind ≡ k
+pub record Unbound (x : Row) (isService : Bool) (s : Schema) (r : Scope) : Type 0 where
+  pub row : r .row ≡ x
   pub service : r .service ≡ isService
   pub schema : r .schema ≡ s
   pub binders : (sheet rule words : List ℕ) → EnvironmentAt sheet rule words r []
 
 -- one more binder, while there is room
 pub record Binds (scope : Scope) (name : Part) (element : Element) (r : Scope) : Type 0 where
-  pub kind : r .kind ≡ scope .kind
+  pub row : r .row ≡ scope .row
   pub service : r .service ≡ scope .service
   pub schema : r .schema ≡ scope .schema
   pub counted : scope .count < 31 → r .count ≡ suc (scope .count)

@@ -1,4 +1,5 @@
 // The binders in scope.
+use crate::name::Row;
 use schema::read::Schema;
 use sheet::part::Part;
 use sheet::part::bytes_of;
@@ -24,7 +25,7 @@ pub struct Binder {
 
 // What a condition stands in. The last binder is the innermost one.
 pub struct Scope {
-    pub kind: usize,
+    pub row: Row,
     pub service: bool,
     pub schema: Schema,
     pub binders: [Binder; 31],
@@ -37,15 +38,15 @@ pub enum Bound {
 }
 
 // A scope without binders.
-pub fn unbound(kind: usize, service: bool, schema: Schema) -> Scope
-    ensures { λ r. ⌜ Unbound kind service schema r ⌝ }
+pub fn unbound(row: Row, service: bool, schema: Schema) -> Scope
+    ensures { λ r. ⌜ Unbound row service schema r ⌝ }
 {
     let name = Part { start: 0, len: 0 };
     let element = Element::Unknown;
     let binder = Binder { name, element };
     let binders = [binder; 31];
     Scope {
-        kind,
+        row,
         service,
         schema,
         binders,
@@ -61,11 +62,12 @@ pub fn bind(scope: Scope, name: Part, element: Element) -> Scope
     if MAX_BINDERS <= count {
         return scope;
     }
+    let row = scope.row;
     let schema = scope.schema;
     let mut binders = scope.binders;
     binders[count] = Binder { name, element };
     Scope {
-        kind: scope.kind,
+        row,
         service: scope.service,
         schema,
         binders,

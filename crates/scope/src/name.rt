@@ -2,7 +2,7 @@
 use walk::path::same_bytes;
 ghost use mathlib.Core.Path.{_≡_};
 ghost use Rattle.reference.specs.Setting.{oneOf, stock};
-ghost use Rattle.scope.specs.Names.{nameIs, NamedIs};
+ghost use Rattle.scope.specs.Names.{nameIs, mayReadBy, NamedIs};
 
 pub enum Name {
     Id,
@@ -68,19 +68,52 @@ pub fn one_of(kind: usize, kinds: &[usize]) -> bool
     false
 }
 
-// The stock table: whether a rule or template of that kind may read the name.
-pub fn may_read(kind: usize, name: Name) -> bool
-    ensures { λ r. ⌜ r ≡ stock kind (nameIs name) ⌝ }
+// Which of the nine names may be read.
+pub struct Row {
+    pub id: bool,
+    pub entity: bool,
+    pub version: bool,
+    pub fields: bool,
+    pub state: bool,
+    // `to_state`
+    pub target: bool,
+    // `from_state`
+    pub source: bool,
+    pub args: bool,
+    // `old_fields`
+    pub old: bool,
+}
+
+// The stock table's row for a kind of rule or template.
+pub fn stock_row(kind: usize) -> Row
+    ensures { λ r. ⌜ mayReadBy r ≡ stock kind ⌝ }
+{
+    Row {
+        id: true,
+        entity: true,
+        version: true,
+        fields: !one_of(kind, &[6, 7]),
+        state: !one_of(kind, &[2, 5, 6]),
+        target: !one_of(kind, &[1, 5, 6]),
+        source: one_of(kind, &[2, 4, 5]),
+        args: one_of(kind, &[2, 4, 5, 6, 7, 8]),
+        old: one_of(kind, &[2, 4]),
+    }
+}
+
+// Whether the name may be read where that row holds.
+pub fn may_read(row: Row, name: Name) -> bool
+    ensures { λ r. ⌜ r ≡ mayReadBy row (nameIs name) ⌝ }
 {
     match name {
-        Name::Id => true,
-        Name::Entity => true,
-        Name::Version => true,
-        Name::Fields => !one_of(kind, &[6, 7]),
-        Name::State => !one_of(kind, &[2, 5, 6]),
-        Name::ToState => !one_of(kind, &[1, 5, 6]),
-        Name::FromState => one_of(kind, &[2, 4, 5]),
-        Name::Args => one_of(kind, &[2, 4, 5, 6, 7, 8]),
-        Name::OldFields => one_of(kind, &[2, 4]),
+        Name::Id => row.id,
+        Name::Entity => row.entity,
+        Name::Version => row.version,
+        Name::Fields => row.fields,
+        Name::State => row.state,
+        Name::ToState => row.target,
+        Name::FromState => row.source,
+        Name::Args => row.args,
+        Name::OldFields => row.old,
     }
 }

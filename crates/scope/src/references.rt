@@ -54,7 +54,8 @@ fn validate_root(schema: &[u8], words: &[u32], scope: Scope, name: Name, path: &
         Root::Nothing => Readable::No(ReferenceFault::NoReference, 0),
         Root::Missing => Readable::No(ReferenceFault::NotAvailable, 0),
         Root::At(at, holder) => {
-            if may_read(scope.kind, name) {
+            let row = scope.row;
+            if may_read(row, name) {
                 return validate_reference_path(schema, words, at, holder, path, scope.service);
             }
             Readable::No(ReferenceFault::NotAvailable, 0)
@@ -75,7 +76,8 @@ fn validate_name(schema: &[u8], words: &[u32], scope: Scope, text: &[u8], end: u
     if end < text.len() {
         return validate_root(schema, words, scope, name, &text[end + 1..]);
     }
-    if may_read(scope.kind, name) {
+    let row = scope.row;
+    if may_read(row, name) {
         return Readable::Yes;
     }
     Readable::No(ReferenceFault::NoReference, 0)

@@ -1,7 +1,7 @@
 -- The answer about two sheets: what the code found is what the check list shows, and its numbers are small.
-use Prim.Native.Nat.{ℕ, _+_, _*_, _≤_, _<_}
+use Prim.Native.Nat.{ℕ, _+_, _*_, _≤_}
 use native.Mathlib.Omega.{arith}
-use mathlib.Core.Bool.{Bool, true, false, not, cond}
+use mathlib.Core.Bool.{Bool, true, false, cond}
 use mathlib.Core.List.{List, [], _∷_}
 use mathlib.Core.Option.{Option, none, some, IsSome}
 use mathlib.Core.Path.{_≡_, refl, sym, ap, _∙_}
@@ -9,7 +9,7 @@ use lib.Dec.{eqb}
 use Rattle.definition.specs.Tree as Tree
 use Rattle.definition.specs.Tree.{Rule}
 use Rattle.definition.specs.Within.{ruleEntries, RuleFrom, RuleWithin}
-use Rattle.reference.specs.Setting.{Setting, settingOf, oneOf}
+use Rattle.reference.specs.Setting.{Setting}
 use Rattle.schema.specs.Read.{SchemaAt}
 use Rattle.schema.specs.declared.read.Schema.{Schema}
 use Rattle.rule.specs.Index.{RuleAt}
@@ -36,8 +36,10 @@ use Rattle.location.specs.PathLaws.{HasPath, checks-have-paths}
 use Rattle.location.specs.LengthLaws.{path-length}
 use Rattle.location.specs.WholeLaws.{path-stands}
 use Rattle.validator.specs.Outcomes.{numbersBy}
+use Rattle.validator.specs.Settings.{settingBy}
 use Rattle.validator.specs.Findings.{FindingIs}
 use Rattle.validator.specs.Answers.{Narrow, Answered}
+use Rattle.validator.specs.declared.settings.Setting as Code
 use Rattle.validator.specs.declared.finding.Finding.{Finding}
 use Rattle.validator.specs.declared.outcome.Outcome.{Outcome}
 
@@ -89,31 +91,32 @@ shown-within setting tree x from =
     (every-judged (Small (ruleEntries x)) setting tree (checks setting x) (checks-small setting x from))
     (every-judged (HasPath x) setting tree (checks setting x) (checks-have-paths setting x from))
 
-module _ (kind semantics : ℕ) {k : ℕ} {schema sheet : List ℕ} {s : Schema} {words : List ℕ} {scope : Scope} {a : Judged.Answer} {p : ℕ}
-    (e : k ≡ kind) (u : Unbound k (not (eqb semantics 1)) s scope) (j : RuleJudged schema sheet words scope a) (n : Narrow (a .passed) p)
+module _ (set : Code.Setting) {schema sheet : List ℕ} {s : Schema} {words : List ℕ} {scope : Scope} {a : Judged.Answer} {p : ℕ}
+    (u : Unbound (set .row) (set .service) s scope) (j : RuleJudged schema sheet words scope a) (n : Narrow (a .passed) p)
   where
-    -- what the code shows, of the settings as they were handed over
+    abbrev setting : Setting
+    setting = settingBy set
+
+    -- what the code shows, of the setting as it was handed over
     shows : (t : Tree.Schema) (x : Rule) → SchemaAt schema words s t → RuleAt sheet words x
-        → shownBy a ≡ shownOf (judge (settingOf kind semantics) t (checks (settingOf kind semantics) x))
-    shows t x at rat =
-        let f : scope .kind ≡ kind = u .kind ∙ e in
-        rw f at (j .shows semantics t x (scope-unbound schema sheet words k (not (eqb semantics 1)) s scope semantics t u refl at) rat)
+        → shownBy a ≡ shownOf (judge setting t (checks setting x))
+    shows t x at rat = j .shows setting t x (scope-unbound schema sheet words (set .row) (set .service) s scope setting t u refl refl at) rat
 
     checked-shows : (label : List ℕ) (t : Tree.Schema) (x : Rule) {o : Shown} → SchemaAt schema words s t → RuleAt sheet words x → shownBy a ≡ o
-        → checked (settingOf kind semantics) label t x ≡ answerShown (settingOf kind semantics) label x o
+        → checked setting label t x ≡ answerShown setting label x o
     unfolding checked
     checked-shows label t x at rat f =
-        answer-shown (settingOf kind semantics) label x (judge (settingOf kind semantics) t (checks (settingOf kind semantics) x))
-        ∙ ap (answerShown (settingOf kind semantics) label x) (sym (shows t x at rat) ∙ f)
+        answer-shown setting label x (judge setting t (checks setting x))
+        ∙ ap (answerShown setting label x) (sym (shows t x at rat) ∙ f)
 
     shown-small : (t : Tree.Schema) (x : Rule) {o : Shown} → SchemaAt schema words s t → RuleAt sheet words x → RuleWithin x → shownBy a ≡ o → ShownWithin x o
     shown-small t x at rat within f =
-        rw (sym (shows t x at rat) ∙ f) at (shown-within (settingOf kind semantics) t x (within .numbers))
+        rw (sym (shows t x at rat) ∙ f) at (shown-within setting t x (within .numbers))
 
     pub answer-accepted : {label before : List ℕ} {r : Outcome}
         → a .verdict ≡ Pass
         → numbersBy r ≡ numbersOf (Result.accepted p)
-        → Answered kind semantics label schema sheet s words before before r
+        → Answered setting label schema sheet s words before before r
     unfolding shownBy shownWith answerShown pathAfter
     answer-accepted {label} v q =
         record {
@@ -125,21 +128,19 @@ module _ (kind semantics : ℕ) {k : ℕ} {schema sheet : List ℕ} {s : Schema}
               rw (checked-shows label t x at rat f) (record { result = rw same at q; path = refl });
         }
 
-    pub answer-defect : {label before after : List ℕ} {fault : Fault} {entry : ℕ} {over : Over} {k′ : ℕ} {isRule : Bool} {found : Finding} {place size family overPlace overPlace′ written : ℕ}
+    pub answer-defect : {label before after : List ℕ} {fault : Fault} {entry : ℕ} {over : Over} {found : Finding} {place size family overPlace overPlace′ written : ℕ}
         → a .verdict ≡ Defect fault entry over
-        → k′ ≡ kind
-        → isRule ≡ oneOf k′ (1 ∷ 2 ∷ 5 ∷ 6 ∷ [])
-        → FindingIs isRule fault found
+        → FindingIs (set .«rule_kind») fault found
         → Narrow entry place
         → PathWritten label sheet words (found .number) place before after written
         → family ≡ familyOf (overBy over) (found .family)
         → overPlace ≡ overPlaceOf (overBy over) (found .family)
         → Narrow overPlace overPlace′
         → Narrow written size
-        → Answered kind semantics label schema sheet s words before after
+        → Answered setting label schema sheet s words before after
         (record { number = found .number; family = family; detail = found .detail; place = place; «over_place» = overPlace′; passed = p; «path_length» = size })
-    unfolding shownBy shownWith answerShown pathAfter numbersOf settingOf
-    answer-defect {label} {before} {after} {fault} {entry} {over} {found = found} {place} {size} {family} {overPlace} {overPlace′} {written} v e′ isRule finding placed wrote family-is over-is over-narrow narrow-size =
+    unfolding shownBy shownWith answerShown pathAfter numbersOf
+    answer-defect {label} {before} {after} {fault} {entry} {over} {found = found} {place} {size} {family} {overPlace} {overPlace′} {written} v finding placed wrote family-is over-is over-narrow narrow-size =
         record {
           tells = λ t x at rat within small room.
               let f : shownBy a ≡ fails (a .passed) (numberOf fault) entry (overBy over) (detailOf fault) = rw v in
@@ -149,8 +150,7 @@ module _ (kind semantics : ℕ) {k : ℕ} {schema sheet : List ℕ} {s : Schema}
               let near = w .placed in
               let passed-is : p ≡ a .passed = n .same (omega arith) in
               let place-is : place ≡ entry = placed .same (omega arith) in
-              let setting = settingOf kind semantics in
-              let own : found .family ≡ ownFamily setting (numberOf fault) = finding .family setting (isRule ∙ ap (λ (z : ℕ). oneOf z (1 ∷ 2 ∷ 5 ∷ 6 ∷ [])) e′) in
+              let own : found .family ≡ ownFamily setting (numberOf fault) = finding .family setting refl in
               let over-own : overPlace ≡ overPlaceOf (overBy over) (ownFamily setting (numberOf fault)) = rw own at over-is in
               let low = over-small (ruleEntries x) (overBy over) (ownFamily setting (numberOf fault)) (w .held) in
               let over-same : overPlace′ ≡ overPlace = over-narrow .same (omega arith) in

@@ -6,7 +6,7 @@ use lib.ListN.{length}
 use Rattle.definition.specs.Tree as Tree
 use Rattle.definition.specs.Tree.{Rule}
 use Rattle.definition.specs.Within.{RuleWithin}
-use Rattle.reference.specs.Setting.{settingOf}
+use Rattle.reference.specs.Setting.{Setting}
 use Rattle.schema.specs.Read.{SchemaAt}
 use Rattle.schema.specs.declared.read.Schema.{Schema}
 use Rattle.rule.specs.Index.{RuleAt}
@@ -22,11 +22,11 @@ pub record Tells (a : Answer) (before after : List ℕ) (r : Outcome) : Type 0 w
   pub path : after ≡ pathAfter a before
 
 -- for every schema and rule that the indexes stand for
-pub record Answered (kind semantics : ℕ) (label schema sheet : List ℕ) (s : Schema) (words before after : List ℕ) (r : Outcome) : Type 0 where
+pub record Answered (setting : Setting) (label schema sheet : List ℕ) (s : Schema) (words before after : List ℕ) (r : Outcome) : Type 0 where
   pub tells : (t : Tree.Schema) (x : Rule)
       → SchemaAt schema words s t
       → RuleAt sheet words x
       → RuleWithin x
       → length label ≤ maxLabelBytes
       → pathBytes ≤ length before
-      → Tells (checked (settingOf kind semantics) label t x) before after r
+      → Tells (checked setting label t x) before after r

@@ -1,7 +1,6 @@
 -- A call of the code as a run of the definitions: what is handed over, and what is there afterwards.
 use Prim.Native.Nat.{ℕ}
 use mathlib.Core.List.{List}
-use Rattle.validation.specs.Result as Result
 use Rattle.validation.specs.Result.{Run}
 use Rattle.validator.specs.declared.sheets.Takes.{Takes}
 use Rattle.validator.specs.declared.outcome.Outcome.{Outcome}
@@ -11,12 +10,8 @@ use Rattle.validator.specs.Sheets.{takesOf}
 abbrev pub runOf : (takes : Takes) (kind semantics : ℕ) (label schema rule pathBefore scratchBefore : List ℕ) (r : Outcome) (path scratch : List ℕ) → Run
 runOf takes kind semantics label schema rule pathBefore scratchBefore r path scratch =
     record {
-      takes = takesOf takes;
-      kind = kind;
-      semantics = semantics;
-      label = label;
+      asked = record { takes = takesOf takes; kind = kind; semantics = semantics; label = label; rule = rule };
       schema = schema;
-      rule = rule;
       pathBefore = pathBefore;
       scratchBefore = scratchBefore;
       result = numbersBy r;

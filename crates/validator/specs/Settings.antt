@@ -1,14 +1,24 @@
--- Refusals 1 to 3, by what is asked before a sheet is read: 0 stands for none.
+-- What a check is set to, and what is refused before a sheet is read.
 use Prim.Native.Nat.{ℕ}
-use mathlib.Core.Bool.{cond, _&&_}
 use mathlib.Core.List.{List}
-use lib.Dec.{leb}
-use lib.ListN.{length}
-use Rattle.text.specs.Utf8.{isUtf8}
-use Rattle.validation.specs.Result.{isWithin, maxLabelBytes, pathBytes, scratchWords}
+use mathlib.Core.Path.{_≡_}
+use Rattle.reference.specs.Setting as Reference
+use Rattle.scope.specs.Names.{mayReadBy}
+use Rattle.validation.specs.Result.{Takes, Call, early, firstRefusal, numberIn}
+use Rattle.validator.specs.declared.settings.Setting.{Setting}
 
-unfoldable pub settingsRefusal : (kind semantics : ℕ) (label : List ℕ) (path scratch : ℕ) → ℕ
-settingsRefusal kind semantics label path scratch =
-    cond (isWithin 1 8 kind && isWithin 1 4 semantics)
-    (cond (leb (length label) maxLabelBytes && isUtf8 label) (cond (leb pathBytes path && leb scratchWords scratch) 0 3) 2)
-    1
+-- the code's setting as one of the definitions
+abbrev pub settingBy : Setting → Reference.Setting
+settingBy s = record { mayRead = mayReadBy (s .row); isRuleKind = s .«rule_kind»; isService = s .service }
+
+abbrev pub callBy : (takes : Takes) (kind semantics : ℕ) (label schema rule : List ℕ) (path scratch : ℕ) → Call
+callBy takes kind semantics label schema rule path scratch =
+    record {
+      asked = record { takes = takes; kind = kind; semantics = semantics; label = label; rule = rule };
+      schema = schema;
+      lent = record { path = path; scratch = scratch };
+    }
+
+-- the number of the first refusal that is due there, or 0; settings, label and widths decide, whatever the sheets are
+pub record EarlyIs (kind semantics : ℕ) (label : List ℕ) (path scratch number : ℕ) : Type 0 where
+  pub first : (takes : Takes) (schema rule : List ℕ) → number ≡ numberIn (firstRefusal (early (callBy takes kind semantics label schema rule path scratch)))

@@ -1,24 +1,17 @@
 // The answer about two sheets that are well formed: the check list's verdict, and the path of a defect.
 use crate::finding::family_in;
 use crate::finding::find;
-use crate::finding::is_rule_kind;
 use crate::finding::over_place;
 use crate::outcome::Outcome;
 use crate::outcome::accepted;
+use crate::settings::Setting;
 use judge::rules::judge;
 use location::write_path;
 use schema::read::Schema;
 use scope::binder::unbound;
 use value_checks::verdict::Verdict;
-ghost use mathlib.Core.Path.{_≡_};
-ghost use Prim.Native.Nat.{_<_};
+ghost use Rattle.validator.specs.Settings.{settingBy};
 ghost use Rattle.validator.specs.Answers.{Narrow, Answered};
-
-fn wide(n: u32) -> usize
-    ensures { λ r. ⌜ r ≡ n ⌝ }
-{
-    n as usize
-}
 
 // Entries, counts and lengths are small.
 fn narrow(n: usize) -> u32
@@ -28,8 +21,7 @@ fn narrow(n: usize) -> u32
 }
 
 pub fn answer(
-    kind: u32,
-    semantics: u32,
+    setting: Setting,
     label: &[u8],
     schema: &[u8],
     rule: &[u8],
@@ -37,16 +29,16 @@ pub fn answer(
     words: &[u32],
     path: &mut [u8],
 ) -> Outcome
-    ensures { λ r. ⌜ Answered kind semantics (now (label .entry)) (now (schema .entry)) (now (rule .entry)) s (now (words .entry)) (now (path .entry)) (now (path .exit)) r ⌝ }
+    ensures { λ r. ⌜ Answered (settingBy setting) (now (label .entry)) (now (schema .entry)) (now (rule .entry)) s (now (words .entry)) (now (path .entry)) (now (path .exit)) r ⌝ }
 {
-    let scope = unbound(wide(kind), semantics != 1, s);
+    let scope = unbound(setting.row, setting.service, s);
     let a = judge(schema, rule, words, scope);
     let passed = narrow(a.passed);
     let verdict = a.verdict;
     let Verdict::Defect(fault, entry, over) = verdict else {
         return accepted(passed);
     };
-    let f = find(is_rule_kind(wide(kind)), fault);
+    let f = find(setting.rule_kind, fault);
     let number = f.number;
     let place = narrow(entry);
     let length = write_path(label, rule, words, number, place, path);

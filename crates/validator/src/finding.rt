@@ -1,5 +1,4 @@
 // What a defect is called: number, family and detail of a verdict's fault; docs/FORMAT.md, "Answers".
-use scope::name::one_of;
 use value_checks::verdict::Fault;
 use value_checks::verdict::InstantFault;
 use value_checks::verdict::Over;
@@ -7,9 +6,7 @@ use value_checks::verdict::Side;
 use walk::answer::CollectionFault;
 use walk::answer::ReferenceFault;
 ghost use mathlib.Core.Bool.{cond};
-ghost use mathlib.Core.List.{[], _∷_};
 ghost use mathlib.Core.Path.{_≡_};
-ghost use Rattle.reference.specs.Setting.{oneOf};
 ghost use Rattle.walk.specs.Answers.{referenceDetail, collectionDetail};
 ghost use Rattle.value_checks.specs.Shown.{familyOf, overPlaceOf};
 ghost use Rattle.value_checks.specs.Verdicts.{overBy, sideDetail, instantDetail};
@@ -20,13 +17,6 @@ pub struct Finding {
     // Outside all quantifier bodies.
     pub family: u32,
     pub detail: u32,
-}
-
-// Invariant, Precondition, OutcomeSelector and CreateSelector are kinds of rules, the others of templates.
-pub fn is_rule_kind(kind: usize) -> bool
-    ensures { λ r. ⌜ r ≡ oneOf kind (1 ∷ 2 ∷ 5 ∷ 6 ∷ []) ⌝ }
-{
-    one_of(kind, &[1, 2, 5, 6])
 }
 
 fn side_detail(side: Side) -> u32

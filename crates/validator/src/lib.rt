@@ -10,6 +10,7 @@ use crate::answer::answer;
 use crate::outcome::Outcome;
 use crate::outcome::refused;
 use crate::settings::refused_settings;
+use crate::settings::setting_of;
 use crate::sheets::SheetsRead;
 use crate::sheets::Takes;
 use crate::sheets::read_sheets;
@@ -38,7 +39,15 @@ pub fn validate_taken(
     match read {
         SheetsRead::BadSchema => refused(4),
         SheetsRead::BadRule => refused(5),
-        SheetsRead::Good(s) => answer(kind, semantics, label, schema, rule, s, scratch, path),
+        SheetsRead::Good(s) => answer(
+            setting_of(kind, semantics),
+            label,
+            schema,
+            rule,
+            s,
+            scratch,
+            path,
+        ),
     }
 }
 

@@ -1,13 +1,18 @@
 // Settings, label and widths: what is asked before a sheet is read.
 use crate::widths::PATH_BYTES;
 use crate::widths::SCRATCH_WORDS;
+use scope::name::Row;
+use scope::name::one_of;
+use scope::name::stock_row;
 ghost use mathlib.Core.Bool.{_&&_};
+ghost use mathlib.Core.List.{[], _∷_};
 ghost use mathlib.Core.Path.{_≡_};
 ghost use lib.Dec.{leb};
 ghost use lib.ListN.{length};
 ghost use Rattle.text.specs.Utf8.{isUtf8};
+ghost use Rattle.reference.specs.Setting.{oneOf, settingOf};
 ghost use Rattle.validation.specs.Result.{isWithin, maxLabelBytes, pathBytes, scratchWords};
-ghost use Rattle.validator.specs.Settings.{settingsRefusal};
+ghost use Rattle.validator.specs.Settings.{settingBy, EarlyIs};
 
 const MAX_LABEL_BYTES: usize = 256;
 
@@ -35,9 +40,9 @@ fn is_room(path: usize, scratch: usize) -> bool
     PATH_BYTES <= path && SCRATCH_WORDS <= scratch
 }
 
-// The first of refusals 1 to 3 that is due, or 0. `path` and `scratch` are how many elements the lent buffers have.
+// The refusal that is due before a sheet is read, or 0. `path` and `scratch` are how many elements the lent buffers have.
 pub fn refused_settings(kind: u32, semantics: u32, label: &[u8], path: usize, scratch: usize) -> u32
-    ensures { λ r. ⌜ r ≡ settingsRefusal kind semantics (now (label .entry)) path scratch ⌝ }
+    ensures { λ r. ⌜ EarlyIs kind semantics (now (label .entry)) path scratch r ⌝ }
 {
     if !are_settings(kind, semantics) {
         return 1;
@@ -46,4 +51,29 @@ pub fn refused_settings(kind: u32, semantics: u32, label: &[u8], path: usize, sc
         return 2;
     }
     if is_room(path, scratch) { 0 } else { 3 }
+}
+
+// What a check is set to: the names that may be read, whether that is a kind of rule, and whether the semantics is service.
+pub struct Setting {
+    pub row: Row,
+    pub rule_kind: bool,
+    pub service: bool,
+}
+
+// Invariant, Precondition, OutcomeSelector and CreateSelector are kinds of rules, the others of templates.
+fn is_rule_kind(kind: usize) -> bool
+    ensures { λ r. ⌜ r ≡ oneOf kind (1 ∷ 2 ∷ 5 ∷ 6 ∷ []) ⌝ }
+{
+    one_of(kind, &[1, 2, 5, 6])
+}
+
+pub fn setting_of(kind: u32, semantics: u32) -> Setting
+    ensures { λ r. ⌜ settingBy r ≡ settingOf kind semantics ⌝ }
+{
+    let kind = kind as usize;
+    Setting {
+        row: stock_row(kind),
+        rule_kind: is_rule_kind(kind),
+        service: semantics != 1,
+    }
 }

@@ -22,7 +22,7 @@ use Rattle.validation.specs.Check.{Binder, Question, settled, Check, check, fai
 use Rattle.validation.specs.Judge.{Outcome, outcome, environment, answer, answerIn}
 use Rattle.value_checks.specs.Nodes.{Behind}
 use Rattle.value_checks.specs.Verdicts.{numberOf, detailOf, instantDetail, GoesOn, PassedOn, Failed}
-use Rattle.value_checks.specs.Frames.{Frame, Stands, settingIn, ReferencesIn, OperandJudged, PairJudged, FormIs, formOf, side}
+use Rattle.value_checks.specs.Frames.{Frame, Stands, ReferencesIn, OperandJudged, PairJudged, FormIs, formOf, side}
 use Rattle.value_checks.specs.declared.operand.Form.{Form}
 use Rattle.value_checks.specs.declared.operand.Form.the-variants as Form
 use Rattle.value_checks.specs.declared.operand.InstantRead.{InstantRead}
@@ -189,27 +189,27 @@ unfolding outcome answerIn answer check
 asked-outcome setting tree binders env n p q o e s = rw (e, s)
 
 -- the check that an operand's form passes
-form-passes : {f : Frame} (n : ℕ) {q : Question} {b r : Answer} (semantics : ℕ) (tree : Schema) (binders : List Binder) (env : Environment) (v : Value)
-    → Stands f semantics tree binders env
+form-passes : {f : Frame} (n : ℕ) {q : Question} {b r : Answer} (setting : Setting) (tree : Schema) (binders : List Binder) (env : Environment) (v : Value)
+    → Stands f setting tree binders env
     → PassedOn b r
     → q ≡ settled none
-    → GoesOn (outcome (settingIn f semantics) tree) b (check n (entryOf v) binders q ∷ []) r
-form-passes {f} n {q} semantics tree binders env v s p e =
-    p .goes (outcome (settingIn f semantics) tree) _ (asked-outcome (settingIn f semantics) tree binders env n (entryOf v) q none (s .bound) e)
+    → GoesOn (outcome setting tree) b (check n (entryOf v) binders q ∷ []) r
+form-passes {f} n {q} setting tree binders env v s p e =
+    p .goes (outcome setting tree) _ (asked-outcome setting tree binders env n (entryOf v) q none (s .bound) e)
 
-form-fails : {f : Frame} (n : ℕ) {q : Question} {fault : Fault} {place : ℕ} {b r : Answer} (semantics : ℕ) (tree : Schema) (binders : List Binder) (env : Environment) (v : Value)
-    → Stands f semantics tree binders env
+form-fails : {f : Frame} (n : ℕ) {q : Question} {fault : Fault} {place : ℕ} {b r : Answer} (setting : Setting) (tree : Schema) (binders : List Binder) (env : Environment) (v : Value)
+    → Stands f setting tree binders env
     → entryOf v ≡ place
     → Failed b fault place (f .over) r
     → n ≡ numberOf fault
     → q ≡ settled (some (detailOf fault))
     → (others : List Check)
-    → GoesOn (outcome (settingIn f semantics) tree) b (check n (entryOf v) binders q ∷ others) r
+    → GoesOn (outcome setting tree) b (check n (entryOf v) binders q ∷ others) r
 unfolding check
-form-fails {f} n {q} {fault} semantics tree binders env v s w p m e others =
-    p .goes (outcome (settingIn f semantics) tree) _ others
+form-fails {f} n {q} {fault} setting tree binders env v s w p m e others =
+    p .goes (outcome setting tree) _ others
     (record { numbered = m; placed = w; held = s .held })
-    (asked-outcome (settingIn f semantics) tree binders env n (entryOf v) q (some (detailOf fault)) (s .bound) e)
+    (asked-outcome setting tree binders env n (entryOf v) q (some (detailOf fault)) (s .bound) e)
 
 module _ {f : Frame} {start end : ℕ} {a : Answer} where
   pub instant-passes : {x : InstantRead} {b r : Answer}
@@ -223,9 +223,9 @@ module _ {f : Frame} {start end : ℕ} {a : Answer} where
       record {
         atMost = omega (arith, l .atMost, p .atMost);
         goes =
-            λ semantics tree binders env v s w.
-            goes-then (references-judged l semantics tree binders env v s w)
-            (form-passes 20 semantics tree binders env v s p (rw y at (g v (w .stands))));
+            λ setting tree binders env v s w.
+            goes-then (references-judged l setting tree binders env v s w)
+            (form-passes 20 setting tree binders env v s p (rw y at (g v (w .stands))));
       }
 
   pub instant-fails : {x : InstantRead} {fault : InstantFault} {b r : Answer}
@@ -239,9 +239,9 @@ module _ {f : Frame} {start end : ℕ} {a : Answer} where
       record {
         atMost = omega (arith, l .atMost, p .same);
         goes =
-            λ semantics tree binders env v s w.
-            goes-then (references-judged l semantics tree binders env v s w)
-            (form-fails 20 semantics tree binders env v s (value-entry (f .rule) (f .words) start v (w .stands)) p refl (rw y at (g v (w .stands))) []);
+            λ setting tree binders env v s w.
+            goes-then (references-judged l setting tree binders env v s w)
+            (form-fails 20 setting tree binders env v s (value-entry (f .rule) (f .words) start v (w .stands)) p refl (rw y at (g v (w .stands))) []);
       }
 
   pub affix-passes : {x : Form} {part : Part} {b r : Answer}
@@ -255,10 +255,10 @@ module _ {f : Frame} {start end : ℕ} {a : Answer} where
       record {
         atMost = omega (arith, l .atMost, p .atMost);
         goes =
-            λ semantics tree binders env v s w.
+            λ setting tree binders env v s w.
             let e : FormIs (f .rule) (Form.Text part) v = rw y at (g v (w .stands)) in
-            goes-then (references-judged l semantics tree binders env v s w)
-            (form-passes 19 semantics tree binders env v s p (rw (text-string v e .0)));
+            goes-then (references-judged l setting tree binders env v s w)
+            (form-passes 19 setting tree binders env v s p (rw (text-string v e .0)));
       }
 
   pub affix-fails : {b r : Answer}
@@ -271,9 +271,9 @@ module _ {f : Frame} {start end : ℕ} {a : Answer} where
       record {
         atMost = omega (arith, l .atMost, p .same);
         goes =
-            λ semantics tree binders env v s w.
-            goes-then (references-judged l semantics tree binders env v s w)
-            (form-fails 19 semantics tree binders env v s (value-entry (f .rule) (f .words) start v (w .stands)) p refl (rw (g v (w .stands))) []);
+            λ setting tree binders env v s w.
+            goes-then (references-judged l setting tree binders env v s w)
+            (form-fails 19 setting tree binders env v s (value-entry (f .rule) (f .words) start v (w .stands)) p refl (rw (g v (w .stands))) []);
       }
 
   pub side-passes : (which : Side) {b r : Answer}
@@ -286,9 +286,9 @@ module _ {f : Frame} {start end : ℕ} {a : Answer} where
       record {
         atMost = omega (arith, l .atMost, p .atMost);
         goes =
-            λ semantics tree binders env v s w.
-            goes-then (form-passes 17 semantics tree binders env v s p (rw (g v (w .stands))))
-            (references-judged l semantics tree binders env v s w);
+            λ setting tree binders env v s w.
+            goes-then (form-passes 17 setting tree binders env v s p (rw (g v (w .stands))))
+            (references-judged l setting tree binders env v s w);
       }
 
   pub side-fails : (which : Side) {r : Answer}
@@ -299,23 +299,23 @@ module _ {f : Frame} {start end : ℕ} {a : Answer} where
   side-fails which g p =
       record {
         atMost = omega (arith, p .same);
-        goes = λ semantics tree binders env v s w. form-fails 17 semantics tree binders env v s (value-entry (f .rule) (f .words) start v (w .stands)) p refl (rw (g v (w .stands))) (references binders v);
+        goes = λ setting tree binders env v s w. form-fails 17 setting tree binders env v s (value-entry (f .rule) (f .words) start v (w .stands)) p refl (rw (g v (w .stands))) (references binders v);
       }
 
   pub operand-instant : (op : ℕ) {r : Answer} → leb op 7 ≡ true → OperandJudged f instantOperand start end a r → OperandJudged f (operand op) start end a r
   unfolding operand
-  operand-instant op e p = record { atMost = p .atMost; goes = λ semantics tree binders env v s w. rw e (p .goes semantics tree binders env v s w) }
+  operand-instant op e p = record { atMost = p .atMost; goes = λ setting tree binders env v s w. rw e (p .goes setting tree binders env v s w) }
 
   pub operand-affix : (op : ℕ) {r : Answer} → leb op 7 ≡ false → leb 16 op ≡ true → OperandJudged f affixOperand start end a r → OperandJudged f (operand op) start end a r
   unfolding operand
-  operand-affix op e k p = record { atMost = p .atMost; goes = λ semantics tree binders env v s w. rw (e, k) (p .goes semantics tree binders env v s w) }
+  operand-affix op e k p = record { atMost = p .atMost; goes = λ setting tree binders env v s w. rw (e, k) (p .goes setting tree binders env v s w) }
 
   pub operand-other : (op : ℕ) {r : Answer} → leb op 7 ≡ false → leb 16 op ≡ false → ReferencesIn f start (end - start) a r → OperandJudged f (operand op) start end a r
   unfolding operand
   operand-other op e k p =
       record {
         atMost = omega (arith, p .atMost);
-        goes = λ semantics tree binders env v s w. rw (e, k) (references-judged p semantics tree binders env v s w);
+        goes = λ setting tree binders env v s w. rw (e, k) (references-judged p setting tree binders env v s w);
       }
 
   pub pair-judged : {first second : List Binder → Value → List Check} {mid : ℕ} {b r : Answer}
@@ -328,9 +328,9 @@ module _ {f : Frame} {start end : ℕ} {a : Answer} where
       record {
         atMost = omega (arith, p .atMost, q .atMost, k .most, k .least inside);
         goes =
-            λ semantics tree binders env m left right s w u.
+            λ setting tree binders env m left right s w u.
             let n : endOf (f .words) start ≡ start + sizeOfValue left = value-next (f .rule) (f .words) start left (w .stands) in
             let z : 1 ≤ sizeOfValue left = value-size left in
             let e : mid ≡ m = k .exact (omega arith) (omega (arith, w .ends, u .ends)) ∙ n ∙ sym (w .ends) in
-            goes-then (p .goes semantics tree binders env left s (rw e w)) (q .goes semantics tree binders env right s (rw e u));
+            goes-then (p .goes setting tree binders env left s (rw e w)) (q .goes setting tree binders env right s (rw e u));
       }

@@ -25,7 +25,7 @@ use Rattle.value_checks.specs.Leaves.{leaves, leavesOfValues, leavesOfPa
 use Rattle.value_checks.specs.Nodes.{IsValue}
 use Rattle.value_checks.specs.Verdicts.{numberOf, detailOf, GoesOn, PassedOn, Failed}
 use Rattle.scope.specs.References.{ReferenceReads}
-use Rattle.value_checks.specs.Frames.{Frame, Stands, settingIn, IsReference, referenceSays, ReferencesIn}
+use Rattle.value_checks.specs.Frames.{Frame, Stands, IsReference, referenceSays, ReferencesIn}
 use Rattle.value_checks.specs.declared.verdict.Fault.the-variants.{Reference}
 use Rattle.value_checks.specs.declared.verdict.Answer.{Answer}
 use Rattle.value_checks.proofs.Going.{goes-nothing, goes-then, said-next}
@@ -98,7 +98,7 @@ reference-long (b ∷ t) e = omega arith
 module _ {f : Frame} {i at : ℕ} {a : Answer} (start : at ≡ startOf (f .words) i) where
   pub reference-bad : valueHead (drop at (f .rule)) ≡ none → ReferencesIn f i 1 a a
   reference-bad r =
-      record { atMost = omega arith; goes = λ semantics tree binders env s. rw (says-bad (referenceSays binders) (f .rule) (f .words) i start r) goes-nothing }
+      record { atMost = omega arith; goes = λ setting tree binders env s. rw (says-bad (referenceSays binders) (f .rule) (f .words) i start r) goes-nothing }
 
   pub reference-silent : {h : ValueHead} {next : ℕ}
       → ReadsTo valueHead (f .rule) at h next
@@ -107,7 +107,7 @@ module _ {f : Frame} {i at : ℕ} {a : Answer} (start : at ≡ startOf (f .words
   reference-silent r e =
       record {
         atMost = omega arith;
-        goes = λ semantics tree binders env s. rw (says-read (referenceSays binders) (f .rule) (f .words) i start r, e binders) goes-nothing;
+        goes = λ setting tree binders env s. rw (says-read (referenceSays binders) (f .rule) (f .words) i start r, e binders) goes-nothing;
       }
 
   module _ {text t : Text} {next : ℕ} (reads : ReadsTo valueHead (f .rule) at (stringHead t) next) (same : text ≡ t) where
@@ -125,12 +125,12 @@ module _ {f : Frame} {i at : ℕ} {a : Answer} (start : at ≡ startOf (f .words
         record {
           atMost = p .atMost;
           goes =
-              λ semantics tree binders env s.
-              let m : ReadableIs Yes (reference (settingIn f semantics) tree env (drop 1 text)) =
-              rw (behind-dollar text, y) at (q .leads semantics tree env (s .scoped)) in
+              λ setting tree binders env s.
+              let m : ReadableIs Yes (reference setting tree env (drop 1 text)) =
+              rw (behind-dollar text, y) at (q .leads setting tree env (s .scoped)) in
               rw (said-some f i binders start reads same e)
-              (p .goes (outcome (settingIn f semantics) tree) _
-              (readable-outcome (settingIn f semantics) tree binders env 18 (i + 1) (drop 1 text) (s .bound) ∙ reached-verdict _ m));
+              (p .goes (outcome setting tree) _
+              (readable-outcome setting tree binders env 18 (i + 1) (drop 1 text) (s .bound) ∙ reached-verdict _ m));
         }
 
     pub reference-fails : {x : Readable} {fault : ReferenceFault} {place : ℕ} {r : Answer}
@@ -144,12 +144,12 @@ module _ {f : Frame} {i at : ℕ} {a : Answer} (start : at ≡ startOf (f .words
         record {
           atMost = omega (arith, p .same);
           goes =
-              λ semantics tree binders env s.
-              let m : ReadableIs (No fault place) (reference (settingIn f semantics) tree env (drop 1 text)) =
-              rw (behind-dollar text, y) at (q .leads semantics tree env (s .scoped)) in
+              λ setting tree binders env s.
+              let m : ReadableIs (No fault place) (reference setting tree env (drop 1 text)) =
+              rw (behind-dollar text, y) at (q .leads setting tree env (s .scoped)) in
               rw (said-some f i binders start reads same e)
-              (p .goes (outcome (settingIn f semantics) tree) _ [] (record { numbered = refl; placed = refl; held = s .held })
-              (readable-outcome (settingIn f semantics) tree binders env 18 (i + 1) (drop 1 text) (s .bound) ∙ ap verdict (m .1)));
+              (p .goes (outcome setting tree) _ [] (record { numbered = refl; placed = refl; held = s .held })
+              (readable-outcome setting tree binders env 18 (i + 1) (drop 1 text) (s .bound) ∙ ap verdict (m .1)));
         }
 
 -- Several words.
@@ -164,9 +164,9 @@ module _ {f : Frame} {a : Answer} {start i : ℕ} where
       record {
         atMost = omega (arith, p .atMost, q .atMost);
         goes =
-            λ semantics tree binders env s.
+            λ setting tree binders env s.
             rw (said-next (referenceSays binders) (f .rule) (f .words) h)
-            (goes-then (p .goes semantics tree binders env s) (q .goes semantics tree binders env s));
+            (goes-then (p .goes setting tree binders env s) (q .goes setting tree binders env s));
       }
 
   pub references-all : {end : ℕ} {r : Answer}
@@ -180,7 +180,7 @@ pub references-begin : {f : Frame} {a : Answer} {start : ℕ} → ReferencesIn f
 unfolding saidIn
 references-begin {f} {a} {start} =
     let e : start - start ≡ 0 = omega arith in
-    record { atMost = omega arith; goes = λ semantics tree binders env s. rw e goes-nothing }
+    record { atMost = omega arith; goes = λ setting tree binders env s. rw e goes-nothing }
 
 -- A whole value.
 
@@ -204,12 +204,12 @@ mutual
 
 pub references-judged : {f : Frame} {start end : ℕ} {a r : Answer}
     → ReferencesIn f start (end - start) a r
-    → (semantics : ℕ) (tree : Schema) (binders : List Binder) (env : Environment) (v : Value)
-    → Stands f semantics tree binders env
+    → (setting : Setting) (tree : Schema) (binders : List Binder) (env : Environment) (v : Value)
+    → Stands f setting tree binders env
     → IsValue (f .rule) (f .words) start end v
-    → GoesOn (outcome (settingIn f semantics) tree) a (references binders v) r
-references-judged {f} {start} {end} p semantics tree binders env v s w =
+    → GoesOn (outcome setting tree) a (references binders v) r
+references-judged {f} {start} {end} p setting tree binders env v s w =
     let n : end - start ≡ sizeOfValue v = omega (arith, w .ends) in
     let e : saidIn (referenceSays binders) (f .rule) (f .words) (end - start) start ≡ references binders v =
     rw n (said-value (referenceSays binders) (f .rule) (f .words) start v (w .stands) ∙ references-said binders v) in
-    rw e at (p .goes semantics tree binders env s)
+    rw e at (p .goes setting tree binders env s)

@@ -8,7 +8,7 @@ use lib.ListN.{drop}
 use Rattle.sheet.specs.Entries.{ValueHead, constantHead, numberHead, stringHead, arrayHead, objectHead}
 use Rattle.sheet.specs.Parts.{partOf}
 use Rattle.definition.specs.Tree.{Text, Schema, Value, string}
-use Rattle.reference.specs.Setting.{Setting, settingOf}
+use Rattle.reference.specs.Setting.{Setting}
 use Rattle.reference.specs.Reference.{Environment}
 use Rattle.validation.specs.Check.{Binder, Question, settled, Check, entryOf, isString, isHolder, referenceText, referenceCheck, compareSide}
 use Rattle.validation.specs.Judge.{outcome, environment}
@@ -36,14 +36,11 @@ pub record Frame : Type 0 where
 abbrev pub frame : (schema rule words : List ℕ) → Scope → Over → Frame
 frame schema rule words scope over = record { schema = schema; rule = rule; words = words; scope = scope; over = over }
 
--- the semantics, the schema, and the quantifiers whose bodies hold what is judged, with what their binders stand for
-pub record Stands (f : Frame) (semantics : ℕ) (tree : Schema) (binders : List Binder) (env : Environment) : Type 0 where
-  pub scoped : ScopeAt (f .schema) (f .rule) (f .words) (f .scope) semantics tree env
+-- the setting, the schema, and the quantifiers whose bodies hold what is judged, with what their binders stand for
+pub record Stands (f : Frame) (setting : Setting) (tree : Schema) (binders : List Binder) (env : Environment) : Type 0 where
+  pub scoped : ScopeAt (f .schema) (f .rule) (f .words) (f .scope) setting tree env
   pub bound : environment tree binders ≡ some env
   pub held : overOf binders ≡ overBy (f .over)
-
-abbrev pub settingIn : Frame → ℕ → Setting
-settingIn f semantics = settingOf (f .scope .kind) semantics
 
 abbrev pub IsReference : Text → Bool → Type 0
 IsReference t true = referenceText t ≡ some (drop 1 t)
@@ -59,26 +56,26 @@ referenceSays binders e (objectHead count) = []
 -- the references of `n` words
 pub record ReferencesIn (f : Frame) (i n : ℕ) (a r : Answer) : Type 0 where
   pub atMost : r .passed ≤ a .passed + n
-  pub goes : (semantics : ℕ) (tree : Schema) (binders : List Binder) (env : Environment)
-      → Stands f semantics tree binders env
-      → GoesOn (outcome (settingIn f semantics) tree) a (saidIn (referenceSays binders) (f .rule) (f .words) n i) r
+  pub goes : (setting : Setting) (tree : Schema) (binders : List Binder) (env : Environment)
+      → Stands f setting tree binders env
+      → GoesOn (outcome setting tree) a (saidIn (referenceSays binders) (f .rule) (f .words) n i) r
 
 -- what a value from word `start` up to word `end` is asked
 pub record OperandJudged (f : Frame) (asked : List Binder → Value → List Check) (start end : ℕ) (a r : Answer) : Type 0 where
   pub atMost : r .passed ≤ a .passed + (end - start) + 1
-  pub goes : (semantics : ℕ) (tree : Schema) (binders : List Binder) (env : Environment) (v : Value)
-      → Stands f semantics tree binders env
+  pub goes : (setting : Setting) (tree : Schema) (binders : List Binder) (env : Environment) (v : Value)
+      → Stands f setting tree binders env
       → IsValue (f .rule) (f .words) start end v
-      → GoesOn (outcome (settingIn f semantics) tree) a (asked binders v) r
+      → GoesOn (outcome setting tree) a (asked binders v) r
 
 -- the same of two values, one behind the other
 pub record PairJudged (f : Frame) (first second : List Binder → Value → List Check) (start end : ℕ) (a r : Answer) : Type 0 where
   pub atMost : r .passed ≤ a .passed + (end - start) + 2
-  pub goes : (semantics : ℕ) (tree : Schema) (binders : List Binder) (env : Environment) (mid : ℕ) (left right : Value)
-      → Stands f semantics tree binders env
+  pub goes : (setting : Setting) (tree : Schema) (binders : List Binder) (env : Environment) (mid : ℕ) (left right : Value)
+      → Stands f setting tree binders env
       → IsValue (f .rule) (f .words) start mid left
       → IsValue (f .rule) (f .words) mid end right
-      → GoesOn (outcome (settingIn f semantics) tree) a (first binders left ++ second binders right) r
+      → GoesOn (outcome setting tree) a (first binders left ++ second binders right) r
 
 -- a value by what operands are asked
 abbrev pub FormIs : List ℕ → Form → Value → Type 0

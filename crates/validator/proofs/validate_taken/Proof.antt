@@ -30,6 +30,9 @@ refused-requires-3 c κs = search needs
 enum-known-read : tie.Need-enum-known-read
 enum-known-read c = search needs
 
+setting-of-requires : tie.Need-setting-of-requires
+setting-of-requires c κs = search needs
+
 answer-requires : tie.Need-answer-requires
 answer-requires c κs = search needs
 
@@ -52,7 +55,7 @@ same-length-4 : tie.Need-same-length-4
 same-length-4 c = search needs
 
 returns-4 : tie.Need-returns-4
-returns-4 c = meets-good _ _ _ _ _ _ _ _ (c .before .before .before .before .before .before .before .before .before .before .before .before .before .refused-settings .ensures) (c .before .before .before .before .before .before .before .before .before .before .before .before .if1 .left) (c .before .before .before .before .before .before .before .before .before .before .read-sheets .ensures) (c .before .before .before .before .before .before .read .given .1) (c .before .before .answer .ensures)
+returns-4 c = meets-good _ _ _ _ _ _ _ _ (c .before .before .before .before .before .before .before .before .before .before .before .before .before .before .refused-settings .ensures) (c .before .before .before .before .before .before .before .before .before .before .before .before .before .if1 .left) (c .before .before .before .before .before .before .before .before .before .before .before .read-sheets .ensures) (c .before .before .before .before .before .before .before .read .given .1) (c .before .before .before .before .before .setting-of .ensures) (c .before .before .answer .ensures)
 
 pub validate-taken-spec : {M : Type 1} → statement M
 validate-taken-spec =
@@ -67,6 +70,7 @@ validate-taken-spec =
     enum-told-2
     refused-requires-3
     enum-known-read
+    setting-of-requires
     answer-requires
     same-length
     returns-2

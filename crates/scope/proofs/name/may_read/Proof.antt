@@ -16,56 +16,20 @@ enum-told-3 c = search needs
 enum-told-4 : tie.Need-enum-told-4
 enum-told-4 c = search needs
 
-slice-aggregate-one-of : tie.Need-slice-aggregate-one-of
-slice-aggregate-one-of c = search needs
-
-one-of-requires : tie.Need-one-of-requires
-one-of-requires c κs = search needs
-
 enum-told-5 : tie.Need-enum-told-5
 enum-told-5 c = search needs
-
-slice-aggregate-one-of-2 : tie.Need-slice-aggregate-one-of-2
-slice-aggregate-one-of-2 c = search needs
-
-one-of-requires-2 : tie.Need-one-of-requires-2
-one-of-requires-2 c κs = search needs
 
 enum-told-6 : tie.Need-enum-told-6
 enum-told-6 c = search needs
 
-slice-aggregate-one-of-3 : tie.Need-slice-aggregate-one-of-3
-slice-aggregate-one-of-3 c = search needs
-
-one-of-requires-3 : tie.Need-one-of-requires-3
-one-of-requires-3 c κs = search needs
-
 enum-told-7 : tie.Need-enum-told-7
 enum-told-7 c = search needs
-
-slice-aggregate-one-of-4 : tie.Need-slice-aggregate-one-of-4
-slice-aggregate-one-of-4 c = search needs
-
-one-of-requires-4 : tie.Need-one-of-requires-4
-one-of-requires-4 c κs = search needs
 
 enum-told-8 : tie.Need-enum-told-8
 enum-told-8 c = search needs
 
-slice-aggregate-one-of-5 : tie.Need-slice-aggregate-one-of-5
-slice-aggregate-one-of-5 c = search needs
-
-one-of-requires-5 : tie.Need-one-of-requires-5
-one-of-requires-5 c κs = search needs
-
 enum-told-9 : tie.Need-enum-told-9
 enum-told-9 c = search needs
-
-slice-aggregate-one-of-6 : tie.Need-slice-aggregate-one-of-6
-slice-aggregate-one-of-6 c = search needs
-
-one-of-requires-6 : tie.Need-one-of-requires-6
-one-of-requires-6 c κs = search needs
 
 returns : tie.Need-returns
 returns c = search (read-id, needs)
@@ -102,23 +66,11 @@ may-read-spec =
     enum-told-2
     enum-told-3
     enum-told-4
-    slice-aggregate-one-of
-    one-of-requires
     enum-told-5
-    slice-aggregate-one-of-2
-    one-of-requires-2
     enum-told-6
-    slice-aggregate-one-of-3
-    one-of-requires-3
     enum-told-7
-    slice-aggregate-one-of-4
-    one-of-requires-4
     enum-told-8
-    slice-aggregate-one-of-5
-    one-of-requires-5
     enum-told-9
-    slice-aggregate-one-of-6
-    one-of-requires-6
     returns
     returns-2
     returns-3

@@ -3,9 +3,6 @@ use Rattle.validator.proofs.AnswerSteps.{answer-accepted, answer-defect
 use Rattle.validator.proofs.answer.answer.Statement.{statement}
 use Rattle.validator.proofs.answer.answer.Tie as tie
 
-wide-requires : tie.Need-wide-requires
-wide-requires c κs = search needs
-
 unbound-requires : tie.Need-unbound-requires
 unbound-requires c κs = search needs
 
@@ -25,13 +22,7 @@ accepted-requires : tie.Need-accepted-requires
 accepted-requires c κs = search needs
 
 returns : tie.Need-returns
-returns c = answer-accepted _ _ (c .before .before .before .before .before .before .wide .ensures) (c .before .before .before .before .before .unbound .ensures) (c .before .before .before .before .judge .ensures) (c .before .before .before .narrow .ensures) (c .before .enum-told .given .1) (c .accepted .ensures)
-
-wide-requires-2 : tie.Need-wide-requires-2
-wide-requires-2 c κs = search needs
-
-is-rule-kind-requires : tie.Need-is-rule-kind-requires
-is-rule-kind-requires c κs = search needs
+returns c = answer-accepted _ (c .before .before .before .before .before .unbound .ensures) (c .before .before .before .before .judge .ensures) (c .before .before .before .narrow .ensures) (c .before .enum-told .given .1) (c .accepted .ensures)
 
 find-requires : tie.Need-find-requires
 find-requires c κs = search needs
@@ -58,13 +49,12 @@ same-length : tie.Need-same-length
 same-length c = search needs
 
 returns-2 : tie.Need-returns-2
-returns-2 c = answer-defect _ _ (c .before .before .before .before .before .before .before .before .before .before .before .before .before .before .before .before .before .before .wide .ensures) (c .before .before .before .before .before .before .before .before .before .before .before .before .before .before .before .before .before .unbound .ensures) (c .before .before .before .before .before .before .before .before .before .before .before .before .before .before .before .before .judge .ensures) (c .before .before .before .before .before .before .before .before .before .before .before .before .before .before .before .narrow .ensures) (c .before .before .before .before .before .before .before .before .before .before .before .before .before .verdict .given .1) (c .before .before .before .before .before .before .before .before .before .before .before .wide2 .ensures) (c .before .before .before .before .before .before .before .before .before .before .is-rule-kind .ensures) (c .before .before .before .before .before .before .before .before .before .find .ensures) (c .before .before .before .before .before .before .before .before .narrow2 .ensures) (c .before .before .before .before .before .before .write-path .ensures) (c .before .before .before .family-in .ensures) (c .before .before .over-place .ensures) (c .before .narrow3 .ensures) (c .narrow4 .ensures)
+returns-2 c = answer-defect _ (c .before .before .before .before .before .before .before .before .before .before .before .before .before .before .before .unbound .ensures) (c .before .before .before .before .before .before .before .before .before .before .before .before .before .before .judge .ensures) (c .before .before .before .before .before .before .before .before .before .before .before .before .before .narrow .ensures) (c .before .before .before .before .before .before .before .before .before .before .before .verdict .given .1) (c .before .before .before .before .before .before .before .before .before .find .ensures) (c .before .before .before .before .before .before .before .before .narrow2 .ensures) (c .before .before .before .before .before .before .write-path .ensures) (c .before .before .before .family-in .ensures) (c .before .before .over-place .ensures) (c .before .narrow3 .ensures) (c .narrow4 .ensures)
 
 pub answer-spec : {M : Type 1} → statement M
 answer-spec =
     tie.close
     (tie.spec
-    wide-requires
     unbound-requires
     judge-requires
     narrow-requires
@@ -72,7 +62,6 @@ answer-spec =
     enum-told
     accepted-requires
     returns
-    wide-requires-2 is-rule-kind-requires
     find-requires
     narrow-requires-2
     write-path-requires
