@@ -9,4 +9,6 @@ pub mod CountLaws
 pub mod Growth
 pub mod DemandLaws
 pub mod Demands
+pub mod Service
+pub mod ServiceLaws
 pub mod Computing
