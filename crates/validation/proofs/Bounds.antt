@@ -2,13 +2,15 @@
 -- defects that Edges.antt does not show, with their families.
 use Prim.Native.Nat.{ℕ}
 use native.Mathlib.Omega.{arith}
+use mathlib.Core.Bool.{false≢true}
 use mathlib.Core.List.{List, [], _∷_}
 use mathlib.Core.Path.{_≡_, refl}
 use Rattle.sheet.specs.Ascii.{ascii}
 use Rattle.definition.specs.Tree.{Text}
+use Rattle.reference.specs.Setting.{oneOf}
 use Rattle.validation.specs.Check.{IsDefect}
-use Rattle.validation.specs.Result.{Call, any, Numbers, refused, Heard, refusal}
-use Rattle.validation.proofs.Calls.{ask, heard, accepts, finds}
+use Rattle.validation.specs.Result.{Call, Numbers, refused, refusalNumbers, Heard, refusal}
+use Rattle.validation.proofs.Calls.{lending, ask, heard, accepts, finds}
 use Rattle.validation.proofs.Edges.{empty, bars, times}
 
 -- a rule that is always met
@@ -16,18 +18,8 @@ unfoldable pub met : List ℕ
 met = ascii "R,-,-,\nC,1,1,\n"
 
 -- a call that checks it, with a label and with buffers of these lengths
-unfoldable pub lend : (label : List ℕ) (pathLength scratchLength : ℕ) → Call
-lend label pathLength scratchLength =
-    record {
-      takes = any;
-      kind = 1;
-      semantics = 2;
-      label = label;
-      schema = empty;
-      rule = met;
-      pathLength = pathLength;
-      scratchLength = scratchLength;
-    }
+unfoldable pub lend : (label : List ℕ) (path scratch : ℕ) → Call
+lend label path scratch = lending label path scratch 1 2 empty met
 
 unfoldable pub label : (length : ℕ) → List ℕ
 label length = times length (ascii "r") []
@@ -78,13 +70,15 @@ pub record Bounds : Type 0 where
   pub no-refusal-6 : Heard (refused 6) → ⊥
 
 no-refusal-above : Heard (refused 6) → ⊥
-no-refusal-above (refusal p q) = omega (arith, q)
+unfolding refusalNumbers oneOf
+no-refusal-above (refusal p) = false≢true (p .listed)
 
 no-refusal-below : Heard (refused 0) → ⊥
-no-refusal-below (refusal p q) = omega (arith, p)
+unfolding refusalNumbers oneOf
+no-refusal-below (refusal p) = false≢true (p .listed)
 
 pub bounds : Bounds
-unfolding heard empty bars times met lend label refuses
+unfolding heard empty bars times met lend label refuses refusalNumbers
 bounds =
     record {
       kind-0 = refl;
@@ -116,8 +110,8 @@ bounds =
       defect-22 = record { low = omega arith; high = omega arith };
       no-defect-10 = λ d. omega (arith, d .low);
       no-defect-23 = λ d. omega (arith, d .high);
-      refusal-1 = refusal {n = 1} (omega arith) (omega arith);
-      refusal-5 = refusal {n = 5} (omega arith) (omega arith);
+      refusal-1 = refusal {n = 1} (record { listed = refl });
+      refusal-5 = refusal {n = 5} (record { listed = refl });
       no-refusal-0 = no-refusal-below;
       no-refusal-6 = no-refusal-above;
     }

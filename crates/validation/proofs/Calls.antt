@@ -6,19 +6,19 @@ use Rattle.definition.specs.Tree.{Text}
 use Rattle.validation.specs.Result.{Call, any, Answer, refused, accepted, defect, Numbers, numbersOf, resultOf}
 use Rattle.validation.specs.Computing.{computing}
 
+-- a call with that label and with buffers of these lengths, which takes rules and templates
+unfoldable pub lending : (label : List ℕ) (path scratch : ℕ) (kind semantics : ℕ) (schema rule : List ℕ) → Call
+lending label path scratch kind semantics schema rule =
+    record {
+      asked = record { takes = any; kind = kind; semantics = semantics; label = label; rule = rule };
+      schema = schema;
+      lent = record { path = path; scratch = scratch };
+    }
+
 -- a call with the label `r` and buffers of the least lengths
 unfoldable pub ask : (kind semantics : ℕ) (schema rule : List ℕ) → Call
-ask kind semantics schema rule =
-    record {
-      takes = any;
-      kind = kind;
-      semantics = semantics;
-      label = ascii "r";
-      schema = schema;
-      rule = rule;
-      pathLength = 32768;
-      scratchLength = 8192;
-    }
+unfolding lending
+ask kind semantics schema rule = lending (ascii "r") 32768 8192 kind semantics schema rule
 
 -- the seven numbers, and the path
 unfoldable pub heardOf : Answer → Numbers × Text

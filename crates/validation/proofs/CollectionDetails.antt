@@ -60,7 +60,7 @@ result-explained : (c : Call) → ExplainedAnswer (resultOf c)
 unfolding resultOf
 result-explained c =
     or-explained (firstRefusal (refusals c)) _
-    (judged-explained (settingFor c) (c .label) (decodeSchema (c .schema)) (decodeRule (c .rule)))
+    (judged-explained (settingFor c) (c .asked .label) (decodeSchema (c .schema)) (decodeRule (c .asked .rule)))
 
 pub collection-detail : (c : Call) (d : Defect) → resultOf c ≡ defect d → d .number ≡ 22 → Listed (d .detail)
 collection-detail c d e = rw e at (result-explained c)

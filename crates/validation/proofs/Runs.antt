@@ -3,54 +3,46 @@ use Prim.Native.Nat.{ℕ}
 use mathlib.Core.List.{List}
 use mathlib.Core.Path.{_≡_, refl, ap, sym}
 use lib.ListN.{replicate, length-replicate}
-use Rattle.validation.specs.Result.{Call, Unrefused, Numbers, numbersOf, resultOf, pathAfter, Run, callOf, Meets}
+use Rattle.validation.specs.Result.{Call, Unrefused, Numbers, numbersOf, resultOf, pathAfter, Run, lentOf, callOf, Meets}
 
 -- with that result, and that path buffer after the call
 unfoldable pub runWith : Numbers → (path : List ℕ) → Call → Run
 runWith result path c =
     record {
-      takes = c .takes;
-      kind = c .kind;
-      semantics = c .semantics;
-      label = c .label;
+      asked = c .asked;
       schema = c .schema;
-      rule = c .rule;
-      pathBefore = replicate (c .pathLength) 0;
-      scratchBefore = replicate (c .scratchLength) 0;
+      pathBefore = replicate (c .lent .path) 0;
+      scratchBefore = replicate (c .lent .scratch) 0;
       result = result;
       path = path;
-      scratch = replicate (c .scratchLength) 0;
+      scratch = replicate (c .lent .scratch) 0;
     }
 
 pub call-of-run : (result : Numbers) (path : List ℕ) (c : Call) → callOf (runWith result path c) ≡ c
-unfolding callOf runWith
+unfolding callOf lentOf runWith
 call-of-run result path c = λ i.
     record {
-      takes = c .takes;
-      kind = c .kind;
-      semantics = c .semantics;
-      label = c .label;
+      asked = c .asked;
       schema = c .schema;
-      rule = c .rule;
-      pathLength = length-replicate {A = ℕ} (c .pathLength) 0 i;
-      scratchLength = length-replicate {A = ℕ} (c .scratchLength) 0 i;
+      lent =
+          record { path = length-replicate {A = ℕ} (c .lent .path) 0 i; scratch = length-replicate {A = ℕ} (c .lent .scratch) 0 i };
     }
 
 -- the run that gives what the definitions say
 unfoldable pub runOf : Call → Run
 unfolding runWith
-runOf c = runWith (numbersOf (resultOf c)) (pathAfter (resultOf c) (replicate (c .pathLength) 0)) c
+runOf c = runWith (numbersOf (resultOf c)) (pathAfter (resultOf c) (replicate (c .lent .path) 0)) c
 
 pub run-meets : (c : Call) → Meets (runOf c)
 unfolding runOf
 run-meets c =
-    let same : c ≡ callOf (runOf c) = sym (call-of-run (numbersOf (resultOf c)) (pathAfter (resultOf c) (replicate (c .pathLength) 0)) c) in
+    let same : c ≡ callOf (runOf c) = sym (call-of-run (numbersOf (resultOf c)) (pathAfter (resultOf c) (replicate (c .lent .path) 0)) c) in
     record {
       result = ap (λ (d : Call). numbersOf (resultOf d)) same;
-      path = ap (λ (d : Call). pathAfter (resultOf d) (replicate (c .pathLength) 0)) same;
+      path = ap (λ (d : Call). pathAfter (resultOf d) (replicate (c .lent .path) 0)) same;
       scratch = record { size = refl; kept = refl };
     }
 
 pub run-unrefused : (c : Call) → Unrefused c → Unrefused (callOf (runOf c))
 unfolding runOf
-run-unrefused c n = rw (call-of-run (numbersOf (resultOf c)) (pathAfter (resultOf c) (replicate (c .pathLength) 0)) c) n
+run-unrefused c n = rw (call-of-run (numbersOf (resultOf c)) (pathAfter (resultOf c) (replicate (c .lent .path) 0)) c) n

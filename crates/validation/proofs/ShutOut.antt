@@ -14,7 +14,9 @@ use Rattle.definition.specs.Decode.{decodeSchema, decodeRule}
 use Rattle.reference.specs.Setting.{Setting}
 use Rattle.validation.specs.Check.{isNone}
 use Rattle.validation.specs.Judge.{Verdict, allPass, failsAt}
-use Rattle.validation.specs.Result.{Takes, any, rules, templates, Call, Answer, refused, Heard, refusal, acceptance, finding, answerOf, isTaken, Refusal, refusals, firstRefusal, checked, judged, refusedOr, settingFor, resultOf, Numbers, numbersOf, Run, callOf, Meets}
+use Rattle.validation.specs.Result.{Takes, any, rules, templates, Call, Answer, refused, isOfSheets, Heard, refusal, acceptance, finding, answerOf, isTaken, Refusal, ofSheets, refusals, firstRefusal, checked, judged, refusedOr, settingFor, resultOf, Numbers, numbersOf, Run, callOf, Meets}
+use Rattle.validation.specs.RefusalLaws.{asking, sheet-refused}
+use Rattle.validation.specs.Growth.{against}
 use Rattle.validation.specs.DemandLaws.{heard}
 use Rattle.validation.specs.Computing.{computing}
 use Rattle.validation.proofs.Calls.{ask}
@@ -34,7 +36,7 @@ unfolding runWith
 breaks p c h =
     record {
       call = c;
-      run = (runWith (p c) (replicate (c .pathLength) 0) c, call-of-run (p c) (replicate (c .pathLength) 0) c, refl);
+      run = (runWith (p c) (replicate (c .lent .path) 0) c, call-of-run (p c) (replicate (c .lent .path) 0) c, refl);
       broken = λ r same its m. h (sym its ∙ m .result ∙ ap (λ (c : Call). numbersOf (resultOf c)) same);
     }
 
@@ -98,35 +100,19 @@ constant-passed p n h = go (eqb n 9) refl
 -- 4 or 5 before the sheet is read: an answer that stays the same whatever the sheet is
 
 unfoldable pub withSchema : Call → List ℕ → Call
-withSchema c sheet =
-    record {
-      takes = c .takes;
-      kind = c .kind;
-      semantics = c .semantics;
-      label = c .label;
-      schema = sheet;
-      rule = c .rule;
-      pathLength = c .pathLength;
-      scratchLength = c .scratchLength;
-    }
+unfolding against
+withSchema c sheet = against c sheet (c .lent)
 
 unfoldable pub withRule : Call → List ℕ → Call
+unfolding asking
 withRule c sheet =
-    record {
-      takes = c .takes;
-      kind = c .kind;
-      semantics = c .semantics;
-      label = c .label;
-      schema = c .schema;
-      rule = sheet;
-      pathLength = c .pathLength;
-      scratchLength = c .scratchLength;
-    }
+    asking c
+    (record { takes = c .asked .takes; kind = c .asked .kind; semantics = c .asked .semantics; label = c .asked .label; rule = sheet })
 
 -- a refusal's number is heard of that refusal only
 refusal-heard : {a : Answer} (n : ℕ) → Heard a → 4 ≤ n → n ≤ 5 → numbersOf a .number ≡ n → a ≡ refused n
 unfolding numbersOf
-refusal-heard n (refusal p q) low high e = ap refused e
+refusal-heard n (refusal p) low high e = ap refused e
 refusal-heard n acceptance low high e = absurd (omega arith)
 refusal-heard n (finding d) low high e = absurd (omega (arith, d .low))
 
@@ -171,25 +157,21 @@ not-due k (r ∷ rs) h e = not-first k (r .number) (r .isDue) (firstRefusal rs) 
 
 first-4 : (c : Call) (s : Schema) → decodeSchema (c .schema) ≡ some s → resultOf c ≡ refused 4 → firstRefusal (refusals c) ≡ some 4
 unfolding resultOf
-first-4 c s d e = due-4 (settingFor c) (c .label) s (decodeRule (c .rule)) (firstRefusal (refusals c)) (rw d at e)
+first-4 c s d e = due-4 (settingFor c) (c .asked .label) s (decodeRule (c .asked .rule)) (firstRefusal (refusals c)) (rw d at e)
 
 never-4 : (c : Call) (s : Schema) → decodeSchema (c .schema) ≡ some s → resultOf c ≡ refused 4 → ⊥
-unfolding refusals isNone
+unfolding ofSheets isNone isOfSheets
 never-4 c s d e =
-    not-due 4 (refusals c)
-    (λ h. absurd (omega arith), (λ h. absurd (omega arith), (λ h. absurd (omega arith), (λ h. rw d refl, (λ h. absurd (omega arith), tt)))))
-    (first-4 c s d e)
+    not-due 4 (ofSheets c) (λ h. rw d refl, (λ h. absurd (omega arith), tt)) (sheet-refused c 4 refl (first-4 c s d e))
 
-first-5 : (c : Call) (r : Rule) → decodeRule (c .rule) ≡ some r → resultOf c ≡ refused 5 → firstRefusal (refusals c) ≡ some 5
+first-5 : (c : Call) (r : Rule) → decodeRule (c .asked .rule) ≡ some r → resultOf c ≡ refused 5 → firstRefusal (refusals c) ≡ some 5
 unfolding resultOf
-first-5 c r d e = due-5 (settingFor c) (c .label) (decodeSchema (c .schema)) r (firstRefusal (refusals c)) (rw d at e)
+first-5 c r d e = due-5 (settingFor c) (c .asked .label) (decodeSchema (c .schema)) r (firstRefusal (refusals c)) (rw d at e)
 
-never-5 : (c : Call) (r : Rule) → decodeRule (c .rule) ≡ some r → isTaken (c .takes) (some r) ≡ true → resultOf c ≡ refused 5 → ⊥
-unfolding refusals
+never-5 : (c : Call) (r : Rule) → decodeRule (c .asked .rule) ≡ some r → isTaken (c .asked .takes) (some r) ≡ true → resultOf c ≡ refused 5 → ⊥
+unfolding ofSheets isOfSheets
 never-5 c r d t e =
-    not-due 5 (refusals c)
-    (λ h. absurd (omega arith), (λ h. absurd (omega arith), (λ h. absurd (omega arith), (λ h. absurd (omega arith), (λ h. rw (d, t) refl, tt)))))
-    (first-5 c r d e)
+    not-due 5 (ofSheets c) (λ h. absurd (omega arith), (λ h. rw (d, t) refl, tt)) (sheet-refused c 5 refl (first-5 c r d e))
 
 heard-refusal : (p : Program) (c : Call) (n : ℕ)
     → 4 ≤ n
@@ -233,6 +215,6 @@ sheet-taken templates = (_, template-decodes, refl)
 pub unread-5 : (p : Program) (c : Call) → ((sheet : List ℕ) → p (withRule c sheet) .number ≡ 5) → Breaks p
 unfolding withRule
 unread-5 p c h =
-    let c′ : Call = withRule c (sheetFor (c .takes)) in
-    let taken : (r : Rule) × (decodeRule (sheetFor (c .takes)) ≡ some r) × (isTaken (c .takes) (some r) ≡ true) = sheet-taken (c .takes) in
-    heard-refusal p c′ 5 (omega arith) (omega arith) (h (sheetFor (c .takes))) (never-5 c′ (taken .0) (taken .1) (taken .2))
+    let c′ : Call = withRule c (sheetFor (c .asked .takes)) in
+    let taken : (r : Rule) × (decodeRule (sheetFor (c .asked .takes)) ≡ some r) × (isTaken (c .asked .takes) (some r) ≡ true) = sheet-taken (c .asked .takes) in
+    heard-refusal p c′ 5 (omega arith) (omega arith) (h (sheetFor (c .asked .takes))) (never-5 c′ (taken .0) (taken .1) (taken .2))

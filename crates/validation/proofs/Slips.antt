@@ -18,8 +18,8 @@ use Rattle.validation.proofs.Runs.{runOf}
 -- a call, and the same against another schema that is no widening, and to which the demand does not extend
 pub record Slips (c : Call) (schema′ : List ℕ) (passed : ℕ) (second : Numbers × Text) : Type 0 where
   pub before : heard c ≡ accepts passed
-  pub after : heard (against c schema′ 32768 8192) ≡ second
-  pub noDemand : (l : Level) → Demand3 l (runOf c) (runOf (against c schema′ 32768 8192)) → ⊥
+  pub after : heard (against c schema′ (c .lent)) ≡ second
+  pub noDemand : (l : Level) → Demand3 l (runOf c) (runOf (against c schema′ (c .lent))) → ⊥
   pub noWidening : (l : Level) → Widens l (c .schema) schema′ → ⊥
 
 no-demand : {l : Level} (c c′ : Call) (k : ℕ)

@@ -7,39 +7,43 @@ use Rattle.sheet.specs.Ascii.{ascii}
 use Rattle.definition.specs.Tree.{Text, Schema}
 use Rattle.definition.specs.Decode.{decodeSchema}
 use Rattle.widening.specs.Widening.{Level, marks, anything, kept, opened, closed, wider, neither, both, end, keep, more, without, appear, stay, WiderSchema}
-use Rattle.validation.specs.Result.{Call, Unrefused, Numbers}
+use Rattle.validation.specs.Result.{Lent, Call, Unrefused, Numbers}
 use Rattle.validation.specs.Growth.{against, Widens}
 use Rattle.validation.specs.Demands.{Demand3, demand-3}
 use Rattle.validation.proofs.Calls.{ask, heard, accepts, finds}
 use Rattle.validation.proofs.Runs.{runOf, run-meets, run-unrefused}
 
+-- more than has to be lent
+unfoldable pub roomy : Lent
+roomy = record { path = 40000; scratch = 9000 }
+
 -- a call, and the same with other buffers against a widening of its schema: what is heard of the two, and the demand on them
 pub record Shows (l : Level) (c : Call) (schema′ : List ℕ) (first second : Numbers × Text) : Type 0 where
   pub widens : Widens l (c .schema) schema′
   pub before : heard c ≡ first
-  pub after : heard (against c schema′ 40000 9000) ≡ second
-  pub demand : Demand3 l (runOf c) (runOf (against c schema′ 40000 9000))
+  pub after : heard (against c schema′ roomy) ≡ second
+  pub demand : Demand3 l (runOf c) (runOf (against c schema′ roomy))
 
 shows : {l : Level} {c : Call} {schema′ : List ℕ} {first second : Numbers × Text} (s s′ : Schema)
     → decodeSchema (c .schema) ≡ some s
     → decodeSchema schema′ ≡ some s′
     → WiderSchema l s s′
     → heard c ≡ first
-    → heard (against c schema′ 40000 9000) ≡ second
+    → heard (against c schema′ roomy) ≡ second
     → Unrefused c
-    → Unrefused (against c schema′ 40000 9000)
+    → Unrefused (against c schema′ roomy)
     → Shows l c schema′ first second
 unfolding runOf against
 shows {l} {c} {schema′} s s′ e e′ w before after n n′ =
     let widens : Widens l (c .schema) schema′ = record { first = s; second = s′; decodesFirst = e; decodesSecond = e′; isWider = w } in
-    let c′ = against c schema′ 40000 9000 in
+    let c′ = against c schema′ roomy in
     record {
       widens = widens;
       before = before;
       after = after;
       demand =
           demand-3 (runOf c) (runOf c′) (run-meets c) (run-meets c′)
-          (record { takes = refl; kind = refl; semantics = refl; label = refl; rule = refl })
+          (record { asked = refl })
           widens
           (run-unrefused c n)
           (run-unrefused c′ n′);
@@ -55,7 +59,7 @@ pub mark : Shows marks
     (ascii "H,0,1,-,0\nF,7,1,0,0,1,-,o\n")
     (lacks 3)
     (accepts 5)
-unfolding heard lacks
+unfolding heard lacks roomy
 mark =
     shows _ _ refl refl (record { fields = record { mark = kept; members = keep (wider opened neither end) end }; arguments = without }) refl refl refl refl
 
@@ -65,7 +69,7 @@ pub other-mark : Shows marks
     (ascii "H,1,1,-,0\nF,7,0,0,0,1,-,o\n")
     (lacks 3)
     (lacks 3)
-unfolding heard lacks
+unfolding heard lacks roomy
 other-mark =
     shows _ _ refl refl (record { fields = record { mark = opened; members = keep (wider kept neither end) end }; arguments = without }) refl refl refl refl
 
@@ -75,7 +79,7 @@ pub subtree : Shows anything
     (ascii "H,0,1,-,0\nF,7,0,0,1,1,-,o\nF,2,0,0,0,1,-,x\n")
     (lacks 2)
     (accepts 5)
-unfolding heard lacks
+unfolding heard lacks roomy
 subtree =
     shows _ _ refl refl (record { fields = record { mark = kept; members = more closed end }; arguments = without }) refl refl refl refl
 
@@ -85,7 +89,7 @@ pub in-element : Shows anything
     (ascii "H,0,1,-,0\nF,6,0,1,0,1,-,a\nF,7,0,0,1,0,-,\nF,2,0,0,0,1,-,x\n")
     (lacks 3)
     (accepts 5)
-unfolding heard lacks
+unfolding heard lacks roomy
 in-element =
     shows _ _ refl refl (record { fields = record { mark = kept; members = keep (wider kept (both (wider kept neither (more closed end))) end) end }; arguments = without }) refl refl refl refl
 
@@ -95,7 +99,7 @@ pub in-arguments : Shows anything
     (ascii "H,0,0,0,1\nF,7,0,0,1,1,-,o\nF,2,0,0,0,1,-,x\n")
     (lacks 3)
     (accepts 5)
-unfolding heard lacks
+unfolding heard lacks roomy
 in-arguments =
     shows _ _ refl refl (record { fields = record { mark = kept; members = end }; arguments = stay (record { mark = kept; members = keep (wider kept neither (more closed end)) end }) }) refl refl refl refl
 
@@ -105,7 +109,7 @@ pub arguments : Shows anything
     (ascii "H,0,0,0,0\n")
     (lacks 11)
     (lacks 2)
-unfolding heard lacks
+unfolding heard lacks roomy
 arguments =
     shows _ _ refl refl (record { fields = record { mark = kept; members = end }; arguments = appear }) refl refl refl refl
 
@@ -115,7 +119,7 @@ pub mark-and-fields : Shows anything
     (ascii "H,1,2,-,0\nF,2,0,0,0,1,-,n\nF,7,1,0,1,1,-,o\nF,2,0,0,0,1,-,x\n")
     (finds 18 1 3 3 0 4 14 (ascii "r.assert.eq[0]"))
     (finds 18 1 10 4 0 5 14 (ascii "r.assert.eq[1]"))
-unfolding heard lacks
+unfolding heard lacks roomy
 mark-and-fields =
     shows _ _ refl refl (record { fields = record { mark = opened; members = more closed (keep (wider opened neither (more closed end)) end) }; arguments = without }) refl refl refl refl
 
@@ -125,7 +129,7 @@ pub any-kind : Shows anything
     (ascii "H,0,1,-,0\nF,1,0,0,1,1,-,s\nF,2,0,0,0,1,-,x\n")
     (lacks 10)
     (lacks 10)
-unfolding heard lacks
+unfolding heard lacks roomy
 any-kind =
     shows _ _ refl refl (record { fields = record { mark = kept; members = keep (wider kept neither (more closed end)) end }; arguments = without }) refl refl refl refl
 
@@ -135,6 +139,6 @@ pub accepted : Shows anything
     (ascii "H,0,1,-,0\nF,1,0,0,1,1,-,s\nF,2,0,0,0,1,-,x\n")
     (accepts 5)
     (accepts 5)
-unfolding heard lacks
+unfolding heard lacks roomy
 accepted =
     shows _ _ refl refl (record { fields = record { mark = kept; members = keep (wider kept neither (more closed end)) end }; arguments = without }) refl refl refl refl

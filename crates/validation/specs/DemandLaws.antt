@@ -1,14 +1,14 @@
 -- The laws that the demands cite.
 use Prim.Native.Nat.{ℕ, _≤_, _<_}
 use native.Mathlib.Omega.{arith}
-use mathlib.Core.Bool.{Bool, true, false, not, cond}
-use mathlib.Core.List.{List, [], _∷_}
+use mathlib.Core.Bool.{false, not}
+use mathlib.Core.List.{List}
 use mathlib.Core.Option.{Option, none, some}
 use mathlib.Core.Path.{_≡_, refl, ap, sym, _∙_}
 use Rattle.definition.specs.Tree.{Text, Schema, Rule}
 use Rattle.definition.specs.Decode.{decodeSchema, decodeRule}
 use Rattle.definition.specs.RoundTrip.{schema-round-trip}
-use Rattle.reference.specs.Setting.{Setting}
+use Rattle.reference.specs.Setting.{Setting, oneOf}
 use Rattle.widening.specs.Widening.{Level, marks}
 use Rattle.widening.specs.Distinct.{DistinctSchema}
 use Rattle.widening.specs.DistinctLaws.{schema-distinct}
@@ -19,7 +19,8 @@ use Rattle.validation.specs.Judge.{Verdict, allPass, failsAt}
 use Rattle.validation.specs.CheckLaws.{every-check, sure-checks}
 use Rattle.validation.specs.CountLaws.{VerdictIs, every-judged}
 use Rattle.validation.specs.WideningLaws.{VerdictFares, stillAccepted, sameDefect, later, passedOf, judge-fares}
-use Rattle.validation.specs.Result.{Takes, Call, Defect, Answer, refused, accepted, defect, Heard, refusal, acceptance, finding, answerOf, isTaken, Refusal, refusals, firstRefusal, Unrefused, settingFor, checked, judged, refusedOr, resultOf, numbersOf, pathAfter, Run, callOf, Meets}
+use Rattle.validation.specs.Result.{Takes, Lent, Call, Defect, Answer, refused, accepted, defect, refusalNumbers, IsRefusal, Heard, refusal, acceptance, finding, answerOf, isTaken, ofSheets, refusals, firstRefusal, Unrefused, settingFor, checked, judged, refusedOr, resultOf, numbersOf, pathAfter, Run, callOf, Meets}
+use Rattle.validation.specs.RefusalLaws.{none-due, none-of-either, refusal-listed, refusal-some, refusal-no-defect}
 use Rattle.validation.specs.Growth.{against, Widens, Writes, SameFinding}
 
 -- acceptance or a defect
@@ -83,19 +84,19 @@ sheets-fare setting label g (some n) refusal′ r h h′ = absurd h
 distinct-names : (sheet : List ℕ) (s : Schema) → decodeSchema sheet ≡ some s → DistinctSchema s
 distinct-names sheet s e = schema-distinct s (schema-round-trip sheet s .0 e .1 .rises)
 
-calls-fare : {l : Level} (c : Call) (schema′ : List ℕ) (pathLength′ scratchLength′ : ℕ)
+calls-fare : {l : Level} (c : Call) (schema′ : List ℕ) (lent′ : Lent)
     → Widens l (c .schema) schema′
     → NotRefused (resultOf c)
-    → NotRefused (resultOf (against c schema′ pathLength′ scratchLength′))
-    → Fared l (resultOf c) (resultOf (against c schema′ pathLength′ scratchLength′))
+    → NotRefused (resultOf (against c schema′ lent′))
+    → Fared l (resultOf c) (resultOf (against c schema′ lent′))
 unfolding resultOf against
-calls-fare c schema′ p q w =
+calls-fare c schema′ lent′ w =
     rw (w .decodesFirst, w .decodesSecond)
-    (sheets-fare (settingFor c) (c .label)
+    (sheets-fare (settingFor c) (c .asked .label)
     (record { isWider = w .isWider; isDistinct = distinct-names schema′ (w .second) (w .decodesSecond) })
     (firstRefusal (refusals c))
-    (firstRefusal (refusals (against c schema′ p q)))
-    (decodeRule (c .rule)))
+    (firstRefusal (refusals (against c schema′ lent′)))
+    (decodeRule (c .asked .rule)))
 
 accepts-still : {l : Level} {a a′ : Answer} → Fared l a a′ → (n : ℕ) → a ≡ accepted n → a′ ≡ accepted n
 accepts-still bothAccept n e = e
@@ -136,37 +137,20 @@ pub record AnswersFare (l : Level) (a a′ : Answer) : Type 0 where
   pub repeats : (d : Defect) → a ≡ defect d → passed a′ ≡ d .passed → (d′ : Defect) × (a′ ≡ defect d′) × SameDefect d d′
   pub explains : l ≡ marks → (d d′ : Defect) → a ≡ defect d → a′ ≡ defect d′ → d′ .passed ≡ d .passed → d′ .detail ≡ d .detail
 
-pub results-fare : {l : Level} (c : Call) (schema′ : List ℕ) (pathLength′ scratchLength′ : ℕ)
+pub results-fare : {l : Level} (c : Call) (schema′ : List ℕ) (lent′ : Lent)
     → Widens l (c .schema) schema′
     → NotRefused (resultOf c)
-    → NotRefused (resultOf (against c schema′ pathLength′ scratchLength′))
-    → AnswersFare l (resultOf c) (resultOf (against c schema′ pathLength′ scratchLength′))
-results-fare c schema′ p q w n n′ =
+    → NotRefused (resultOf (against c schema′ lent′))
+    → AnswersFare l (resultOf c) (resultOf (against c schema′ lent′))
+results-fare c schema′ lent′ w n n′ =
     record {
-      accepts = accepts-still (calls-fare c schema′ p q w n n′);
-      passes = passes-as-many (calls-fare c schema′ p q w n n′);
-      repeats = fails-alike (calls-fare c schema′ p q w n n′);
-      explains = explains-alike (calls-fare c schema′ p q w n n′);
+      accepts = accepts-still (calls-fare c schema′ lent′ w n n′);
+      passes = passes-as-many (calls-fare c schema′ lent′ w n n′);
+      repeats = fails-alike (calls-fare c schema′ lent′ w n n′);
+      explains = explains-alike (calls-fare c schema′ lent′ w n n′);
     }
 
 -- Whatever is asked, the caller hears one of the answers that it may hear
-
-data Due : Option ℕ → Type 0 where
-  notDue : Due none
-  due : {n : ℕ} → 1 ≤ n → n ≤ 5 → Due (some n)
-
-abbrev Numbered : List Refusal → Type 0
-Numbered [] = Unit {0}
-Numbered (r ∷ rs) = (1 ≤ r .number) × (r .number ≤ 5) × Numbered rs
-
-due-if : {x y : Option ℕ} (b : Bool) → Due x → Due y → Due (cond b x y)
-due-if true p q = p
-due-if false p q = q
-
-first-due : (rs : List Refusal) → Numbered rs → Due (firstRefusal rs)
-unfolding firstRefusal
-first-due [] h = notDue
-first-due (r ∷ rs) h = due-if (r .isDue) (due (h .0) (h .1)) (first-due rs (h .2))
 
 abbrev Found : Check → Type 0
 Found c = IsDefect (c .number)
@@ -181,39 +165,24 @@ unfolding check
 found n p bs q d = d
 
 heard-judged : (setting : Setting) (label : Text) (s : Option Schema) (r : Option Rule) → Heard (judged setting label s r)
-unfolding judged checked
-heard-judged setting label none r = refusal {n = 4} (omega arith) (omega arith)
-heard-judged setting label (some s) none = refusal {n = 5} (omega arith) (omega arith)
+unfolding judged checked refusalNumbers oneOf
+heard-judged setting label none r = refusal {n = 4} (record { listed = refl })
+heard-judged setting label (some s) none = refusal {n = 5} (record { listed = refl })
 heard-judged setting label (some s) (some r) =
     heard-answer setting label r _ (every-judged Found setting s (checks setting r) (every-check Found found setting r))
 
-heard-or : {x : Option ℕ} {a : Answer} → Due x → Heard a → Heard (refusedOr x a)
+heard-or : {a : Answer} (o : Option ℕ) → ((n : ℕ) → o ≡ some n → IsRefusal n) → Heard a → Heard (refusedOr o a)
 unfolding refusedOr
-heard-or notDue h = h
-heard-or (due p q) h = refusal p q
+heard-or none listed h = h
+heard-or (some n) listed h = refusal (listed n refl)
 
 pub heard : (c : Call) → Heard (resultOf c)
-unfolding resultOf refusals
+unfolding resultOf
 heard c =
-    heard-or (first-due (refusals c) (omega arith))
-    (heard-judged (settingFor c) (c .label) (decodeSchema (c .schema)) (decodeRule (c .rule)))
+    heard-or (firstRefusal (refusals c)) (refusal-listed c)
+    (heard-judged (settingFor c) (c .asked .label) (decodeSchema (c .schema)) (decodeRule (c .asked .rule)))
 
 -- A call of which no refusal is due
-
-abbrev NoneDue : List Refusal → Type 0
-NoneDue [] = Unit {0}
-NoneDue (r ∷ rs) = (r .isDue ≡ false) × NoneDue rs
-
-not-first : (b : Bool) (n : ℕ) (o : Option ℕ) → cond b (some n) o ≡ none → (b ≡ false) × (o ≡ none)
-not-first true n o e = let z : _≡_ {A = ℕ} 0 1 = cc in absurd (omega arith)
-not-first false n o e = (refl, e)
-
-none-due : (rs : List Refusal) → firstRefusal rs ≡ none → NoneDue rs
-unfolding firstRefusal
-none-due [] e = tt
-none-due (r ∷ rs) e =
-    let (first, others) = not-first (r .isDue) (r .number) (firstRefusal rs) e in
-    (first, none-due rs others)
 
 unrefused-verdict : (setting : Setting) (label : Text) (r : Rule) (v : Verdict) → NotRefused (answerOf setting label r v)
 unfolding answerOf
@@ -231,18 +200,19 @@ unrefused-sheets setting label takes (some s) (some r) e e′ = unrefused-verdic
 
 -- it ends in acceptance or a defect
 pub unrefused-answer : (c : Call) → Unrefused c → NotRefused (resultOf c)
-unfolding resultOf refusals refusedOr
+unfolding resultOf ofSheets refusedOr
 unrefused-answer c n =
-    let sheets = none-due (refusals c) n .1 .1 .1 in
+    let sheets = none-due (ofSheets c) (none-of-either c n .1) in
     rw n
-    (unrefused-sheets (settingFor c) (c .label) (c .takes) (decodeSchema (c .schema)) (decodeRule (c .rule)) (sheets .0) (sheets .1 .0))
+    (unrefused-sheets (settingFor c) (c .asked .label) (c .asked .takes) (decodeSchema (c .schema)) (decodeRule (c .asked .rule)) (sheets .0)
+    (sheets .1 .0))
 
 -- and it answers by its check list
 pub answers-by-checks : (c : Call) (s : Schema) (r : Rule)
     → decodeSchema (c .schema) ≡ some s
-    → decodeRule (c .rule) ≡ some r
+    → decodeRule (c .asked .rule) ≡ some r
     → Unrefused c
-    → resultOf c ≡ checked (settingFor c) (c .label) s r
+    → resultOf c ≡ checked (settingFor c) (c .asked .label) s r
 unfolding resultOf refusedOr judged
 answers-by-checks c s r e e′ n = rw (n, e, e′)
 
@@ -250,14 +220,14 @@ answers-by-checks c s r e e′ n = rw (n, e, e′)
 
 pub number-accepted : {a : Answer} → Heard a → numbersOf a .number ≡ 0 → (n : ℕ) × (a ≡ accepted n)
 unfolding numbersOf
-number-accepted (refusal p q) e = absurd (omega arith)
+number-accepted (refusal {n} p) e = absurd (refusal-some n p e)
 number-accepted (acceptance {n = n}) e = (n, refl)
 number-accepted (finding f) e = absurd (omega (arith, f .low))
 
-pub number-defect : {a : Answer} → Heard a → 11 ≤ numbersOf a .number → (d : Defect) × (a ≡ defect d)
+pub number-defect : {a : Answer} → Heard a → IsDefect (numbersOf a .number) → (d : Defect) × (a ≡ defect d)
 unfolding numbersOf
-number-defect (refusal p q) h = absurd (omega arith)
-number-defect acceptance h = absurd (omega arith)
+number-defect (refusal {n} p) h = absurd (refusal-no-defect n p h)
+number-defect acceptance h = absurd (omega (arith, h .low))
 number-defect (finding {d = d} f) h = (d, refl)
 
 pub passed-number : (a : Answer) → numbersOf a .passed ≡ passed a

@@ -1,36 +1,33 @@
 -- What is promised of a whole call, for every run of it: three demands, each a statement with its proof.
 -- `Meets r` says that the run r gave what the definitions say (specs/Result.antt); it is what the call ensures, with nothing required.
 use Prim.Native.Nat.{ℕ, _≤_}
-use native.Mathlib.Omega.{arith}
+use mathlib.Core.Bool.{false}
 use mathlib.Core.List.{List}
 use mathlib.Core.Option.{some}
-use mathlib.Core.Path.{_≡_, ap, sym, _∙_}
+use mathlib.Core.Path.{_≡_, refl, ap, sym, _∙_}
 use lib.ListN.{length}
-use borrow.Author.Tests.{le-leb}
 use Rattle.definition.specs.Tree.{Schema, Rule}
 use Rattle.definition.specs.Decode.{decodeSchema, decodeRule}
 use Rattle.widening.specs.Widening.{Level, marks}
-use Rattle.validation.specs.Result.{Call, Defect, Answer, defect, Heard, refusal, acceptance, finding, settingFor, Unrefused, checked, resultOf, numbersOf, pathAfter, keptScratch, ScratchAfter, Run, callOf, Meets}
+use Rattle.validation.specs.Check.{IsDefect}
+use Rattle.validation.specs.Result.{Call, Defect, Answer, defect, IsRefusal, isOfSheets, Heard, refusal, acceptance, finding, settingFor, Unrefused, checked, resultOf, numbersOf, pathAfter, keptScratch, ScratchAfter, Run, lentOf, callOf, Meets}
+use Rattle.validation.specs.RefusalLaws.{refusal-some, refusal-no-defect}
 use Rattle.validation.specs.Growth.{against, Widens, SameFinding}
 use Rattle.validation.specs.DemandLaws.{heard, unrefused-answer, answers-by-checks, AnswersFare, results-fare, number-accepted, number-defect, passed-number, Gives, meets-gives, same-acceptance, same-finding, same-passed}
 
--- Demand 1: whatever is handed over, the caller hears acceptance, a defect or one of refusals 1 to 5; a refusal leaves the path buffer
+-- Demand 1: whatever is handed over, the caller hears acceptance, a defect or one of the refusals (`refusalNumbers`); a refusal leaves the path buffer
 -- unchanged, as acceptance does; and what the scratch held before never matters.
 
 pub record Demand1 (r : Run) : Type 0 where
   pub hears : (a : Answer) × Heard a × (r .result ≡ numbersOf a)
-  pub keeps : r .result .number ≤ 5 → r .path ≡ r .pathBefore
-  -- refusals 1 to 3 come before any sheet is read
-  pub spares : 1 ≤ r .result .number → r .result .number ≤ 3 → r .scratch ≡ r .scratchBefore
+  pub keeps : (IsDefect (r .result .number) → ⊥) → r .path ≡ r .pathBefore
+  -- all refusals but those of the sheets come before any sheet is read
+  pub spares : IsRefusal (r .result .number) → isOfSheets (r .result .number) ≡ false → r .scratch ≡ r .scratchBefore
 
 -- two runs that differ at most in what the scratch held before, and in what it holds after
 pub record SameButScratch (r r′ : Run) : Type 0 where
-  pub takes : r .takes ≡ r′ .takes
-  pub kind : r .kind ≡ r′ .kind
-  pub semantics : r .semantics ≡ r′ .semantics
-  pub label : r .label ≡ r′ .label
+  pub asked : r .asked ≡ r′ .asked
   pub schema : r .schema ≡ r′ .schema
-  pub rule : r .rule ≡ r′ .rule
   pub pathBefore : r .pathBefore ≡ r′ .pathBefore
   pub scratchLength : length (r .scratchBefore) ≡ length (r′ .scratchBefore)
 
@@ -38,22 +35,22 @@ pub record Demand1Scratch (r r′ : Run) : Type 0 where
   pub result : r .result ≡ r′ .result
   pub path : r .path ≡ r′ .path
 
-keeps-path : {a : Answer} (before : List ℕ) → Heard a → numbersOf a .number ≤ 5 → pathAfter a before ≡ before
+keeps-path : {a : Answer} (before : List ℕ) → Heard a → (IsDefect (numbersOf a .number) → ⊥) → pathAfter a before ≡ before
 unfolding numbersOf pathAfter
-keeps-path before (refusal p q) h = λ i. before
-keeps-path before acceptance h = λ i. before
-keeps-path before (finding d) h = absurd (omega (arith, d .low))
+keeps-path before (refusal p) h = refl
+keeps-path before acceptance h = refl
+keeps-path before (finding d) h = absurd (h d)
 
 spares-scratch : {a : Answer} {before after : List ℕ}
     → Heard a
     → ScratchAfter a before after
-    → 1 ≤ numbersOf a .number
-    → numbersOf a .number ≤ 3
+    → IsRefusal (numbersOf a .number)
+    → isOfSheets (numbersOf a .number) ≡ false
     → after ≡ before
 unfolding numbersOf keptScratch
-spares-scratch (refusal {n} p q) s l h = rw (le-leb n 3 h) at (s .kept)
-spares-scratch acceptance s l h = absurd (omega arith)
-spares-scratch (finding d) s l h = absurd (omega (arith, d .low))
+spares-scratch (refusal p) s l h = rw h at (s .kept)
+spares-scratch acceptance s l h = absurd (refusal-some 0 l refl)
+spares-scratch (finding {d = x} d) s l h = absurd (refusal-no-defect (x .number) l d)
 
 pub demand-1 : (r : Run) → Meets r → Demand1 r
 demand-1 r m =
@@ -64,17 +61,12 @@ demand-1 r m =
     }
 
 same-call : {r r′ : Run} → SameButScratch r r′ → callOf r ≡ callOf r′
-unfolding callOf
+unfolding callOf lentOf
 same-call s = λ i.
     record {
-      takes = s .takes i;
-      kind = s .kind i;
-      semantics = s .semantics i;
-      label = s .label i;
+      asked = s .asked i;
       schema = s .schema i;
-      rule = s .rule i;
-      pathLength = length (s .pathBefore i);
-      scratchLength = s .scratchLength i;
+      lent = record { path = length (s .pathBefore i); scratch = s .scratchLength i };
     }
 
 pub demand-1-scratch : (r r′ : Run) → SameButScratch r r′ → Meets r → Meets r′ → Demand1Scratch r r′
@@ -88,13 +80,13 @@ demand-1-scratch r r′ s m m′ =
 -- specs/Judge.antt), its numbers and its path. That acceptance, family, detail and path are the Rust's is shown by the differential runs.
 
 pub record Demand2 (r : Run) (s : Schema) (t : Rule) : Type 0 where
-  pub result : r .result ≡ numbersOf (checked (settingFor (callOf r)) (r .label) s t)
-  pub path : r .path ≡ pathAfter (checked (settingFor (callOf r)) (r .label) s t) (r .pathBefore)
+  pub result : r .result ≡ numbersOf (checked (settingFor (callOf r)) (r .asked .label) s t)
+  pub path : r .path ≡ pathAfter (checked (settingFor (callOf r)) (r .asked .label) s t) (r .pathBefore)
 
 pub demand-2 : (r : Run) (s : Schema) (t : Rule)
     → Meets r
     → decodeSchema (r .schema) ≡ some s
-    → decodeRule (r .rule) ≡ some t
+    → decodeRule (r .asked .rule) ≡ some t
     → Unrefused (callOf r)
     → Demand2 r s t
 unfolding callOf
@@ -109,27 +101,23 @@ demand-2 r s t m e e′ n =
 
 -- two runs that differ at most in the schema, and in what the buffers hold and how long they are
 pub record SameButSchema (r r′ : Run) : Type 0 where
-  pub takes : r .takes ≡ r′ .takes
-  pub kind : r .kind ≡ r′ .kind
-  pub semantics : r .semantics ≡ r′ .semantics
-  pub label : r .label ≡ r′ .label
-  pub rule : r .rule ≡ r′ .rule
+  pub asked : r .asked ≡ r′ .asked
 
 pub record Demand3 (l : Level) (r r′ : Run) : Type 0 where
   -- if the first call accepts, so does the second, with the same passed count
   pub accepts : r .result .number ≡ 0 → (r′ .result .number ≡ 0) × (r′ .result .passed ≡ r .result .passed)
   -- if the first finds a defect, the passed count of the second is at least that of the first
-  pub passes : 11 ≤ r .result .number → r .result .passed ≤ r′ .result .passed
+  pub passes : IsDefect (r .result .number) → r .result .passed ≤ r′ .result .passed
   -- if in this case the two counts are equal, the second finds a defect too, with the same number, family, path, place and over place
-  pub repeats : 11 ≤ r .result .number → r′ .result .passed ≡ r .result .passed → SameFinding r r′
+  pub repeats : IsDefect (r .result .number) → r′ .result .passed ≡ r .result .passed → SameFinding r r′
   -- and its detail is the same as well where only open marks differ
-  pub explains : l ≡ marks → 11 ≤ r .result .number → r′ .result .passed ≡ r .result .passed → r′ .result .detail ≡ r .result .detail
+  pub explains : l ≡ marks → IsDefect (r .result .number) → r′ .result .passed ≡ r .result .passed → r′ .result .detail ≡ r .result .detail
 
 runs-fare : {l : Level} {a a′ : Answer} (r r′ : Run) → Gives r a → Gives r′ a′ → AnswersFare l a a′ → Demand3 l r r′
 unfolding numbersOf
 runs-fare {l} {a} {a′} r r′ g g′ f = record { accepts = accepts; passes = passes; repeats = repeats; explains = explains }
   where
-    found : 11 ≤ r .result .number → (d : Defect) × (a ≡ defect d)
+    found : IsDefect (r .result .number) → (d : Defect) × (a ≡ defect d)
     found h = number-defect (g .hears) (rw (g .result) at h)
 
     accepts : r .result .number ≡ 0 → (r′ .result .number ≡ 0) × (r′ .result .passed ≡ r .result .passed)
@@ -137,37 +125,27 @@ runs-fare {l} {a} {a′} r r′ g g′ f = record { accepts = accepts; passes = 
         let (n, same) = number-accepted (g .hears) (rw (g .result) at e) in
         same-acceptance r r′ n g g′ same (f .accepts n same)
 
-    passes : 11 ≤ r .result .number → r .result .passed ≤ r′ .result .passed
+    passes : IsDefect (r .result .number) → r .result .passed ≤ r′ .result .passed
     passes h =
         let (d, same) = found h in
         rw (g .result, g′ .result, passed-number a′, same) (f .passes d same)
 
-    repeats : 11 ≤ r .result .number → r′ .result .passed ≡ r .result .passed → SameFinding r r′
+    repeats : IsDefect (r .result .number) → r′ .result .passed ≡ r .result .passed → SameFinding r r′
     repeats h p =
         let (d, same) = found h in
         let (d′, same′, alike) = f .repeats d same (same-passed r r′ d g g′ same p) in
         same-finding r r′ d d′ g g′ same same′ alike
 
-    explains : l ≡ marks → 11 ≤ r .result .number → r′ .result .passed ≡ r .result .passed → r′ .result .detail ≡ r .result .detail
+    explains : l ≡ marks → IsDefect (r .result .number) → r′ .result .passed ≡ r .result .passed → r′ .result .detail ≡ r .result .detail
     explains m h p =
         let (d, same) = found h in
         let q = same-passed r r′ d g g′ same p in
         let (d′, same′, alike) = f .repeats d same q in
         rw (g .result, g′ .result, same, same′) (f .explains m d d′ same same′ (rw same′ at q))
 
-second-call : {r r′ : Run} → SameButSchema r r′ → callOf r′ ≡ against (callOf r) (r′ .schema) (length (r′ .pathBefore)) (length (r′ .scratchBefore))
+second-call : {r r′ : Run} → SameButSchema r r′ → callOf r′ ≡ against (callOf r) (r′ .schema) (lentOf r′)
 unfolding callOf against
-second-call {r′ = r′} s = λ i.
-    record {
-      takes = sym (s .takes) i;
-      kind = sym (s .kind) i;
-      semantics = sym (s .semantics) i;
-      label = sym (s .label) i;
-      schema = r′ .schema;
-      rule = sym (s .rule) i;
-      pathLength = length (r′ .pathBefore);
-      scratchLength = length (r′ .scratchBefore);
-    }
+second-call {r′ = r′} s = λ i. record { asked = sym (s .asked) i; schema = r′ .schema; lent = lentOf r′ }
 
 pub demand-3 : {l : Level} (r r′ : Run)
     → Meets r
@@ -180,6 +158,6 @@ pub demand-3 : {l : Level} (r r′ : Run)
 unfolding callOf
 demand-3 r r′ m m′ s w n n′ =
     runs-fare r r′ (meets-gives r m) (rw (second-call s) at (meets-gives r′ m′))
-    (results-fare (callOf r) (r′ .schema) (length (r′ .pathBefore)) (length (r′ .scratchBefore)) w
+    (results-fare (callOf r) (r′ .schema) (lentOf r′) w
     (unrefused-answer (callOf r) n)
     (rw (second-call s) at (unrefused-answer (callOf r′) n′)))

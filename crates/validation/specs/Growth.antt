@@ -8,21 +8,11 @@ use lib.Seq.{sets}
 use Rattle.definition.specs.Tree.{Schema}
 use Rattle.definition.specs.Decode.{decodeSchema}
 use Rattle.widening.specs.Widening.{Level, WiderSchema}
-use Rattle.validation.specs.Result.{Call, Run}
+use Rattle.validation.specs.Result.{Lent, Call, Run}
 
 -- the same rule or template under the same settings, against another schema and with other buffers
-unfoldable pub against : Call → (schema : List ℕ) → (pathLength scratchLength : ℕ) → Call
-against c schema pathLength scratchLength =
-    record {
-      takes = c .takes;
-      kind = c .kind;
-      semantics = c .semantics;
-      label = c .label;
-      schema = schema;
-      rule = c .rule;
-      pathLength = pathLength;
-      scratchLength = scratchLength;
-    }
+unfoldable pub against : Call → (schema : List ℕ) → Lent → Call
+against c schema lent = record { asked = c .asked; schema = schema; lent = lent }
 
 -- the schema of the second sheet is a widening of the first one's
 pub record Widens (l : Level) (sheet sheet′ : List ℕ) : Type 0 where

@@ -1,57 +1,218 @@
--- A kind or semantics beyond its range is refusal 1, whatever else the call holds.
+-- Refusals: which number is heard first, and what is known of it by the lists alone.
 use Prim.Native.Nat.{ℕ, _<_, min}
 use native.Mathlib.Omega.{arith}
-use mathlib.Core.Bool.{false, _&&_, and-false}
-use mathlib.Core.Path.{_≡_, sym, _∙_}
-use lib.Dec.{leb}
-use borrow.Author.Tests.{leb-true, leb-false, lt-leb}
+use mathlib.Core.Bool.{Bool, true, false, not, cond, _&&_, _||_, and-false, false≢true}
+use mathlib.Core.List.{List, [], _∷_, _++_}
+use mathlib.Core.Option.{Option, none, some, orElse, Option·some-injective, Option·none-ne-some, Option·some-ne-none}
+use mathlib.Core.Path.{_≡_, refl, ap, sym, _∙_}
+use lib.Dec.{leb, eqb}
+use borrow.Author.Tests.{eqb-true, leb-true, leb-false, lt-leb}
+use Rattle.text.proofs.Bools.{and-true-0, and-true-1, or-true-cases}
 use Rattle.sheet.specs.ReaderLaws.{by-test}
-use Rattle.validation.specs.Result.{Call, refused, isWithin, refusals, firstRefusal, refusedOr, resultOf}
+use Rattle.reference.specs.Setting.{oneOf}
+use Rattle.validation.specs.Check.{IsDefect}
+use Rattle.validation.specs.Result.{Asked, Call, refused, refusalNumbers, IsRefusal, isOfSheets, isWithin, Refusal, early, ofSheets, refusals, firstRefusal, numberIn, refusedOr, resultOf}
+
+-- A list of refusals: those in front are tried first.
+
+else-if : (b : Bool) (n : ℕ) (x y : Option ℕ) → cond b (some n) (orElse x y) ≡ orElse (cond b (some n) x) y
+unfolding orElse
+else-if true n x y = refl
+else-if false n x y = refl
+
+pub first-append : (xs ys : List Refusal) → firstRefusal (xs ++ ys) ≡ orElse (firstRefusal xs) (firstRefusal ys)
+unfolding firstRefusal orElse
+first-append [] ys = refl
+first-append (x ∷ xs) ys = rw (first-append xs ys) (else-if (x .isDue) (x .number) (firstRefusal xs) (firstRefusal ys))
+
+abbrev pub NoneDue : List Refusal → Type 0
+NoneDue [] = Unit {0}
+NoneDue (r ∷ rs) = (r .isDue ≡ false) × NoneDue rs
+
+not-first : (b : Bool) (n : ℕ) (o : Option ℕ) → cond b (some n) o ≡ none → (b ≡ false) × (o ≡ none)
+not-first true n o e = absurd (Option·some-ne-none n e)
+not-first false n o e = (refl, e)
+
+pub none-due : (rs : List Refusal) → firstRefusal rs ≡ none → NoneDue rs
+unfolding firstRefusal
+none-due [] e = tt
+none-due (r ∷ rs) e =
+    let (first, others) = not-first (r .isDue) (r .number) (firstRefusal rs) e in
+    (first, none-due rs others)
+
+-- the first that is due, by its number
+pub number-due : (r : Refusal) (rs : List Refusal) → r .isDue ≡ true → r .number ≡ numberIn (firstRefusal (r ∷ rs))
+unfolding firstRefusal numberIn
+number-due r rs e = rw e
+
+pub number-later : {n : ℕ} (r : Refusal) (rs : List Refusal) → r .isDue ≡ false → n ≡ numberIn (firstRefusal rs) → n ≡ numberIn (firstRefusal (r ∷ rs))
+unfolding firstRefusal
+number-later r rs e f = rw e f
+
+number-some : (n : ℕ) (o : Option ℕ) → n ≡ numberIn o → (n ≡ 0 → ⊥) → o ≡ some n
+unfolding numberIn
+number-some n none e h = absurd (h e)
+number-some n (some m) e h = ap some (sym e)
+
+number-none : (o : Option ℕ) → ((n : ℕ) → o ≡ some n → n ≡ 0 → ⊥) → 0 ≡ numberIn o → o ≡ none
+unfolding numberIn
+number-none none h e = refl
+number-none (some n) h e = absurd (h n refl (sym e))
+
+-- What a test says of every number in a list is true of each of them.
+
+unfoldable every : {A : Type 0} → (A → Bool) → List A → Bool
+every p [] = true
+every p (x ∷ xs) = p x && every p xs
+
+of-listed : (p : ℕ → Bool) (n : ℕ) (ns : List ℕ) → every p ns ≡ true → oneOf n ns ≡ true → p n ≡ true
+unfolding every oneOf
+of-listed p n [] e h = absurd (false≢true h)
+of-listed p n (m ∷ ns) e h =
+    by-test (eqb n m) (λ q. rw (eqb-true n m q) (and-true-0 (p m) (every p ns) e))
+    (λ q. of-listed p n ns (and-true-1 (p m) (every p ns) e) (rw q at h))
+
+abbrev numbersPass : (ℕ → Bool) → List Refusal → Bool
+numbersPass p rs = every (λ (r : Refusal). p (r .number)) rs
+
+of-first : (p : ℕ → Bool) (n : ℕ) (rs : List Refusal) → numbersPass p rs ≡ true → firstRefusal rs ≡ some n → p n ≡ true
+unfolding every firstRefusal
+of-first p n [] e f = absurd (Option·none-ne-some n f)
+of-first p n (r ∷ rs) e f =
+    by-test (r .isDue)
+    (λ d.
+    let same : r .number ≡ n = Option·some-injective (r .number) n (rw d at f) in
+    rw same at (and-true-0 (p (r .number)) (numbersPass p rs) e))
+    (λ d. of-first p n rs (and-true-1 (p (r .number)) (numbersPass p rs) e) (rw d at f))
+
+-- every refusal of a call is one of those listed
+pub refusal-listed : (c : Call) (n : ℕ) → firstRefusal (refusals c) ≡ some n → IsRefusal n
+unfolding refusals early ofSheets refusalNumbers oneOf every
+refusal-listed c n e = record { listed = of-first (λ m. oneOf m refusalNumbers) n (refusals c) refl e }
+
+unset : (b : Bool) → not b ≡ true → b ≡ false
+unset true e = sym e
+unset false e = refl
+
+-- and none of the sheets' comes before the sheets
+early-no-sheet : (c : Call) (n : ℕ) → firstRefusal (early c) ≡ some n → isOfSheets n ≡ false
+unfolding early isOfSheets every
+early-no-sheet c n e = unset (isOfSheets n) (of-first (λ m. not (isOfSheets m)) n (early c) refl e)
+
+-- not 0, and on neither side near the numbers of defects
+unfoldable isApart : ℕ → Bool
+isApart n = not (eqb n 0) && (leb n 10 || leb 30 n)
+
+refusal-apart : (n : ℕ) → IsRefusal n → isApart n ≡ true
+unfolding refusalNumbers every isApart
+refusal-apart n r = of-listed isApart n refusalNumbers refl (r .listed)
+
+-- a refusal is no acceptance
+pub refusal-some : (n : ℕ) → IsRefusal n → n ≡ 0 → ⊥
+unfolding isApart
+refusal-some n r z =
+    let e : isApart 0 ≡ true = rw z at (refusal-apart n r) in
+    false≢true e
+
+-- and no defect
+pub refusal-no-defect : (n : ℕ) → IsRefusal n → IsDefect n → ⊥
+unfolding isApart
+refusal-no-defect n r d =
+    or-true-cases (leb n 10) (leb 30 n) (λ e. omega (arith, leb-true n 10 e, d .low)) (λ e. omega (arith, leb-true 30 n e, d .high))
+    (and-true-1 (not (eqb n 0)) (leb n 10 || leb 30 n) (refusal-apart n r))
+
+-- A call, by what is due before a sheet is read.
+
+early-first : (c : Call) (n : ℕ) → firstRefusal (early c) ≡ some n → firstRefusal (refusals c) ≡ some n
+unfolding refusals orElse
+early-first c n e = rw (first-append (early c) (ofSheets c), e)
+
+pub early-refused : (c : Call) (n : ℕ) → n ≡ numberIn (firstRefusal (early c)) → (n ≡ 0 → ⊥) → (resultOf c ≡ refused n) × (isOfSheets n ≡ false)
+unfolding resultOf refusedOr
+early-refused c n e h =
+    let due = number-some n (firstRefusal (early c)) e h in
+    (rw (early-first c n due), early-no-sheet c n due)
+
+pub early-none : (c : Call) → 0 ≡ numberIn (firstRefusal (early c)) → firstRefusal (early c) ≡ none
+early-none c e =
+    number-none (firstRefusal (early c)) (λ n due. refusal-some n (refusal-listed c n (early-first c n due))) e
+
+-- then the sheets decide
+pub sheets-first : (c : Call) → firstRefusal (early c) ≡ none → firstRefusal (refusals c) ≡ firstRefusal (ofSheets c)
+unfolding refusals orElse
+sheets-first c e = rw (first-append (early c) (ofSheets c), e)
+
+latter : (x y : Option ℕ) (n : ℕ) → (x ≡ some n → ⊥) → orElse x y ≡ some n → y ≡ some n
+unfolding orElse
+latter none y n h e = e
+latter (some m) y n h e = absurd (h e)
+
+neither : (x y : Option ℕ) → orElse x y ≡ none → (x ≡ none) × (y ≡ none)
+unfolding orElse
+neither none y e = (refl, e)
+neither (some n) y e = absurd (Option·some-ne-none n e)
+
+pub none-of-either : (c : Call) → firstRefusal (refusals c) ≡ none → (firstRefusal (early c) ≡ none) × (firstRefusal (ofSheets c) ≡ none)
+unfolding refusals
+none-of-either c e =
+    neither (firstRefusal (early c)) (firstRefusal (ofSheets c)) (sym (first-append (early c) (ofSheets c)) ∙ e)
+
+-- a refusal of a sheet is due among the sheets'
+pub sheet-refused : (c : Call) (n : ℕ) → isOfSheets n ≡ true → firstRefusal (refusals c) ≡ some n → firstRefusal (ofSheets c) ≡ some n
+unfolding refusals
+sheet-refused c n s e =
+    latter (firstRefusal (early c)) (firstRefusal (ofSheets c)) n (λ due. false≢true (sym (early-no-sheet c n due) ∙ s))
+    (sym (first-append (early c) (ofSheets c)) ∙ e)
+
+-- A kind or semantics beyond its range is refusal 1, whatever else the call holds.
 
 outside : (high n : ℕ) → high < n → isWithin 1 high n ≡ false
 unfolding isWithin
 outside high n more = rw (lt-leb n high more, and-false)
 
-settings-refused : (c : Call) → (isWithin 1 8 (c .kind) && isWithin 1 4 (c .semantics)) ≡ false → resultOf c ≡ refused 1
-unfolding resultOf refusals firstRefusal refusedOr
+settings-refused : (c : Call) → (isWithin 1 8 (c .asked .kind) && isWithin 1 4 (c .asked .semantics)) ≡ false → resultOf c ≡ refused 1
+unfolding resultOf refusals early firstRefusal refusedOr
 settings-refused c e = rw e
 
-pub kind-refused : (c : Call) → 8 < c .kind → resultOf c ≡ refused 1
-kind-refused c more = settings-refused c (rw (outside 8 (c .kind) more))
+pub kind-refused : (c : Call) → 8 < c .asked .kind → resultOf c ≡ refused 1
+kind-refused c more = settings-refused c (rw (outside 8 (c .asked .kind) more))
 
-pub semantics-refused : (c : Call) → 4 < c .semantics → resultOf c ≡ refused 1
-semantics-refused c more = settings-refused c (rw (outside 4 (c .semantics) more, and-false))
+pub semantics-refused : (c : Call) → 4 < c .asked .semantics → resultOf c ≡ refused 1
+semantics-refused c more = settings-refused c (rw (outside 4 (c .asked .semantics) more, and-false))
+
+-- the same call, where that is asked
+unfoldable pub asking : Call → Asked → Call
+asking c asked = record { asked = asked; schema = c .schema; lent = c .lent }
 
 -- the call with settings that are at most `most`
 unfoldable pub capped : (most : ℕ) → Call → Call
+unfolding asking
 capped most c =
-    record {
-      takes = c .takes;
-      kind = min (c .kind) most;
-      semantics = min (c .semantics) most;
-      label = c .label;
-      schema = c .schema;
-      rule = c .rule;
-      pathLength = c .pathLength;
-      scratchLength = c .scratchLength;
-    }
+    asking c
+    (record {
+      takes = c .asked .takes;
+      kind = min (c .asked .kind) most;
+      semantics = min (c .asked .semantics) most;
+      label = c .asked .label;
+      rule = c .asked .rule;
+    })
 
 -- so a number beyond both ranges may stand for every larger one
 pub capped-same : (most : ℕ) (c : Call) → 8 < most → resultOf (capped most c) ≡ resultOf c
 unfolding capped
 capped-same most c beyond =
-    by-test (leb (c .kind) most)
+    by-test (leb (c .asked .kind) most)
     (λ k.
-    let kind-low = leb-true (c .kind) most k in
-    let kind-is : min (c .kind) most ≡ c .kind = omega arith in
-    by-test (leb (c .semantics) most)
+    let kind-low = leb-true (c .asked .kind) most k in
+    let kind-is : min (c .asked .kind) most ≡ c .asked .kind = omega arith in
+    by-test (leb (c .asked .semantics) most)
     (λ s.
-    let semantics-low = leb-true (c .semantics) most s in
-    let semantics-is : min (c .semantics) most ≡ c .semantics = omega arith in
+    let semantics-low = leb-true (c .asked .semantics) most s in
+    let semantics-is : min (c .asked .semantics) most ≡ c .asked .semantics = omega arith in
     rw (kind-is, semantics-is))
     (λ s.
-    let semantics-high = leb-false (c .semantics) most s in
+    let semantics-high = leb-false (c .asked .semantics) most s in
     semantics-refused (capped most c) (omega arith) ∙ sym (semantics-refused c (omega arith))))
     (λ k.
-    let kind-high = leb-false (c .kind) most k in
+    let kind-high = leb-false (c .asked .kind) most k in
     kind-refused (capped most c) (omega arith) ∙ sym (kind-refused c (omega arith)))

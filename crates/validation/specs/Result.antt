@@ -1,7 +1,7 @@
 -- The answer to a whole call, from the bytes and numbers that a caller hands over (docs/FORMAT.md, "Answers").
-use Prim.Native.Nat.{ℕ, _≤_}
+use Prim.Native.Nat.{ℕ}
 use mathlib.Core.Bool.{Bool, true, false, not, cond, _&&_, _||_}
-use mathlib.Core.List.{List, [], _∷_}
+use mathlib.Core.List.{List, [], _∷_, _++_}
 use mathlib.Core.Option.{Option, none, some}
 use lib.ListN.{length, drop}
 use lib.Seq.{sets}
@@ -10,7 +10,7 @@ use mathlib.Core.Path.{_≡_}
 use Rattle.text.specs.Utf8.{isUtf8}
 use Rattle.definition.specs.Tree.{Text, Schema, Rule, rule, template}
 use Rattle.definition.specs.Decode.{decodeSchema, decodeRule}
-use Rattle.reference.specs.Setting.{Setting, settingOf}
+use Rattle.reference.specs.Setting.{Setting, settingOf, oneOf}
 use Rattle.validation.specs.Check.{isNone, Binder, IsDefect, checks, entryOf}
 use Rattle.validation.specs.Judge.{Verdict, allPass, failsAt, judge}
 use Rattle.validation.specs.Location.{pathOf}
@@ -19,16 +19,23 @@ use Rattle.validation.specs.Location.{pathOf}
 pub data Takes : Type 0 where
   any rules templates : Takes
 
-pub record Call : Type 0 where
+-- what is checked, and how
+pub record Asked : Type 0 where
   pub takes : Takes
   pub kind : ℕ
   pub semantics : ℕ
   pub label : List ℕ
-  pub schema : List ℕ
   pub rule : List ℕ
-  -- the elements of the lent buffers
-  pub pathLength : ℕ
-  pub scratchLength : ℕ
+
+-- how many elements the lent buffers have
+pub record Lent : Type 0 where
+  pub path : ℕ
+  pub scratch : ℕ
+
+pub record Call : Type 0 where
+  pub asked : Asked
+  pub schema : List ℕ
+  pub lent : Lent
 
 pub record Defect : Type 0 where
   pub number : ℕ
@@ -44,9 +51,20 @@ pub data Answer : Type 0 where
   accepted : (passed : ℕ) → Answer
   defect : Defect → Answer
 
--- the answers that a caller may hear: one of refusals 1 to 5, acceptance, or a defect with a number from 11 to 22
+-- the refusals that stand for a verdict
+unfoldable pub refusalNumbers : List ℕ
+refusalNumbers = 1 ∷ 2 ∷ 3 ∷ 4 ∷ 5 ∷ []
+
+pub record IsRefusal (n : ℕ) : Type 0 where
+  pub listed : oneOf n refusalNumbers ≡ true
+
+-- those of the sheets; all others come before a sheet is read
+unfoldable pub isOfSheets : ℕ → Bool
+isOfSheets n = eqb n 4 || eqb n 5
+
+-- the answers that a caller may hear: one of the refusals, acceptance, or a defect with a number from 11 to 22
 pub data Heard : Answer → Type 0 where
-  refusal : {n : ℕ} → 1 ≤ n → n ≤ 5 → Heard (refused n)
+  refusal : {n : ℕ} → IsRefusal n → Heard (refused n)
   acceptance : {n : ℕ} → Heard (accepted n)
   finding : {d : Defect} → IsDefect (d .number) → Heard (defect d)
 
@@ -107,26 +125,39 @@ isTaken templates (some (rule name message assert)) = false
 isTaken templates (some (template v)) = true
 
 abbrev pub settingFor : Call → Setting
-settingFor c = settingOf (c .kind) (c .semantics)
+settingFor c = settingOf (c .asked .kind) (c .asked .semantics)
 
 -- a refusal's number, and whether it is due
 pub record Refusal : Type 0 where
   pub number : ℕ
   pub isDue : Bool
 
+-- tried before a sheet is read
+unfoldable pub early : Call → List Refusal
+early c =
+    record { number = 1; isDue = not (isWithin 1 8 (c .asked .kind) && isWithin 1 4 (c .asked .semantics)) }
+    ∷ record { number = 2; isDue = not (leb (length (c .asked .label)) maxLabelBytes && isUtf8 (c .asked .label)) }
+    ∷ record { number = 3; isDue = not (leb pathBytes (c .lent .path) && leb scratchWords (c .lent .scratch)) }
+    ∷ []
+
+unfoldable pub ofSheets : Call → List Refusal
+ofSheets c =
+    record { number = 4; isDue = isNone (decodeSchema (c .schema)) }
+    ∷ record { number = 5; isDue = not (isTaken (c .asked .takes) (decodeRule (c .asked .rule))) }
+    ∷ []
+
 -- the refusals in the order in which they are tried
 unfoldable pub refusals : Call → List Refusal
-refusals c =
-    record { number = 1; isDue = not (isWithin 1 8 (c .kind) && isWithin 1 4 (c .semantics)) }
-    ∷ record { number = 2; isDue = not (leb (length (c .label)) maxLabelBytes && isUtf8 (c .label)) }
-    ∷ record { number = 3; isDue = not (leb pathBytes (c .pathLength) && leb scratchWords (c .scratchLength)) }
-    ∷ record { number = 4; isDue = isNone (decodeSchema (c .schema)) }
-    ∷ record { number = 5; isDue = not (isTaken (c .takes) (decodeRule (c .rule))) }
-    ∷ []
+refusals c = early c ++ ofSheets c
 
 unfoldable pub firstRefusal : List Refusal → Option ℕ
 firstRefusal [] = none
 firstRefusal (r ∷ rs) = cond (r .isDue) (some (r .number)) (firstRefusal rs)
+
+-- its number, or 0 where none is due
+unfoldable pub numberIn : Option ℕ → ℕ
+numberIn none = 0
+numberIn (some n) = n
 
 -- none of the refusals is due
 abbrev pub Unrefused : Call → Type 0
@@ -149,7 +180,7 @@ refusedOr (some n) a = refused n
 -- the whole answer: the first refusal that is due, or what the check list says
 unfoldable pub resultOf : Call → Answer
 resultOf c =
-    let verdict = judged (settingFor c) (c .label) (decodeSchema (c .schema)) (decodeRule (c .rule)) in
+    let verdict = judged (settingFor c) (c .asked .label) (decodeSchema (c .schema)) (decodeRule (c .asked .rule)) in
     refusedOr (firstRefusal (refusals c)) verdict
 
 -- the seven numbers of a result
@@ -184,9 +215,9 @@ pathAfter (refused n) before = before
 pathAfter (accepted n) before = before
 pathAfter (defect d) before = sets before 0 (d .path)
 
--- the scratch after the call: unchanged under refusals 1 to 3, else free in its first elements
+-- the scratch after the call: unchanged where no sheet was read, else free in its first elements
 unfoldable pub keptScratch : Answer → ℕ
-keptScratch (refused n) = cond (leb n 3) 0 scratchWords
+keptScratch (refused n) = cond (isOfSheets n) scratchWords 0
 keptScratch (accepted n) = scratchWords
 keptScratch (defect d) = scratchWords
 
@@ -196,30 +227,20 @@ pub record ScratchAfter (a : Answer) (before after : List ℕ) : Type 0 where
 
 -- what a caller hands over, and what it has after the call
 pub record Run : Type 0 where
-  pub takes : Takes
-  pub kind : ℕ
-  pub semantics : ℕ
-  pub label : List ℕ
+  pub asked : Asked
   pub schema : List ℕ
-  pub rule : List ℕ
   pub pathBefore : List ℕ
   pub scratchBefore : List ℕ
   pub result : Numbers
   pub path : List ℕ
   pub scratch : List ℕ
 
+unfoldable pub lentOf : Run → Lent
+lentOf r = record { path = length (r .pathBefore); scratch = length (r .scratchBefore) }
+
 unfoldable pub callOf : Run → Call
-callOf r =
-    record {
-      takes = r .takes;
-      kind = r .kind;
-      semantics = r .semantics;
-      label = r .label;
-      schema = r .schema;
-      rule = r .rule;
-      pathLength = length (r .pathBefore);
-      scratchLength = length (r .scratchBefore);
-    }
+unfolding lentOf
+callOf r = record { asked = r .asked; schema = r .schema; lent = lentOf r }
 
 -- what a whole call promises of its run
 pub record Meets (r : Run) : Type 0 where
