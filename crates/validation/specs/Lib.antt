@@ -11,4 +11,6 @@ pub mod DemandLaws
 pub mod Demands
 pub mod Service
 pub mod ServiceLaws
+pub mod ServiceCallLaws
+pub mod KernelToService
 pub mod Computing

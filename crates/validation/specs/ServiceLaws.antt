@@ -183,11 +183,14 @@ module _ (mayRead : Name → Bool) (isRuleKind : Bool) (schema : Schema) where
     body-rises bs (comparison e which left right) h =
         (operator-rises bs e 18 (h .0), every-rises (compareSide bs 1 left ++ compareSide bs 2 right) (h .1))
     body-rises bs (quantifier e op bind over that) h =
-        let parts = every-parts (Passes (outcome kernel schema)) (references bs over) _ (h .1 .1) in
-        (operator-rises bs e op (h .0),
-        (every-rises (check 21 e bs _ ∷ []) (h .1 .0, tt) .0,
-        every-append (Passes (outcome service schema)) (references bs over) _ (every-rises (references bs over) (parts .0))
-        (every-rises (check 22 e bs (walkable over) ∷ []) (parts .1 .0, tt) .0, body-rises _ that (parts .1 .1))))
+        let parts = every-parts (Passes (outcome kernel schema)) (references bs over) _ (h .1 .1) in (
+          operator-rises bs e op (h .0),
+          (
+            every-rises (check 21 e bs _ ∷ []) (h .1 .0, tt) .0,
+            every-append (Passes (outcome service schema)) (references bs over) _ (every-rises (references bs over) (parts .0))
+                (every-rises (check 22 e bs (walkable over) ∷ []) (parts .1 .0, tt) .0, body-rises _ that (parts .1 .1)),
+          ),
+        )
 
     bodies-rise : (bs : List Binder) (cs : Conditions) → Every (Passes (outcome kernel schema)) (bodies kernel bs cs) → Every (Passes (outcome service schema)) (bodies service bs cs)
     bodies-rise bs noConditions h = tt
@@ -221,13 +224,18 @@ module _ (mayRead : Name → Bool) (isRuleKind : Bool) (schema : Schema) where
 
   checks-rise : (r : Rule) → AllFinite (literalsIn r) → Every (Passes (outcome kernel schema)) (checks kernel r) → Every (Passes (outcome service schema)) (checks service r)
   unfolding checks literalChecks literalsIn
-  checks-rise (rule name message assert) f h =
-      (every-rises (check 11 1 [] _ ∷ []) (h .0, tt) .0,
-      (every-rises (check 12 1 [] _ ∷ []) (h .1 .0, tt) .0,
-      (every-rises (check 13 2 [] _ ∷ []) (h .1 .1 .0, tt) .0,
-      every-append (Passes (outcome service schema)) (map literalCheck (literals assert)) (body service [] assert)
-      (finite-pass (literals assert) f)
-      (body-rises [] assert (h .1 .1 .1)))))
+  checks-rise (rule name message assert) f h = (
+    every-rises (check 11 1 [] _ ∷ []) (h .0, tt) .0,
+    (
+      every-rises (check 12 1 [] _ ∷ []) (h .1 .0, tt) .0,
+      (
+        every-rises (check 13 2 [] _ ∷ []) (h .1 .1 .0, tt) .0,
+        every-append (Passes (outcome service schema)) (map literalCheck (literals assert)) (body service [] assert)
+            (finite-pass (literals assert) f)
+            (body-rises [] assert (h .1 .1 .1)),
+      ),
+    ),
+  )
   checks-rise (template v) f h = every-rises (references [] v) h
 
   checks-length : (r : Rule) → length (checks service r) ≡ length (checks kernel r) + length (literalsIn r)
