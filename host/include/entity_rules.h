@@ -3,7 +3,7 @@
  * docs/FORMAT.md says what the sheets hold and what each number means. Lengths are in bytes. A pointer must lead to as many bytes
  * as the length after it says, and must not be null, even where that is 0. path and result must not overlap each other or
  * anything else. No function keeps a pointer, allocates or waits, so any number of threads may call them at once. A call
- * takes up to about 300 KB of stack: 33 KB for its scratch, the rest by how deep the sheets nest, most of it with 31 quantifiers in one
+ * takes up to about 280 KB of stack: 16 KB for its scratch, the rest by how deep the sheets nest, most of it with 31 quantifiers in one
  * another. A path under 32,768 bytes or a result under 28 is refusal 3, and is not written.
  */
 #ifndef ENTITY_RULES_H
@@ -104,6 +104,10 @@ uint32_t rulecheck_template(uint64_t kind, uint64_t semantics,
 
 /* One of the numbers of a result, by an index of enum entity_rules_field; 0 where it does not lie in the result. */
 uint32_t rulecheck_field(const uint8_t *result, size_t result_length, uint32_t index);
+
+/* Whether a text is a finite number, and how many of its digits were compared with those of 2^1024 - 2^970 for that: the count (at most 309)
+ * times 2, and 1 more if it is finite. */
+uint32_t rulecheck_finite(const uint8_t *text, size_t text_length);
 
 #ifdef __cplusplus
 }

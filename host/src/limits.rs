@@ -12,8 +12,11 @@
 /// Bytes of a sheet.
 pub const MAX_SHEET_BYTES: usize = 30_000;
 
-/// Entries of a sheet.
-pub const MAX_ENTRIES: usize = 2_048;
+/// Entries of a schema sheet, its head among them.
+pub const MAX_SCHEMA_ENTRIES: usize = 1_024;
+
+/// Entries of a rule's or template's sheet, its head among them.
+pub const MAX_RULE_ENTRIES: usize = 2_048;
 
 /// Bytes of a name, tag, message, bind, key, string or number.
 pub const MAX_TEXT_BYTES: usize = 512;

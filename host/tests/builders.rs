@@ -3,7 +3,8 @@
 mod support;
 
 use entity_rules::limits::{
-    MAX_CONDITION_NESTING, MAX_FIELD_NESTING, MAX_TEXT_BYTES, MAX_VALUE_NESTING,
+    MAX_CONDITION_NESTING, MAX_FIELD_NESTING, MAX_RULE_ENTRIES, MAX_SCHEMA_ENTRIES, MAX_TEXT_BYTES,
+    MAX_VALUE_NESTING,
 };
 use entity_rules::{
     BuildError, Condition, Field, FieldKind, Nesting, Rule, Schema, Template, Value,
@@ -153,10 +154,11 @@ fn the_deepest_towers_cost_no_stack() {
 }
 
 #[test]
-fn sheets_have_at_most_2048_entries() {
+fn rules_have_at_most_2048_entries() {
     let too_many = |entry: &str| {
         Err(BuildError::TooManyEntries {
             entry: entry.to_owned(),
+            limit: MAX_RULE_ENTRIES,
         })
     };
     let nulls = |count| Template::new(Value::array((0..count).map(|_| Value::null()))).sheet();
@@ -171,10 +173,63 @@ fn sheets_have_at_most_2048_entries() {
     };
     assert!(children(2_046).is_ok_and(|sheet| takes_rule(&sheet)));
     assert_eq!(children(2_047), too_many("C,3,2047,"));
+    assert_eq!(children(2_048), too_many("C,3,2048,"));
 
-    // Entries of fields have at least 15 bytes, so the bytes run out first.
     let endless = Template::new(Value::array(std::iter::repeat_with(Value::null))).sheet();
     assert_eq!(endless, too_many("V,1,0,"));
+}
+
+/// Integers with the numbers as names.
+fn numbered(numbers: std::ops::Range<usize>) -> impl Iterator<Item = Field> {
+    numbers.map(|number| Field::new(format!("{number:04}"), FieldKind::Integer))
+}
+
+/// An object with so many properties.
+fn object(name: &str, properties: usize) -> Field {
+    numbered(0..properties).fold(Field::new(name, FieldKind::Object), Field::property)
+}
+
+#[test]
+fn schemas_have_at_most_1024_entries() {
+    let too_many = |entry: &str| {
+        Err(BuildError::TooManyEntries {
+            entry: entry.to_owned(),
+            limit: MAX_SCHEMA_ENTRIES,
+        })
+    };
+    let is_good =
+        |sheet: Result<Vec<u8>, BuildError>| sheet.is_ok_and(|sheet| takes_schema(&sheet));
+
+    let flat = |fields| {
+        numbered(0..fields)
+            .fold(Schema::new(), Schema::field)
+            .sheet()
+    };
+    assert!(is_good(flat(1_023)));
+    assert_eq!(flat(1_024), too_many("F,2,0,0,0,4,-,1023"));
+
+    let arguments = |count| {
+        let record = numbered(0..500).fold(Schema::new(), Schema::field);
+        numbered(0..count).fold(record, Schema::argument).sheet()
+    };
+    assert!(is_good(arguments(523)));
+    assert_eq!(arguments(524), too_many("F,2,0,0,0,4,-,0523"));
+
+    // What passes the limit is the field whose properties do, and not one of them.
+    let nested = |properties| Schema::new().field(object("o", properties)).sheet();
+    assert!(is_good(nested(1_022)));
+    assert_eq!(nested(1_023), too_many("F,7,0,0,1023,1,-,o"));
+    assert_eq!(nested(1_024), too_many("F,7,0,0,1024,1,-,o"));
+
+    let elements = |fields: usize| {
+        let bars = (0..fields).map(|number| {
+            Field::new(format!("{number:04}"), FieldKind::Array).items(FieldKind::Integer)
+        });
+        bars.fold(Schema::new().argument(object("o", 0)), Schema::field)
+            .sheet()
+    };
+    assert!(is_good(elements(511)));
+    assert_eq!(elements(512), too_many("F,6,0,1,0,4,-,0511"));
 }
 
 #[test]

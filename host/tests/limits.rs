@@ -59,8 +59,48 @@ fn names_and_keys_rise() {
     }
 }
 
+/// So many fields with rising names.
+fn fields(count: usize) -> String {
+    (0..count)
+        .map(|number| format!("F,2,0,0,0,4,-,{number:04}\n"))
+        .collect()
+}
+
 #[test]
-fn entries_up_to_2048() {
+fn schema_entries_up_to_1024() {
+    for (entries, is_good) in [(1_023, true), (1_024, true), (1_025, false)] {
+        let count = entries - 1;
+        schema(&format!("H,0,{count},-,0\n{}", fields(count)), is_good);
+        let (some, others) = (count / 3, count - count / 3);
+        schema(
+            &format!("H,0,{some},0,{others}\n{}{}", fields(some), fields(others)),
+            is_good,
+        );
+        let below = count - 1;
+        schema(
+            &format!("H,0,1,-,0\nF,7,0,0,{below},0,-,\n{}", fields(below)),
+            is_good,
+        );
+        let (depth, beside) = (64, count - 64);
+        let elements = "F,6,0,1,0,0,-,\n".repeat(depth - 1);
+        schema(
+            &format!(
+                "H,0,1,0,{beside}\n{elements}F,8,0,0,0,0,-,\n{}",
+                fields(beside)
+            ),
+            is_good,
+        );
+    }
+    let wide = format!("H,0,1024,-,0\n{}", fields(1_024));
+    let fault = read_schema(wide.as_bytes()).unwrap_err();
+    assert_eq!(
+        (fault.entry, fault.expected.as_str()),
+        (1_025, "at most 1024 entries in the sheet")
+    );
+}
+
+#[test]
+fn rule_entries_up_to_2048() {
     for (entries, is_good) in [(2_047, true), (2_048, true), (2_049, false)] {
         let count = entries - 2;
         rule(

@@ -1,11 +1,10 @@
 // Whether a sheet is well formed, as C functions for a host. They bring a scratch of their own.
+use definition::limits::SCRATCH_WORDS;
 use rule::RuleRead;
 use schema::read::SchemaRead;
 ghost use mathlib.Core.Path.{_≡_};
 ghost use Rattle.definition.specs.Decode.{decodeSchema, decodeRule};
 ghost use Rattle.acceptance.specs.Accepted.{accepted};
-
-const SCRATCH_WORDS: usize = 8192;
 
 // 1 for a schema sheet that is well formed, else 0.
 #[no_mangle]

@@ -1,5 +1,5 @@
 -- What the code's readers answer, by cases: numbers, and places in the file.
-use Prim.Native.Nat.{ℕ, _-_, _≤_, min}
+use Prim.Native.Nat.{ℕ, _+_, _-_, _≤_, min}
 use mathlib.Core.List.{List, []}
 use mathlib.Core.Option.{none, some, Option·map}
 use mathlib.Core.Path.{_≡_}
@@ -7,7 +7,7 @@ use lib.ListN.{length, take, drop}
 use Rattle.sheet.specs.Reader.{Reader}
 use Rattle.sheet.specs.Numeral as Numeral
 use Rattle.check_file.specs.File as File
-use Rattle.check_file.specs.File.{Parts, takenApart}
+use Rattle.check_file.specs.File.{maxFile, Parts, takenApart}
 use Rattle.check_file.specs.declared.numeral.NumeralRead.{NumeralRead}
 use Rattle.check_file.specs.declared.numeral.NumeralRead.the-variants as numeral
 use Rattle.check_file.specs.declared.file.Span.{Span}
@@ -17,7 +17,7 @@ use Rattle.check_file.specs.declared.file.Taken.the-variants as taken
 
 -- what every larger number is answered as: too large for a count, since the file is shorter, and for a setting
 abbrev pub tooLarge : ℕ
-tooLarge = 65537
+tooLarge = maxFile + 1
 
 -- `p` reads a number from place `at` on, which is answered as `value`, and stops at `next`
 pub record ReadsTo (p : Reader (List ℕ) ℕ) (s : List ℕ) (at value next : ℕ) : Type 0 where

@@ -1,6 +1,7 @@
 // A file taken apart.
 use crate::numeral::NumeralRead;
 use crate::numeral::{self};
+use definition::limits::MAX_FILE_BYTES;
 ghost use mathlib.Core.Path.{_≡_};
 ghost use Prim.Native.Nat.{_≤_};
 ghost use lib.ListN.{length};
@@ -72,7 +73,7 @@ fn texts(
 pub fn take_apart(file: &[u8]) -> Taken
     ensures { λ r. ⌜ TakenIs (now (file .entry)) r ⌝ }
 {
-    if 65536 < file.len() {
+    if MAX_FILE_BYTES < file.len() {
         return Taken::OtherForm;
     }
     let NumeralRead::Is(kind, second) = numeral::field(file, 0) else {

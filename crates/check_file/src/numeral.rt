@@ -1,4 +1,5 @@
 // Numerals of any length: decimal, without leading zeros. A number above the longest file's length is read as `TOO_LARGE`, so that nothing wraps.
+use definition::limits::MAX_FILE_BYTES;
 ghost use mathlib.Core.Path.{_≡_};
 ghost use Prim.Native.Nat.{min, _≤_};
 ghost use lib.ListN.{length};
@@ -6,7 +7,7 @@ ghost use Rattle.sheet.specs.Numeral.{isDigit, decimal};
 ghost use Rattle.check_file.specs.File.{field};
 ghost use Rattle.check_file.specs.Places.{tooLarge, digitsBehind, NumeralIs};
 
-const TOO_LARGE: u32 = 65537;
+const TOO_LARGE: u32 = MAX_FILE_BYTES as u32 + 1;
 
 pub enum NumeralRead {
     // The number, and the place behind it.

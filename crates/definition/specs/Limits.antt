@@ -5,7 +5,7 @@ abbrev pub maxSheetBytes : ℕ
 maxSheetBytes = 30000
 
 abbrev pub maxSchemaEntries : ℕ
-maxSchemaEntries = 2048
+maxSchemaEntries = 1024
 
 abbrev pub maxRuleEntries : ℕ
 maxRuleEntries = 2048

@@ -1,5 +1,5 @@
 -- A sheet decodes to a tree exactly if the sheet is the tree's writing and the tree is within the limits.
-use Prim.Native.Nat.{ℕ}
+use Prim.Native.Nat.{ℕ, _≤_}
 use mathlib.Core.List.{List}
 use mathlib.Core.Option.{some}
 use mathlib.Core.Logic.{_↔_}
@@ -9,7 +9,7 @@ use Rattle.definition.specs.Tree.{Schema, Rule}
 use Rattle.definition.specs.Limits.{maxSchemaEntries, maxRuleEntries}
 use Rattle.definition.specs.Decode.{decodeSchema, decodeRule}
 use Rattle.definition.specs.Write.{writeSchema, writeRule}
-use Rattle.definition.specs.Within.{SchemaRises, SchemaWithin, RuleWithin}
+use Rattle.definition.specs.Within.{schemaEntries, SchemaRises, SchemaWithin, RuleWithin}
 use Rattle.definition.specs.SheetLaws.{schema-law, rule-law, whole-sound, whole-complete}
 
 pub schema-round-trip : (s : List ℕ) (t : Schema) → (decodeSchema s ≡ some t) ↔ ((s ≡ writeSchema t) × SchemaWithin t)
@@ -39,3 +39,7 @@ rule-round-trip s t = (
 -- sibling names in the tree of a well formed sheet rise
 pub schema-rises : (s : List ℕ) (t : Schema) → decodeSchema s ≡ some t → SchemaRises t
 schema-rises s t e = schema-round-trip s t .0 e .1 .rises
+
+-- and it has at most as many entries as a schema sheet may have
+pub schema-entries : (s : List ℕ) (t : Schema) → decodeSchema s ≡ some t → schemaEntries t ≤ maxSchemaEntries
+schema-entries s t e = schema-round-trip s t .0 e .1 .entries

@@ -1,4 +1,3 @@
-// The two sheets as trees: a schema, and a rule or template (docs/FORMAT.md, "Sheets").
-
-// No sheet is longer than this.
-pub const MAX_SHEET_BYTES: usize = 30000;
+// The two sheets as trees: a schema, and a rule or template (docs/FORMAT.md, "Sheets"). The code has its limits from here, each from this
+// one place; the limit of texts and of counts stands with the entries, in `sheet`.
+pub mod limits;

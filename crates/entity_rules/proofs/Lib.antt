@@ -2,3 +2,4 @@ pub mod Writing
 pub mod Entries
 pub mod KeyEntries
 pub mod Examples
+pub mod NumberTests

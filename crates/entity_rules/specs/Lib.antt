@@ -3,3 +3,4 @@ pub mod Entry
 pub mod EntryLaws
 pub mod KeyEntry
 pub mod KeyEntryLaws
+pub mod NumberTest

@@ -2,16 +2,13 @@
 use crate::cursor::Cursor;
 use crate::cursor::TreeRead;
 use crate::cursor::word_of;
-use crate::value::MAX_VALUE_NESTING;
 use crate::value::read_values;
+use definition::limits::MAX_VALUE_NESTING;
 use lines::rule_sheet::condition_head;
 use sheet::rule::ConditionHead;
 use sheet::rule::ConditionRead;
 ghost use mathlib.Core.Path.{_≡_};
 ghost use Rattle.rule.specs.Read.{Ready, operandsOf, ConditionAnswer, ConditionsAnswer};
-
-// How deep conditions may nest.
-pub const MAX_CONDITION_NESTING: usize = 256;
 
 // What follows a condition's head: so many values, then so many conditions.
 pub struct Operands {

@@ -1,5 +1,5 @@
 // Where reading stands in a rule sheet.
-use crate::index::ENDS_BELOW;
+use definition::limits::WORD_ENTRIES;
 ghost use mathlib.Core.Path.{_≡_};
 ghost use Prim.Native.Nat.{_+_, _*_, _≤_};
 ghost use Rattle.definition.specs.Limits.{maxSheetBytes, maxRuleEntries};
@@ -24,5 +24,5 @@ pub fn word_of(start: usize, end: usize) -> u32
     requires { ⌜ (start ≤ maxSheetBytes) × (end ≤ maxRuleEntries) ⌝ }
     ensures { λ r. ⌜ r ≡ start * 4096 + end ⌝ }
 {
-    (start * ENDS_BELOW + end) as u32
+    (start * WORD_ENTRIES + end) as u32
 }

@@ -1,19 +1,14 @@
 // The words of the index. The word of entry i + 1 stands at i: where the entry starts, and the word behind its subtree.
+use definition::limits::WORD_ENTRIES;
 ghost use mathlib.Core.Path.{_≡_};
 ghost use Rattle.rule.specs.Index.{startOf, endOf};
-
-// A rule sheet has at most this many entries: the index takes as many words.
-pub const MAX_RULE_ENTRIES: usize = 2048;
-
-// A word is a start times this, and an end below it.
-pub const ENDS_BELOW: usize = 4096;
 
 // Where the entry of word `i` starts in the sheet.
 pub fn start_of(scratch: &[u32], i: usize) -> usize
     ensures { λ r. ⌜ r ≡ startOf (now (scratch .entry)) i ⌝ }
 {
     if i < scratch.len() {
-        return scratch[i] as usize / ENDS_BELOW;
+        return scratch[i] as usize / WORD_ENTRIES;
     }
     0
 }
@@ -23,7 +18,7 @@ pub fn end_of(scratch: &[u32], i: usize) -> usize
     ensures { λ r. ⌜ r ≡ endOf (now (scratch .entry)) i ⌝ }
 {
     if i < scratch.len() {
-        return scratch[i] as usize % ENDS_BELOW;
+        return scratch[i] as usize % WORD_ENTRIES;
     }
     0
 }

@@ -4,16 +4,16 @@ mod cursor; // cursor.rt: where reading stands
 mod value; // value.rt: values, with all that they hold
 mod condition; // condition.rt: conditions, with all that they hold
 
-use condition::MAX_CONDITION_NESTING;
 use condition::read_condition;
 use cursor::Cursor;
 use cursor::TreeRead;
 use cursor::word_of;
-use definition::MAX_SHEET_BYTES;
-use index::MAX_RULE_ENTRIES;
+use definition::limits::MAX_CONDITION_NESTING;
+use definition::limits::MAX_RULE_ENTRIES;
+use definition::limits::MAX_SHEET_BYTES;
+use definition::limits::MAX_VALUE_NESTING;
 use lines::rule_sheet::rule_head;
 use sheet::rule::RuleHead;
-use value::MAX_VALUE_NESTING;
 use value::read_value;
 ghost use mathlib.Core.Path.{_≡_};
 ghost use Prim.Native.Nat.{_≤_};

@@ -18,9 +18,6 @@ ghost use Rattle.sheet.specs.Order.{follows};
 ghost use Rattle.sheet.specs.Parts.{partOf, optionalOf};
 ghost use Rattle.rule.specs.Read.{Ready, heldBy, countOf, costOf, HeldAnswer, ValueAnswer, ValuesAnswer, PairAnswer, PairsAnswer};
 
-// How deep values may nest.
-pub const MAX_VALUE_NESTING: usize = 64;
-
 // What a value holds.
 pub enum Held {
     // So many values.

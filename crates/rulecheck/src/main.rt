@@ -1,9 +1,10 @@
 // Checks the rule of the file `check.in` against its schema, and prints the answer (docs/FORMAT.md, "The program `rulecheck`").
+use definition::limits::MAX_FILE_BYTES;
 use file_answer::output;
 use libc::STDOUT_FILENO;
 
 // One byte more than the longest file that is taken, so that a longer one shows.
-const FILE_BYTES: usize = 65537;
+const FILE_BYTES: usize = MAX_FILE_BYTES + 1;
 
 // Room enough for every line.
 const LINE_BYTES: usize = 32835;

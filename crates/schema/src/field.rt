@@ -11,9 +11,6 @@ ghost use Rattle.schema.specs.Fields.{Ready, FieldPost, ItemsPost, Membe
 ghost use Rattle.sheet.specs.Parts.{partOf};
 ghost use Rattle.sheet.specs.Order.{follows};
 
-// How deep fields nest, the outermost counting 1.
-pub const MAX_FIELD_NESTING: usize = 64;
-
 // Where reading stands: the next entry's number, how many slots are in use, and the next byte.
 pub struct Cursor {
     pub next: usize,

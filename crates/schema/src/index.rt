@@ -1,4 +1,7 @@
 // The slots of the index: two words for each field, behind the words of a rule.
+use definition::limits::MAX_RULE_ENTRIES;
+use definition::limits::MAX_SCHEMA_ENTRIES;
+use definition::limits::WORD_ENTRIES;
 use sheet::part::OptionalPart;
 use sheet::schema::KnownField;
 ghost use mathlib.Core.Path.{_≡_};
@@ -10,17 +13,11 @@ ghost use Rattle.schema.specs.Fields.{SlotFits, SlotPut};
 ghost use Rattle.schema.specs.Slot.{elementFrom, IndexedIs};
 ghost use Rattle.sheet.specs.Places.{KnownFieldIs};
 
-// No schema has more entries.
-pub const MAX_SCHEMA_ENTRIES: usize = 2048;
-
 // Every entry but the sheet's head has a slot.
 pub const MAX_SLOTS: usize = MAX_SCHEMA_ENTRIES - 1;
 
 // The words before this one are a rule's.
-pub const FIRST_WORD: usize = 2048;
-
-// A word holds where an entry starts, and its number, which is below this.
-const ENTRY_NUMBERS: usize = 4096;
+pub const FIRST_WORD: usize = MAX_RULE_ENTRIES;
 
 // The members of the record, of the arguments or of a field: the slot of the first, and how many there are.
 pub struct Holder {
@@ -76,7 +73,7 @@ pub fn put_slot(words: &mut [u32], k: usize, start: usize, entry: usize, child: 
     ensures { λ _. ⌜ SlotPut (now (words .entry)) (now (words .exit)) k start entry child ⌝ }
 {
     let i = FIRST_WORD + 2 * k;
-    words[i] = (start * ENTRY_NUMBERS + entry) as u32;
+    words[i] = (start * WORD_ENTRIES + entry) as u32;
     words[i + 1] = child as u32;
 }
 
@@ -84,7 +81,7 @@ pub fn put_slot(words: &mut [u32], k: usize, start: usize, entry: usize, child: 
 pub fn head_of(sheet: &[u8], words: &[u32], k: usize) -> KnownField
     ensures { λ r. ⌜ KnownFieldIs (now (sheet .entry)) (placeWord (now (words .entry)) k / 4096) r ⌝ }
 {
-    let start = place_word(words, k) as usize / ENTRY_NUMBERS;
+    let start = place_word(words, k) as usize / WORD_ENTRIES;
     sheet::schema::known_field(sheet, start)
 }
 
@@ -134,7 +131,7 @@ pub fn indexed_field(sheet: &[u8], words: &[u32], k: usize) -> IndexedField
         count: head.count,
     };
     IndexedField {
-        entry: place_word(words, k) as usize % ENTRY_NUMBERS,
+        entry: place_word(words, k) as usize % WORD_ENTRIES,
         kind: head.kind,
         tag,
         element,

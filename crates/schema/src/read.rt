@@ -1,10 +1,10 @@
 // A schema sheet as a whole.
 use crate::field::Cursor;
-use crate::field::MAX_FIELD_NESTING;
 use crate::field::ManyRead;
 use crate::index::Holder;
 use crate::index::MAX_SLOTS;
-use definition::MAX_SHEET_BYTES;
+use definition::limits::MAX_FIELD_NESTING;
+use definition::limits::MAX_SHEET_BYTES;
 use sheet::schema::HolderHead;
 ghost use mathlib.Core.Path.{_≡_};
 ghost use Prim.Native.Nat.{_≤_};

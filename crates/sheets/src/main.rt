@@ -1,5 +1,6 @@
 // Reads sheets, good and damaged, and writes which are accepted: + or - for each, 64 to a line, then how many.
 // Before each sheet stand eight bytes: S for a schema sheet or R for a rule sheet, its length in six digits, and 0A.
+use definition::limits::SCRATCH_WORDS;
 use libc::STDIN_FILENO;
 use libc::STDOUT_FILENO;
 use rule::RuleRead;
@@ -39,7 +40,7 @@ fn three(s: &[u8], at: usize) -> usize
 }
 
 fn accepts_schema(sheet: &[u8]) -> bool {
-    let mut scratch = [0u32; 8192];
+    let mut scratch = [0u32; SCRATCH_WORDS];
     match schema::read::read_schema(sheet, &mut scratch) {
         SchemaRead::Good(_) => true,
         SchemaRead::Bad => false,
@@ -47,7 +48,7 @@ fn accepts_schema(sheet: &[u8]) -> bool {
 }
 
 fn accepts_rule(sheet: &[u8]) -> bool {
-    let mut scratch = [0u32; 8192];
+    let mut scratch = [0u32; SCRATCH_WORDS];
     match rule::read_rule(sheet, &mut scratch) {
         RuleRead::Good(_) => true,
         RuleRead::Bad => false,

@@ -36,14 +36,16 @@ pub record Bounds : Type 0 where
   pub kind-9 : heard (ask 9 4 empty met) ≡ refuses 1
   pub semantics-0 : heard (ask 1 0 empty met) ≡ refuses 1
   pub semantics-5 : heard (ask 8 5 empty met) ≡ refuses 1
-  -- a label of 256 bytes, a path buffer of 32,768, a scratch of 8,192
-  pub label-256 : heard (lend (label 256) 32768 8192) ≡ accepts 4
-  pub label-257 : heard (lend (label 257) 32768 8192) ≡ refuses 2
-  pub label-not-utf8 : heard (lend (255 ∷ []) 32768 8192) ≡ refuses 2
-  pub path-32767 : heard (lend (label 256) 32767 8192) ≡ refuses 3
-  pub scratch-8191 : heard (lend (label 256) 32768 8191) ≡ refuses 3
+  -- a label of 256 bytes, a path buffer of 32,768, a scratch of 4,096
+  pub label-256 : heard (lend (label 256) 32768 4096) ≡ accepts 4
+  pub label-257 : heard (lend (label 257) 32768 4096) ≡ refuses 2
+  pub label-not-utf8 : heard (lend (255 ∷ []) 32768 4096) ≡ refuses 2
+  pub path-32767 : heard (lend (label 256) 32767 4096) ≡ refuses 3
+  pub scratch-4095 : heard (lend (label 256) 32768 4095) ≡ refuses 3
+  -- a longer scratch changes nothing
+  pub scratch-8192 : heard (lend (label 256) 32768 8192) ≡ heard (lend (label 256) 32768 4096)
   -- the first refusal that is due
-  pub label-before-width : heard (lend (label 257) 32767 8191) ≡ refuses 2
+  pub label-before-width : heard (lend (label 257) 32767 4095) ≡ refuses 2
   pub width-before-sheets : heard (lend (label 0) 0 0) ≡ refuses 3
   pub schema-before-rule : heard (ask 1 2 [] []) ≡ refuses 4
   pub no-rule : heard (ask 1 2 empty []) ≡ refuses 5
@@ -91,7 +93,8 @@ bounds =
       label-257 = refl;
       label-not-utf8 = refl;
       path-32767 = refl;
-      scratch-8191 = refl;
+      scratch-4095 = refl;
+      scratch-8192 = refl;
       label-before-width = refl;
       width-before-sheets = refl;
       schema-before-rule = refl;

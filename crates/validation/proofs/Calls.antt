@@ -18,7 +18,7 @@ lending label path scratch kind semantics schema rule =
 -- a call with the label `r` and buffers of the least lengths
 unfoldable pub ask : (kind semantics : ℕ) (schema rule : List ℕ) → Call
 unfolding lending
-ask kind semantics schema rule = lending (ascii "r") 32768 8192 kind semantics schema rule
+ask kind semantics schema rule = lending (ascii "r") 32768 4096 kind semantics schema rule
 
 -- the seven numbers, and the path
 unfoldable pub heardOf : Answer → Numbers × Text

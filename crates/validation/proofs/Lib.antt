@@ -7,3 +7,4 @@ pub mod KeyEdges
 pub mod Widened
 pub mod Slips
 pub mod ShutOut
+pub mod Moves

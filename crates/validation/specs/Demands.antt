@@ -1,16 +1,18 @@
 -- What is promised of a whole call, for every run of it: three demands, each a statement with its proof.
 -- `Meets r` says that the run r gave what the definitions say (specs/Result.antt); it is what the call ensures, with nothing required.
 use Prim.Native.Nat.{ℕ, _≤_}
-use mathlib.Core.Bool.{false}
+use mathlib.Core.Bool.{Bool, false}
 use mathlib.Core.List.{List}
 use mathlib.Core.Option.{some}
 use mathlib.Core.Path.{_≡_, refl, ap, sym, _∙_}
 use lib.ListN.{length}
+use lib.Dec.{leb}
+use borrow.Author.Tests.{le-leb}
 use Rattle.definition.specs.Tree.{Schema, Rule}
 use Rattle.definition.specs.Decode.{decodeSchema, decodeRule}
 use Rattle.widening.specs.Widening.{Level, marks}
 use Rattle.validation.specs.Check.{IsDefect}
-use Rattle.validation.specs.Result.{Call, Defect, Answer, defect, IsRefusal, isOfSheets, Heard, refusal, acceptance, finding, settingFor, Unrefused, checked, resultOf, numbersOf, pathAfter, keptScratch, ScratchAfter, Run, lentOf, callOf, Meets}
+use Rattle.validation.specs.Result.{scratchWords, Defect, Answer, defect, IsRefusal, isOfSheets, Heard, refusal, acceptance, finding, settingFor, early, ofSheets, refusals, Unrefused, checked, resultOf, numbersOf, pathAfter, keptScratch, ScratchAfter, Run, lentOf, callOf, Meets}
 use Rattle.validation.specs.RefusalLaws.{refusal-some, refusal-no-defect}
 use Rattle.validation.specs.Growth.{against, Widens, SameFinding}
 use Rattle.validation.specs.DemandLaws.{heard, unrefused-answer, answers-by-checks, AnswersFare, results-fare, number-accepted, number-defect, passed-number, Gives, meets-gives, same-acceptance, same-finding, same-passed}
@@ -24,12 +26,15 @@ pub record Demand1 (r : Run) : Type 0 where
   -- all refusals but those of the sheets come before any sheet is read
   pub spares : IsRefusal (r .result .number) → isOfSheets (r .result .number) ≡ false → r .scratch ≡ r .scratchBefore
 
--- two runs that differ at most in what the scratch held before, and in what it holds after
+-- two runs that differ in the scratch alone: in how long it is, in what it held before, and in what it holds after
 pub record SameButScratch (r r′ : Run) : Type 0 where
   pub asked : r .asked ≡ r′ .asked
   pub schema : r .schema ≡ r′ .schema
   pub pathBefore : r .pathBefore ≡ r′ .pathBefore
-  pub scratchLength : length (r .scratchBefore) ≡ length (r′ .scratchBefore)
+
+-- whether the scratch is long enough
+abbrev pub hasRoom : Run → Bool
+hasRoom r = leb scratchWords (length (r .scratchBefore))
 
 pub record Demand1Scratch (r r′ : Run) : Type 0 where
   pub result : r .result ≡ r′ .result
@@ -60,21 +65,27 @@ demand-1 r m =
       spares = λ l h. spares-scratch (heard (callOf r)) (m .scratch) (rw (m .result) at l) (rw (m .result) at h);
     }
 
-same-call : {r r′ : Run} → SameButScratch r r′ → callOf r ≡ callOf r′
-unfolding callOf lentOf
-same-call s = λ i.
+same-answer : (r r′ : Run) → SameButScratch r r′ → hasRoom r ≡ hasRoom r′ → resultOf (callOf r) ≡ resultOf (callOf r′)
+unfolding callOf lentOf resultOf refusals early ofSheets
+same-answer r r′ s room = rw (s .asked, s .schema, s .pathBefore, room) refl
+
+pub demand-1-scratch : (r r′ : Run) → SameButScratch r r′ → hasRoom r ≡ hasRoom r′ → Meets r → Meets r′ → Demand1Scratch r r′
+demand-1-scratch r r′ s room m m′ =
+    let same = same-answer r r′ s room in
     record {
-      asked = s .asked i;
-      schema = s .schema i;
-      lent = record { path = length (s .pathBefore i); scratch = s .scratchLength i };
+      result = m .result ∙ ap numbersOf same ∙ sym (m′ .result);
+      path = m .path ∙ (λ i. pathAfter (same i) (s .pathBefore i)) ∙ sym (m′ .path);
     }
 
-pub demand-1-scratch : (r r′ : Run) → SameButScratch r r′ → Meets r → Meets r′ → Demand1Scratch r r′
-demand-1-scratch r r′ s m m′ =
-    record {
-      result = m .result ∙ ap (λ (c : Call). numbersOf (resultOf c)) (same-call s) ∙ sym (m′ .result);
-      path = m .path ∙ (λ i. pathAfter (resultOf (same-call s i)) (s .pathBefore i)) ∙ sym (m′ .path);
-    }
+-- so a scratch of 4,096 elements serves as well as any longer one
+pub lean-scratch : (r r′ : Run)
+    → SameButScratch r r′
+    → scratchWords ≤ length (r .scratchBefore)
+    → scratchWords ≤ length (r′ .scratchBefore)
+    → Meets r
+    → Meets r′
+    → Demand1Scratch r r′
+lean-scratch r r′ s enough enough′ = demand-1-scratch r r′ s (le-leb _ _ enough ∙ sym (le-leb _ _ enough′))
 
 -- Demand 2, its proved half: for two sheets that meet none of the refusals the answer is that of the check list (specs/Check.antt,
 -- specs/Judge.antt), its numbers and its path. That acceptance, family, detail and path are the Rust's is shown by the differential runs.

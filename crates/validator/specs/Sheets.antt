@@ -29,7 +29,7 @@ isLetIn Any b = true
 isLetIn Rules b = not b
 isLetIn Templates b = b
 
--- no word past the first 8,192 has changed
+-- no word past the first 4,096 has changed
 pub record FrontOnly (before after : List ℕ) : Type 0 where
   pub size : length after ≡ length before
   pub kept : (i : ℕ) → scratchWords ≤ i → getD after i 0 ≡ getD before i 0

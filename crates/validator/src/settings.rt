@@ -12,7 +12,7 @@ ghost use lib.ListN.{length};
 ghost use Rattle.text.specs.Utf8.{isUtf8};
 ghost use Rattle.reference.specs.Setting.{oneOf, settingOf};
 ghost use Rattle.validation.specs.Result.{isWithin, maxLabelBytes, pathBytes, scratchWords};
-ghost use Rattle.validator.specs.Settings.{EarlyIs, settingBy};
+ghost use Rattle.validator.specs.Settings.{settingBy, EarlyIs};
 
 const MAX_LABEL_BYTES: usize = 256;
 

@@ -1,4 +1,4 @@
 // How long the buffers are that a caller lends, at least.
 pub const PATH_BYTES: usize = 32768;
 
-pub const SCRATCH_WORDS: usize = 8192;
+pub const SCRATCH_WORDS: usize = 4096;

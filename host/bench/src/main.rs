@@ -1,5 +1,6 @@
 //! Measures the library beside the Rust on the same sheets and writes the figures, and a plot, into a document: `bench DOCUMENT`.
-//! `bench once GROUP SIDE SIZE` makes a single call for valgrind to count; `bench plain` prints the figures only, without counting.
+//! `bench once GROUP SIDE SIZE` makes a single call for valgrind to count, `bench time GROUP SIDE SIZE` prints how many nanoseconds it takes;
+//! `bench plain` prints the figures only, without counting.
 
 mod library;
 mod measure;
@@ -17,7 +18,7 @@ use differential::model::{decode_rule, decode_schema};
 use differential::trees;
 use library::Buffers;
 use report::{Acceptance, Figures, Row};
-use sheets::{Group, Sample, GROUPS};
+use sheets::{Group, Sample, GROUPS, NUMBERS};
 use std::process::ExitCode;
 
 /// Who answers.
@@ -42,10 +43,11 @@ fn main() -> ExitCode {
     let words: Vec<String> = std::env::args().skip(1).collect();
     let words: Vec<&str> = words.iter().map(String::as_str).collect();
     let done = match words[..] {
-        ["once", group, side, size] => once(group, side, size),
+        ["once", group, side, size] => on_sample(group, side, size, |call| measure::counted_call(call)),
+        ["time", group, side, size] => on_sample(group, side, size, |call| println!("{:.0}", measure::time(call))),
         ["plain"] => all(false).map(|figures| println!("{}", figures.tables())),
         [document] => all(true).and_then(|figures| figures.write(document)),
-        _ => Err("usage: bench DOCUMENT | bench plain | bench once GROUP SIDE SIZE".to_owned()),
+        _ => Err("usage: bench DOCUMENT | bench plain | bench once GROUP SIDE SIZE | bench time GROUP SIDE SIZE".to_owned()),
     };
     match done {
         Ok(()) => ExitCode::SUCCESS,
@@ -56,12 +58,13 @@ fn main() -> ExitCode {
     }
 }
 
-fn once(group: &str, side: &str, size: &str) -> Result<(), String> {
-    let group = GROUPS.iter().find(|known| known.name == group).ok_or("no such group")?;
+/// Hands on the call of one side for the sample of that group and size.
+fn on_sample(group: &str, side: &str, size: &str, measured: impl FnOnce(&mut dyn FnMut() -> bool)) -> Result<(), String> {
+    let group = GROUPS.iter().chain(&NUMBERS).find(|known| known.name == group).ok_or("no such group")?;
     let side = Side::named(side).ok_or("no such side")?;
     let size = size.parse().map_err(|_| "the size is no number")?;
     let sample = (group.make)(size);
-    with_call(&sample, side, |call| measure::counted_call(call));
+    with_call(&sample, side, measured);
     Ok(())
 }
 
@@ -88,10 +91,12 @@ fn all(counting: bool) -> Result<Figures, String> {
         eprintln!("bench: {}", group.name);
         rows.push(row(group, counting)?);
     }
+    eprintln!("bench: long numbers");
+    let numbers = NUMBERS.iter().map(|group| row(group, counting)).collect::<Result<_, _>>()?;
     eprintln!("bench: acceptance and stack");
     let acceptance = sheets::sheets().into_iter().map(acceptance).collect();
     let stack = sheets::deepest().into_iter().map(|(name, sample)| (name, stack::depth(&sample).0)).collect();
-    Ok(Figures { rows, acceptance, stack })
+    Ok(Figures { rows, numbers, acceptance, stack })
 }
 
 fn row(group: &'static Group, counting: bool) -> Result<Row, String> {

@@ -7,7 +7,8 @@ use serde_json::{Map, Number, Value};
 use std::collections::BTreeMap;
 
 const MAX_SHEET_BYTES: usize = 30_000;
-const MAX_ENTRIES: usize = 2_048;
+const MAX_SCHEMA_ENTRIES: usize = 1_024;
+const MAX_RULE_ENTRIES: usize = 2_048;
 const MAX_TEXT_BYTES: usize = 512;
 const MAX_FIELD_NESTING: usize = 64;
 const MAX_CONDITION_NESTING: usize = 256;
@@ -26,13 +27,13 @@ pub enum Rule {
 }
 
 pub fn schemas(sheet: &[u8]) -> Option<Schemas> {
-    let mut reader = Reader::new(sheet)?;
+    let mut reader = Reader::new(sheet, MAX_SCHEMA_ENTRIES)?;
     let schemas = reader.schemas()?;
     reader.is_at_end().then_some(schemas)
 }
 
 pub fn rule(sheet: &[u8]) -> Option<Rule> {
-    let mut reader = Reader::new(sheet)?;
+    let mut reader = Reader::new(sheet, MAX_RULE_ENTRIES)?;
     let rule = match sheet.first()? {
         b'R' => Rule::Rule(reader.rule()?),
         _ => Rule::Template(reader.template()?),
@@ -40,16 +41,17 @@ pub fn rule(sheet: &[u8]) -> Option<Rule> {
     reader.is_at_end().then_some(rule)
 }
 
-/// The sheet, the place of the next byte, and how many entries were begun.
+/// The sheet, the place of the next byte, how many entries were begun, and how many there may be.
 struct Reader<'a> {
     sheet: &'a [u8],
     at: usize,
     entries: usize,
+    max_entries: usize,
 }
 
 impl<'a> Reader<'a> {
-    fn new(sheet: &'a [u8]) -> Option<Self> {
-        (sheet.len() <= MAX_SHEET_BYTES).then_some(Reader { sheet, at: 0, entries: 0 })
+    fn new(sheet: &'a [u8], max_entries: usize) -> Option<Self> {
+        (sheet.len() <= MAX_SHEET_BYTES).then_some(Reader { sheet, at: 0, entries: 0, max_entries })
     }
 
     fn is_at_end(&self) -> bool {
@@ -65,7 +67,7 @@ impl<'a> Reader<'a> {
     fn begin(&mut self, letter: u8) -> Option<()> {
         self.entries += 1;
         self.byte(letter)?;
-        (self.entries <= MAX_ENTRIES).then_some(())
+        (self.entries <= self.max_entries).then_some(())
     }
 
     /// A comma, then a numeral up to `most`.
@@ -116,9 +118,9 @@ impl Reader<'_> {
     fn schemas(&mut self) -> Option<Schemas> {
         self.begin(b'H')?;
         let record_open = self.mark()?;
-        let record_count = self.numeral(MAX_ENTRIES)?;
+        let record_count = self.numeral(self.max_entries)?;
         let arguments_open = self.numeral_or_dash(1)?;
-        let arguments_count = self.numeral(MAX_ENTRIES)?;
+        let arguments_count = self.numeral(self.max_entries)?;
         self.byte(b'\n')?;
         let fields = ObjectSchema { fields: self.fields(record_count, 1)?, additional_fields: record_open };
         let args = match arguments_open {
@@ -150,7 +152,7 @@ impl Reader<'_> {
         let kind = field_kind(self.numeral(12)?)?;
         let additional_properties = self.mark()?;
         let has_items = self.mark()?;
-        let count = self.numeral(MAX_ENTRIES)?;
+        let count = self.numeral(self.max_entries)?;
         let name_length = self.numeral(MAX_TEXT_BYTES)?;
         let tag_length = self.numeral_or_dash(MAX_TEXT_BYTES)?;
         self.byte(b',')?;
@@ -192,7 +194,7 @@ impl Reader<'_> {
         }
         self.begin(b'C')?;
         let operator = self.numeral(21)?;
-        let n = self.numeral(MAX_ENTRIES)?;
+        let n = self.numeral(self.max_entries)?;
         self.byte(b',')?;
         let bind = self.text(if operator >= 20 { n } else { 0 })?;
         self.byte(b'\n')?;
@@ -231,7 +233,7 @@ impl Reader<'_> {
         }
         self.begin(b'V')?;
         let form = self.numeral(7)?;
-        let n = self.numeral(MAX_ENTRIES)?;
+        let n = self.numeral(self.max_entries)?;
         self.byte(b',')?;
         let text = self.text(if matches!(form, 4 | 5) { n } else { 0 })?;
         self.byte(b'\n')?;

@@ -1,5 +1,7 @@
 //! The sheets that are measured, made by size. Every one of them is accepted.
 
+use differential::model::number::bound;
+
 /// One check: settings and the two sheets.
 pub struct Sample {
     pub kind: u64,
@@ -33,7 +35,7 @@ pub struct Group {
 pub const GROUPS: [Group; 7] = [
     Group { name: "small", unit: "fields and conditions", sizes: &[1, 2, 4, 6, 8, 12, 16], listed: 4, make: small },
     Group { name: "typical", unit: "schema entries", sizes: &[51, 101, 201, 301, 401, 511, 611], listed: 611, make: typical },
-    Group { name: "wide", unit: "siblings", sizes: &[100, 200, 400, 700, 1_000, 1_300, 1_700], listed: 1_700, make: wide },
+    Group { name: "wide", unit: "siblings", sizes: &[100, 200, 350, 500, 650, 800, 1_000], listed: 1_000, make: wide },
     Group { name: "deep", unit: "levels", sizes: &[8, 16, 24, 32, 40, 52, 64], listed: 64, make: deep },
     Group {
         name: "long texts",
@@ -49,6 +51,24 @@ pub const GROUPS: [Group; 7] = [
         sizes: &[100, 200, 400, 800, 1_200, 1_600, 2_048],
         listed: 2_048,
         make: large_rules,
+    },
+];
+
+/// Rules of long numbers, by what decides that they are finite.
+pub const NUMBERS: [Group; 2] = [
+    Group {
+        name: "place of the first digit",
+        unit: "numbers of 500 digits",
+        sizes: &[2, 8, 16, 28, 40, 56],
+        listed: 56,
+        make: |count| numbers(count, 307),
+    },
+    Group {
+        name: "309 digits compared",
+        unit: "numbers of 500 digits",
+        sizes: &[2, 8, 16, 28, 40, 56],
+        listed: 56,
+        make: |count| numbers(count, 308),
     },
 ];
 
@@ -174,6 +194,15 @@ fn large_rules(entries: usize) -> Sample {
     Sample::new(format!("H,0,3,-,0\n{fields}"), format!("R,-,-,\nC,2,{},\n{conditions}", 6 * blocks + rest))
 }
 
+/// Comparisons of two numbers of 500 digits. They differ from the bound of finite numbers in the 309th digit, and stand at its place or lower, as the
+/// exponent says.
+fn numbers(count: usize, exponent: usize) -> Sample {
+    let agreeing = String::from_utf8_lossy(&bound()[1..308]);
+    let value = number(&format!("1.{agreeing}1{}e{exponent}", "9".repeat(191)));
+    let comparisons = each(count / 2, |_| format!("C,8,0,\n{value}{value}"));
+    Sample::new("H,0,0,-,0\n".to_owned(), format!("R,-,-,\nC,2,{},\n{comparisons}", count / 2))
+}
+
 /// A sheet whose acceptance alone is measured.
 pub struct Sheet {
     pub name: &'static str,
@@ -186,7 +215,7 @@ pub fn sheets() -> Vec<Sheet> {
     let pair = format!("C,8,0,\n{}{}", text("$fields.bars"), number("12.5"));
     let sheet = |name, text: String| Sheet { name, bytes: text.into_bytes() };
     vec![
-        sheet("schema, 1,700 siblings", wide_schema(1_700)),
+        sheet("schema, 1,000 siblings", wide_schema(1_000)),
         Sheet { name: "schema, 611 entries", bytes: typical(611).schema },
         sheet("schema, names of 500 bytes", long_schema(57)),
         sheet("schema, 64 levels", deep_schema(64)),

@@ -1,8 +1,7 @@
 //! What a sheet cannot hold.
 
 use crate::limits::{
-    MAX_CONDITION_NESTING, MAX_ENTRIES, MAX_FIELD_NESTING, MAX_SHEET_BYTES, MAX_TEXT_BYTES,
-    MAX_VALUE_NESTING,
+    MAX_CONDITION_NESTING, MAX_FIELD_NESTING, MAX_SHEET_BYTES, MAX_TEXT_BYTES, MAX_VALUE_NESTING,
 };
 use std::fmt;
 
@@ -95,10 +94,12 @@ pub enum BuildError {
         /// How the entry begins under which it is too deep.
         entry: String,
     },
-    /// The sheet has over 2,048 entries.
+    /// The sheet has over 1,024 entries, or over 2,048 if it is a rule's or a template's.
     TooManyEntries {
         /// How the entry begins that passes the limit, with those that belong to it.
         entry: String,
+        /// How many entries the sheet may have.
+        limit: usize,
     },
     /// The sheet has over 30,000 bytes.
     TooManyBytes {
@@ -137,9 +138,9 @@ impl fmt::Display for BuildError {
                 "{nesting} nest deeper than {}, under the entry {entry:?}",
                 nesting.limit()
             ),
-            Self::TooManyEntries { entry } => write!(
+            Self::TooManyEntries { entry, limit } => write!(
                 f,
-                "with the entry {entry:?} the sheet has more than {MAX_ENTRIES} entries"
+                "with the entry {entry:?} the sheet has more than {limit} entries"
             ),
             Self::TooManyBytes { entry } => write!(
                 f,

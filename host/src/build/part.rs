@@ -1,20 +1,41 @@
 //! Entries of a sheet to be.
 
 use super::error::{BuildError, Nesting, start};
-use crate::limits::{MAX_ENTRIES, MAX_SHEET_BYTES, MAX_TEXT_BYTES};
+use crate::limits::{MAX_RULE_ENTRIES, MAX_SCHEMA_ENTRIES, MAX_SHEET_BYTES, MAX_TEXT_BYTES};
 
-/// Entries that stand together, and how deep they nest. It never passes the limits of a sheet.
-#[derive(Clone, Debug, Default, PartialEq, Eq)]
+/// Entries that stand together, and how deep they nest. It never passes the limits of its sheet.
+#[derive(Clone, Debug, PartialEq, Eq)]
 pub(crate) struct Part {
     bytes: Vec<u8>,
     entries: usize,
     nesting: usize,
+    /// How many entries its sheet may have.
+    limit: usize,
 }
 
 /// A part, or why there can be none.
 pub(crate) type Built = Result<Part, BuildError>;
 
 impl Part {
+    /// No entries of a schema sheet yet.
+    pub const fn of_schema() -> Self {
+        Self::within(MAX_SCHEMA_ENTRIES)
+    }
+
+    /// No entries of a rule's or template's sheet yet.
+    pub const fn of_rule() -> Self {
+        Self::within(MAX_RULE_ENTRIES)
+    }
+
+    const fn within(limit: usize) -> Self {
+        Self {
+            bytes: Vec::new(),
+            entries: 0,
+            nesting: 0,
+            limit,
+        }
+    }
+
     /// Adds entries that belong to the same nesting.
     pub fn add(&mut self, other: &Part) -> Result<(), BuildError> {
         self.nesting = self.nesting.max(other.nesting);
@@ -28,15 +49,14 @@ impl Part {
 
     /// Adds one entry: its head up to the last comma or without a text, and its texts.
     pub fn add_entry(&mut self, head: &str, texts: &[&str]) -> Result<(), BuildError> {
-        let entry = [&[head], texts, &["\n"]].concat().concat();
-        self.append(1, entry.as_bytes())
+        self.append(1, written(head, texts).as_bytes())
     }
 
     /// These entries under one that holds them, one level deeper.
     pub fn under(&self, head: &str, texts: &[&str], nesting: Nesting) -> Built {
-        let mut part = Part::default();
-        part.add_entry(head, texts)?;
-        part.append(self.entries, &self.bytes)?;
+        let mut part = Self::within(self.limit);
+        let whole = [written(head, texts).as_bytes(), &self.bytes].concat();
+        part.append(self.entries.saturating_add(1), &whole)?;
         part.nesting = self.nesting.saturating_add(1);
         match part.nesting <= nesting.limit() {
             true => Ok(part),
@@ -47,19 +67,17 @@ impl Part {
         }
     }
 
-    /// These entries as a sheet, after the entry that begins it.
-    pub fn sheet(&self, head: &str, texts: &[&str]) -> Result<Vec<u8>, BuildError> {
-        let mut part = Part::default();
-        part.add_entry(head, texts)?;
-        part.append(self.entries, &self.bytes)?;
-        Ok(part.bytes)
+    /// These entries as a sheet.
+    pub fn sheet(self) -> Vec<u8> {
+        self.bytes
     }
 
     fn append(&mut self, entries: usize, bytes: &[u8]) -> Result<(), BuildError> {
         self.entries = self.entries.saturating_add(entries);
-        if self.entries > MAX_ENTRIES {
+        if self.entries > self.limit {
             return Err(BuildError::TooManyEntries {
                 entry: first_entry(bytes),
+                limit: self.limit,
             });
         }
         if self.bytes.len().saturating_add(bytes.len()) > MAX_SHEET_BYTES {
@@ -70,6 +88,11 @@ impl Part {
         self.bytes.extend_from_slice(bytes);
         Ok(())
     }
+}
+
+/// An entry: its head and its texts.
+fn written(head: &str, texts: &[&str]) -> String {
+    [&[head], texts, &["\n"]].concat().concat()
 }
 
 /// How the first of these entries begins, for an error.

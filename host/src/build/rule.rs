@@ -238,7 +238,7 @@ impl Condition {
 }
 
 fn over_values(values: &[Value]) -> Built {
-    let mut part = Part::default();
+    let mut part = Part::of_rule();
     for value in values {
         part.add_apart(lent(&value.part)?)?;
     }
@@ -253,7 +253,7 @@ fn over_body(head: &str, texts: &[&str], values: &[Value], body: &Condition) -> 
 }
 
 fn list(operator: Operator, children: impl IntoIterator<Item = Condition>) -> Built {
-    let mut part = Part::default();
+    let mut part = Part::of_rule();
     let mut count = 0_usize;
     for child in children {
         part.add(lent(&child.part)?)?;
@@ -350,9 +350,10 @@ impl Rule {
         let name = text("name", self.name.as_deref().unwrap_or_default())?;
         let message = text("message", self.message.as_deref().unwrap_or_default())?;
         let lengths = [&self.name, &self.message].map(|text| length_or_dash(text.as_deref()));
-        let mut part = Part::default();
+        let mut part = Part::of_rule();
+        part.add_entry(&format!("R,{},", lengths.join(",")), &[name, message])?;
         part.add(lent(&self.condition.part)?)?;
-        part.sheet(&format!("R,{},", lengths.join(",")), &[name, message])
+        Ok(part.sheet())
     }
 }
 
@@ -395,8 +396,9 @@ impl Template {
     ///
     /// If a part of it or the whole passes a limit of sheets.
     pub fn sheet(&self) -> Result<Vec<u8>, BuildError> {
-        let mut part = Part::default();
+        let mut part = Part::of_rule();
+        part.add_entry("T", &[])?;
         part.add(lent(&self.value.part)?)?;
-        part.sheet("T", &[])
+        Ok(part.sheet())
     }
 }

@@ -217,7 +217,7 @@ impl Field {
     fn part(&self) -> Built {
         let name = text("name", &self.name)?;
         let tag = text("tag", self.tag.as_deref().unwrap_or_default())?;
-        let mut members = Part::default();
+        let mut members = Part::of_schema();
         if let Some(items) = &self.items {
             members.add(lent(items)?)?;
         }
@@ -350,30 +350,35 @@ impl Schema {
     ///
     /// ```
     /// # use entity_rules::{BuildError, Field, FieldKind, Schema};
-    /// let wide = (0..2_048).fold(Schema::new(), |schema, i| {
-    ///     schema.field(Field::new(i.to_string(), FieldKind::Json))
+    /// let wide = (1..=1_024).fold(Schema::new(), |schema, i| {
+    ///     schema.field(Field::new(format!("{i:04}"), FieldKind::Json))
     /// });
-    /// assert!(matches!(wide.sheet(), Err(BuildError::TooManyBytes { .. })));
+    /// let last = "F,8,0,0,0,4,-,1024".to_owned();
+    /// assert_eq!(wide.sheet(), Err(BuildError::TooManyEntries { entry: last, limit: 1_024 }));
     /// ```
     ///
     /// # Errors
     ///
     /// If a part of it or the whole passes a limit of sheets, or a name stands twice beside itself.
     pub fn sheet(&self) -> Result<Vec<u8>, BuildError> {
-        let mut part = Part::default();
+        let mut part = Part::of_schema();
+        part.add_entry(&self.head(), &[])?;
         self.fields.add_to(&mut part)?;
-        let arguments = match &self.arguments {
-            None => "-,0".to_owned(),
-            Some(arguments) => {
-                arguments.fields.add_to(&mut part)?;
-                format!("{},{}", u8::from(arguments.open), arguments.fields.count())
-            }
-        };
-        let head = format!(
+        if let Some(arguments) = &self.arguments {
+            arguments.fields.add_to(&mut part)?;
+        }
+        Ok(part.sheet())
+    }
+
+    fn head(&self) -> String {
+        let arguments = self.arguments.as_ref().map_or_else(
+            || "-,0".to_owned(),
+            |arguments| format!("{},{}", u8::from(arguments.open), arguments.fields.count()),
+        );
+        format!(
             "H,{},{},{arguments}",
             u8::from(self.open),
             self.fields.count()
-        );
-        part.sheet(&head, &[])
+        )
     }
 }

@@ -128,13 +128,13 @@ impl Value {
     fn leaf(number: u8, text: &str) -> Self {
         let head = format!("V,{number},{},", text.len());
         Self {
-            part: Part::default().under(&head, &[text], Nesting::Values),
+            part: Part::of_rule().under(&head, &[text], Nesting::Values),
         }
     }
 }
 
 fn array<V: Into<Value>>(elements: impl IntoIterator<Item = V>) -> Built {
-    let mut members = Part::default();
+    let mut members = Part::of_rule();
     let mut count = 0_usize;
     for element in elements {
         members.add(lent(&element.into().part)?)?;
@@ -156,7 +156,7 @@ fn object<K: AsRef<str>, V: Into<Value>>(members: impl IntoIterator<Item = (K, V
             Entry::Vacant(place) => place.insert(value.into()),
         };
     }
-    let mut members = Part::default();
+    let mut members = Part::of_rule();
     for (key, value) in &sorted {
         members.add_entry(&format!("K,{},", key.len()), &[key])?;
         members.add(lent(&value.part)?)?;

@@ -2,18 +2,19 @@
 
 use super::{Content, Entry, Malformed};
 use crate::build::Nesting;
-use crate::limits::{MAX_ENTRIES, MAX_SHEET_BYTES, MAX_TEXT_BYTES};
+use crate::limits::{MAX_SHEET_BYTES, MAX_TEXT_BYTES};
 
 pub type Read<T> = Result<T, Malformed>;
 
 /// The entries of a sheet, as one of these readers reads it.
 pub type Entries = for<'a> fn(Reader<'a>) -> Read<Vec<Entry<'a>>>;
 
-/// Reads a sheet. One that is too long is at fault where it passes the limit, unless it stops being a sheet before that.
-pub fn read(sheet: &[u8], entries: Entries) -> Read<Vec<Entry<'_>>> {
-    let whole = entries(Reader::new(sheet));
+/// Reads a sheet of so many entries at most. One that is too long is at fault where it passes the limit, unless it stops being a sheet before
+/// that.
+pub fn read(sheet: &[u8], limit: usize, entries: Entries) -> Read<Vec<Entry<'_>>> {
+    let whole = entries(Reader::new(sheet, limit));
     let start = match sheet.split_at_checked(MAX_SHEET_BYTES) {
-        Some((start, [_, ..])) => entries(Reader::new(start)),
+        Some((start, [_, ..])) => entries(Reader::new(start, limit)),
         _ => return whole,
     };
     match (start, whole) {
@@ -34,17 +35,20 @@ pub struct Reader<'a> {
     sheet: &'a [u8],
     rest: &'a [u8],
     entries: Vec<Entry<'a>>,
+    /// How many entries the sheet may have.
+    limit: usize,
     /// The byte at which the entry begins that is being read.
     begun: Option<usize>,
 }
 
 /// Each of these takes what it reads off the sheet.
 impl<'a> Reader<'a> {
-    fn new(sheet: &'a [u8]) -> Self {
+    fn new(sheet: &'a [u8], limit: usize) -> Self {
         Self {
             sheet,
             rest: sheet,
             entries: Vec::new(),
+            limit,
             begun: None,
         }
     }
@@ -84,8 +88,8 @@ impl<'a> Reader<'a> {
     /// The letter that begins an entry.
     pub fn begin(&mut self, letter: &str, what: &str) -> Read<()> {
         let start = self.byte();
-        if self.entries.len() >= MAX_ENTRIES {
-            return self.fail("at most 2,048 entries in the sheet");
+        if self.entries.len() >= self.limit {
+            return self.fail(format!("at most {} entries in the sheet", self.limit));
         }
         if !self.take(letter.as_bytes()) {
             return self.fail(format!("`{letter}`, {what}"));
@@ -153,11 +157,8 @@ impl<'a> Reader<'a> {
     }
 
     pub fn count(&mut self, what: &str) -> Read<usize> {
-        self.numeral(
-            0,
-            MAX_ENTRIES,
-            &format!("how many {what}, a numeral up to 2048"),
-        )
+        let most = self.limit;
+        self.numeral(0, most, &format!("how many {what}, a numeral up to {most}"))
     }
 
     pub fn length(&mut self, what: &str) -> Read<usize> {

@@ -4,6 +4,7 @@ use super::number::is_number;
 use super::reader::{Read, Reader, read};
 use super::{Content, Entry, Malformed, Operator};
 use crate::build::{CompareOp, Nesting};
+use crate::limits::MAX_RULE_ENTRIES;
 
 /// The entries of a rule sheet, be it a rule or a template.
 ///
@@ -22,7 +23,7 @@ use crate::build::{CompareOp, Nesting};
 ///
 /// If the sheet is not well formed.
 pub fn read_rule(sheet: &[u8]) -> Result<Vec<Entry<'_>>, Malformed> {
-    read(sheet, entries)
+    read(sheet, MAX_RULE_ENTRIES, entries)
 }
 
 fn entries(mut reader: Reader<'_>) -> Read<Vec<Entry<'_>>> {

@@ -3,6 +3,7 @@
 use super::reader::{Read, Reader, read};
 use super::{Content, Entry, Malformed};
 use crate::build::{FieldKind, Nesting};
+use crate::limits::MAX_SCHEMA_ENTRIES;
 
 /// The entries of a schema sheet.
 ///
@@ -18,7 +19,7 @@ use crate::build::{FieldKind, Nesting};
 ///
 /// If the sheet is not well formed.
 pub fn read_schema(sheet: &[u8]) -> Result<Vec<Entry<'_>>, Malformed> {
-    read(sheet, entries)
+    read(sheet, MAX_SCHEMA_ENTRIES, entries)
 }
 
 fn entries(mut reader: Reader<'_>) -> Read<Vec<Entry<'_>>> {

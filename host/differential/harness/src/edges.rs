@@ -6,6 +6,9 @@ use crate::generate::build::{
     all, array, compare, condition, element, exists, field, holder, literal, not, number, object, pair, quantifier, rule,
 };
 use crate::generate::build::{schema, text, value, ARRAY, INTEGER, JSON, MAP, OBJECT, STRING, UNION};
+use crate::generate::limits::{schema_bytes, SHAPES};
+use crate::generate::Setting;
+use crate::refusals::{MAX_RULE_ENTRIES, MAX_SCHEMA_ENTRIES, MAX_SHEET_BYTES};
 use differential::model::{write_rule, write_schema};
 use differential::trees::{Condition, Data, Field, Operator, Rule, Schema, Sheet};
 
@@ -26,7 +29,42 @@ pub fn edges() -> Vec<Case> {
         let (answer, detail) = edge.answer;
         Case::new(edge.kind, edge.semantics, b"r", write_schema(&schema), write_rule(&edge.sheet)).expecting(Expect::Detail(answer, detail))
     });
-    cases.chain(without_arguments()).chain([example()]).collect()
+    let full = [MAX_SHEET_BYTES, MAX_SHEET_BYTES + 1].map(|bytes| schema_bytes(&Setting { kind: 2, semantics: 2, label: "r" }, bytes));
+    cases.chain(without_arguments()).chain([example()]).chain(schema_entries()).chain([most_entries()]).chain(full).collect()
+}
+
+/// Schemas of one entry less than there may be, as many, and one more. The rule reads the field behind all others.
+fn schema_entries() -> Vec<Case> {
+    let sizes = MAX_SCHEMA_ENTRIES - 1..=MAX_SCHEMA_ENTRIES + 1;
+    let made = sizes.flat_map(|entries| SHAPES.map(|shape| (entries, shape(entries))));
+    let case = |(entries, schema): (usize, Schema)| {
+        let sheet = rule(exists(text(&last_field(&schema))));
+        let (answer, detail) = if entries > MAX_SCHEMA_ENTRIES { (4, 0) } else { ACCEPTED };
+        Case::new(2, 2, b"r", write_schema(&schema), write_rule(&sheet)).expecting(Expect::Detail(answer, detail))
+    };
+    made.map(case).collect()
+}
+
+/// Both sheets with as many entries as they may have. The last entry of the one names the last of the other.
+fn most_entries() -> Case {
+    let schema = SHAPES[0](MAX_SCHEMA_ENTRIES);
+    // The head, `all`, `exists` and its string stand beside the literals.
+    let literals = (4..MAX_RULE_ENTRIES).map(|_| literal(true));
+    let sheet = rule(all(literals.chain([exists(text(&last_field(&schema)))]).collect()));
+    Case::new(2, 2, b"r", write_schema(&schema), write_rule(&sheet)).expecting(Expect::Detail(0, 0))
+}
+
+/// A reference to the last field of the arguments, or of the record where there are none: its last property, or the element.
+fn last_field(schema: &Schema) -> String {
+    let (root, holder) = schema.arguments.as_ref().map_or(("fields", &schema.record), |arguments| ("args", arguments));
+    let mut path = format!("${root}");
+    let mut next = holder.fields.last();
+    while let Some(field) = next {
+        path += if field.name.is_empty() { ".0" } else { "." };
+        path += &field.name;
+        next = field.properties.last().or(field.items.as_deref());
+    }
+    path
 }
 
 /// The example of docs/FORMAT.md.

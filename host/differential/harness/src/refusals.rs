@@ -4,11 +4,12 @@
 use crate::case::Case;
 
 pub const MAX_SHEET_BYTES: usize = 30_000;
-pub const MAX_ENTRIES: usize = 2_048;
+pub const MAX_SCHEMA_ENTRIES: usize = 1_024;
+pub const MAX_RULE_ENTRIES: usize = 2_048;
 pub const MAX_TEXT_BYTES: usize = 512;
 pub const MAX_LABEL_BYTES: usize = 256;
 pub const MIN_PATH_BYTES: usize = 32_768;
-pub const MIN_SCRATCH_WORDS: usize = 8_192;
+pub const MIN_SCRATCH_WORDS: usize = 4_096;
 pub const MAX_FIELD_NESTING: usize = 64;
 pub const MAX_VALUE_NESTING: usize = 64;
 pub const MAX_CONDITION_NESTING: usize = 256;
@@ -18,7 +19,9 @@ pub fn refusal(case: &Case) -> u32 {
     let is_known = (1..=8).contains(&case.kind) && (1..=4).contains(&case.semantics);
     let is_label = case.label.len() <= MAX_LABEL_BYTES && std::str::from_utf8(&case.label).is_ok();
     let is_wide = case.path_len >= MIN_PATH_BYTES && case.scratch_len >= MIN_SCRATCH_WORDS;
-    let tests = [is_known, is_label, is_wide, is_sheet(&case.schema, b"H"), is_sheet(&case.rule, b"RT")];
+    let is_schema = is_sheet(&case.schema, b"H", MAX_SCHEMA_ENTRIES);
+    let is_rule = is_sheet(&case.rule, b"RT", MAX_RULE_ENTRIES);
+    let tests = [is_known, is_label, is_wide, is_schema, is_rule];
     tests.iter().zip(1..).find(|(passes, _)| !**passes).map_or(0, |(_, refusal)| refusal)
 }
 
@@ -46,11 +49,11 @@ struct Reading<'a> {
     groups: Vec<Option<Vec<u8>>>,
 }
 
-/// Whether a sheet that begins with one of the letters is well formed.
-pub fn is_sheet(sheet: &[u8], letters: &[u8]) -> bool {
+/// Whether a sheet that begins with one of the letters, and has so many entries at most, is well formed.
+fn is_sheet(sheet: &[u8], letters: &[u8], max_entries: usize) -> bool {
     let mut reading = Reading { rest: sheet, entries: 0, due: Vec::new(), groups: Vec::new() };
     let begins = sheet.len() <= MAX_SHEET_BYTES && sheet.first().is_some_and(|letter| letters.contains(letter));
-    begins && reading.all().is_some() && reading.rest.is_empty() && reading.entries <= MAX_ENTRIES
+    begins && reading.all().is_some() && reading.rest.is_empty() && reading.entries <= max_entries
 }
 
 impl<'a> Reading<'a> {

@@ -1,15 +1,26 @@
 //! Writes the sheets that the program `sheets` is run on, and what it must write, by the model: `sheets FOLDER`.
 //!
-//! Good sheets, every limit one below, at and one above it, numerals past 32 and 64 bits, and two small sheets with each byte replaced, left out or
+//! Good sheets, every limit one below, at and one above it, numerals past 32 and 64 bits, and small sheets with each byte replaced, left out or
 //! doubled, and cut at each length.
 
 use differential::model::{decode_rule, decode_schema};
 use std::fmt::Write as _;
 use std::{env, fs, path::Path, process::exit};
 
-const SCHEMA: &str = "H,0,3,1,1\nF,1,0,0,0,1,-,a\nF,7,1,0,2,1,0,b\nF,6,0,1,0,1,-,c\nF,2,0,0,0,0,-,\nF,11,0,0,0,1,3,dtag\nF,8,0,0,0,2,-,ce\nF,10,0,0,0,1,-,f\n";
-const RULE: &str = "R,4,-,name\nC,2,3,\nC,8,0,\nV,5,10,$fields.ab\nV,7,2,\nK,1,k\nV,4,4,-1.5\nK,1,l\nV,6,1,\nV,1,0,\nC,18,3,\nV,2,0,\nV,3,0,\nC,20,1,b\nV,5,4,$b.c\nC,4,0,\nC,1,1,\n";
+/// Small sheets in which every form of an entry stands. Each of their bytes is damaged, so several short ones make less of a list than a long one.
+const SCHEMAS: [&str; 2] = [
+    "H,0,2,1,1\nF,1,0,0,0,1,-,a\nF,7,1,0,1,1,0,b\nF,11,0,0,0,1,3,dtag\nF,10,0,0,0,1,-,f\n",
+    "H,1,2,-,0\nF,6,0,1,1,1,-,c\nF,2,0,0,0,0,-,\nF,8,0,0,0,2,-,ce\nF,9,0,0,0,2,-,cf\n",
+];
+const RULES: [&str; 3] = [
+    "R,4,-,name\nC,8,0,\nV,5,10,$fields.ab\nV,4,4,-1.5\n",
+    "R,-,2,no\nC,3,2,\nC,18,3,\nV,2,0,\nV,3,0,\nC,20,1,b\nV,5,4,$b.c\nC,4,0,\nC,1,1,\n",
+    "T\nV,7,2,\nK,1,k\nV,1,0,\nK,1,l\nV,6,1,\nV,2,0,\n",
+];
 const OTHERS: &[u8] = b"0,\n-\x80";
+
+/// The program reads no more.
+const MAX_BYTES: usize = 524_288;
 
 /// The cases so far: each a letter (`S` or `R`) and a sheet.
 struct Cases(Vec<(u8, Vec<u8>)>);
@@ -74,18 +85,36 @@ fn array_of(n: usize) -> String {
     format!("T\nV,6,{n},\n{}", "V,1,0,\n".repeat(n))
 }
 
-/// A template of that many bytes: strings of 512 bytes, and two that fill up.
+/// A template of that many bytes: strings of 300 bytes, and one of 100 to 408 that fills up.
 fn template_of_bytes(bytes: usize) -> String {
     let entry = |n: usize| format!("V,5,{n},{}\n", text(n));
-    let full = entry(512);
-    let count = bytes / full.len() - 1;
-    let head = format!("T\nV,6,{},\n", count + 2);
-    let left = bytes - head.len() - count * full.len();
-    let (one, other) = (100..=512)
-        .map(|n| (entry(n), entry(left - entry(n).len() - "V,5,100,\n".len())))
-        .find(|(one, other)| one.len() + other.len() == left)
-        .expect("two strings of the bytes that are left");
-    format!("{head}{}{one}{other}", full.repeat(count))
+    let (head, full, least) = ("T\nV,6,##,\n".len(), entry(300).len(), entry(100).len());
+    let count = (bytes - head - least) / full;
+    let last = bytes - head - count * full - least + 100;
+    format!("T\nV,6,{},\n{}{}", count + 1, entry(300).repeat(count), entry(last))
+}
+
+/// Fields with names of two letters, rising.
+fn fields(count: usize) -> String {
+    let letter = |n: usize| char::from(b"ABCDEFGHIJKLMNOPQRSTUVWXYZabcdef"[n]);
+    (0..count).map(|i| format!("F,2,0,0,0,2,-,{}{}\n", letter(i / 32), letter(i % 32))).collect()
+}
+
+/// So many fields: one in another 64 deep, all but the innermost written so, and then side by side.
+fn nested_first(count: usize, outer: &str) -> String {
+    format!("{}F,8,0,0,0,0,-,\n{}", outer.repeat(63), fields(count - 64))
+}
+
+/// Schemas of that many entries: side by side, one in another, with arguments, with elements.
+fn schemas_of_entries(entries: usize) -> [String; 4] {
+    let count = entries - 1;
+    let (record, arguments, siblings) = (count / 2, count - count / 2, count - 63);
+    [
+        format!("H,0,{count},-,0\n{}", fields(count)),
+        format!("H,0,{siblings},-,0\n{}", nested_first(count, "F,7,0,0,1,0,-,\n")),
+        format!("H,0,{record},0,{arguments}\n{}{}", fields(record), fields(arguments)),
+        format!("H,0,{siblings},-,0\n{}", nested_first(count, "F,6,0,1,0,0,-,\n")),
+    ]
 }
 
 fn limits(cases: &mut Cases) {
@@ -109,8 +138,17 @@ fn limits(cases: &mut Cases) {
     for entries in 2047..=2049 {
         cases.rule(array_of(entries - 2));
     }
+    for entries in 1024..=1025 {
+        for sheet in schemas_of_entries(entries) {
+            assert_eq!(is_accepted(b'S', sheet.as_bytes()), entries <= 1024, "its entries alone decide");
+            cases.schema(sheet);
+        }
+    }
     for bytes in 29_999..=30_001 {
-        cases.rule(template_of_bytes(bytes));
+        let sheet = template_of_bytes(bytes);
+        assert_eq!(sheet.len(), bytes, "the last string fills up");
+        assert_eq!(is_accepted(b'R', sheet.as_bytes()), bytes <= 30_000, "its length alone decides");
+        cases.rule(sheet);
     }
 }
 
@@ -134,13 +172,15 @@ fn numerals(cases: &mut Cases, letter: u8, sheet: &str) {
 
 fn all_cases() -> Cases {
     let mut cases = Cases(Vec::new());
-    cases.schema(SCHEMA);
-    cases.rule(RULE);
+    let small = SCHEMAS.map(|sheet| (b'S', sheet)).into_iter().chain(RULES.map(|sheet| (b'R', sheet)));
+    for (letter, sheet) in small.clone() {
+        cases.0.push((letter, sheet.into()));
+    }
     limits(&mut cases);
-    numerals(&mut cases, b'S', SCHEMA);
-    numerals(&mut cases, b'R', RULE);
-    cases.damage(b'S', SCHEMA.as_bytes());
-    cases.damage(b'R', RULE.as_bytes());
+    for (letter, sheet) in small {
+        numerals(&mut cases, letter, sheet);
+        cases.damage(letter, sheet.as_bytes());
+    }
     cases
 }
 
@@ -171,6 +211,7 @@ fn main() {
             expected.push('\n');
         }
     }
+    assert!(given.len() <= MAX_BYTES, "the program reads all of it");
     writeln!(expected, "\naccepted {good} of {}", cases.len()).unwrap();
     let write = |name: &str, bytes: &[u8]| {
         fs::write(Path::new(folder).join(name), bytes).unwrap_or_else(|error| {

@@ -26,7 +26,7 @@ pub use widening::{is_widening, only_marks_opened};
 
 pub const MAX_LABEL_BYTES: usize = 256;
 pub const PATH_BYTES: usize = 32_768;
-pub const SCRATCH_WORDS: usize = 8_192;
+pub const SCRATCH_WORDS: usize = 4_096;
 
 /// What a caller hands over; of the two buffers only their lengths matter.
 #[derive(Clone, Copy, Debug)]

@@ -5,7 +5,7 @@ use super::text::is_utf8;
 use crate::trees::{Condition, Data, Field, Holder, Operator, Rule, Schema, Sheet, Value};
 
 pub const MAX_SHEET_BYTES: usize = 30_000;
-pub const MAX_SCHEMA_ENTRIES: u32 = 2_048;
+pub const MAX_SCHEMA_ENTRIES: u32 = 1_024;
 pub const MAX_RULE_ENTRIES: u32 = 2_048;
 pub const MAX_TEXT_BYTES: usize = 512;
 pub const MAX_FIELD_NESTING: usize = 64;

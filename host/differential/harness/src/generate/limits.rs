@@ -1,11 +1,12 @@
 //! Cases at the limits of a call: settings, labels and buffers, lengths of texts and sheets, numbers of entries; and wide ones.
 
-use super::build::{all, array, condition, exists, field, holder, literal, number, object, pair, quantifier, rule, schema, text};
-use super::build::{INTEGER, UNION};
+use super::build::{all, array, condition, element, exists, field, holder, literal, number, object, pair, quantifier, rule, schema, text};
+use super::build::{ARRAY, INTEGER, OBJECT, UNION};
 use super::{schemas, Setting};
 use crate::case::{Case, Expect};
 use crate::random::Random;
-use crate::refusals::{MAX_ENTRIES, MAX_LABEL_BYTES, MAX_SHEET_BYTES, MAX_TEXT_BYTES, MIN_PATH_BYTES, MIN_SCRATCH_WORDS};
+use crate::refusals::{MAX_FIELD_NESTING, MAX_LABEL_BYTES, MAX_RULE_ENTRIES, MAX_SCHEMA_ENTRIES, MAX_SHEET_BYTES, MAX_TEXT_BYTES};
+use crate::refusals::{MIN_PATH_BYTES, MIN_SCRATCH_WORDS};
 use differential::model::{write_rule, write_schema};
 use differential::trees::{Field, Operator, Rule, Schema, Sheet, Value};
 
@@ -56,11 +57,12 @@ fn broken(random: &mut Random, sheet: &[u8]) -> Vec<u8> {
 pub fn case(random: &mut Random) -> Case {
     let setting = Setting::new(random);
     let step = random.below(3);
-    match random.below(5) {
+    match random.below(6) {
         0 => schema_text(random, &setting, MAX_TEXT_BYTES - 1 + step),
         1 => rule_text(random, &setting, MAX_TEXT_BYTES - 1 + step),
-        2 => entries(&setting, MAX_ENTRIES - 1 + step),
-        3 => schema_bytes(&setting, MAX_SHEET_BYTES - 1 + step),
+        2 => schema_entries(random, &setting, MAX_SCHEMA_ENTRIES - 1 + step),
+        3 => rule_entries(&setting, MAX_RULE_ENTRIES - 1 + step),
+        4 => schema_bytes(&setting, MAX_SHEET_BYTES - 1 + step),
         _ => rule_bytes(random, &setting, MAX_SHEET_BYTES - 1 + step),
     }
 }
@@ -104,16 +106,67 @@ fn rule_text(random: &mut Random, setting: &Setting, bytes: usize) -> Case {
     at_limit(setting.case(&empty(), &sheet), bytes, MAX_TEXT_BYTES, 5)
 }
 
+/// Schemas of so many entries, the head among them: side by side, one in another, with arguments, with elements.
+pub const SHAPES: [fn(usize) -> Schema; 4] = [side_by_side, one_in_another, with_arguments, with_elements];
+
+fn side_by_side(entries: usize) -> Schema {
+    schema(holder(false, integers(entries - 1)), None)
+}
+
+fn integers(count: usize) -> Vec<Field> {
+    (0..count).map(|index| field(&numbered(index), INTEGER)).collect()
+}
+
+fn numbered(index: usize) -> String {
+    format!("{index:04}")
+}
+
+/// Objects that nest as deep as they may, and beside them what is left.
+fn one_in_another(entries: usize) -> Schema {
+    let fields = entries - 1;
+    let nested = |start: usize| {
+        let levels = MAX_FIELD_NESTING.min(fields - start);
+        let below = (1..levels).fold(Vec::new(), |properties, _| vec![Field { properties, ..field("n", OBJECT) }]);
+        Field { properties: below, ..field(&numbered(start), OBJECT) }
+    };
+    schema(holder(false, (0..fields).step_by(MAX_FIELD_NESTING).map(nested).collect()), None)
+}
+
+/// Half of the fields are arguments.
+fn with_arguments(entries: usize) -> Schema {
+    let record = (entries - 1) / 2;
+    schema(holder(false, integers(record)), Some(holder(false, integers(entries - 1 - record))))
+}
+
+/// Arrays and their elements; the last has none where the fields are odd in number.
+fn with_elements(entries: usize) -> Schema {
+    let fields = entries - 1;
+    let array = |start: usize| {
+        let items = (start + 1 < fields).then(|| element(field("", INTEGER))).flatten();
+        Field { items, ..field(&numbered(start), ARRAY) }
+    };
+    schema(holder(false, (0..fields).step_by(2).map(array).collect()), None)
+}
+
+/// A schema of that many entries, and a rule or template for it.
+fn schema_entries(random: &mut Random, setting: &Setting, count: usize) -> Case {
+    let schema = random.pick(&SHAPES)(count);
+    let scope = setting.scope(&schema, 0);
+    let sheet = if random.chance(30) { scope.template(random) } else { scope.rule(random, 3) };
+    let expect = if count > MAX_SCHEMA_ENTRIES { Expect::Number(4) } else { Expect::Number(0) };
+    setting.case(&schema, &sheet).expecting(expect)
+}
+
 /// A rule of that many entries: the head, `all`, and its children.
-fn entries(setting: &Setting, count: usize) -> Case {
+fn rule_entries(setting: &Setting, count: usize) -> Case {
     let children = (2..count).map(|_| literal(true)).collect();
     let case = setting.case(&empty(), &rule(all(children)));
-    let expect = if count > MAX_ENTRIES { Expect::Number(5) } else { Expect::Number(0) };
+    let expect = if count > MAX_RULE_ENTRIES { Expect::Number(5) } else { Expect::Number(0) };
     case.expecting(expect)
 }
 
 /// A schema of that many bytes, with names of equal length but for the last one.
-fn schema_bytes(setting: &Setting, bytes: usize) -> Case {
+pub fn schema_bytes(setting: &Setting, bytes: usize) -> Case {
     let named = |index: usize, length: usize| field(&format!("{index:0length$}"), INTEGER);
     let with = |last: usize| {
         let fields = (0..100).map(|index| named(index, 280)).chain([named(100, last)]).collect();

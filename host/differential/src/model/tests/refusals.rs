@@ -61,6 +61,7 @@ fn labels() {
 fn widths() {
     assert_eq!(after(|call| call.path_len = 32_767), 3);
     assert_eq!(after(|call| call.path_len = 32_769), 0);
-    assert_eq!(after(|call| call.scratch_len = 8_191), 3);
-    assert_eq!(after(|call| call.scratch_len = 8_193), 0);
+    assert_eq!(after(|call| call.scratch_len = 4_095), 3);
+    assert_eq!(after(|call| call.scratch_len = 4_096), 0);
+    assert_eq!(after(|call| call.scratch_len = 8_192), 0);
 }

@@ -277,9 +277,43 @@ fn texts_of_512_bytes() {
     assert!(is_rule(&format!("R,512,512,{both}\nC,1,0,\n")));
 }
 
-/// A schema's fields take 15 bytes each at least, so its bytes run out first.
+/// So many fields, with rising names of four bytes.
+fn rising_fields(count: usize) -> String {
+    (0..count)
+        .map(|number| format!("F,2,0,0,0,4,-,{number:04}\n"))
+        .collect()
+}
+
 #[test]
-fn entries_up_to_2048() {
+fn schema_entries_up_to_1024() {
+    for (entries, fits) in [(1023, true), (1024, true), (1025, false)] {
+        let count = entries - 1;
+        let flat = format!("H,0,{count},-,0\n{}", rising_fields(count));
+        assert_eq!(is_schema(&flat), fits);
+        let arguments = format!(
+            "H,0,1,0,{}\n{}{}",
+            count - 1,
+            rising_fields(1),
+            rising_fields(count - 1)
+        );
+        assert_eq!(is_schema(&arguments), fits);
+        let nested = format!(
+            "H,0,1,-,0\nF,7,0,0,{},1,-,o\n{}",
+            count - 1,
+            rising_fields(count - 1)
+        );
+        assert_eq!(is_schema(&nested), fits);
+        let element = format!(
+            "H,0,1,0,{}\nF,6,0,1,0,1,-,a\nF,1,0,0,0,0,-,\n{}",
+            count - 2,
+            rising_fields(count - 2)
+        );
+        assert_eq!(is_schema(&element), fits);
+    }
+}
+
+#[test]
+fn rule_entries_up_to_2048() {
     for (entries, fits) in [(2047, true), (2048, true), (2049, false)] {
         let count = entries - 2;
         let array = format!("V,6,{count},\n{}", "V,1,0,\n".repeat(count));
