@@ -6,3 +6,4 @@ pub mod Bounds
 pub mod Widened
 pub mod Slips
 pub mod ShutOut
+pub mod Moves

@@ -9,4 +9,8 @@ pub mod CountLaws
 pub mod Growth
 pub mod DemandLaws
 pub mod Demands
+pub mod Service
+pub mod ServiceLaws
+pub mod ServiceCallLaws
+pub mod KernelToService
 pub mod Computing

@@ -40,6 +40,11 @@ none-due (r ∷ rs) e =
     let (first, others) = not-first (r .isDue) (r .number) (firstRefusal rs) e in
     (first, none-due rs others)
 
+pub first-none : (rs : List Refusal) → NoneDue rs → firstRefusal rs ≡ none
+unfolding firstRefusal
+first-none [] h = refl
+first-none (r ∷ rs) h = rw (h .0) (first-none rs (h .1))
+
 -- the first that is due, by its number
 pub number-due : (r : Refusal) (rs : List Refusal) → r .isDue ≡ true → r .number ≡ numberIn (firstRefusal (r ∷ rs))
 unfolding firstRefusal numberIn

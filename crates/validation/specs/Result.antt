@@ -132,13 +132,16 @@ pub record Refusal : Type 0 where
   pub number : ℕ
   pub isDue : Bool
 
+-- of the lent buffers
+abbrev pub ofBuffers : Lent → List Refusal
+ofBuffers l = record { number = 3; isDue = not (leb pathBytes (l .path) && leb scratchWords (l .scratch)) } ∷ []
+
 -- tried before a sheet is read
 unfoldable pub early : Call → List Refusal
 early c =
     record { number = 1; isDue = not (isWithin 1 8 (c .asked .kind) && isWithin 1 4 (c .asked .semantics)) }
     ∷ record { number = 2; isDue = not (leb (length (c .asked .label)) maxLabelBytes && isUtf8 (c .asked .label)) }
-    ∷ record { number = 3; isDue = not (leb pathBytes (c .lent .path) && leb scratchWords (c .lent .scratch)) }
-    ∷ []
+    ∷ ofBuffers (c .lent)
 
 unfoldable pub ofSheets : Call → List Refusal
 ofSheets c =

@@ -14,6 +14,7 @@ pub mod leaves;
 pub mod library;
 pub mod longest;
 pub mod memory;
+pub mod moved;
 pub mod nodes;
 pub mod oracle;
 pub mod plan;

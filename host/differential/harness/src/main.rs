@@ -1,6 +1,6 @@
 //! The commands of the comparison. See README.md beside the script `run`.
 
-use harness::{compare, exhaustive, fuzzed, leaves, memory, published, vectors, widened};
+use harness::{compare, exhaustive, fuzzed, leaves, memory, moved, published, vectors, widened};
 use std::collections::BTreeMap;
 use std::process::ExitCode;
 
@@ -9,6 +9,7 @@ const USAGE: &str = "usage: differential COMMAND [OPTION..]
                                    known edges, then N generated cases of each seed: library, model and Rust;
                                    runs that FILE has are left out, and new ones are added to it
   widened [--cases N] [--seed S]   N rules, each under a schema and a widening of it that differs
+  moved [--cases N] [--seed S]     N rules that kernel/1 accepts, each under the service semantics too
   exhaustive [--tokens N]          every reference of up to N tokens (2 to 7, else 6), every instant near a good one
   leaves                           text and numbers of the model against Rust's own
   samples [--program FILE]         known edges, slips and published samples: library, model and Rust, and the program rulecheck
@@ -51,6 +52,10 @@ fn run(arguments: &[String]) -> Result<(), Trouble> {
         "widened" => {
             let options = options(rest, &["cases", "seed"])?;
             widened::widened(numeral(&options, "cases", 1_000_000)?, numeral(&options, "seed", 1)?).map_err(Trouble::Failed)
+        }
+        "moved" => {
+            let options = options(rest, &["cases", "seed"])?;
+            moved::moved(numeral(&options, "cases", 1_000_000)?, numeral(&options, "seed", 1)?).map_err(Trouble::Failed)
         }
         "exhaustive" => {
             let options = options(rest, &["tokens"])?;

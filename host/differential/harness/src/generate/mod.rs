@@ -81,6 +81,10 @@ pub struct Pair {
 impl Pair {
     pub fn new(random: &mut Random, slip: usize) -> Self {
         let setting = Setting::new(random);
+        Self::under(setting, random, slip)
+    }
+
+    pub fn under(setting: Setting, random: &mut Random, slip: usize) -> Self {
         let fields = random.between(1, 4);
         let schema = schemas::schema(random, fields);
         let scope = setting.scope(&schema, slip);

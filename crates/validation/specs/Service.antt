@@ -1,0 +1,42 @@
+-- The same call under kernel/1 and under a service semantics, and the numbers that the literal pass then meets.
+use Prim.Native.Nat.{ℕ}
+use mathlib.Core.Bool.{true}
+use mathlib.Core.List.{List, [], _∷_}
+use mathlib.Core.Path.{_≡_}
+use Rattle.number.specs.Finite.{isFinite}
+use Rattle.definition.specs.Tree.{Rule, rule, template}
+use Rattle.validation.specs.Check.{Literal, literals}
+use Rattle.validation.specs.Result.{Lent, Call, Run}
+
+-- the numbers that the literal pass meets in a rule or template
+unfoldable pub literalsIn : Rule → List Literal
+literalsIn (rule name message assert) = literals assert
+literalsIn (template v) = []
+
+abbrev pub AllFinite : List Literal → Type 0
+AllFinite [] = Unit {0}
+AllFinite (l ∷ ls) = (isFinite (l .digits) ≡ true) × AllFinite ls
+
+-- the same rule or template under another semantics, and with other buffers
+unfoldable pub under : Call → (semantics : ℕ) → Lent → Call
+under c semantics lent =
+    record {
+      asked =
+          record {
+            takes = c .asked .takes;
+            kind = c .asked .kind;
+            semantics = semantics;
+            label = c .asked .label;
+            rule = c .asked .rule;
+          };
+      schema = c .schema;
+      lent = lent;
+    }
+
+-- two runs that differ at most in the semantics, and in what the buffers hold and how long they are
+pub record SameButSemantics (r r′ : Run) : Type 0 where
+  pub takes : r .asked .takes ≡ r′ .asked .takes
+  pub kind : r .asked .kind ≡ r′ .asked .kind
+  pub label : r .asked .label ≡ r′ .asked .label
+  pub rule : r .asked .rule ≡ r′ .asked .rule
+  pub schema : r .schema ≡ r′ .schema
