@@ -117,12 +117,7 @@ enum Step<'t> {
 }
 
 /// Walks a path from a field, segment by segment.
-fn walk_field_path(
-    field: &Field,
-    path: &str,
-    reader: Reader,
-    service: bool,
-) -> Result<(), u32> {
+fn walk_field_path(field: &Field, path: &str, reader: Reader, service: bool) -> Result<(), u32> {
     let (segment, rest) = split(path);
     if segment.is_empty() {
         return Err(1);
