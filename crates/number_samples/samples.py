@@ -3,10 +3,12 @@
 
 The verdicts are Python's own. Whether a text is a number: its module json, which must take the whole text. Whether a number is
 finite: its exact fractions against 2^1024 - 2^970 where the exponent is small enough to be written out, and its float, which
-rounds to nearest even and so overflows exactly from that bound on; where both can tell they must agree."""
-import fractions, itertools, json, math, sys
+rounds to nearest even and so overflows exactly from that bound on; where both can tell they must agree. How many digits are
+compared: exact fractions again, cut off at one place after the other beside the bound; no digit of the text is looked at."""
+import fractions, itertools, json, math, random, sys
 
 BOUND = 2**1024 - 2**970
+PLACES = 309
 
 
 def refuse(constant):
@@ -26,25 +28,43 @@ def is_number(text):
         return False
 
 
+def magnitude(text):
+    """As a fraction, where the exponent is small enough to be written out."""
+    mantissa, _, exponent = text.lower().partition("e")
+    if len(exponent.lstrip("+-0")) < 5:
+        return abs(fractions.Fraction(f"{mantissa}e{int(exponent or '0')}"))
+    return None
+
+
 def is_finite(text):
     rounded = math.isfinite(float(text))
-    exponent = text.lower().partition("e")[2] or "0"
-    if len(exponent) < 6:
-        exact = abs(fractions.Fraction(text)) < BOUND
-        assert exact == rounded, text
+    exact = magnitude(text)
+    assert exact is None or (exact < BOUND) == rounded, text
     return rounded
+
+
+def compared(text):
+    """The first place, from 1, at which the magnitude and the bound are not the same when cut off there."""
+    exact = magnitude(text)
+    if exact is None:
+        assert len(text) < 5000, "no exponent this large is made up for by zeros"
+        return 0
+    if not 10 ** (PLACES - 1) <= exact < 10**PLACES:
+        return 0
+    whole = int(exact)
+    return next((n for n in range(1, PLACES) if whole // 10 ** (PLACES - n) != BOUND // 10 ** (PLACES - n)), PLACES)
 
 
 def verdict(text):
     if not is_number(text):
-        return "n"
-    return "f" if is_finite(text) else "i"
+        return "n000"
+    return f"{'f' if is_finite(text) else 'i'}{compared(text):03}"
 
 
 def samples(source, texts):
     print("#", source)
     for text in texts:
-        print(verdict(text) + text)
+        print(f"{verdict(text)},{text}")
 
 
 def shifted(digits, scale):
@@ -98,6 +118,35 @@ LARGE = """123123e100000 -1e+9999 1.5e+9999 -123123e100000 123e-10000000 1231231
 179769313486231570000e288 17976931348623158079e289 17976931348623158080e289 4.9e-324 2.4703282292062327e-324 1e-400 0e-99999"""
 
 
+def neighbours(digit):
+    return [str(n) for n in (int(digit) - 1, int(digit) + 1) if 0 <= n <= 9]
+
+
+def long_numbers():
+    """500 digits that agree with the bound in some, the next being one less or one more, at the bound's place and around it."""
+    made = random.Random(4)
+    whole = str(BOUND)
+    for agreed in (0, 1, 2, 17, 100, 250, 306, 307, 308, 309):
+        for differing in neighbours(whole[agreed]) if agreed < PLACES else "09":
+            if agreed == 0 and differing == "0":
+                continue
+            digits = (whole[:agreed] + differing + "".join(made.choices("0123456789", k=500)))[:500]
+            for point in (1, 308, 309, 310, 400):
+                yield f"{digits[:point]}.{digits[point:]}"
+            yield f"-{digits[0]}.{digits[1:]}E+308"
+            for exponent in (-192, -191, -190):
+                yield f"{digits}e{exponent}"
+            yield f"0.00{digits}e311"
+
+
+def zeros_at_the_place():
+    """A zero, or a one, whose exponent puts it at 10^308 or beside it."""
+    for digit, exponent in itertools.product("01", (307, 308, 309)):
+        yield f"{digit}e{exponent}"
+        for zeros in (0, 1, 5, 300):
+            yield f"0.{'0' * zeros}{digit}e{zeros + 1 + exponent}"
+
+
 def long_exponents():
     for digits in (18, 19, 20, 21, 40, 300):
         for mantissa in ("1", "-0.0001", "0", "0.000", "9" * 310):
@@ -114,7 +163,7 @@ def long_exponents():
 
 def main():
     sys.stdout.reconfigure(encoding="utf-8", newline="\n")
-    print("# made by samples.py; the verdicts are those of Python's json, fractions and float")
+    print("# made by samples.py; verdicts and counts are those of Python's json, fractions and float")
     samples("the numbers that RFC 8259 shows, in its sections 6 and 13", RFC_SHOWN.split())
     samples("numbers by each rule of RFC 8259, section 6, with 0e99999 and 1e309 (docs/FORMAT.md)", TAKEN.split())
     samples("texts that break one rule of RFC 8259, section 6, most after the n_number files of JSONTestSuite", REFUSED.split())
@@ -124,6 +173,8 @@ def main():
     samples("2^1024 - 2^970 cut to each number of digits, and one more and one less in the last place", cut_bounds())
     samples("the same, shifted by point, zeros and exponent", shifted_bounds())
     samples("exponents of many digits", long_exponents())
+    samples("500 digits, decided by the place of the first or by the first that differs from the bound's", long_numbers())
+    samples("zeros and ones whose exponent puts them at 10^308 or beside it", zeros_at_the_place())
 
 
 main()

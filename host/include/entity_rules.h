@@ -125,6 +125,10 @@ uint32_t rulecheck_path(uint64_t semantics, uint64_t reader,
 /* One of the numbers of a result, by an index of enum entity_rules_field; 0 where it does not lie in the result. */
 uint32_t rulecheck_field(const uint8_t *result, size_t result_length, uint32_t index);
 
+/* Whether a text is a finite number, and how many of its digits were compared with those of 2^1024 - 2^970 for that: the count (at most 309)
+ * times 2, and 1 more if it is finite. */
+uint32_t rulecheck_finite(const uint8_t *text, size_t text_length);
+
 #ifdef __cplusplus
 }
 #endif

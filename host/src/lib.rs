@@ -16,6 +16,7 @@
 
 mod build;
 pub mod entries;
+mod finite;
 pub mod limits;
 mod numbered;
 #[allow(unsafe_code)]
@@ -27,6 +28,7 @@ pub use build::{
     BuildError, CompareOp, Condition, Field, FieldKind, Nesting, Rule, Schema, Template, Value,
 };
 pub use entries::Operator;
+pub use finite::{Finite, finite};
 pub use settings::{Kind, Reader, Semantics, UnknownName};
 pub use verdict::{
     CollectionFault, Defect, DefectNumber, Detail, Family, InstantFault, PathVerdict,

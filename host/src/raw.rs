@@ -60,6 +60,8 @@ unsafe extern "C" {
     ) -> u32;
 
     fn rulecheck_field(result: *const u8, result_length: usize, index: u32) -> u32;
+
+    fn rulecheck_finite(text: *const u8, text_length: usize) -> u32;
 }
 
 /// Checks a rule; the answer is the number, and `result` takes all seven numbers.
@@ -191,4 +193,22 @@ pub fn path(semantics: u64, reader: u64, path: &[u8], schema: &[u8], result: &mu
 pub fn field(result: &[u8], index: u32) -> u32 {
     // SAFETY: pointer and length are those of a slice, which the library only reads.
     unsafe { rulecheck_field(result.as_ptr(), result.len(), index) }
+}
+
+/// Twice the number of digits that were compared with those of 2^1024 - 2^970, and 1 more if the text is a finite number.
+///
+/// [`finite`](crate::finite()) takes the answer apart.
+///
+/// ```
+/// use entity_rules::raw;
+///
+/// assert_eq!(raw::finite(b"1e307"), 1);
+/// assert_eq!(raw::finite(b"1.7e308"), 2 * 3 + 1);
+/// assert_eq!(raw::finite(b"1.8e308"), 2 * 2);
+/// assert_eq!(raw::finite(b"1.8e"), 0);
+/// ```
+#[must_use]
+pub fn finite(text: &[u8]) -> u32 {
+    // SAFETY: pointer and length are those of a slice, which the library only reads.
+    unsafe { rulecheck_finite(text.as_ptr(), text.len()) }
 }

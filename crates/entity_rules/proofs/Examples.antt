@@ -1,11 +1,13 @@
--- Results as bytes, computed.
+-- Results as bytes, and the test of a number as one number, computed.
 use Prim.Native.Nat.{ℕ}
+use mathlib.Core.Bool.{true, false}
 use mathlib.Core.List.{List, [], _∷_, _++_}
 use mathlib.Core.Path.{_≡_, refl}
 use lib.ListN.{replicate}
 use Rattle.validation.specs.Result.{refused, numbersOf}
 use Rattle.entity_rules.specs.Bytes.{littleEndian, bytesOf, numberAt, fieldAt}
 use Rattle.entity_rules.specs.Entry.{fieldsOf, resultAfter}
+use Rattle.entity_rules.specs.NumberTest.{packed}
 
 unfoldable result : List ℕ → List ℕ
 unfolding littleEndian bytesOf fieldsOf resultAfter numbersOf numberAt fieldAt
@@ -31,3 +33,12 @@ field-within = refl
 field-past : fieldAt 7 (replicate 31 1) ≡ 0
 unfolding fieldAt numberAt
 field-past = refl
+
+-- the bound less 1, and the bound
+packed-most : packed true 309 ≡ 619
+unfolding packed
+packed-most = refl
+
+packed-infinite : packed false 309 ≡ 618
+unfolding packed
+packed-infinite = refl

@@ -1,3 +1,4 @@
 pub mod Writing
 pub mod Entries
 pub mod Examples
+pub mod NumberTests

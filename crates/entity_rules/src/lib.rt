@@ -14,6 +14,7 @@ ghost use Rattle.validation.specs.Result.{rules, templates};
 ghost use Rattle.validator.specs.Sheets.{takesOf};
 ghost use Rattle.entity_rules.specs.Bytes.{fieldAt};
 ghost use Rattle.entity_rules.specs.Entry.{pathLent, entryAnswer, Answered};
+ghost use Rattle.entity_rules.specs.NumberTest.{finiteNumber};
 
 // Kinds end at 8 and semantics at 4, so 9 stands for all that is too large for either.
 fn setting(n: u64) -> u32
@@ -117,4 +118,14 @@ pub extern "C" fn rulecheck_field(result: &[u8], index: u32) -> u32
         return 0;
     }
     read_u32(result, at)
+}
+
+// Whether `text` is a finite number, and how many of its digits were compared for that: the count, twice, and 1 more if it is finite.
+#[no_mangle]
+pub extern "C" fn rulecheck_finite(text: &[u8]) -> u32
+    ensures { λ r. ⌜ r ≡ finiteNumber (now (text .entry)) ⌝ }
+{
+    let tested = number::test(text);
+    let twice = 2 * tested.compared as u32;
+    if tested.finite { twice + 1 } else { twice }
 }

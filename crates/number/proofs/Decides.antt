@@ -12,7 +12,7 @@ use borrow.Author.Tests.{ltb-true, ltb-false, eqb-false, lt-ltb, le-ltb}
 use Rattle.number.specs.Bound.{bound}
 use Rattle.number.specs.Grammar.{Number}
 use Rattle.number.specs.Finite.{digit, numeralFrom, numeral, value, limit, isBelow, isBelowAt, finite}
-use Rattle.number.specs.FirstDigit.{zeros, significant, order, levelOf, isLess, decided, byPlace, byFirstDigit}
+use Rattle.number.specs.FirstDigit.{zeros, significant, order, levelOf, levelBy, digitsIn, levelIn, isLess, decided}
 use Rattle.number.proofs.Table.{bound-value, bound-tens, bound-length}
 use Rattle.number.proofs.Levels.{order-below, order-above, order-even}
 use Rattle.number.proofs.Numeral.{tens, tens-tail, ten-pos, numeral-least, numeral-most, numeral-significant, Says, says-test, says-times, says-over, less-says}
@@ -106,17 +106,17 @@ tens-drop zero ds t = t
 tens-drop (suc n) [] t = t
 tens-drop (suc n) (d ∷ ds) t = tens-drop n ds (tens-tail d ds t)
 
-by-place-row : (lowered : Bool) (ds : List ℕ) (f e : ℕ) → Leads ds → tens ds ≡ true → byPlace lowered ds f e ≡ isBelowAt lowered (numeral ds) f e
-unfolding byPlace levelOf isBelowAt isBelow numeral numeralFrom
-by-place-row false [] f e h t = refl
-by-place-row true [] f e h t = refl
-by-place-row false (d ∷ ds) f e h t = by-first d ds h t e f
-by-place-row true (d ∷ ds) f e h t = ap (λ (n : ℕ). decided (order n (309 + (f + e))) (isLess (d ∷ ds) bound)) (sym (add-zero (suc (length ds)))) ∙ by-first d ds h t 0 (f + e)
+by-place : (lowered : Bool) (ds : List ℕ) (f e : ℕ) → Leads ds → tens ds ≡ true → decided (levelBy lowered ds f e) (isLess ds bound) ≡ isBelowAt lowered (numeral ds) f e
+unfolding levelBy levelOf decided isBelowAt isBelow numeral numeralFrom
+by-place false [] f e h t = refl
+by-place true [] f e h t = refl
+by-place false (d ∷ ds) f e h t = by-first d ds h t e f
+by-place true (d ∷ ds) f e h t = ap (λ (n : ℕ). decided (order n (309 + (f + e))) (isLess (d ∷ ds) bound)) (sym (add-zero (suc (length ds)))) ∙ by-first d ds h t 0 (f + e)
 
 -- a number whose digits are digits is finite as the place of its first nonzero one decides
-pub finite-decided : (n : Number) → tens (map digit (n .whole ++ n .fraction)) ≡ true → byFirstDigit (n .lowered) (n .whole) (n .fraction) (n .exponent) ≡ finite n
-unfolding significant finite value
+pub finite-decided : (n : Number) → tens (map digit (n .whole ++ n .fraction)) ≡ true → decided (levelIn n) (isLess (digitsIn n) bound) ≡ finite n
+unfolding digitsIn levelIn significant finite value
 finite-decided n t =
     let ds = map digit (n .whole ++ n .fraction) in
-    by-place-row (n .lowered) (significant ds) (length (n .fraction)) (value (n .exponent)) (leads-significant ds) (tens-drop (zeros ds) ds t)
+    by-place (n .lowered) (significant ds) (length (n .fraction)) (value (n .exponent)) (leads-significant ds) (tens-drop (zeros ds) ds t)
     ∙ ap (λ (m : ℕ). isBelowAt (n .lowered) m (length (n .fraction)) (value (n .exponent))) (numeral-significant ds)

@@ -8,10 +8,10 @@ use native.Mathlib.Nat.{add-zero, le-of-suc-le-suc, not-suc-le-zero}
 use native.Mathlib.Numerals.{add-one}
 use lib.ListN.{length, drop, getD, length-map, List·getD-map, List·getD-append, List·getD-eq-default, drop-of-length-le, length-append}
 use lib.Seq.{drop-cons, drop-drop, getD-drop, getD-append-add, drop-append-le, drop-append-add}
-use lib.Dec.{eqb}
-use borrow.Author.Tests.{lt-ltb, le-ltb, eq-eqb, ne-eqb}
+use lib.Dec.{ltb, eqb}
+use borrow.Author.Tests.{ltb-false, lt-ltb, le-ltb, eq-eqb, ne-eqb}
 use Rattle.number.specs.Finite.{digit, numeralFrom}
-use Rattle.number.specs.FirstDigit.{zeros, significant, isLess}
+use Rattle.number.specs.FirstDigit.{zeros, significant, isLess, matched}
 
 pub map-drop : (f : ℕ → ℕ) (n : ℕ) (s : List ℕ) → map f (drop n s) ≡ drop n (map f s)
 map-drop f zero s = refl
@@ -105,23 +105,50 @@ digit-out high low i h k =
     let n : length (map digit (high ++ low)) ≤ i = rw (length-map (high ++ low) digit, length-append high low) (omega (arith, h, k)) in
     sym (List·getD-eq-default (map digit (high ++ low)) 0 n)
 
--- digits against a bound's, at a place
+-- digits against a bound's: what is left from place i on decides as the whole does, and is compared behind i digits
+abbrev pub Left : List ℕ → List ℕ → ℕ → Type 0
+Left ds bs i = (isLess (drop i ds) (drop i bs) ≡ isLess ds bs) × (i + matched (drop i ds) (drop i bs) ≡ matched ds bs)
+
 module _ (ds bs : List ℕ) (i : ℕ) (h : i < length bs) where
   head : getD (drop i ds) 0 0 ≡ getD ds i 0
   head = getD-drop i ds 0 0 ∙ ap (λ (k : ℕ). getD ds k 0) (add-zero i)
 
-  pub less-below : getD ds i 0 < getD bs i 0 → isLess (drop i ds) (drop i bs) ≡ true
-  unfolding isLess
-  less-below l = rw (drop-cons bs i 0 h, head, lt-ltb _ _ l)
+  less-first : (d b : ℕ) (bs′ : List ℕ) → (d ≡ b → ⊥) → cond (ltb d b) true (cond (ltb b d) false (isLess (drop 1 (drop i ds)) bs′)) ≡ ltb d b
+  less-first d b bs′ e = go (ltb d b) refl
+    where
+      go : (t : Bool) → ltb d b ≡ t → cond t true (cond (ltb b d) false (isLess (drop 1 (drop i ds)) bs′)) ≡ t
+      go true p = refl
+      go false p = rw (lt-ltb b d (omega (arith, ltb-false d b p, e)))
 
-  pub less-above : getD bs i 0 < getD ds i 0 → isLess (drop i ds) (drop i bs) ≡ false
-  unfolding isLess
-  less-above l = rw (drop-cons bs i 0 h, head, le-ltb (getD ds i 0) (getD bs i 0) (omega (arith, l)), lt-ltb (getD bs i 0) (getD ds i 0) l)
+  -- d is the digit at place i
+  pub left-differs : {d : ℕ} → d ≡ getD ds i 0 → (d ≡ getD bs i 0 → ⊥) → Left ds bs i → (ltb d (getD bs i 0) ≡ isLess ds bs) × (i + 1 ≡ matched ds bs)
+  unfolding isLess matched
+  left-differs {d} is e l = (
+    sym (rw (drop-cons bs i 0 h, head, ← is) (less-first d (getD bs i 0) (drop (suc i) bs) e)) ∙ l .0,
+    sym (rw (drop-cons bs i 0 h, head, ← is, ne-eqb d (getD bs i 0) e)) ∙ l .1,
+  )
 
-  pub less-same : getD bs i 0 ≤ getD ds i 0 → getD ds i 0 ≤ getD bs i 0 → isLess (drop i ds) (drop i bs) ≡ isLess (drop (i + 1) ds) (drop (i + 1) bs)
-  unfolding isLess
-  less-same l g = rw (drop-cons bs i 0 h, head, le-ltb (getD ds i 0) (getD bs i 0) l, le-ltb (getD bs i 0) (getD ds i 0) g, drop-drop 1 i ds, add-one)
+  pub left-same : {d : ℕ} → d ≡ getD ds i 0 → d ≡ getD bs i 0 → Left ds bs i → Left ds bs (i + 1)
+  unfolding isLess matched
+  left-same is same l =
+      let e : getD ds i 0 ≡ getD bs i 0 = sym is ∙ same in
+      let less : isLess (drop i ds) (drop i bs) ≡ isLess (drop (i + 1) ds) (drop (i + 1) bs) =
+      rw (
+        drop-cons bs i 0 h,
+        head,
+        le-ltb (getD ds i 0) (getD bs i 0) (omega (arith, e)),
+        le-ltb (getD bs i 0) (getD ds i 0) (omega (arith, e)),
+        drop-drop 1 i ds,
+        add-one,
+      )
+      in
+      let count : i + matched (drop i ds) (drop i bs) ≡ i + 1 + matched (drop (i + 1) ds) (drop (i + 1) bs) =
+      rw (drop-cons bs i 0 h, head, eq-eqb (getD ds i 0) (getD bs i 0) e, drop-drop 1 i ds, add-one) (omega arith)
+      in
+      (sym less ∙ l .0, sym count ∙ l .1)
 
-pub less-out : (ds bs : List ℕ) (i : ℕ) → length bs ≤ i → isLess (drop i ds) (drop i bs) ≡ false
-unfolding isLess
-less-out ds bs i h = rw (drop-of-length-le bs h)
+pub left-none : (ds bs : List ℕ) (i : ℕ) → length bs ≤ i → Left ds bs i → (false ≡ isLess ds bs) × (i ≡ matched ds bs)
+unfolding isLess matched
+left-none ds bs i h l =
+    let none = drop-of-length-le bs h in
+    (rw none at (l .0), omega (arith, rw none at (l .1)))

@@ -8,7 +8,7 @@ use lib.ListN.{take, replicate}
 use Rattle.number.specs.Bound.{bound}
 use Rattle.number.specs.Grammar.{isDigit, run, past, someDigits, digits, leads, int, frac, isEmpty, last, power, exp, unsigned, number, isSome, isNumber}
 use Rattle.number.specs.Finite.{numeralFrom, numeral, value, isBelow, isBelowAt, finite, finiteIf, isFinite}
-use Rattle.number.specs.FirstDigit.{zeros, significant, order, levelOf, isLess, decided, byPlace}
+use Rattle.number.specs.FirstDigit.{zeros, significant, order, levelOf, levelBy, digitsIn, levelIn, isLess, decided}
 use Rattle.number.proofs.Decides.{finite-decided}
 use Rattle.number.proofs.Numeral.{tens}
 
@@ -24,7 +24,7 @@ judged s = isFinite s
 
 -- opens the way by the first nonzero digit, for exponents whose power of ten nobody computes
 placed : List ℕ → Bool
-unfolding read numeralFrom numeral value tens zeros significant order levelOf isLess decided byPlace finiteIf isFinite
+unfolding read numeralFrom numeral value tens zeros significant order levelOf levelBy digitsIn levelIn isLess decided finiteIf isFinite
 placed s = isFinite s
 
 ascii : List ℕ → List ℕ

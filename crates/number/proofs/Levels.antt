@@ -9,9 +9,10 @@ use lib.ListN.{length, take, drop, length-map, length-append, length-drop, drop-
 use lib.Seq.{take-all}
 use lib.Dec.{ltb}
 use borrow.Author.Tests.{ltb-true, ltb-false, lt-ltb, le-ltb}
-use Rattle.number.specs.Bound.{bound}
-use Rattle.number.specs.Finite.{digit}
-use Rattle.number.specs.FirstDigit.{largest, zeros, significant, order, levelOf, isLess, decided, byPlace}
+use Rattle.number.specs.Finite.{digit, value}
+use Rattle.number.specs.FirstDigit.{largest, zeros, significant, order, levelOf, levelBy, digitsIn, levelIn, decided, comparedAt}
+use Rattle.number.specs.Tests.{Tests, TestsNumber}
+use Rattle.number.specs.declared.magnitude.Tested.{Tested}
 use Rattle.number.specs.declared.magnitude.Level.the-variants.{Below, Even, Above}
 use Rattle.number.proofs.Digits.{map-drop, significant-whole, significant-fraction}
 
@@ -75,52 +76,53 @@ level-capped lowered n f e h = go (ltb largest e) refl
         let m : min e largest ≡ e = omega (arith, ltb-false largest e p) in
         ap (levelOf lowered n f) m
 
-by-place : (lowered : Bool) (ds : List ℕ) (f e : ℕ) → 0 < length ds → byPlace lowered ds f e ≡ decided (levelOf lowered (length ds) f e) (isLess ds bound)
-unfolding byPlace
-by-place lowered [] f e h = absurd (not-suc-le-zero h)
-by-place lowered (d ∷ ds) f e h = refl
+level-by : (lowered : Bool) (ds : List ℕ) (f e : ℕ) → 0 < length ds → levelBy lowered ds f e ≡ levelOf lowered (length ds) f e
+unfolding levelBy
+level-by lowered [] f e h = absurd (not-suc-le-zero h)
+level-by lowered (d ∷ ds) f e h = refl
 
 -- each way to the answer
-module _ (whole fraction : List ℕ) (lowered : Bool) (e w : ℕ) (is : w ≡ zeros (map digit whole)) where
-  pub below-whole : w < length whole → length whole < 2 ^ 63
-      → decided (levelOf lowered (length (take (length whole - w) (drop w whole))) 0 (min e largest)) (isLess (map digit (take (length whole - w) (drop w whole) ++ fraction)) bound)
-      ≡ byPlace lowered (significant (map digit (whole ++ fraction))) (length fraction) e
-  below-whole h k =
+module _ (whole fraction : List ℕ) (lowered : Bool) (exponent : List ℕ) (w : ℕ) (is : w ≡ zeros (map digit whole)) where
+  pub tests-whole : {r : Tested} → w < length whole → length whole < 2 ^ 63
+      → Tests (levelOf lowered (length (take (length whole - w) (drop w whole))) 0 (min (value exponent) largest)) (map digit (take (length whole - w) (drop w whole) ++ fraction)) r
+      → TestsNumber (record { whole = whole; fraction = fraction; lowered = lowered; exponent = exponent }) r
+  unfolding digitsIn levelIn
+  tests-whole h k t =
       let n : length (map digit (drop w whole ++ fraction)) ≡ length whole - w + length fraction = simp (length-map, length-append, length-drop) in
       let all : take (length whole - w) (drop w whole) ≡ drop w whole = take-all (length whole - w) (drop w whole) (omega (arith, length-drop w whole)) in
       let p : 0 < length (map digit (drop w whole ++ fraction)) = omega (arith, n, h) in
       rw (
-        all,
-        length-drop w whole,
         significant-whole whole fraction w is h,
-        by-place lowered (map digit (drop w whole ++ fraction)) (length fraction) e p,
+        level-by lowered (map digit (drop w whole ++ fraction)) (length fraction) (value exponent) p,
         n,
-        level-shift lowered (length whole - w + length fraction) (length fraction) (length whole - w) 0 e (omega arith),
-        level-capped lowered (length whole - w) 0 e (omega (arith, k)),
+        level-shift lowered (length whole - w + length fraction) (length fraction) (length whole - w) 0 (value exponent) (omega arith),
+        ← level-capped lowered (length whole - w) 0 (value exponent) (omega (arith, k)),
       )
+      (rw (all, length-drop w whole) at t)
 
   module _ (f : ℕ) (is-behind : f ≡ zeros (map digit fraction)) (h : length whole ≤ w) where
     rest : significant (map digit (whole ++ fraction)) ≡ map digit (drop f fraction)
     unfolding significant
     rest = significant-fraction whole fraction w is h ∙ rw (← is-behind, map-drop)
 
-    pub below-fraction : f < length fraction → length fraction < 2 ^ 63
-        → decided (levelOf lowered 0 f (min e largest)) (isLess (map digit (take (length fraction - f) (drop f fraction) ++ [])) bound)
-        ≡ byPlace lowered (significant (map digit (whole ++ fraction))) (length fraction) e
-    below-fraction l k =
+    pub tests-fraction : {r : Tested} → f < length fraction → length fraction < 2 ^ 63
+        → Tests (levelOf lowered 0 f (min (value exponent) largest)) (map digit (take (length fraction - f) (drop f fraction) ++ [])) r
+        → TestsNumber (record { whole = whole; fraction = fraction; lowered = lowered; exponent = exponent }) r
+    unfolding digitsIn levelIn
+    tests-fraction l k t =
         let n : length (map digit (drop f fraction)) ≡ length fraction - f = simp (length-map, length-drop) in
         let all : take (length fraction - f) (drop f fraction) ≡ drop f fraction = take-all (length fraction - f) (drop f fraction) (omega (arith, length-drop f fraction)) in
         let p : 0 < length (map digit (drop f fraction)) = omega (arith, n, l) in
         rw (
-          all,
-          append-nil,
           rest,
-          by-place lowered (map digit (drop f fraction)) (length fraction) e p,
+          level-by lowered (map digit (drop f fraction)) (length fraction) (value exponent) p,
           n,
-          level-shift lowered (length fraction - f) (length fraction) 0 f e (omega (arith, l)),
-          level-capped lowered 0 f e (omega (arith, l, k)),
+          level-shift lowered (length fraction - f) (length fraction) 0 f (value exponent) (omega (arith, l)),
+          ← level-capped lowered 0 f (value exponent) (omega (arith, l, k)),
         )
+        (rw (all, append-nil) at t)
 
-    pub below-zero : length fraction ≤ f → true ≡ byPlace lowered (significant (map digit (whole ++ fraction))) (length fraction) e
-    unfolding byPlace
-    below-zero l = rw (rest, drop-of-length-le fraction l)
+    pub tests-zero : length fraction ≤ f
+        → TestsNumber (record { whole = whole; fraction = fraction; lowered = lowered; exponent = exponent }) (record { finite = true; compared = 0 })
+    unfolding digitsIn levelIn levelBy decided comparedAt
+    tests-zero l = rw (rest, drop-of-length-le fraction l) (refl, refl)

@@ -1,3 +1,4 @@
+pub mod Counts
 pub mod Decides
 pub mod Digits
 pub mod Examples

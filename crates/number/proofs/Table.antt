@@ -1,4 +1,4 @@
--- The table's test, computed: its 309 digits write 2^1024 - 2^970. That the code's table holds these digits is checked in the proof of `is_less`.
+-- The table's test, computed: its 309 digits write 2^1024 - 2^970. That the code's table holds these digits is checked in the proof of `compare`.
 use mathlib.Core.Path.{_≡_, refl}
 use mathlib.Core.Bool.{true}
 use lib.ListN.{length}

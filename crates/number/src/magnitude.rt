@@ -1,4 +1,4 @@
-// Decides whether a number's magnitude is below 2^1024 - 2^970, from the place of its first nonzero digit.
+// Decides whether a number's magnitude is below 2^1024 - 2^970, from the place of its first nonzero digit. Digits are compared only where that is the bound's.
 use crate::bound::BOUND;
 ghost use mathlib.Core.Path.{_≡_};
 ghost use mathlib.Core.List.{map, _++_};
@@ -6,13 +6,20 @@ ghost use Prim.Native.Nat.{_+_, _<_, _≤_, _^_, min};
 ghost use lib.ListN.{getD};
 ghost use Rattle.number.specs.Bound.{bound};
 ghost use Rattle.number.specs.Finite.{digit, value};
-ghost use Rattle.number.specs.FirstDigit.{largest, zeros, order, levelOf, isLess, decided, byFirstDigit};
+ghost use Rattle.number.specs.FirstDigit.{largest, zeros, order, levelOf, isLess, matched};
+ghost use Rattle.number.specs.Tests.{Tests, TestsNumber};
 
 // A place against 10^308, the place of the bound's first digit.
 pub enum Level {
     Below,
     Even,
     Above,
+}
+
+// What was found out of a number: whether its magnitude is below the bound, and how many of its digits were compared with the bound's.
+pub struct Tested {
+    pub finite: bool,
+    pub compared: usize,
 }
 
 // An exponent from here on counts as this one: no text is long enough for them to differ.
@@ -99,38 +106,47 @@ fn digit_at(high: &[u8], low: &[u8], i: usize) -> u8
     0
 }
 
-// Whether the digits of `high` and `low` are less than the bound's: the first that differs decides.
-fn is_less(high: &[u8], low: &[u8]) -> bool
-    ensures { λ r. ⌜ r ≡ isLess (map digit (now (high .entry) ++ now (low .entry))) bound ⌝ }
+// Whether the digits of `high` and `low` are less than the bound's: the first that differs decides, and is the last that is looked at.
+fn compare(high: &[u8], low: &[u8]) -> Tested
+    ensures { λ r. ⌜ (r .finite ≡ isLess (map digit (now (high .entry) ++ now (low .entry))) bound) × (r .compared ≡ matched (map digit (now (high .entry) ++ now (low .entry))) bound) ⌝ }
 {
     let mut i = 0;
     while i < 309 {
         let d = digit_at(high, low, i);
         let b = BOUND[i];
-        if d < b {
-            return true;
-        }
-        if b < d {
-            return false;
+        if d != b {
+            return Tested {
+                finite: d < b,
+                compared: i + 1,
+            };
         }
         i += 1;
     }
-    false
-}
-
-fn by_level(l: Level, high: &[u8], low: &[u8]) -> bool
-    ensures { λ r. ⌜ r ≡ decided l (isLess (map digit (now (high .entry) ++ now (low .entry))) bound) ⌝ }
-{
-    match l {
-        Level::Below => true,
-        Level::Even => is_less(high, low),
-        Level::Above => false,
+    Tested {
+        finite: false,
+        compared: i,
     }
 }
 
-// Whether the number with these digits before and behind the point, and this exponent, is below the bound.
-pub fn is_below(whole: &[u8], fraction: &[u8], lowered: bool, exponent: &[u8]) -> bool
-    ensures { λ r. ⌜ r ≡ byFirstDigit lowered (now (whole .entry)) (now (fraction .entry)) (now (exponent .entry)) ⌝ }
+fn by_level(l: Level, high: &[u8], low: &[u8]) -> Tested
+    ensures { λ r. ⌜ Tests l (map digit (now (high .entry) ++ now (low .entry))) r ⌝ }
+{
+    match l {
+        Level::Below => Tested {
+            finite: true,
+            compared: 0,
+        },
+        Level::Even => compare(high, low),
+        Level::Above => Tested {
+            finite: false,
+            compared: 0,
+        },
+    }
+}
+
+// The test of the number with these digits before and behind the point, and this exponent.
+pub fn test_parts(whole: &[u8], fraction: &[u8], lowered: bool, exponent: &[u8]) -> Tested
+    ensures { λ r. ⌜ TestsNumber (record { whole = now (whole .entry); fraction = now (fraction .entry); lowered = lowered; exponent = now (exponent .entry) }) r ⌝ }
 {
     let e = capped(exponent);
     let w = zeros(whole);
@@ -143,5 +159,8 @@ pub fn is_below(whole: &[u8], fraction: &[u8], lowered: bool, exponent: &[u8]) -
         let low = &fraction[f..];
         return by_level(level_of(0, f, lowered, e), low, &fraction[..0]);
     }
-    true
+    Tested {
+        finite: true,
+        compared: 0,
+    }
 }

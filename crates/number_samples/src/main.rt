@@ -1,19 +1,36 @@
 // Judges samples, a line each, and writes how many there are of each verdict, with every one that the crate `number` judges otherwise.
-// A line is its verdict and the text: n is no number, f a finite one, i one that is not finite. A line that begins with # says where
-// the samples after it are from.
+// A line is its verdict, how many digits are compared, in three digits, a comma and the text: f017,1.7976931348623157e308. The verdict
+// is n for no number, f for a finite one, i for one that is not finite. A line that begins with # says where the samples after it are from.
 use libc::STDIN_FILENO;
 use libc::STDOUT_FILENO;
 ghost use Prim.Native.Nat.{_≤_};
 ghost use lib.ListN.{length};
 
-fn verdict(text: &[u8]) -> u8 {
-    if number::is_finite(text) {
+fn verdict(text: &[u8], finite: bool) -> u8 {
+    if finite {
         return b'f';
     }
     if number::is_number(text) {
         return b'i';
     }
     b'n'
+}
+
+fn last_digit(n: usize) -> u8 {
+    (n % 10) as u8 + b'0'
+}
+
+// Whether three digits write `n`, which has at most three.
+fn writes(digits: &[u8], n: usize) -> bool {
+    if digits.len() < 3 {
+        return false;
+    }
+    if digits[0] == last_digit(n / 100) {
+        if digits[1] == last_digit(n / 10) {
+            return digits[2] == last_digit(n);
+        }
+    }
+    false
 }
 
 // The end of the line that begins at `at`.
@@ -38,16 +55,29 @@ fn begins_with(line: &[u8], b: u8) -> bool {
     line[0] == b
 }
 
+// Whether a sample is judged as it says.
+fn holds(line: &[u8]) -> bool {
+    if line.len() < 5 {
+        return false;
+    }
+    let text = &line[5..];
+    let tested = number::test(text);
+    if writes(&line[1..4], tested.compared) {
+        line[0] == verdict(text, tested.finite)
+    } else {
+        false
+    }
+}
+
 // Whether the line is no sample, or judged as it says. Otherwise it is written.
 fn is_as_said(line: &[u8]) -> bool {
     if line.len() == 0 {
         return true;
     }
-    let said = line[0];
-    if said == b'#' {
+    if line[0] == b'#' {
         return true;
     }
-    if said == verdict(&line[1..]) {
+    if holds(line) {
         return true;
     }
     io::write_all(STDOUT_FILENO, b"differs: ");

@@ -18,7 +18,7 @@ use differential::model::{decode_rule, decode_schema};
 use differential::trees;
 use library::Buffers;
 use report::{Acceptance, Figures, Row};
-use sheets::{Group, Sample, GROUPS};
+use sheets::{Group, Sample, GROUPS, NUMBERS};
 use std::process::ExitCode;
 
 /// Who answers.
@@ -60,7 +60,7 @@ fn main() -> ExitCode {
 
 /// Hands on the call of one side for the sample of that group and size.
 fn on_sample(group: &str, side: &str, size: &str, measured: impl FnOnce(&mut dyn FnMut() -> bool)) -> Result<(), String> {
-    let group = GROUPS.iter().find(|known| known.name == group).ok_or("no such group")?;
+    let group = GROUPS.iter().chain(&NUMBERS).find(|known| known.name == group).ok_or("no such group")?;
     let side = Side::named(side).ok_or("no such side")?;
     let size = size.parse().map_err(|_| "the size is no number")?;
     let sample = (group.make)(size);
@@ -91,10 +91,12 @@ fn all(counting: bool) -> Result<Figures, String> {
         eprintln!("bench: {}", group.name);
         rows.push(row(group, counting)?);
     }
+    eprintln!("bench: long numbers");
+    let numbers = NUMBERS.iter().map(|group| row(group, counting)).collect::<Result<_, _>>()?;
     eprintln!("bench: acceptance and stack");
     let acceptance = sheets::sheets().into_iter().map(acceptance).collect();
     let stack = sheets::deepest().into_iter().map(|(name, sample)| (name, stack::depth(&sample).0)).collect();
-    Ok(Figures { rows, acceptance, stack })
+    Ok(Figures { rows, numbers, acceptance, stack })
 }
 
 fn row(group: &'static Group, counting: bool) -> Result<Row, String> {

@@ -42,6 +42,8 @@ pub struct Acceptance {
 
 pub struct Figures {
     pub rows: Vec<Row>,
+    /// Rules of long numbers.
+    pub numbers: Vec<Row>,
     pub acceptance: Vec<Acceptance>,
     /// What a call takes of the stack, in bytes.
     pub stack: Vec<(&'static str, usize)>,
@@ -49,7 +51,7 @@ pub struct Figures {
 
 impl Figures {
     pub fn tables(&self) -> String {
-        [self.checks(), self.counts(), self.acceptances(), self.stacks()].join("\n")
+        [self.checks(), self.counts(), self.long_numbers(), self.acceptances(), self.stacks()].join("\n")
     }
 
     /// Puts each table, the processor's name and the plot where the document has a place for them.
@@ -60,6 +62,7 @@ impl Figures {
             ("processor", processor()),
             ("checks", self.checks()),
             ("counts", self.counts()),
+            ("numbers", self.long_numbers()),
             ("acceptance", self.acceptances()),
             ("stack", self.stacks()),
         ];
@@ -105,6 +108,28 @@ impl Figures {
             )
         };
         head.to_owned() + &self.rows.iter().map(line).collect::<String>()
+    }
+
+    fn long_numbers(&self) -> String {
+        let head = "| what decides | size | bytes | library, µs | library, ns a number | library, instructions a number | Rust pre-built, µs | Rust building and validating, µs |\n|---|---|---|---|---|---|---|---|\n";
+        let line = |row: &Row| {
+            let [library, validating, building] = row.listed().times;
+            let count = row.group.listed as f64;
+            let instructions = row.instructions.and_then(|[library, ..]| library).map_or(f64::NAN, |count| count as f64);
+            format!(
+                "| {} | {} {} | {} | {:.1} | {:.0} | {:.0} | {:.1} | {:.1} |\n",
+                row.group.name,
+                row.group.listed,
+                row.group.unit,
+                row.bytes,
+                library / 1e3,
+                library / count,
+                instructions / count,
+                validating / 1e3,
+                building / 1e3
+            )
+        };
+        head.to_owned() + &self.numbers.iter().map(line).collect::<String>()
     }
 
     fn acceptances(&self) -> String {

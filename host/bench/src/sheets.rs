@@ -1,5 +1,7 @@
 //! The sheets that are measured, made by size. Every one of them is accepted.
 
+use differential::model::number::bound;
+
 /// One check: settings and the two sheets.
 pub struct Sample {
     pub kind: u64,
@@ -49,6 +51,24 @@ pub const GROUPS: [Group; 7] = [
         sizes: &[100, 200, 400, 800, 1_200, 1_600, 2_048],
         listed: 2_048,
         make: large_rules,
+    },
+];
+
+/// Rules of long numbers, by what decides that they are finite.
+pub const NUMBERS: [Group; 2] = [
+    Group {
+        name: "place of the first digit",
+        unit: "numbers of 500 digits",
+        sizes: &[2, 8, 16, 28, 40, 56],
+        listed: 56,
+        make: |count| numbers(count, 307),
+    },
+    Group {
+        name: "309 digits compared",
+        unit: "numbers of 500 digits",
+        sizes: &[2, 8, 16, 28, 40, 56],
+        listed: 56,
+        make: |count| numbers(count, 308),
     },
 ];
 
@@ -172,6 +192,15 @@ fn large_rules(entries: usize) -> Sample {
     let conditions = each(blocks, |_| forms.concat()) + &each(rest, |_| forms[4].clone());
     let fields = [plain(1, "made"), plain(3, "mass"), plain(1, "name")].concat();
     Sample::new(format!("H,0,3,-,0\n{fields}"), format!("R,-,-,\nC,2,{},\n{conditions}", 6 * blocks + rest))
+}
+
+/// Comparisons of two numbers of 500 digits. They differ from the bound of finite numbers in the 309th digit, and stand at its place or lower, as the
+/// exponent says.
+fn numbers(count: usize, exponent: usize) -> Sample {
+    let agreeing = String::from_utf8_lossy(&bound()[1..308]);
+    let value = number(&format!("1.{agreeing}1{}e{exponent}", "9".repeat(191)));
+    let comparisons = each(count / 2, |_| format!("C,8,0,\n{value}{value}"));
+    Sample::new("H,0,0,-,0\n".to_owned(), format!("R,-,-,\nC,2,{},\n{comparisons}", count / 2))
 }
 
 /// A sheet whose acceptance alone is measured.

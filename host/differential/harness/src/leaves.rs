@@ -1,7 +1,9 @@
-//! `leaves`: the model's text and numbers held against Rust's own `str`, `char` and `f64` and against serde_json's number grammar.
+//! `leaves`: the model's text and numbers held against Rust's own `str`, `char` and `f64` and against serde_json's number grammar, and the library's test
+//! of numbers against the model's.
 
 use crate::bound::bound;
 use crate::generate::values::near_bound;
+use crate::library::raw;
 use crate::random::Random;
 use crate::refusals::is_number;
 use crate::samples;
@@ -16,7 +18,7 @@ type Check = (&'static str, fn() -> Result<u64, String>);
 
 /// Runs every check; an error names the first input on which two readings differ.
 pub fn leaves() -> Result<(), String> {
-    let checks: [Check; 10] = [
+    let checks: [Check; 11] = [
         ("UTF-8, all strings of up to 3 bytes", short_utf8),
         ("UTF-8, 4 bytes at the edges of the ranges", four_byte_utf8),
         ("UTF-8, random bytes", random_utf8),
@@ -24,6 +26,7 @@ pub fn leaves() -> Result<(), String> {
         ("trimming and blank, random texts", trimming),
         ("number grammar, all short texts", short_numbers),
         ("finite, all short numbers and random ones at the bound", finite),
+        ("finite and digits compared, the library on such numbers and on ones of 500 digits", tested),
         ("the digits of the bound", digits_of_bound),
         ("the samples of UTF-8 and of blank text", samples::texts),
         ("the samples of numbers", samples::numbers),
@@ -180,25 +183,56 @@ fn finite() -> Result<u64, String> {
         same_finite(&near_bound(&mut random))?;
         same_finite(&long_number(&mut random))?;
     }
-    let shifted = shifts(bound())?;
+    let shifted = shifts(bound(), same_finite)?;
     Ok(short + RANDOM_INPUTS / 2 + shifted)
 }
 
+/// The library's two answers and the model's.
+fn same_test(text: &str) -> Result<(), String> {
+    let (model, library) = ((number::is_finite(text), number::compared(text)), raw::finite(text.as_bytes()));
+    if model == library {
+        return Ok(());
+    }
+    Err(format!("{text:?}: finite and digits compared are {model:?} by the model, {library:?} by the library"))
+}
+
+fn tested() -> Result<u64, String> {
+    let short = each_text(b"0139-.eE", 6, same_test)?;
+    let mut random = Random::new(SEED);
+    for _ in 0..RANDOM_INPUTS / 8 {
+        same_test(&near_bound(&mut random))?;
+        same_test(&long_number(&mut random))?;
+        same_test(&agreeing_number(&mut random))?;
+    }
+    let shifted = shifts(bound(), same_test)?;
+    Ok(short + RANDOM_INPUTS / 8 * 3 + shifted)
+}
+
+/// 500 digits that begin as the bound does, the first of them at the bound's place or one beside it.
+fn agreeing_number(random: &mut Random) -> String {
+    let agreed = random.between(0, bound().len());
+    let mut digits = bound()[..agreed].to_owned();
+    digits.extend((agreed..500).map(|_| char::from(b'0' + random.below(10) as u8)));
+    let point = random.between(1, 499);
+    let exponent = 309 - point as i64 + random.pick(&[0, 0, 0, 0, 1, -1]);
+    format!("{}.{}e{exponent}", &digits[..point], &digits[point..])
+}
+
 /// The bound and its neighbours, the point at every place and the exponent making up for it.
-fn shifts(bound: &str) -> Result<u64, String> {
+fn shifts(bound: &str, check: impl Fn(&str) -> Result<(), String>) -> Result<u64, String> {
     let below = format!("{}1", &bound[..bound.len() - 1]);
     let above = format!("{}3", &bound[..bound.len() - 1]);
     let digits = [bound.to_owned(), below, above, format!("{}.0", bound), format!("{}.00001", bound)];
     for digits in &digits {
-        same_finite(digits)?;
-        same_finite(&format!("-{digits}"))?;
+        check(digits)?;
+        check(&format!("-{digits}"))?;
     }
     let mut count = 2 * digits.len() as u64;
     for whole in digits.iter().filter(|digits| !digits.contains('.')) {
         for point in 1..whole.len() {
-            same_finite(&format!("{}.{}e{}", &whole[..point], &whole[point..], whole.len() - point))?;
-            same_finite(&format!("0.{}{whole}E+{}", "0".repeat(point % 190), point % 190 + whole.len()))?;
-            same_finite(&format!("{whole}{}e-{point}", "0".repeat(point % 200)))?;
+            check(&format!("{}.{}e{}", &whole[..point], &whole[point..], whole.len() - point))?;
+            check(&format!("0.{}{whole}E+{}", "0".repeat(point % 190), point % 190 + whole.len()))?;
+            check(&format!("{whole}{}e-{point}", "0".repeat(point % 200)))?;
             count += 3;
         }
     }

@@ -1,6 +1,8 @@
 //! The samples that the programs `leaves` and `number_samples` run, held against Rust's own `str` and `f64` and serde_json's number grammar.
 
+use crate::library::raw;
 use crate::refusals::is_number;
+use differential::model;
 
 const TEXTS: &str = include_str!("../../../../crates/leaves/stdin");
 const NUMBERS: &[u8] = include_bytes!("../../../../crates/number_samples/stdin");
@@ -23,6 +25,8 @@ pub struct Sample {
     pub holds: bool,
     /// Whether a number is finite; true of all else.
     pub finite: bool,
+    /// How many digits of a number are compared; 0 of all else.
+    pub compared: usize,
 }
 
 /// Every sample, in the order of the lists.
@@ -41,12 +45,13 @@ fn text(line: &str) -> Sample {
         _ => Kind::Instant,
     };
     let bytes = if kind == Kind::Instant { rest.as_bytes().to_vec() } else { bytes_of(rest) };
-    Sample { kind, bytes, holds: head.ends_with('+'), finite: true }
+    Sample { kind, bytes, holds: head.ends_with('+'), finite: true, compared: 0 }
 }
 
-/// `n` no number, `f` finite, `i` not finite.
+/// `n` no number, `f` finite, `i` not finite; then how many digits are compared, in three digits, and a comma.
 fn number(line: &[u8]) -> Sample {
-    Sample { kind: Kind::Number, bytes: line[1..].to_vec(), holds: line[0] != b'n', finite: line[0] != b'i' }
+    let compared = line[1..4].iter().fold(0, |count, digit| 10 * count + usize::from(digit - b'0'));
+    Sample { kind: Kind::Number, bytes: line[5..].to_vec(), holds: line[0] != b'n', finite: line[0] != b'i', compared }
 }
 
 fn bytes_of(hexadecimal: &str) -> Vec<u8> {
@@ -84,6 +89,10 @@ pub fn numbers() -> Result<u64, String> {
         agree(sample, sample.holds, is_number(text))?;
         if sample.holds {
             agree(sample, sample.finite, text.parse::<f64>().is_ok_and(f64::is_finite))?;
+        }
+        let (modelled, found) = (model::number::compared(text), raw::finite(&sample.bytes).1);
+        if [modelled, found] != [sample.compared; 2] {
+            return Err(format!("the sample {text:?}: {modelled} digits are compared by the model, {found} by the library"));
         }
         count += 1;
     }

@@ -60,16 +60,36 @@ pub fn is_number(text: &str) -> bool {
 }
 
 /// Whether the magnitude is below 2^1024 - 2^970. Text that is no number is not finite.
-///
-/// With the mantissa's digits read as one natural m, f digits of fraction and exponent e, that is m * 10^(e - f) < bound; multiplied
-/// out, both sides are naturals.
 pub fn is_finite(text: &str) -> bool {
+    parts(text.as_bytes()).is_some_and(|parts| {
+        let (magnitude, bound) = multiplied_out(&parts, text.len());
+        is_less(&magnitude, &bound)
+    })
+}
+
+/// How many digits are compared with the bound's: none if the first nonzero digit stands elsewhere than the bound's first, else those up to and with the
+/// first that differs, and all that the bound has if none does.
+pub fn compared(text: &str) -> usize {
     let Some(parts) = parts(text.as_bytes()) else {
-        return false;
+        return 0;
     };
+    let (magnitude, scaled) = multiplied_out(&parts, text.len());
+    let magnitude = without_leading_zeros(&magnitude);
+    if magnitude.len() != scaled.len() {
+        return 0;
+    }
+    let digits = bound().len();
+    let differing = (0..digits).find(|&place| magnitude[place] != scaled[place]);
+    differing.map_or(digits, |place| place + 1)
+}
+
+/// The magnitude and the bound, both times the power of 10 that makes them naturals.
+///
+/// With the mantissa's digits read as one natural m, f digits of fraction and exponent e, these are m * 10^e and bound * 10^f, or m and bound * 10^(f + e)
+/// where the exponent is negative.
+fn multiplied_out(parts: &Parts<'_>, length: usize) -> (Vec<u8>, Vec<u8>) {
     // A mantissa that is not 0 lies between 1 and 10^length, so an exponent past this reach decides alone, and so does the reach.
-    let reach = text.len() + 400;
-    let exponent = value_up_to(reach, parts.exponent);
+    let exponent = value_up_to(length + 400, parts.exponent);
     let mut left = [parts.whole, parts.fraction].concat();
     let mut right = bound().to_vec();
     append_zeros(&mut right, parts.fraction.len());
@@ -81,7 +101,7 @@ pub fn is_finite(text: &str) -> bool {
         },
         exponent,
     );
-    is_less(&left, &right)
+    (left, right)
 }
 
 fn append_zeros(natural: &mut Vec<u8>, count: usize) {
@@ -256,5 +276,35 @@ mod tests {
         assert!(!is_finite("1e18446744073709551617"));
         assert!(is_finite(&format!("0.{}1e700", "0".repeat(400))));
         assert!(!is_finite(&format!("0.{}1e800", "0".repeat(400))));
+    }
+    #[test]
+    fn digits_are_compared_at_the_bounds_place_alone() {
+        for text in ["", "x", "0", "0e308", "0e309", "1e307", "1e309", "-9.9e307"] {
+            assert_eq!(compared(text), 0, "{text}");
+        }
+        for (text, count) in [
+            ("1e308", 2),
+            ("2e308", 1),
+            ("1.7976931348623157e308", 17),
+            ("1.7976931348623158e308", 19),
+            ("1.8e308", 2),
+            ("-0.00018E+312", 2),
+        ] {
+            assert_eq!(compared(text), count, "{text}");
+        }
+        let digits = String::from_utf8(bound().to_vec()).unwrap();
+        let below = String::from_utf8(subtract(bound(), b"1")).unwrap();
+        for text in [&digits, &below] {
+            assert_eq!(compared(text), 309);
+            assert_eq!(compared(&format!("{text}.5")), 309);
+            assert_eq!(compared(&format!("-0.000{text}e312")), 309);
+            assert_eq!(compared(&format!("{text}000e-3")), 309);
+            assert_eq!(compared(&format!("{text}e1")), 0);
+            assert_eq!(compared(&format!("{text}e-1")), 0);
+        }
+        assert_eq!(compared(&digits[..308]), 0);
+        assert_eq!(compared(&format!("{}e1", &digits[..308])), 309);
+        assert_eq!(compared(&format!("{}8", &digits[..308])), 309);
+        assert_eq!(compared(&format!("{}0", &digits[..308])), 309);
     }
 }

@@ -50,6 +50,8 @@ extern "C" {
     ) -> u32;
 
     fn rulecheck_field(result: *const u8, result_length: usize, index: u32) -> u32;
+
+    fn rulecheck_finite(text: *const u8, text_length: usize) -> u32;
 }
 
 /// One call of the case, the slices lent as they are.
@@ -139,4 +141,11 @@ unsafe fn call_key(semantics: u64, reader: u64, path: &[u8], schema: &[u8], resu
 pub fn field(result: &[u8], index: u32) -> u32 {
     // SAFETY: pointer and length are those of a slice.
     unsafe { rulecheck_field(result.as_ptr(), result.len(), index) }
+}
+
+/// Whether a text is a finite number, and how many of its digits were compared.
+pub fn finite(text: &[u8]) -> (bool, usize) {
+    // SAFETY: pointer and length are those of a slice.
+    let answer = unsafe { rulecheck_finite(text.as_ptr(), text.len()) };
+    (answer % 2 == 1, answer as usize / 2)
 }

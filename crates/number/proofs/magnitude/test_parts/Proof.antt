@@ -1,10 +1,9 @@
--- `number::magnitude::is_below` meets its contract: one law for each way: the first nonzero digit stands before the point, behind it, or nowhere.
+-- `number::magnitude::test_parts` meets its contract: one law for each way: the first nonzero digit stands before the point, behind it, or nowhere.
 use native.Mathlib.Omega.{arith}
 use borrow.Author.Needs.{needs}
-use Rattle.number.specs.Finite.{value}
-use Rattle.number.proofs.Levels.{below-whole, below-fraction, below-zero}
-use Rattle.number.proofs.magnitude.is_below.Statement.{statement}
-use Rattle.number.proofs.magnitude.is_below.Tie as tie
+use Rattle.number.proofs.Levels.{tests-whole, tests-fraction, tests-zero}
+use Rattle.number.proofs.magnitude.test_parts.Statement.{statement}
+use Rattle.number.proofs.magnitude.test_parts.Tie as tie
 
 capped-requires : tie.Need-capped-requires
 capped-requires c κs = search needs
@@ -30,7 +29,7 @@ by-level-requires c κs = search needs
 returns : tie.Need-returns
 returns c =
     let a = c .before .before .before .before .before .before .before .before .before .args in
-    rw (c .by-level .ensures, c .before .level-of .ensures, c .before .before .before .before .before .capped .ensures) (below-whole (a .whole .now) (a .fraction .now) (a .lowered) (value (a .exponent .now)) (c .before .before .before .before .zeros .result) (c .before .before .before .before .zeros .ensures) (c .before .before .before .if1 .taken) (omega arith))
+    tests-whole (a .whole .now) (a .fraction .now) (a .lowered) (a .exponent .now) (c .before .before .before .before .zeros .result) (c .before .before .before .before .zeros .ensures) (c .before .before .before .if1 .taken) (omega arith) (rw (c .before .level-of .ensures, c .before .before .before .before .before .capped .ensures) at (c .by-level .ensures))
 
 zeros-requires-2 : tie.Need-zeros-requires-2
 zeros-requires-2 c κs = search needs
@@ -56,15 +55,15 @@ by-level-requires-2 c κs = search needs
 returns-2 : tie.Need-returns-2
 returns-2 c =
     let a = c .before .before .before .before .before .before .before .before .before .before .before .before .args in
-    rw (c .by-level2 .ensures, c .before .before .level-of2 .ensures, c .before .before .before .before .before .before .before .before .capped .ensures) (below-fraction (a .whole .now) (a .fraction .now) (a .lowered) (value (a .exponent .now)) (c .before .before .before .before .before .before .before .zeros .result) (c .before .before .before .before .before .before .before .zeros .ensures) (c .before .before .before .before .before .zeros2 .result) (c .before .before .before .before .before .zeros2 .ensures) (c .before .before .before .before .before .before .if1 .left) (c .before .before .before .before .if2 .taken) (omega arith))
+    tests-fraction (a .whole .now) (a .fraction .now) (a .lowered) (a .exponent .now) (c .before .before .before .before .before .before .before .zeros .result) (c .before .before .before .before .before .before .before .zeros .ensures) (c .before .before .before .before .before .zeros2 .result) (c .before .before .before .before .before .zeros2 .ensures) (c .before .before .before .before .before .before .if1 .left) (c .before .before .before .before .if2 .taken) (omega arith) (rw (c .before .before .level-of2 .ensures, c .before .before .before .before .before .before .before .before .capped .ensures) at (c .by-level2 .ensures))
 
 returns-3 : tie.Need-returns-3
 returns-3 c =
     let a = c .before .before .before .before .before .before .before .before .args in
-    below-zero (a .whole .now) (a .fraction .now) (a .lowered) (value (a .exponent .now)) (c .before .before .before .zeros .result) (c .before .before .before .zeros .ensures) (c .before .zeros2 .result) (c .before .zeros2 .ensures) (c .before .before .if1 .left) (c .if2 .left)
+    tests-zero (a .whole .now) (a .fraction .now) (a .lowered) (a .exponent .now) (c .before .before .before .zeros .result) (c .before .before .before .zeros .ensures) (c .before .zeros2 .result) (c .before .zeros2 .ensures) (c .before .before .if1 .left) (c .if2 .left)
 
-pub is-below-spec : {M : Type 1} → statement M
-is-below-spec =
+pub test-parts-spec : {M : Type 1} → statement M
+test-parts-spec =
     tie.close
     (tie.spec
     capped-requires
