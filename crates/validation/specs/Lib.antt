@@ -13,4 +13,8 @@ pub mod Service
 pub mod ServiceLaws
 pub mod ServiceCallLaws
 pub mod KernelToService
+pub mod KernelLaws
+pub mod KeyPath
+pub mod KeyLaws
+pub mod KeyDemands
 pub mod Computing

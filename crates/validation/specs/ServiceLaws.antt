@@ -10,7 +10,8 @@ use lib.ListN.{length, length-append, length-map}
 use borrow.Author.Tests.{eqb-true}
 use Rattle.sheet.specs.ReaderLaws.{by-test}
 use Rattle.definition.specs.Tree.{Text, Field, field, Schema, Condition, literal, many, negation, one, two, comparison, quantifier, Conditions, noConditions, condition, Rule, rule, template}
-use Rattle.reference.specs.Setting.{Name, nameOf, Setting}
+use Rattle.reference.specs.Setting as Readers
+use Rattle.reference.specs.Setting.{Name, nameOf, Reader, Setting}
 use Rattle.reference.specs.Path.{Segments, split}
 use Rattle.reference.specs.Walk.{Step, refuse, leaf, free, into, lookup, memberStep, Reached, refused, unknown, known, arrive, entryOf, travel, isEmpty, walkStep}
 use Rattle.reference.specs.Reference.{Environment, bound, Root, noRoot, missing, root, rootOf, fromHolder, rootWalk, fromRoot, fromName, fromElement, fromBound, reference}
@@ -29,9 +30,9 @@ rises-if : {t t′ : Step} (b : Bool) (d : ℕ) → Rises t t′ → Rises (cond
 rises-if true d h = alike
 rises-if false d h = h
 
-step-rises : (f : Field) (s : Text) → Rises (walkStep false f s) (walkStep true f s)
+step-rises : (reader : Reader) (f : Field) (s : Text) → Rises (walkStep reader false f s) (walkStep reader true f s)
 unfolding walkStep
-step-rises (field e kind isOpen tag items members) s =
+step-rises reader (field e kind isOpen tag items members) s =
     rises-if (isEmpty s) 1
     (by-test (eqb kind 8) (λ j. rw (eqb-true kind 8 j) alike)
     (λ j. by-test (eqb kind 7) (λ o. rw (eqb-true kind 7 o) alike) (λ o. rw (j, o) refusedBefore)))
@@ -55,12 +56,12 @@ unfolding arrive
 arrive-rises at s path o o′ (alike {t = t}) h x = arrive-alike at s path o o′ t h x
 arrive-rises at s path o o′ refusedBefore h x = absurd x
 
-travel-rises : (path : List Text) (f : Field) → Reads (travel (walkStep false) path f) → Reads (travel (walkStep true) path f)
+travel-rises : (reader : Reader) (path : List Text) (f : Field) → Reads (travel (walkStep reader false) path f) → Reads (travel (walkStep reader true) path f)
 unfolding travel
-travel-rises [] f x = tt
-travel-rises (s ∷ path) f x =
-    arrive-rises (entryOf f) s path (λ g. travel (walkStep false) path g) (λ g. travel (walkStep true) path g) (step-rises f s)
-    (λ g y. travel-rises path g y) x
+travel-rises reader [] f x = tt
+travel-rises reader (s ∷ path) f x =
+    arrive-rises (entryOf f) s path (λ g. travel (walkStep reader false) path g) (λ g. travel (walkStep reader true) path g) (step-rises reader f s)
+    (λ g y. travel-rises reader path g y) x
 
 reads-if : (r r′ q q′ : Reached) (b : Bool) → (Reads r → Reads r′) → (Reads q → Reads q′) → Reads (cond b r q) → Reads (cond b r′ q′)
 reads-if r r′ q q′ true h k x = h x
@@ -108,22 +109,22 @@ every-parts P (c ∷ xs) ys h = let r = every-parts P xs ys (h .1) in ((h .0, r 
 
 module _ (mayRead : Name → Bool) (isRuleKind : Bool) (schema : Schema) where
   abbrev kernel : Setting
-  kernel = record { mayRead = mayRead; isRuleKind = isRuleKind; isService = false }
+  kernel = record { mayRead = mayRead; reader = Readers.kernel; isRuleKind = isRuleKind; isService = false }
 
   abbrev service : Setting
-  service = record { mayRead = mayRead; isRuleKind = isRuleKind; isService = true }
+  service = record { mayRead = mayRead; reader = Readers.kernel; isRuleKind = isRuleKind; isService = true }
 
   from-root-rises : (n : Name) (r : Root) (s : Text) (path : List Text) → Reads (fromRoot kernel n r s path) → Reads (fromRoot service n r s path)
   unfolding fromRoot rootWalk fromHolder
   from-root-rises n noRoot s path x = x
   from-root-rises n missing s path x = x
   from-root-rises n (root at h) s path x =
-      reads-if (rootWalk false at h s path) (rootWalk true at h s path) (refused 11 0 (s ∷ path)) (refused 11 0 (s ∷ path)) (mayRead n)
+      reads-if (rootWalk Readers.kernel false at h s path) (rootWalk Readers.kernel true at h s path) (refused 11 0 (s ∷ path)) (refused 11 0 (s ∷ path)) (mayRead n)
       (λ y.
-      reads-if (refused 1 at (s ∷ path)) (refused 1 at (s ∷ path)) (fromHolder (walkStep false) at 2 h s path) (fromHolder (walkStep true) at 2 h s path) (isEmpty s) (λ z. z)
+      reads-if (refused 1 at (s ∷ path)) (refused 1 at (s ∷ path)) (fromHolder (walkStep Readers.kernel false) at 2 h s path) (fromHolder (walkStep Readers.kernel true) at 2 h s path) (isEmpty s) (λ z. z)
       (λ z.
-      arrive-rises at s path (λ g. travel (walkStep false) path g) (λ g. travel (walkStep true) path g)
-      (alike {t = memberStep (lookup s (h .members)) (h .isOpen) 2}) (λ g w. travel-rises path g w) z)
+      arrive-rises at s path (λ g. travel (walkStep Readers.kernel false) path g) (λ g. travel (walkStep Readers.kernel true) path g)
+      (alike {t = memberStep (lookup s (h .members)) (h .isOpen) 2}) (λ g w. travel-rises Readers.kernel path g w) z)
       y)
       (λ y. y)
       x
@@ -138,7 +139,7 @@ module _ (mayRead : Name → Bool) (isRuleKind : Bool) (schema : Schema) where
   unfolding fromBound fromElement
   from-bound-rises p none x = from-name-rises (nameOf (p .first)) (p .others) x
   from-bound-rises p (some none) x = x
-  from-bound-rises p (some (some f)) x = travel-rises (p .others) f x
+  from-bound-rises p (some (some f)) x = travel-rises Readers.kernel (p .others) f x
 
   answer-rises : (env : Environment) (q : Question) → answer kernel schema env q ≡ none → answer service schema env q ≡ none
   unfolding answer reference
