@@ -6,9 +6,9 @@ use mathlib.Core.Option.{none, some}
 use mathlib.Core.Path.{_≡_, refl}
 use Rattle.definition.specs.Tree.{Field, field, Items, absent, element, noMembers, member, Schema, string}
 use Rattle.sheet.specs.Ascii.{ascii}
-use Rattle.reference.specs.Setting.{settingOf}
+use Rattle.reference.specs.Setting.{projection, settingOf}
 use Rattle.reference.specs.Walk.{Reached, refused, unknown, known}
-use Rattle.reference.specs.Reference.{Environment, reference, collection}
+use Rattle.reference.specs.Reference.{Environment, reference, keyWalk, collection}
 use Rattle.reference.specs.Computing.{computing}
 
 unfoldable pub integer : Field
@@ -59,3 +59,23 @@ shadowed = record { name = ascii "b"; element = none } ∷ record { name = ascii
 innermost-first : reads (object false) shadowed "b.x" ≡ unknown
 unfolding computing reads recordOf object shadowed integer
 innermost-first = refl
+
+unfoldable pub text : Field
+text = field 2 1 false none absent noMembers
+
+-- a path of the record with that field, as a projection's key
+unfoldable pub keys : (isService : Bool) → Field → String → Reached
+keys isService f t = keyWalk projection isService (recordOf f) (ascii t)
+
+-- a text's count: references are read by the kernel; under kernel/1 no text has one
+count-read : reads text [] "fields.f.count" ≡ unknown
+unfolding computing reads recordOf text
+count-read = refl
+
+count-key : keys true text "f.count" ≡ refused 13 2 (ascii "count" ∷ [])
+unfolding computing keys recordOf text
+count-key = refl
+
+count-kernel : keys false text "f.count" ≡ refused 10 2 (ascii "count" ∷ [])
+unfolding computing keys recordOf text
+count-kernel = refl

@@ -13,7 +13,8 @@ use Rattle.sheet.specs.Ascii.{ascii}
 use Rattle.sheet.specs.Order.{sameBytes}
 use Rattle.reference.specs.Setting.{Name, spelling, named, nameOf, Setting}
 use Rattle.reference.specs.Path.{Segments, cut, extend, split, isOrdinal}
-use Rattle.reference.specs.Walk.{Step, refuse, leaf, free, into, lookup, memberStep, itemStep, Reached, refused, unknown, known, lastOr, arrive, entryOf, travel, isEmpty, fieldStep, elementOr, elementOfField, elementOf}
+use Rattle.reference.specs.Walk.{refuse, free, lookup, memberStep, itemStep, Reached, refused, unknown, known, arrive, travel, isEmpty, fieldStep, elementOr, elementOfField, elementOf}
+use Rattle.reference.specs.DetailLaws.{StepHas, Has, step-if, member-has, item-has, travel-has}
 use Rattle.reference.specs.Reference.{Environment, bound, Root, noRoot, missing, root, rootOf, fromHolder, rootWalk, fromRoot, fromName, fromBound, reference, behindFirst, beginsWithDollar, collectionIn, collectionNamed, collectionElement, collectionBound, collectionText}
 
 -- something is reached
@@ -29,58 +30,17 @@ pub record Listed (detail : ℕ) : Type 0 where
 
 -- refused with such a detail at most
 abbrev pub Explained : Reached → Type 0
-Explained (refused d at left) = Listed d
-Explained unknown = Unit {0}
-Explained (known f) = Unit {0}
+Explained r = Has Listed r
 
-abbrev ExplainedStep : Step → Type 0
-ExplainedStep (refuse d) = Listed d
-ExplainedStep (leaf d) = Listed d
-ExplainedStep free = Unit {0}
-ExplainedStep (into f) = Unit {0}
-
-explained-if : (b : Bool) (r q : Step) → ExplainedStep r → ExplainedStep q → ExplainedStep (cond b r q)
-explained-if true r q h k = h
-explained-if false r q h k = k
-
-member-explained : (o : Option Field) (isOpen : Bool) (d : ℕ) → Listed d → ExplainedStep (memberStep o isOpen d)
-unfolding memberStep
-member-explained (some f) isOpen d h = tt
-member-explained none true d h = tt
-member-explained none false d h = h
-
-item-explained : (items : Items) → ExplainedStep (itemStep items)
-unfolding itemStep
-item-explained absent = tt
-item-explained (element f) = tt
-
-step-explained : (f : Field) (s : Text) → ExplainedStep (fieldStep f s)
+step-explained : (f : Field) (s : Text) → StepHas Listed (fieldStep f s)
 unfolding fieldStep
 step-explained (field e kind isOpen tag items members) s =
-    explained-if (eqb kind 8 || eqb kind 11) free _ tt
-    (explained-if (eqb kind 7) (memberStep (lookup s members) isOpen 2) _ (member-explained (lookup s members) isOpen 2 (omega arith))
-    (explained-if (eqb kind 6 && isOrdinal s) (itemStep items) (refuse 3) (item-explained items) (omega arith)))
-
-last-explained : (path : List Text) (r : Reached) → Explained r → Explained (lastOr path r)
-unfolding lastOr
-last-explained [] r h = tt
-last-explained (s ∷ path) r h = h
-
-arrive-explained : (at : ℕ) (s : Text) (path : List Text) (onward : Field → Reached) (t : Step)
-    → ((g : Field) → Explained (onward g))
-    → ExplainedStep t
-    → Explained (arrive at s path onward t)
-unfolding arrive
-arrive-explained at s path onward (refuse d) h k = k
-arrive-explained at s path onward (leaf d) h k = last-explained path (refused d at (s ∷ path)) k
-arrive-explained at s path onward free h k = tt
-arrive-explained at s path onward (into g) h k = h g
+    step-if Listed (eqb kind 8 || eqb kind 11) free _ tt
+    (step-if Listed (eqb kind 7) (memberStep (lookup s members) isOpen 2) _ (member-has Listed (lookup s members) isOpen 2 (omega arith))
+    (step-if Listed (eqb kind 6 && isOrdinal s) (itemStep items) (refuse 3) (item-has Listed items) (omega arith)))
 
 travel-explained : (path : List Text) (f : Field) → Explained (travel fieldStep path f)
-unfolding travel
-travel-explained [] f = tt
-travel-explained (s ∷ path) f =
-    arrive-explained (entryOf f) s path _ (fieldStep f s) (λ g. travel-explained path g) (step-explained f s)
+travel-explained = travel-has Listed fieldStep step-explained
 
 field-explained : (f : Field) → Explained (elementOfField f)
 unfolding elementOfField elementOr

@@ -7,7 +7,7 @@ use mathlib.Core.Option.{Option, none, some}
 use lib.Dec.{ltb, eqb}
 use Rattle.definition.specs.Tree.{Text, Field, Holder, Schema, Value, constant, number, string, array, object}
 use Rattle.sheet.specs.Order.{sameBytes}
-use Rattle.reference.specs.Setting.{Name, id, entity, version, fields, state, toState, fromState, args, oldFields, nameOf, Setting}
+use Rattle.reference.specs.Setting.{Name, id, entity, version, fields, state, toState, fromState, args, oldFields, nameOf, Reader, kernel, Setting}
 use Rattle.reference.specs.Path.{Segments, split}
 use Rattle.reference.specs.Walk.{Step, lookup, memberStep, Reached, refused, unknown, arrive, travel, isEmpty, walkStep, fieldStep, elementOf}
 
@@ -51,15 +51,15 @@ fromHolder step at detail h s path =
     arrive at s path (λ g. travel step path g) (memberStep (lookup s (h .members)) (h .isOpen) detail)
 
 -- `validate_reference_path`: a path behind a root
-unfoldable pub rootWalk : (isService : Bool) → ℕ → Holder → Text → List Text → Reached
-rootWalk isService at h s path =
-    cond (isEmpty s) (refused 1 at (s ∷ path)) (fromHolder (walkStep isService) at 2 h s path)
+unfoldable pub rootWalk : Reader → (isService : Bool) → ℕ → Holder → Text → List Text → Reached
+rootWalk reader isService at h s path =
+    cond (isEmpty s) (refused 1 at (s ∷ path)) (fromHolder (walkStep reader isService) at 2 h s path)
 
 unfoldable pub fromRoot : Setting → Name → Root → Text → List Text → Reached
 fromRoot setting n noRoot s path = refused 12 0 (s ∷ path)
 fromRoot setting n missing s path = refused 11 0 (s ∷ path)
 fromRoot setting n (root at h) s path =
-    cond (setting .mayRead n) (rootWalk (setting .isService) at h s path) (refused 11 0 (s ∷ path))
+    cond (setting .mayRead n) (rootWalk (setting .reader) (setting .isService) at h s path) (refused 11 0 (s ∷ path))
 
 unfoldable pub fromName : Setting → Schema → Option Name → List Text → Reached
 fromName setting schema none path = refused 12 0 path
@@ -68,7 +68,7 @@ fromName setting schema (some n) (s ∷ path) = fromRoot setting n (rootOf schem
 
 unfoldable pub fromElement : (isService : Bool) → Option Field → List Text → Reached
 fromElement isService none path = unknown
-fromElement isService (some f) path = travel (walkStep isService) path f
+fromElement isService (some f) path = travel (walkStep kernel isService) path f
 
 -- a binder of that name wins over all other names
 unfoldable pub fromBound : Setting → Schema → Segments → Option (Option Field) → Reached
@@ -78,6 +78,10 @@ fromBound setting schema p (some element) = fromElement (setting .isService) ele
 -- the reference of that text behind its `$`; the details are those of number 18
 unfoldable pub reference : Setting → Schema → Environment → Text → Reached
 reference setting schema env t = fromBound setting schema (split t) (bound (split t .first) env)
+
+-- a path of `$fields`, given without `$fields.`
+unfoldable pub keyWalk : Reader → (isService : Bool) → Schema → Text → Reached
+keyWalk reader isService schema t = rootWalk reader isService 1 (schema .fields) (split t .first) (split t .others)
 
 -- Collections. Details 6 and 7 stand for the two sentences of `collection_element` that never occur in a result.
 

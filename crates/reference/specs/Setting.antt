@@ -49,8 +49,13 @@ stock kind fromState = oneOf kind (2 ∷ 4 ∷ 5 ∷ [])
 stock kind args = oneOf kind (2 ∷ 4 ∷ 5 ∷ 6 ∷ 7 ∷ 8 ∷ [])
 stock kind oldFields = oneOf kind (2 ∷ 4 ∷ [])
 
+-- which walk will resolve a path: the kernel's, or that of a projection's key
+pub data Reader : Type 0 where
+  kernel projection : Reader
+
 pub record Setting : Type 0 where
   pub mayRead : Name → Bool
+  pub reader : Reader
   pub isRuleKind : Bool
   pub isService : Bool
 
@@ -58,6 +63,7 @@ unfoldable pub settingOf : (kind semantics : ℕ) → Setting
 settingOf kind semantics =
     record {
       mayRead = stock kind;
+      reader = kernel;
       isRuleKind = oneOf kind (1 ∷ 2 ∷ 5 ∷ 6 ∷ []);
       isService = not (eqb semantics 1);
     }

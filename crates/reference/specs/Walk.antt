@@ -7,6 +7,7 @@ use lib.Dec.{eqb}
 use Rattle.definition.specs.Tree.{Text, Field, field, Items, absent, element, Members, noMembers, member}
 use Rattle.sheet.specs.Ascii.{ascii}
 use Rattle.sheet.specs.Order.{sameBytes}
+use Rattle.reference.specs.Setting.{Reader, kernel, projection}
 use Rattle.reference.specs.Path.{isOrdinal, isCount}
 
 -- what one segment leads to
@@ -81,13 +82,18 @@ contentKey tag = cond (isTag tag (ascii "value")) (ascii "content") (ascii "valu
 unfoldable pub unionStep : Option Text → Text → Step
 unionStep tag s = cond (isTag tag s) (leaf 7) (cond (sameBytes (contentKey tag) s) free (refuse 8))
 
--- `walk_field_path`, Kernel reader; the details are those of number 18
-unfoldable pub walkStep : (isService : Bool) → Field → Text → Step
-walkStep isService (field e kind isOpen tag items members) s =
+-- the length of a text, which a projection's key cannot be
+unfoldable pub textCount : Reader → Step
+textCount kernel = leaf 6
+textCount projection = refuse 13
+
+-- `walk_field_path`; the details are those of number 18
+unfoldable pub walkStep : Reader → (isService : Bool) → Field → Text → Step
+walkStep reader isService (field e kind isOpen tag items members) s =
     cond (isEmpty s) (refuse 1)
     (cond (isService && eqb kind 6) (arrayStep items s)
     (cond (isService && eqb kind 10) (mapStep s)
-    (cond (isService && (eqb kind 1 && isCount s)) (leaf 6)
+    (cond (isService && (eqb kind 1 && isCount s)) (textCount reader)
     (cond (eqb kind 8) free
     (cond (eqb kind 7) (memberStep (lookup s members) isOpen 3)
     (cond (isService && eqb kind 11) (unionStep tag s)

@@ -15,6 +15,7 @@ use Rattle.definition.specs.Tree.{Text}
 use Rattle.reference.specs.Reference as Reference
 use Rattle.reference.specs.Reference.{Environment, bound}
 use Rattle.schema.specs.declared.read.Schema.{Schema}
+use Rattle.walk.specs.declared.answer.Reader.{Reader}
 use Rattle.scope.specs.Scopes.{noBinder, chainOf, BinderAt, ChainAt, Unbound, Binds, BoundIs}
 use Rattle.scope.specs.declared.name.Row.{Row}
 use Rattle.scope.specs.declared.binder.Element.{Element}
@@ -114,6 +115,7 @@ pub bind-crowded : (scope : Scope) (name : Part) (element : Element) → 31 ≤ 
 bind-crowded scope name element many = record {
   row = refl;
   service = refl;
+  reader = refl;
   schema = refl;
   counted = λ room. absurd (omega arith);
   binders = λ room. absurd (omega arith);
@@ -132,6 +134,7 @@ pub bind-more : (scope : Scope) (name : Part) (element : Element) → scope .cou
     → Binds scope name element (record {
       row = scope .row;
       service = scope .service;
+      reader = scope .reader;
       schema = scope .schema;
       binders = set (scope .binders) (scope .count) (record { name = name; element = element });
       count = scope .count + 1;
@@ -139,6 +142,7 @@ pub bind-more : (scope : Scope) (name : Part) (element : Element) → scope .cou
 bind-more scope name element few whole = record {
   row = refl;
   service = refl;
+  reader = refl;
   schema = refl;
   counted = λ room. add-one (scope .count);
   binders = λ room sheet rule words env f at e. record {
@@ -148,12 +152,13 @@ bind-more scope name element few whole = record {
   };
 }
 
-pub unbound-none : (x : Row) (isService : Bool) (s : Schema) (bs : List Binder)
-    → Unbound x isService s (record { row = x; service = isService; schema = s; binders = bs; count = 0 })
+pub unbound-none : (x : Row) (isService : Bool) (y : Reader) (s : Schema) (bs : List Binder)
+    → Unbound x isService y s (record { row = x; service = isService; reader = y; schema = s; binders = bs; count = 0 })
 unfolding chainOf
-unbound-none x isService s bs = record {
+unbound-none x isService y s bs = record {
   row = refl;
   service = refl;
+  reader = refl;
   schema = refl;
   binders = λ sheet rule words. record { few = omega arith; chain = tt };
 }

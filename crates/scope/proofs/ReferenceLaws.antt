@@ -10,7 +10,7 @@ use Rattle.definition.specs.Tree as Tree
 use Rattle.definition.specs.Tree.{Text, Field}
 use Rattle.reference.specs.Path.{split}
 use Rattle.reference.specs.Setting as Setting
-use Rattle.reference.specs.Setting.{Setting, nameOf}
+use Rattle.reference.specs.Setting.{Reader, kernel, Setting, nameOf}
 use Rattle.reference.specs.Walk.{lookup, memberStep, Reached, refused, unknown, arrive, travel, isEmpty, walkStep}
 use Rattle.reference.specs.Reference as Reference
 use Rattle.reference.specs.Reference.{Environment, bound, rootOf, fromHolder, rootWalk, fromRoot, fromName, fromElement, fromBound, reference}
@@ -22,7 +22,7 @@ use Rattle.schema.specs.declared.lookup.Found.{Found}
 use Rattle.schema.specs.declared.lookup.Found.the-variants as Found
 use Rattle.walk.specs.Dots.{Ends}
 use Rattle.walk.specs.DotLaws.{ends-length, rest-whole, segment-empty, segment-full}
-use Rattle.walk.specs.Answers.{referenceDetail}
+use Rattle.walk.specs.Answers.{readerIs, referenceDetail}
 use Rattle.walk.specs.Steps.{Walks}
 use Rattle.walk.specs.declared.answer.ReferenceFault.the-variants.{EmptyPath, UnknownRoot, NotAvailable, NoReference}
 use Rattle.walk.specs.declared.answer.Readable.{Readable}
@@ -44,30 +44,30 @@ use Rattle.scope.specs.declared.root.Root.the-variants as Root
 
 -- A path behind the record or the arguments, on the tree
 
-module _ (service : Bool) (at : ℕ) (t : Tree.Holder) (s : Text) (path : List Text) where
-  walk-empty : isEmpty s ≡ true → rootWalk service at t s path ≡ refused 1 at (s ∷ path)
+module _ (reader : Reader) (service : Bool) (at : ℕ) (t : Tree.Holder) (s : Text) (path : List Text) where
+  walk-empty : isEmpty s ≡ true → rootWalk reader service at t s path ≡ refused 1 at (s ∷ path)
   unfolding rootWalk
   walk-empty e = rw e
 
-  walk-open : isEmpty s ≡ false → lookup s (t .members) ≡ none → t .isOpen ≡ true → rootWalk service at t s path ≡ unknown
+  walk-open : isEmpty s ≡ false → lookup s (t .members) ≡ none → t .isOpen ≡ true → rootWalk reader service at t s path ≡ unknown
   unfolding rootWalk fromHolder memberStep arrive
   walk-open e l o = rw (e, l, o)
 
-  walk-closed : isEmpty s ≡ false → lookup s (t .members) ≡ none → t .isOpen ≡ false → rootWalk service at t s path ≡ refused 2 at (s ∷ path)
+  walk-closed : isEmpty s ≡ false → lookup s (t .members) ≡ none → t .isOpen ≡ false → rootWalk reader service at t s path ≡ refused 2 at (s ∷ path)
   unfolding rootWalk fromHolder memberStep arrive
   walk-closed e l o = rw (e, l, o)
 
-  walk-found : (f : Field) → isEmpty s ≡ false → lookup s (t .members) ≡ some f → rootWalk service at t s path ≡ travel (walkStep service) path f
+  walk-found : (f : Field) → isEmpty s ≡ false → lookup s (t .members) ≡ some f → rootWalk reader service at t s path ≡ travel (walkStep reader service) path f
   unfolding rootWalk fromHolder memberStep arrive
   walk-found f e l = rw (e, l)
 
-module _ (sheet words path : List ℕ) (at : ℕ) (h : Holder) (service : Bool) (n : ℕ) (ends : Ends path n) where
-  pub root-empty : n ≡ 0 → RootWalks sheet words at h path service (No EmptyPath at)
+module _ (sheet words path : List ℕ) (at : ℕ) (h : Holder) (reader : Reader) (service : Bool) (n : ℕ) (ends : Ends path n) where
+  pub root-empty : n ≡ 0 → RootWalks sheet words at h path reader service (No EmptyPath at)
   unfolding referenceDetail
   root-empty z = record {
     leads = λ t here.
         let e : isEmpty (split path .first) ≡ true = ap isEmpty (ends .first) ∙ segment-empty (take n path) (sym (ends-length ends) ∙ z) in
-        (split path .first ∷ split path .others, walk-empty service at t (split path .first) (split path .others) e);
+        (split path .first ∷ split path .others, walk-empty reader service at t (split path .first) (split path .others) e);
   }
 
   module _ (found : Found) (looked : LookedUp sheet words h (take n path) found) (some-bytes : n ≡ 0 → ⊥) where
@@ -80,34 +80,34 @@ module _ (sheet words path : List ℕ) (at : ℕ) (h : Holder) (service : Bool) 
     found-at : (k : ℕ) → found ≡ Found.At k → (t : Tree.Holder) → HolderAt sheet words h t → FoundAt sheet words (split path .first) (t .members) k
     found-at k e t here = let l : FoundAt sheet words (take n path) (t .members) k = rw e at (looked t here) in rw (ends .first) l
 
-    pub root-open : found ≡ Found.Missing → h .opened ≡ true → RootWalks sheet words at h path service Yes
+    pub root-open : found ≡ Found.Missing → h .opened ≡ true → RootWalks sheet words at h path reader service Yes
     root-open e o = record {
       leads = λ t here.
-          rw (walk-open service at t (split path .first) (split path .others) full (missing e t here) (sym (here .marked) ∙ o)) tt;
+          rw (walk-open reader service at t (split path .first) (split path .others) full (missing e t here) (sym (here .marked) ∙ o)) tt;
     }
 
-    pub root-closed : found ≡ Found.Missing → h .opened ≡ false → RootWalks sheet words at h path service (No UnknownRoot at)
+    pub root-closed : found ≡ Found.Missing → h .opened ≡ false → RootWalks sheet words at h path reader service (No UnknownRoot at)
     unfolding referenceDetail
     root-closed e o = record {
       leads = λ t here.
-          (split path .first ∷ split path .others, walk-closed service at t (split path .first) (split path .others) full (missing e t here) (sym (here .marked) ∙ o));
+          (split path .first ∷ split path .others, walk-closed reader service at t (split path .first) (split path .others) full (missing e t here) (sym (here .marked) ∙ o));
     }
 
-    pub root-last : (k : ℕ) → found ≡ Found.At k → n ≡ length path → RootWalks sheet words at h path service Yes
+    pub root-last : (k : ℕ) → found ≡ Found.At k → n ≡ length path → RootWalks sheet words at h path reader service Yes
     unfolding travel
     root-last k e end = record {
       leads = λ t here.
           let l = found-at k e t here in
-          rw (walk-found service at t (split path .first) (split path .others) (l .f) full (l .found), ends .last end) tt;
+          rw (walk-found reader service at t (split path .first) (split path .others) (l .f) full (l .found), ends .last end) tt;
     }
 
     pub root-more : (k : ℕ) (r : Readable) → found ≡ Found.At k → (n ≡ length path → ⊥)
-        → Walks sheet words k (take (length path - (n + 1)) (drop (n + 1) path)) service r → RootWalks sheet words at h path service r
+        → Walks sheet words k (take (length path - (n + 1)) (drop (n + 1) path)) reader service r → RootWalks sheet words at h path reader service r
     root-more k r e more m = record {
       leads = λ t here.
           let l = found-at k e t here in
-          let onward : Walks sheet words k (drop (n + 1) path) service r = rw (rest-whole path n) at m in
-          rw (walk-found service at t (split path .first) (split path .others) (l .f) full (l .found), ends .more (less more)) (onward .leads (l .f) (l .holds));
+          let onward : Walks sheet words k (drop (n + 1) path) reader service r = rw (rest-whole path n) at m in
+          rw (walk-found reader service at t (split path .first) (split path .others) (l .f) full (l .found), ends .more (less more)) (onward .leads (l .f) (l .holds));
     } where
       less : (n ≡ length path → ⊥) → n < length path
       less other = let within = ends .within in omega arith
@@ -118,10 +118,10 @@ may : {scope : Scope} {setting : Setting} → SettingAt scope setting → (n : S
 may v n = ap (λ (reads : Setting.Name → Bool). reads n) (sym (v .names))
 
 module _ (setting : Setting) (n : Setting.Name) (s : Text) (path : List Text) where
-  read-root : (service : Bool) (at : ℕ) (t : Tree.Holder) (x : Reference.Root) → service ≡ setting .isService → x ≡ Reference.root at t → setting .mayRead n ≡ true
-      → fromRoot setting n x s path ≡ rootWalk service at t s path
+  read-root : (reader : Reader) (service : Bool) (at : ℕ) (t : Tree.Holder) (x : Reference.Root) → reader ≡ setting .reader → service ≡ setting .isService → x ≡ Reference.root at t → setting .mayRead n ≡ true
+      → fromRoot setting n x s path ≡ rootWalk reader service at t s path
   unfolding fromRoot
-  read-root service at t x v e m = rw (e, m, v)
+  read-root reader service at t x y v e m = rw (e, m, y, v)
 
   unread-root : (at : ℕ) (t : Tree.Holder) (x : Reference.Root) → x ≡ Reference.root at t → setting .mayRead n ≡ false
       → fromRoot setting n x s path ≡ refused 11 0 (s ∷ path)
@@ -158,11 +158,11 @@ module _ (sheet words path : List ℕ) (scope : Scope) (name : Name) (root : Roo
         → (u : Tree.Holder) × (rootOf t (nameIs name) ≡ Reference.root at u) × HolderAt sheet words h u
     the-root t here = rw there at (is .leads sheet words t here)
 
-    pub root-read : (r : Readable) → b ≡ true → RootWalks sheet words at h path (scope .service) r → RootReads sheet words scope name path r
+    pub root-read : (r : Readable) → b ≡ true → RootWalks sheet words at h path (readerIs (scope .reader)) (scope .service) r → RootReads sheet words scope name path r
     root-read r can m = record {
       leads = λ setting t v here.
           let q = the-root t here in
-          rw (read-root setting (nameIs name) (split path .first) (split path .others) (scope .service) at (q .0) (rootOf t (nameIs name)) (v .service) (q .1) (may v (nameIs name) ∙ sym allowed ∙ can))
+          rw (read-root setting (nameIs name) (split path .first) (split path .others) (readerIs (scope .reader)) (scope .service) at (q .0) (rootOf t (nameIs name)) (v .reader) (v .service) (q .1) (may v (nameIs name) ∙ sym allowed ∙ can))
           (m .leads (q .0) (q .2));
     }
 
@@ -252,7 +252,7 @@ module _ (setting : Setting) (t : Tree.Schema) (env : Environment) (text : List 
   reference-any e = rw e
 
   reference-known : (service : Bool) (f : Field) → service ≡ setting .isService → bound (split text .first) env ≡ some (some f)
-      → here ≡ travel (walkStep service) (split text .others) f
+      → here ≡ travel (walkStep kernel service) (split text .others) f
   unfolding reference fromBound fromElement
   reference-known service f v e = rw (e, v)
 
@@ -307,12 +307,12 @@ module _ (sheet rule words text : List ℕ) (scope : Scope) (end : ℕ) (ends : 
             rw (reference-known setting t env text (scope .service) (q .0) (at .set .service) (q .1), ends .last whole) tt;
       }
 
-      pub reference-path : (r : Readable) → (end ≡ length text → ⊥) → Walks sheet words k (take (length text - (end + 1)) (drop (end + 1) text)) (scope .service) r
+      pub reference-path : (r : Readable) → (end ≡ length text → ⊥) → Walks sheet words k (take (length text - (end + 1)) (drop (end + 1) text)) kernel (scope .service) r
           → ReferenceReads sheet rule words scope text r
       reference-path r more m = record {
         leads = λ setting t env at.
             let q = to-field env (at .binders) in
-            let onward : Walks sheet words k (drop (end + 1) text) (scope .service) r = rw (rest-whole text end) at m in
+            let onward : Walks sheet words k (drop (end + 1) text) kernel (scope .service) r = rw (rest-whole text end) at m in
             rw (reference-known setting t env text (scope .service) (q .0) (at .set .service) (q .1), ends .more less) (onward .leads (q .0) (q .2));
       } where
         less : end < length text

@@ -5,7 +5,7 @@ use mathlib.Core.List.{List}
 use Rattle.definition.specs.Tree as Tree
 use Rattle.definition.specs.Tree.{Text}
 use Rattle.reference.specs.Path.{split}
-use Rattle.reference.specs.Setting.{Setting, nameOf}
+use Rattle.reference.specs.Setting.{Reader, Setting, nameOf}
 use Rattle.reference.specs.Reference.{Environment, rootOf, rootWalk, fromRoot, fromName, reference}
 use Rattle.schema.specs.Slot.{HolderAt}
 use Rattle.schema.specs.Read.{SchemaAt}
@@ -19,8 +19,8 @@ use Rattle.scope.specs.declared.name.Name.{Name}
 use Rattle.scope.specs.declared.binder.Scope.{Scope}
 
 -- a path behind the record or the arguments
-pub record RootWalks (sheet words : List ℕ) (at : ℕ) (h : Holder) (path : Text) (service : Bool) (r : Readable) : Type 0 where
-  pub leads : (t : Tree.Holder) → HolderAt sheet words h t → ReadableIs r (rootWalk service at t (split path .first) (split path .others))
+pub record RootWalks (sheet words : List ℕ) (at : ℕ) (h : Holder) (path : Text) (reader : Reader) (service : Bool) (r : Readable) : Type 0 where
+  pub leads : (t : Tree.Holder) → HolderAt sheet words h t → ReadableIs r (rootWalk reader service at t (split path .first) (split path .others))
 
 -- a name with a path
 pub record RootReads (sheet words : List ℕ) (scope : Scope) (name : Name) (path : Text) (r : Readable) : Type 0 where

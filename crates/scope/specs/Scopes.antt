@@ -15,6 +15,8 @@ use Rattle.reference.specs.Reference.{Environment, bound}
 use Rattle.schema.specs.Slot.{SlotHolds}
 use Rattle.schema.specs.Read.{SchemaAt}
 use Rattle.schema.specs.declared.read.Schema.{Schema}
+use Rattle.walk.specs.Answers.{readerIs}
+use Rattle.walk.specs.declared.answer.Reader.{Reader}
 use Rattle.scope.specs.Names.{mayReadBy}
 use Rattle.scope.specs.declared.name.Row.{Row}
 use Rattle.scope.specs.declared.binder.Element.{Element}
@@ -58,6 +60,7 @@ pub record EnvironmentAt (sheet rule words : List ℕ) (scope : Scope) (env : En
 pub record SettingAt (scope : Scope) (setting : Setting) : Type 0 where
   pub service : scope .service ≡ setting .isService
   pub names : mayReadBy (scope .row) ≡ setting .mayRead
+  pub reader : readerIs (scope .reader) ≡ setting .reader
 
 -- a scope of the code, beside the setting, the schema and the binders that it stands for
 pub record ScopeAt (sheet rule words : List ℕ) (scope : Scope) (setting : Setting) (t : Tree.Schema) (env : Environment) : Type 0 where
@@ -65,9 +68,10 @@ pub record ScopeAt (sheet rule words : List ℕ) (scope : Scope) (setting : Sett
   pub schema : SchemaAt sheet words (scope .schema) t
   pub binders : EnvironmentAt sheet rule words scope env
 
-pub record Unbound (x : Row) (isService : Bool) (s : Schema) (r : Scope) : Type 0 where
+pub record Unbound (x : Row) (isService : Bool) (y : Reader) (s : Schema) (r : Scope) : Type 0 where
   pub row : r .row ≡ x
   pub service : r .service ≡ isService
+  pub reader : r .reader ≡ y
   pub schema : r .schema ≡ s
   pub binders : (sheet rule words : List ℕ) → EnvironmentAt sheet rule words r []
 
@@ -75,6 +79,7 @@ pub record Unbound (x : Row) (isService : Bool) (s : Schema) (r : Scope) : Type 
 pub record Binds (scope : Scope) (name : Part) (element : Element) (r : Scope) : Type 0 where
   pub row : r .row ≡ scope .row
   pub service : r .service ≡ scope .service
+  pub reader : r .reader ≡ scope .reader
   pub schema : r .schema ≡ scope .schema
   pub counted : scope .count < 31 → r .count ≡ suc (scope .count)
   pub binders : scope .count < 31 → (sheet rule words : List ℕ) (env : Environment) (f : Option Field) → EnvironmentAt sheet rule words scope env

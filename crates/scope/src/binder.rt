@@ -3,6 +3,7 @@ use crate::name::Row;
 use schema::read::Schema;
 use sheet::part::Part;
 use sheet::part::bytes_of;
+use walk::answer::Reader;
 use walk::path::same_bytes;
 ghost use Rattle.scope.specs.Scopes.{Unbound, Binds, BoundIs};
 
@@ -27,6 +28,7 @@ pub struct Binder {
 pub struct Scope {
     pub row: Row,
     pub service: bool,
+    pub reader: Reader,
     pub schema: Schema,
     pub binders: [Binder; 31],
     pub count: usize,
@@ -38,8 +40,8 @@ pub enum Bound {
 }
 
 // A scope without binders.
-pub fn unbound(row: Row, service: bool, schema: Schema) -> Scope
-    ensures { λ r. ⌜ Unbound row service schema r ⌝ }
+pub fn unbound(row: Row, service: bool, reader: Reader, schema: Schema) -> Scope
+    ensures { λ r. ⌜ Unbound row service reader schema r ⌝ }
 {
     let name = Part { start: 0, len: 0 };
     let element = Element::Unknown;
@@ -48,6 +50,7 @@ pub fn unbound(row: Row, service: bool, schema: Schema) -> Scope
     Scope {
         row,
         service,
+        reader,
         schema,
         binders,
         count: 0,
@@ -63,12 +66,14 @@ pub fn bind(scope: Scope, name: Part, element: Element) -> Scope
         return scope;
     }
     let row = scope.row;
+    let reader = scope.reader;
     let schema = scope.schema;
     let mut binders = scope.binders;
     binders[count] = Binder { name, element };
     Scope {
         row,
         service: scope.service,
+        reader,
         schema,
         binders,
         count: count + 1,

@@ -13,21 +13,24 @@ use schema::index::Holder;
 use schema::lookup::Found;
 use schema::lookup::lookup;
 use walk::answer::Readable;
+use walk::answer::Reader;
 use walk::answer::ReferenceFault;
 use walk::field_path::walk_field_path;
 use walk::path::first_end;
+ghost use Rattle.walk.specs.Answers.{readerIs};
 ghost use Rattle.scope.specs.References.{RootWalks, RootReads, NameReads, ReferenceReads};
 
 // A path behind the record or the arguments.
-fn validate_reference_path(
+pub fn validate_reference_path(
     schema: &[u8],
     words: &[u32],
     at: usize,
     holder: Holder,
     path: &[u8],
     service: bool,
+    reader: Reader,
 ) -> Readable
-    ensures { λ r. ⌜ RootWalks (now (schema .entry)) (now (words .entry)) at holder (now (path .entry)) service r ⌝ }
+    ensures { λ r. ⌜ RootWalks (now (schema .entry)) (now (words .entry)) at holder (now (path .entry)) (readerIs reader) service r ⌝ }
 {
     let end = first_end(path);
     if end == 0 {
@@ -42,7 +45,7 @@ fn validate_reference_path(
     if end == path.len() {
         return Readable::Yes;
     }
-    walk_field_path(schema, words, slot, &path[end + 1..], service)
+    walk_field_path(schema, words, slot, &path[end + 1..], service, reader)
 }
 
 // A name with a path.
@@ -56,7 +59,16 @@ fn validate_root(schema: &[u8], words: &[u32], scope: Scope, name: Name, path: &
         Root::At(at, holder) => {
             let row = scope.row;
             if may_read(row, name) {
-                return validate_reference_path(schema, words, at, holder, path, scope.service);
+                let reader = scope.reader;
+                return validate_reference_path(
+                    schema,
+                    words,
+                    at,
+                    holder,
+                    path,
+                    scope.service,
+                    reader,
+                );
             }
             Readable::No(ReferenceFault::NotAvailable, 0)
         }
@@ -83,7 +95,7 @@ fn validate_name(schema: &[u8], words: &[u32], scope: Scope, text: &[u8], end: u
     Readable::No(ReferenceFault::NoReference, 0)
 }
 
-// Whether the reference of that text, behind its `$`, can be read. A binder wins over all other names.
+// Whether the reference of that text, behind its `$`, can be read. A binder wins over all other names, and its walk is always the kernel's.
 pub fn validate_reference(
     schema: &[u8],
     rule: &[u8],
@@ -103,5 +115,12 @@ pub fn validate_reference(
     if end == text.len() {
         return Readable::Yes;
     }
-    walk_field_path(schema, words, slot, &text[end + 1..], scope.service)
+    walk_field_path(
+        schema,
+        words,
+        slot,
+        &text[end + 1..],
+        scope.service,
+        Reader::Kernel,
+    )
 }

@@ -3,6 +3,7 @@ pub mod Calls
 pub mod Runs
 pub mod Edges
 pub mod Bounds
+pub mod KeyEdges
 pub mod Widened
 pub mod Slips
 pub mod ShutOut

@@ -14,7 +14,7 @@ use Rattle.reference.specs.Setting.{Setting}
 use Rattle.reference.specs.Walk.{Reached, refused, unknown, known}
 use Rattle.reference.specs.Reference.{Environment, reference, collectionText, collection}
 use Rattle.reference.specs.CollectionLaws.{Reads, Listed, Explained, text-explained}
-use Rattle.validation.specs.Check.{Binder, Question, readable, walkable, IsDefect, failsIf, Check, check, referenceText, referenceCheck, references, referencesOfValues, referencesOfPairs, Literal, literals, literalCheck, entryOf, isString, isHolder, instantForm, instantOperand, affixOperand, compareSide, operand, operatorCheck, body, bodies, literalChecks, checks}
+use Rattle.validation.specs.Check.{Binder, Question, settled, readable, walkable, IsDefect, failsIf, Check, check, referenceText, referenceCheck, references, referencesOfValues, referencesOfPairs, Literal, literals, literalCheck, entryOf, isString, isHolder, instantForm, instantOperand, affixOperand, compareSide, operand, operatorCheck, body, bodies, literalChecks, checks}
 use Rattle.validation.specs.Judge.{Outcome, verdict, extend, enter, environment, answer, answerIn, outcome}
 
 -- the numbers that checks of values and operands have
@@ -24,6 +24,15 @@ record IsOperandDefect (n : ℕ) : Type 0 where
 
 any-defect : {n : ℕ} → IsOperandDefect n → IsDefect n
 any-defect d = omega (arith, d)
+
+abbrev IsReadable : Question → Type 0
+IsReadable (settled o) = ⊥
+IsReadable (readable t) = Unit {0}
+IsReadable (walkable v) = ⊥
+
+-- a check of number 18 asks for a reference
+abbrev pub Asks : ℕ → Question → Type 0
+Asks n q = n ≡ 18 → IsReadable q
 
 abbrev pub Every : (Check → Type 0) → List Check → Type 0
 Every P [] = Unit {0}
@@ -38,11 +47,11 @@ every-if P true xs ys u w = u
 every-if P false xs ys u w = w
 
 -- what holds of every check under the binders holds of the checks of a value and of an operand
-module _ (P : Check → Type 0) (bs : List Binder) (h : (n p : ℕ) (q : Question) → IsOperandDefect n → P (check n p bs q)) where
+module _ (P : Check → Type 0) (bs : List Binder) (h : (n p : ℕ) (q : Question) → IsOperandDefect n → Asks n q → P (check n p bs q)) where
   every-reference : (e : ℕ) (o : Option Text) → Every P (referenceCheck bs e o)
   unfolding referenceCheck
   every-reference e none = tt
-  every-reference e (some t) = (h 18 _ (readable t) (omega arith), tt)
+  every-reference e (some t) = (h 18 _ (readable t) (omega arith) (λ _. tt), tt)
 
   mutual
     unfolding references
@@ -64,48 +73,48 @@ module _ (P : Check → Type 0) (bs : List Binder) (h : (n p : ℕ) (q : Questio
     every-pairs (pair key v others) =
         every-append P (references bs v) (referencesOfPairs bs others) (every-references v) (every-pairs others)
 
-  every-with : (v : Value) (n : ℕ) (q : Question) → IsOperandDefect n → Every P (references bs v ++ (check n (entryOf v) bs q ∷ []))
-  every-with v n q d = every-append P (references bs v) _ (every-references v) (h n (entryOf v) q d, tt)
+  every-with : (v : Value) (n : ℕ) (q : Question) → IsOperandDefect n → Asks n q → Every P (references bs v ++ (check n (entryOf v) bs q ∷ []))
+  every-with v n q d asks = every-append P (references bs v) _ (every-references v) (h n (entryOf v) q d asks, tt)
 
   every-operand : (op : ℕ) (v : Value) → Every P (operand op bs v)
   unfolding operand instantOperand affixOperand
   every-operand op v =
-      every-if P (leb op 7) (instantOperand bs v) _ (every-with v 20 (instantForm v) (omega arith))
-      (every-if P (leb 16 op) (affixOperand bs v) _ (every-with v 19 (failsIf (not (isString v)) 0) (omega arith)) (every-references v))
+      every-if P (leb op 7) (instantOperand bs v) _ (every-with v 20 (instantForm v) (omega arith) (λ e. absurd (omega arith)))
+      (every-if P (leb 16 op) (affixOperand bs v) _ (every-with v 19 (failsIf (not (isString v)) 0) (omega arith) (λ e. absurd (omega arith))) (every-references v))
 
   every-side : (d : ℕ) (v : Value) → Every P (compareSide bs d v)
   unfolding compareSide
-  every-side d v = (h 17 (entryOf v) (failsIf (isHolder v) d) (omega arith), every-references v)
+  every-side d v = (h 17 (entryOf v) (failsIf (isHolder v) d) (omega arith) (λ e. absurd (omega arith)), every-references v)
 
 -- what holds of every check holds of those of a rule or template
-module _ (P : Check → Type 0) (h : (n p : ℕ) (bs : List Binder) (q : Question) → IsDefect n → P (check n p bs q)) (setting : Setting) where
+module _ (P : Check → Type 0) (h : (n p : ℕ) (bs : List Binder) (q : Question) → IsDefect n → Asks n q → P (check n p bs q)) (setting : Setting) where
   mutual
     unfolding body bodies operatorCheck
 
     every-body : (bs : List Binder) (c : Condition) → Every P (body setting bs c)
-    every-body bs (literal e truth) = (h 15 e bs _ (omega arith), tt)
-    every-body bs (many e op children) = (h 15 e bs _ (omega arith), (h 16 e bs _ (omega arith), every-bodies bs children))
-    every-body bs (negation e child) = (h 15 e bs _ (omega arith), every-body bs child)
-    every-body bs (one e op v) = (h 15 e bs _ (omega arith), every-references P bs (λ n p q d. h n p bs q (any-defect d)) v)
+    every-body bs (literal e truth) = (h 15 e bs _ (omega arith) (λ x. absurd (omega arith)), tt)
+    every-body bs (many e op children) = (h 15 e bs _ (omega arith) (λ x. absurd (omega arith)), (h 16 e bs _ (omega arith) (λ x. absurd (omega arith)), every-bodies bs children))
+    every-body bs (negation e child) = (h 15 e bs _ (omega arith) (λ x. absurd (omega arith)), every-body bs child)
+    every-body bs (one e op v) = (h 15 e bs _ (omega arith) (λ x. absurd (omega arith)), every-references P bs (λ n p q d asks. h n p bs q (any-defect d) asks) v)
     every-body bs (two e op left right) = (
-      h 15 e bs _ (omega arith),
+      h 15 e bs _ (omega arith) (λ x. absurd (omega arith)),
       every-append P (operand op bs left) (operand op bs right)
-          (every-operand P bs (λ n p q d. h n p bs q (any-defect d)) op left)
-          (every-operand P bs (λ n p q d. h n p bs q (any-defect d)) op right),
+          (every-operand P bs (λ n p q d asks. h n p bs q (any-defect d) asks) op left)
+          (every-operand P bs (λ n p q d asks. h n p bs q (any-defect d) asks) op right),
     )
     every-body bs (comparison e which left right) = (
-      h 15 e bs _ (omega arith),
+      h 15 e bs _ (omega arith) (λ x. absurd (omega arith)),
       every-append P (compareSide bs 1 left) (compareSide bs 2 right)
-          (every-side P bs (λ n p q d. h n p bs q (any-defect d)) 1 left)
-          (every-side P bs (λ n p q d. h n p bs q (any-defect d)) 2 right),
+          (every-side P bs (λ n p q d asks. h n p bs q (any-defect d) asks) 1 left)
+          (every-side P bs (λ n p q d asks. h n p bs q (any-defect d) asks) 2 right),
     )
     every-body bs (quantifier e op bind over that) = (
-      h 15 e bs _ (omega arith),
+      h 15 e bs _ (omega arith) (λ x. absurd (omega arith)),
       (
-        h 21 e bs _ (omega arith),
+        h 21 e bs _ (omega arith) (λ x. absurd (omega arith)),
         every-append P (references bs over) _
-            (every-references P bs (λ n p q d. h n p bs q (any-defect d)) over)
-            (h 22 e bs _ (omega arith), every-body _ that),
+            (every-references P bs (λ n p q d asks. h n p bs q (any-defect d) asks) over)
+            (h 22 e bs _ (omega arith) (λ x. absurd (omega arith)), every-body _ that),
       ),
     )
 
@@ -117,32 +126,32 @@ module _ (P : Check → Type 0) (h : (n p : ℕ) (bs : List Binder) (q : Questio
   every-literal : (ls : List Literal) → Every P (map literalCheck ls)
   unfolding literalCheck
   every-literal [] = tt
-  every-literal (l ∷ ls) = (h 14 (l .entry) [] _ (omega arith), every-literal ls)
+  every-literal (l ∷ ls) = (h 14 (l .entry) [] _ (omega arith) (λ x. absurd (omega arith)), every-literal ls)
 
   pub every-check : (r : Rule) → Every P (checks setting r)
   unfolding checks literalChecks
   every-check (rule name message assert) = (
-    h 11 1 [] _ (omega arith),
+    h 11 1 [] _ (omega arith) (λ x. absurd (omega arith)),
     (
-      h 12 1 [] _ (omega arith),
+      h 12 1 [] _ (omega arith) (λ x. absurd (omega arith)),
       (
-        h 13 _ [] _ (omega arith),
+        h 13 _ [] _ (omega arith) (λ x. absurd (omega arith)),
         every-append P (literalChecks setting assert) (body setting [] assert)
             (every-if P (setting .isService) (map literalCheck (literals assert)) [] (every-literal (literals assert)) tt)
             (every-body [] assert),
       ),
     ),
   )
-  every-check (template v) = every-references P [] (λ n p q d. h n p [] q (any-defect d)) v
+  every-check (template v) = every-references P [] (λ n p q d asks. h n p [] q (any-defect d) asks) v
 
 -- a check under the binders that asks for no collection
 record Under (bs : List Binder) (c : Check) : Type 0 where
   binders : c .binders ≡ bs
   other : c .number ≡ 22 → ⊥
 
-under : (bs : List Binder) (n p : ℕ) (q : Question) → IsOperandDefect n → Under bs (check n p bs q)
+under : (bs : List Binder) (n p : ℕ) (q : Question) → IsOperandDefect n → Asks n q → Under bs (check n p bs q)
 unfolding check
-under bs n p q d = record { binders = refl; other = λ e. omega (arith, d) }
+under bs n p q d asks = record { binders = refl; other = λ e. omega (arith, d) }
 
 under-literals : (ls : List Literal) → Every (Under []) (map literalCheck ls)
 unfolding literalCheck check

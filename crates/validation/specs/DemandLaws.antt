@@ -16,7 +16,7 @@ use Rattle.widening.specs.WalkLaws.{Details, equal, differ}
 use Rattle.widening.specs.ReferenceLaws.{GrownSchema}
 use Rattle.validation.specs.Check.{isNone, Binder, Question, Check, IsDefect, check, checks}
 use Rattle.validation.specs.Judge.{Verdict, allPass, failsAt}
-use Rattle.validation.specs.CheckLaws.{every-check, sure-checks}
+use Rattle.validation.specs.CheckLaws.{Asks, every-check, sure-checks}
 use Rattle.validation.specs.CountLaws.{VerdictIs, every-judged}
 use Rattle.validation.specs.WideningLaws.{VerdictFares, stillAccepted, sameDefect, later, passedOf, judge-fares}
 use Rattle.validation.specs.Result.{Takes, Lent, Call, Defect, Answer, refused, accepted, defect, refusalNumbers, IsRefusal, Heard, refusal, acceptance, finding, answerOf, isTaken, ofSheets, refusals, firstRefusal, Unrefused, settingFor, checked, judged, refusedOr, resultOf, numbersOf, pathAfter, Run, callOf, Meets}
@@ -81,7 +81,7 @@ sheets-fare {s = s} setting label g none none (some r) h h′ =
 sheets-fare setting label g none (some n) r h h′ = absurd h′
 sheets-fare setting label g (some n) refusal′ r h h′ = absurd h
 
-distinct-names : (sheet : List ℕ) (s : Schema) → decodeSchema sheet ≡ some s → DistinctSchema s
+pub distinct-names : (sheet : List ℕ) (s : Schema) → decodeSchema sheet ≡ some s → DistinctSchema s
 distinct-names sheet s e = schema-distinct s (schema-round-trip sheet s .0 e .1 .rises)
 
 calls-fare : {l : Level} (c : Call) (schema′ : List ℕ) (lent′ : Lent)
@@ -117,7 +117,7 @@ fails-alike (passesMore {d = x} {a′ = a′} less) d e p =
     let h : x .passed ≡ d .passed = ap (λ (y : Defect). y .passed) (defect-injective x d e) in
     absurd (omega arith)
 
-details-equal : {d d′ : ℕ} (l : Level) → l ≡ marks → Details l d d′ → d′ ≡ d
+pub details-equal : {d d′ : ℕ} (l : Level) → l ≡ marks → Details l d d′ → d′ ≡ d
 details-equal l e equal = refl
 details-equal l e differ = cc
 
@@ -160,9 +160,9 @@ unfolding answerOf
 heard-answer setting label r (allPass n) h = acceptance
 heard-answer setting label r (failsAt n c d) h = finding h
 
-found : (n p : ℕ) (bs : List Binder) (q : Question) → IsDefect n → Found (check n p bs q)
+found : (n p : ℕ) (bs : List Binder) (q : Question) → IsDefect n → Asks n q → Found (check n p bs q)
 unfolding check
-found n p bs q d = d
+found n p bs q d asks = d
 
 heard-judged : (setting : Setting) (label : Text) (s : Option Schema) (r : Option Rule) → Heard (judged setting label s r)
 unfolding judged checked refusalNumbers oneOf

@@ -46,7 +46,7 @@ keeps-path before (refusal p) h = refl
 keeps-path before acceptance h = refl
 keeps-path before (finding d) h = absurd (h d)
 
-spares-scratch : {a : Answer} {before after : List ℕ}
+pub spares-scratch : {a : Answer} {before after : List ℕ}
     → Heard a
     → ScratchAfter a before after
     → IsRefusal (numbersOf a .number)

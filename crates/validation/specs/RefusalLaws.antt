@@ -58,33 +58,33 @@ pub none-left : 0 ≡ numberIn (firstRefusal [])
 unfolding firstRefusal numberIn
 none-left = refl
 
-number-some : (n : ℕ) (o : Option ℕ) → n ≡ numberIn o → (n ≡ 0 → ⊥) → o ≡ some n
+pub number-some : (n : ℕ) (o : Option ℕ) → n ≡ numberIn o → (n ≡ 0 → ⊥) → o ≡ some n
 unfolding numberIn
 number-some n none e h = absurd (h e)
 number-some n (some m) e h = ap some (sym e)
 
-number-none : (o : Option ℕ) → ((n : ℕ) → o ≡ some n → n ≡ 0 → ⊥) → 0 ≡ numberIn o → o ≡ none
+pub number-none : (o : Option ℕ) → ((n : ℕ) → o ≡ some n → n ≡ 0 → ⊥) → 0 ≡ numberIn o → o ≡ none
 unfolding numberIn
 number-none none h e = refl
 number-none (some n) h e = absurd (h n refl (sym e))
 
 -- What a test says of every number in a list is true of each of them.
 
-unfoldable every : {A : Type 0} → (A → Bool) → List A → Bool
+unfoldable pub every : {A : Type 0} → (A → Bool) → List A → Bool
 every p [] = true
 every p (x ∷ xs) = p x && every p xs
 
-of-listed : (p : ℕ → Bool) (n : ℕ) (ns : List ℕ) → every p ns ≡ true → oneOf n ns ≡ true → p n ≡ true
+pub of-listed : (p : ℕ → Bool) (n : ℕ) (ns : List ℕ) → every p ns ≡ true → oneOf n ns ≡ true → p n ≡ true
 unfolding every oneOf
 of-listed p n [] e h = absurd (false≢true h)
 of-listed p n (m ∷ ns) e h =
     by-test (eqb n m) (λ q. rw (eqb-true n m q) (and-true-0 (p m) (every p ns) e))
     (λ q. of-listed p n ns (and-true-1 (p m) (every p ns) e) (rw q at h))
 
-abbrev numbersPass : (ℕ → Bool) → List Refusal → Bool
+abbrev pub numbersPass : (ℕ → Bool) → List Refusal → Bool
 numbersPass p rs = every (λ (r : Refusal). p (r .number)) rs
 
-of-first : (p : ℕ → Bool) (n : ℕ) (rs : List Refusal) → numbersPass p rs ≡ true → firstRefusal rs ≡ some n → p n ≡ true
+pub of-first : (p : ℕ → Bool) (n : ℕ) (rs : List Refusal) → numbersPass p rs ≡ true → firstRefusal rs ≡ some n → p n ≡ true
 unfolding every firstRefusal
 of-first p n [] e f = absurd (Option·none-ne-some n f)
 of-first p n (r ∷ rs) e f =
@@ -173,7 +173,7 @@ sheet-refused c n s e =
 
 -- A kind or semantics beyond its range is refusal 1, whatever else the call holds.
 
-outside : (high n : ℕ) → high < n → isWithin 1 high n ≡ false
+pub outside : (high n : ℕ) → high < n → isWithin 1 high n ≡ false
 unfolding isWithin
 outside high n more = rw (lt-leb n high more, and-false)
 

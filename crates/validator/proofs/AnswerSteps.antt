@@ -13,6 +13,7 @@ use Rattle.reference.specs.Setting.{Setting}
 use Rattle.schema.specs.Read.{SchemaAt}
 use Rattle.schema.specs.declared.read.Schema.{Schema}
 use Rattle.rule.specs.Index.{RuleAt}
+use Rattle.walk.specs.declared.answer.Reader.the-variants.{Kernel}
 use Rattle.scope.specs.Scopes.{Unbound}
 use Rattle.scope.specs.ScopeLaws.{scope-unbound}
 use Rattle.scope.specs.declared.binder.Scope.{Scope}
@@ -92,7 +93,7 @@ shown-within setting tree x from =
     (every-judged (HasPath x) setting tree (checks setting x) (checks-have-paths setting x from))
 
 module _ (set : Code.Setting) {schema sheet : List ℕ} {s : Schema} {words : List ℕ} {scope : Scope} {a : Judged.Answer} {p : ℕ}
-    (u : Unbound (set .row) (set .service) s scope) (j : RuleJudged schema sheet words scope a) (n : Narrow (a .passed) p)
+    (u : Unbound (set .row) (set .service) Kernel s scope) (j : RuleJudged schema sheet words scope a) (n : Narrow (a .passed) p)
   where
     abbrev setting : Setting
     setting = settingBy set
@@ -100,7 +101,7 @@ module _ (set : Code.Setting) {schema sheet : List ℕ} {s : Schema} {words : Li
     -- what the code shows, of the setting as it was handed over
     shows : (t : Tree.Schema) (x : Rule) → SchemaAt schema words s t → RuleAt sheet words x
         → shownBy a ≡ shownOf (judge setting t (checks setting x))
-    shows t x at rat = j .shows setting t x (scope-unbound schema sheet words (set .row) (set .service) s scope setting t u refl refl at) rat
+    shows t x at rat = j .shows setting t x (scope-unbound schema sheet words (set .row) (set .service) Kernel s scope setting t u refl refl refl at) rat
 
     checked-shows : (label : List ℕ) (t : Tree.Schema) (x : Rule) {o : Shown} → SchemaAt schema words s t → RuleAt sheet words x → shownBy a ≡ o
         → checked setting label t x ≡ answerShown setting label x o

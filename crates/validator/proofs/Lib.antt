@@ -1,5 +1,5 @@
-mod SettingSteps
+pub mod SettingSteps
 mod FindingSteps
-mod SheetSteps
+pub mod SheetSteps
 mod AnswerSteps
-mod WholeSteps
+pub mod WholeSteps

@@ -7,7 +7,7 @@ use lib.Dec.{leb, eqb}
 use lib.ListN.{length}
 use borrow.Author.Tests.{le-leb, lt-leb}
 use Rattle.text.specs.Utf8.{isUtf8}
-use Rattle.reference.specs.Setting.{oneOf, stock, settingOf}
+use Rattle.reference.specs.Setting.{oneOf, stock, kernel, settingOf}
 use Rattle.scope.specs.Names.{mayReadBy}
 use Rattle.scope.specs.declared.name.Row.{Row}
 use Rattle.validation.specs.Result.{isWithin, maxLabelBytes, pathBytes, scratchWords, early}
@@ -20,7 +20,7 @@ and-le {a} {b} h e = rw (le-leb a b h) e
 pub and-lt : {a b : ℕ} (q : Bool) → b < a → leb a b ≡ (leb a b && q)
 and-lt {a} {b} q h = rw (lt-leb a b h)
 
-turned : {x y b : Bool} → x ≡ y → not x ≡ b → not y ≡ b
+pub turned : {x y b : Bool} → x ≡ y → not x ≡ b → not y ≡ b
 turned e f = ap not (sym e) ∙ f
 
 module _ (kind semantics : ℕ) (label : List ℕ) (path scratch : ℕ) {x : Bool} (settings : x ≡ (isWithin 1 8 kind && isWithin 1 4 semantics)) where
@@ -59,4 +59,4 @@ pub setting-is : (kind semantics : ℕ) (row : Row) {isRule : Bool}
     → settingBy (record { row = row; «rule_kind» = isRule; service = not (eqb semantics 1) }) ≡ settingOf kind semantics
 unfolding settingOf
 setting-is kind semantics row reads isRule = λ i.
-    record { mayRead = reads i; isRuleKind = isRule i; isService = not (eqb semantics 1) }
+    record { mayRead = reads i; reader = kernel; isRuleKind = isRule i; isService = not (eqb semantics 1) }

@@ -37,7 +37,7 @@ none-taken : (takes : Takes) → isTaken (takesOf takes) none ≡ false
 unfolding isTaken
 none-taken takes = refl
 
-front-schema : {before after : List ℕ} → SchemaKept.Kept before after → FrontOnly before after
+pub front-schema : {before after : List ℕ} → SchemaKept.Kept before after → FrontOnly before after
 front-schema k = record { size = k .size; kept = λ i h. k .upper i (omega arith) }
 
 front-both : {before middle after : List ℕ} → SchemaKept.Kept before middle → RuleKept.Kept middle after 0 maxRuleEntries → FrontOnly before after

@@ -73,7 +73,7 @@ words-enough kind semantics label path scratch e z =
 
 -- The scratch: its first words alone may differ.
 
-front-scratch : {before after : List ℕ} (a : Answer) → FrontOnly before after → keptScratch a ≡ scratchWords → ScratchAfter a before after
+pub front-scratch : {before after : List ℕ} (a : Answer) → FrontOnly before after → keptScratch a ≡ scratchWords → ScratchAfter a before after
 front-scratch {before} {after} a f e =
     record {
       size = f .size;

@@ -7,9 +7,9 @@ use Rattle.scope.specs.Names.{mayReadBy}
 use Rattle.validation.specs.Result.{Takes, Call, early, firstRefusal, numberIn}
 use Rattle.validator.specs.declared.settings.Setting.{Setting}
 
--- the code's setting as one of the definitions
+-- the code's setting as one of the definitions; rules and templates are the kernel's
 abbrev pub settingBy : Setting → Reference.Setting
-settingBy s = record { mayRead = mayReadBy (s .row); isRuleKind = s .«rule_kind»; isService = s .service }
+settingBy s = record { mayRead = mayReadBy (s .row); reader = Reference.kernel; isRuleKind = s .«rule_kind»; isService = s .service }
 
 abbrev pub callBy : (takes : Takes) (kind semantics : ℕ) (label schema rule : List ℕ) (path scratch : ℕ) → Call
 callBy takes kind semantics label schema rule path scratch =

@@ -10,6 +10,7 @@ use location::write_path;
 use schema::read::Schema;
 use scope::binder::unbound;
 use value_checks::verdict::Verdict;
+use walk::answer::Reader;
 ghost use Rattle.validator.specs.Settings.{settingBy};
 ghost use Rattle.validator.specs.Answers.{Narrow, Answered};
 
@@ -31,7 +32,7 @@ pub fn answer(
 ) -> Outcome
     ensures { λ r. ⌜ Answered (settingBy setting) (now (label .entry)) (now (schema .entry)) (now (rule .entry)) s (now (words .entry)) (now (path .entry)) (now (path .exit)) r ⌝ }
 {
-    let scope = unbound(setting.row, setting.service, s);
+    let scope = unbound(setting.row, setting.service, Reader::Kernel, s);
     let a = judge(schema, rule, words, scope);
     let passed = narrow(a.passed);
     let verdict = a.verdict;

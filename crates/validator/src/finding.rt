@@ -37,7 +37,7 @@ fn instant_detail(fault: InstantFault) -> u32
     }
 }
 
-fn reference_detail(fault: ReferenceFault) -> u32
+pub fn reference_detail(fault: ReferenceFault) -> u32
     ensures { λ r. ⌜ r ≡ referenceDetail fault ⌝ }
 {
     match fault {
@@ -53,6 +53,7 @@ fn reference_detail(fault: ReferenceFault) -> u32
         ReferenceFault::NoMember => 10,
         ReferenceFault::NotAvailable => 11,
         ReferenceFault::NoReference => 12,
+        ReferenceFault::TextCount => 13,
     }
 }
 

@@ -1,9 +1,9 @@
 // The whole call: one rule or template of a record against the record's schema.
 pub mod outcome; // outcome.rt: the seven numbers of a result
 pub mod widths; // widths.rt: how long the lent buffers are
-mod settings; // settings.rt: settings, label and widths
+pub mod settings; // settings.rt: settings, label and widths
 pub mod sheets; // sheets.rt: both sheets
-mod finding; // finding.rt: what a defect is called
+pub mod finding; // finding.rt: what a defect is called
 mod answer; // answer.rt: two sheets that are well formed
 
 use crate::answer::answer;

@@ -16,7 +16,7 @@ ghost use Rattle.validator.specs.Settings.{settingBy, EarlyIs};
 
 const MAX_LABEL_BYTES: usize = 256;
 
-fn is_within(high: u32, n: u32) -> bool
+pub fn is_within(high: u32, n: u32) -> bool
     ensures { λ r. ⌜ r ≡ isWithin 1 high n ⌝ }
 {
     1 <= n && n <= high

@@ -7,6 +7,7 @@ use mathlib.Core.Path.{_≡_, refl, sym}
 use lib.ListN.{length, take, drop}
 use Rattle.definition.specs.Tree.{Text, Field, field}
 use Rattle.reference.specs.Path.{split}
+use Rattle.reference.specs.Setting.{Reader}
 use Rattle.reference.specs.Walk.{Step, refuse, leaf, free, into, known, lastOr, arrive, entryOf, travel, walkStep, fieldStep}
 use Rattle.schema.specs.Slot.{SlotHolds, PartsOf, IndexedIs}
 use Rattle.walk.specs.Dots.{Cuts}
@@ -106,13 +107,13 @@ module _ (sheet words path : List ℕ) (k : ℕ) (x : IndexedField) (held : Inde
   cut-nowhere : dot ≡ Nowhere → split path ≡ record { first = path; others = [] }
   cut-nowhere e = rw e at cuts
 
-  pub walk-last : (service : Bool) (r : Readable) (w : WalkStep) → dot ≡ Nowhere → WalkSteps sheet words x path service w → LastStep (x .entry) w r
-      → Walks sheet words k path service r
+  pub walk-last : (reader : Reader) (service : Bool) (r : Readable) (w : WalkStep) → dot ≡ Nowhere → WalkSteps sheet words x path reader service w → LastStep (x .entry) w r
+      → Walks sheet words k path reader service r
   unfolding travel
-  walk-last service r w e steps last = record {
+  walk-last reader service r w e steps last = record {
     leads = λ f at.
         rw (cut-nowhere e, entry-is f (held f at))
-        (last .leads sheet words (walkStep service) path (walkStep service f path) (steps .leads f (held f at)));
+        (last .leads sheet words (walkStep reader service) path (walkStep reader service f path) (steps .leads f (held f at)));
   }
 
   pub field-last : (r : Collected) (w : FieldStep) → dot ≡ Nowhere → FieldSteps sheet words x path w → LastField (x .entry) w r → FieldsAt sheet words k path r
@@ -129,39 +130,39 @@ module _ (sheet words path : List ℕ) (k : ℕ) (x : IndexedField) (held : Inde
     cut-at : split path ≡ record { first = take d path; others = others }
     cut-at = let q : Cuts path (At d) = rw there at cuts in q .1
 
-    pub walk-refused : (service : Bool) (w : WalkStep) (fault : ReferenceFault) → WalkSteps sheet words x (take d path) service w → w ≡ Refuse fault
-        → Walks sheet words k path service (No fault (x .entry))
+    pub walk-refused : (reader : Reader) (service : Bool) (w : WalkStep) (fault : ReferenceFault) → WalkSteps sheet words x (take d path) reader service w → w ≡ Refuse fault
+        → Walks sheet words k path reader service (No fault (x .entry))
     unfolding travel arrive
-    walk-refused service w fault steps e = record {
+    walk-refused reader service w fault steps e = record {
       leads = λ f at.
-          let q : walkStep service f (take d path) ≡ refuse (referenceDetail fault) = rw e at (steps .leads f (held f at)) in
+          let q : walkStep reader service f (take d path) ≡ refuse (referenceDetail fault) = rw e at (steps .leads f (held f at)) in
           (take d path ∷ others, rw (cut-at, q, entry-is f (held f at)));
     }
 
-    pub walk-leaf : (service : Bool) (w : WalkStep) (fault : ReferenceFault) → WalkSteps sheet words x (take d path) service w → w ≡ Leaf fault
-        → Walks sheet words k path service (No fault (x .entry))
+    pub walk-leaf : (reader : Reader) (service : Bool) (w : WalkStep) (fault : ReferenceFault) → WalkSteps sheet words x (take d path) reader service w → w ≡ Leaf fault
+        → Walks sheet words k path reader service (No fault (x .entry))
     unfolding travel arrive lastOr
-    walk-leaf service w fault steps e = record {
+    walk-leaf reader service w fault steps e = record {
       leads = λ f at.
-          let q : walkStep service f (take d path) ≡ leaf (referenceDetail fault) = rw e at (steps .leads f (held f at)) in
+          let q : walkStep reader service f (take d path) ≡ leaf (referenceDetail fault) = rw e at (steps .leads f (held f at)) in
           (take d path ∷ others, rw (cut-at, q, entry-is f (held f at)));
     }
 
-    pub walk-free : (service : Bool) (w : WalkStep) → WalkSteps sheet words x (take d path) service w → w ≡ Free → Walks sheet words k path service Yes
+    pub walk-free : (reader : Reader) (service : Bool) (w : WalkStep) → WalkSteps sheet words x (take d path) reader service w → w ≡ Free → Walks sheet words k path reader service Yes
     unfolding travel arrive
-    walk-free service w steps e = record {
+    walk-free reader service w steps e = record {
       leads = λ f at.
-          let q : walkStep service f (take d path) ≡ free = rw e at (steps .leads f (held f at)) in
+          let q : walkStep reader service f (take d path) ≡ free = rw e at (steps .leads f (held f at)) in
           rw (cut-at, q) tt;
     }
 
-    pub walk-into : (service : Bool) (w : WalkStep) (next : ℕ) (r : Readable) → WalkSteps sheet words x (take d path) service w → w ≡ Into next
-        → Walks sheet words next (take (length path - (d + 1)) (drop (d + 1) path)) service r → Walks sheet words k path service r
+    pub walk-into : (reader : Reader) (service : Bool) (w : WalkStep) (next : ℕ) (r : Readable) → WalkSteps sheet words x (take d path) reader service w → w ≡ Into next
+        → Walks sheet words next (take (length path - (d + 1)) (drop (d + 1) path)) reader service r → Walks sheet words k path reader service r
     unfolding travel arrive
-    walk-into service w next r steps e m = record {
+    walk-into reader service w next r steps e m = record {
       leads = λ f at.
-          let q : (g : Field) × (walkStep service f (take d path) ≡ into g) × SlotHolds sheet words next g = rw e at (steps .leads f (held f at)) in
-          let onward : Walks sheet words next (drop (d + 1) path) service r = rw (rest-whole path d) at m in
+          let q : (g : Field) × (walkStep reader service f (take d path) ≡ into g) × SlotHolds sheet words next g = rw e at (steps .leads f (held f at)) in
+          let onward : Walks sheet words next (drop (d + 1) path) reader service r = rw (rest-whole path d) at m in
           rw (cut-at, q .1) (onward .leads (q .0) (q .2));
     }
 

@@ -12,14 +12,15 @@ use Rattle.definition.specs.Tree.{Text, Field, field, Items, absent, element, M
 use Rattle.sheet.specs.Ascii.{ascii}
 use Rattle.sheet.specs.Order.{sameBytes}
 use Rattle.reference.specs.Path.{isCount, isOrdinal}
-use Rattle.reference.specs.Walk.{Step, refuse, leaf, free, lookup, memberStep, itemStep, isEmpty, arrayStep, mapStep, isTag, contentKey, unionStep, walkStep}
+use Rattle.reference.specs.Setting.{Reader}
+use Rattle.reference.specs.Walk.{Step, refuse, free, lookup, memberStep, itemStep, isEmpty, arrayStep, mapStep, isTag, contentKey, unionStep, textCount, walkStep}
 use Rattle.sheet.specs.Parts.{partOf, optionalOf}
 use Rattle.sheet.specs.Compares.{Stand, Compares}
 use Rattle.schema.specs.Slot.{HolderAt, ElementAt, FieldParts, PartsOf}
 use Rattle.schema.specs.Lookup.{FoundAt, LookedUp}
 use Rattle.walk.specs.DotLaws.{segment-empty, segment-full}
-use Rattle.walk.specs.Answers.{referenceDetail, StepIs}
-use Rattle.walk.specs.Steps.{ItemSteps, ArraySteps, MapSteps, UnionSteps, MemberSteps, scalarStep, ScalarSteps, ServiceSteps, WalkSteps}
+use Rattle.walk.specs.Answers.{readerIs, referenceDetail, StepIs}
+use Rattle.walk.specs.Steps.{ItemSteps, ArraySteps, MapSteps, UnionSteps, MemberSteps, TextSteps, scalarStep, ScalarSteps, ServiceSteps, WalkSteps}
 use Rattle.sheet.specs.declared.part.Part.{Part}
 use Rattle.sheet.specs.declared.part.OptionalPart.{OptionalPart}
 use Rattle.sheet.specs.declared.part.OptionalPart.the-variants as O
@@ -31,7 +32,9 @@ use Rattle.schema.specs.declared.index.Element.the-variants as Element
 use Rattle.schema.specs.declared.index.IndexedField.{IndexedField}
 use Rattle.schema.specs.declared.lookup.Found.{Found}
 use Rattle.schema.specs.declared.lookup.Found.the-variants as Found
-use Rattle.walk.specs.declared.answer.ReferenceFault.the-variants.{EmptyPath, ClosedObject, ArrayMember, MapMember, AfterCount, AfterTag, UnionMember, NoCount, NoMember}
+use Rattle.walk.specs.declared.answer.Reader as Code
+use Rattle.walk.specs.declared.answer.Reader.the-variants.{Kernel, Projection}
+use Rattle.walk.specs.declared.answer.ReferenceFault.the-variants.{EmptyPath, ClosedObject, ArrayMember, MapMember, AfterCount, AfterTag, UnionMember, NoCount, NoMember, TextCount}
 use Rattle.walk.specs.declared.answer.WalkStep.{WalkStep}
 use Rattle.walk.specs.declared.answer.WalkStep.the-variants.{Refuse, Leaf, Free, Into}
 
@@ -150,17 +153,26 @@ module _ (sheet words s : List ℕ) (h : Holder) (found : Found) (looked : Looke
 
 -- A field without members
 
-pub scalar-string : (kind : ℕ) (s : List ℕ) (b : Bool) → b ≡ isCount s → b ≡ true → kind ≡ 1 → ScalarSteps kind s (Leaf AfterCount)
-unfolding scalarStep referenceDetail
-scalar-string kind s b p q e = record { leads = λ sheet words. rw (sym p ∙ q, e) }
+pub text-kernel : (reader : Code.Reader) → reader ≡ Kernel → TextSteps (readerIs reader) (Leaf AfterCount)
+unfolding textCount referenceDetail
+text-kernel reader e = rw e (record { leads = λ sheet words. refl })
 
-pub scalar-count : (kind : ℕ) (s : List ℕ) (b : Bool) → b ≡ isCount s → b ≡ true → (kind ≡ 1 → ⊥) → ScalarSteps kind s (Refuse NoCount)
-unfolding scalarStep referenceDetail
-scalar-count kind s b p q e = record { leads = λ sheet words. rw (sym p ∙ q, ne-eqb kind 1 e) }
+pub text-projection : (reader : Code.Reader) → reader ≡ Projection → TextSteps (readerIs reader) (Refuse TextCount)
+unfolding textCount referenceDetail
+text-projection reader e = rw e (record { leads = λ sheet words. refl })
 
-pub scalar-other : (kind : ℕ) (s : List ℕ) (b : Bool) → b ≡ isCount s → b ≡ false → ScalarSteps kind s (Refuse NoMember)
+pub scalar-string : (kind : ℕ) (s : List ℕ) (b : Bool) (reader : Reader) (r : WalkStep) → b ≡ isCount s → b ≡ true → kind ≡ 1 → TextSteps reader r
+    → ScalarSteps kind s reader r
+unfolding scalarStep
+scalar-string kind s b reader r p q e m = record { leads = λ sheet words. rw (sym p ∙ q, e) (m .leads sheet words) }
+
+pub scalar-count : (kind : ℕ) (s : List ℕ) (b : Bool) (reader : Reader) → b ≡ isCount s → b ≡ true → (kind ≡ 1 → ⊥) → ScalarSteps kind s reader (Refuse NoCount)
 unfolding scalarStep referenceDetail
-scalar-other kind s b p q = record { leads = λ sheet words. rw (sym p ∙ q) }
+scalar-count kind s b reader p q e = record { leads = λ sheet words. rw (sym p ∙ q, ne-eqb kind 1 e) }
+
+pub scalar-other : (kind : ℕ) (s : List ℕ) (b : Bool) (reader : Reader) → b ≡ isCount s → b ≡ false → ScalarSteps kind s reader (Refuse NoMember)
+unfolding scalarStep referenceDetail
+scalar-other kind s b reader p q = record { leads = λ sheet words. rw (sym p ∙ q) }
 
 -- The step on the tree, by the field's kind
 
@@ -170,135 +182,135 @@ two-tests true false x y z = refl
 two-tests false true x y z = refl
 two-tests false false x y z = refl
 
-module _ (e k : ℕ) (o : Bool) (tag : Option Text) (items : Items) (members : Members) (s : List ℕ) where
+module _ (e k : ℕ) (o : Bool) (tag : Option Text) (items : Items) (members : Members) (s : List ℕ) (reader : Reader) where
   abbrev here : Field
   here = field e k o tag items members
 
-  step-empty : (service : Bool) → isEmpty s ≡ true → walkStep service here s ≡ refuse 1
+  step-empty : (service : Bool) → isEmpty s ≡ true → walkStep reader service here s ≡ refuse 1
   unfolding walkStep
   step-empty service h = rw h
 
-  step-array : isEmpty s ≡ false → k ≡ 6 → walkStep true here s ≡ arrayStep items s
+  step-array : isEmpty s ≡ false → k ≡ 6 → walkStep reader true here s ≡ arrayStep items s
   unfolding walkStep
   step-array h q = rw (h, q)
 
-  step-map : isEmpty s ≡ false → k ≡ 10 → walkStep true here s ≡ mapStep s
+  step-map : isEmpty s ≡ false → k ≡ 10 → walkStep reader true here s ≡ mapStep s
   unfolding walkStep
   step-map h q = rw (h, q)
 
-  step-json : (service : Bool) → isEmpty s ≡ false → k ≡ 8 → walkStep service here s ≡ free
+  step-json : (service : Bool) → isEmpty s ≡ false → k ≡ 8 → walkStep reader service here s ≡ free
   unfolding walkStep
   step-json true h q = rw (h, q)
   step-json false h q = rw (h, q)
 
-  step-object : (service : Bool) → isEmpty s ≡ false → k ≡ 7 → walkStep service here s ≡ memberStep (lookup s members) o 3
+  step-object : (service : Bool) → isEmpty s ≡ false → k ≡ 7 → walkStep reader service here s ≡ memberStep (lookup s members) o 3
   unfolding walkStep
   step-object true h q = rw (h, q)
   step-object false h q = rw (h, q)
 
-  step-union : isEmpty s ≡ false → k ≡ 11 → walkStep true here s ≡ unionStep tag s
+  step-union : isEmpty s ≡ false → k ≡ 11 → walkStep reader true here s ≡ unionStep tag s
   unfolding walkStep
   step-union h q = rw (h, q)
 
-  step-scalar : isEmpty s ≡ false → (k ≡ 6 → ⊥) → (k ≡ 10 → ⊥) → (k ≡ 8 → ⊥) → (k ≡ 7 → ⊥) → (k ≡ 11 → ⊥) → walkStep true here s ≡ scalarStep k s
+  step-scalar : isEmpty s ≡ false → (k ≡ 6 → ⊥) → (k ≡ 10 → ⊥) → (k ≡ 8 → ⊥) → (k ≡ 7 → ⊥) → (k ≡ 11 → ⊥) → walkStep reader true here s ≡ scalarStep k s reader
   unfolding walkStep scalarStep
   step-scalar h a b c d f =
       rw (h, ne-eqb k 6 a, ne-eqb k 10 b, ne-eqb k 8 c, ne-eqb k 7 d, ne-eqb k 11 f)
-      (two-tests (eqb k 1) (isCount s) (leaf 6) (refuse 9) (refuse 10))
+      (two-tests (eqb k 1) (isCount s) (textCount reader) (refuse 9) (refuse 10))
 
-  step-plain : isEmpty s ≡ false → (k ≡ 8 → ⊥) → (k ≡ 7 → ⊥) → walkStep false here s ≡ refuse 10
+  step-plain : isEmpty s ≡ false → (k ≡ 8 → ⊥) → (k ≡ 7 → ⊥) → walkStep reader false here s ≡ refuse 10
   unfolding walkStep
   step-plain h c d = rw (h, ne-eqb k 8 c, ne-eqb k 7 d)
 
 -- The code's step, by the kind that the index gives
 
-module _ (sheet words s : List ℕ) (x : IndexedField) (service : Bool) (r : WalkStep) where
+module _ (sheet words s : List ℕ) (x : IndexedField) (reader : Reader) (service : Bool) (r : WalkStep) where
   Ways : Type 0
   Ways = (e k : ℕ) (o : Bool) (tag : Option Text) (items : Items) (members : Members) → FieldParts sheet words e k tag items (record { isOpen = o; members = members }) x
-      → StepIs sheet words r (walkStep service (field e k o tag items members) s)
+      → StepIs sheet words r (walkStep reader service (field e k o tag items members) s)
 
-  each-way : Ways → (f : Field) → PartsOf sheet words f x → StepIs sheet words r (walkStep service f s)
+  each-way : Ways → (f : Field) → PartsOf sheet words f x → StepIs sheet words r (walkStep reader service f s)
   unfolding Ways
   each-way way (field e k o tag items members) p = way e k o tag items members p
 
-module _ (sheet words s : List ℕ) (x : IndexedField) where
-  pub service-array : (r : WalkStep) → x .kind ≡ 6 → ArraySteps (x .element) s r → ServiceSteps sheet words x s r
+module _ (sheet words s : List ℕ) (x : IndexedField) (reader : Reader) where
+  pub service-array : (r : WalkStep) → x .kind ≡ 6 → ArraySteps (x .element) s r → ServiceSteps sheet words x s reader r
   unfolding Ways
   service-array r q m = record {
-    leads = λ n. each-way sheet words s x true r λ e k o tag items members p.
-        rw (step-array e k o tag items members s (segment-full s n) (sym (p .kinded) ∙ q)) (m .leads sheet words items (p .elements));
+    leads = λ n. each-way sheet words s x reader true r λ e k o tag items members p.
+        rw (step-array e k o tag items members s reader (segment-full s n) (sym (p .kinded) ∙ q)) (m .leads sheet words items (p .elements));
   }
 
-  pub service-map : (r : WalkStep) → x .kind ≡ 10 → MapSteps s r → ServiceSteps sheet words x s r
+  pub service-map : (r : WalkStep) → x .kind ≡ 10 → MapSteps s r → ServiceSteps sheet words x s reader r
   unfolding Ways
   service-map r q m = record {
-    leads = λ n. each-way sheet words s x true r λ e k o tag items members p.
-        rw (step-map e k o tag items members s (segment-full s n) (sym (p .kinded) ∙ q)) (m .leads sheet words);
+    leads = λ n. each-way sheet words s x reader true r λ e k o tag items members p.
+        rw (step-map e k o tag items members s reader (segment-full s n) (sym (p .kinded) ∙ q)) (m .leads sheet words);
   }
 
-  pub service-json : x .kind ≡ 8 → ServiceSteps sheet words x s Free
+  pub service-json : x .kind ≡ 8 → ServiceSteps sheet words x s reader Free
   unfolding Ways
   service-json q = record {
-    leads = λ n. each-way sheet words s x true Free λ e k o tag items members p.
-        step-json e k o tag items members s true (segment-full s n) (sym (p .kinded) ∙ q);
+    leads = λ n. each-way sheet words s x reader true Free λ e k o tag items members p.
+        step-json e k o tag items members s reader true (segment-full s n) (sym (p .kinded) ∙ q);
   }
 
-  pub service-object : (r : WalkStep) → x .kind ≡ 7 → MemberSteps sheet words (x .members) s r → ServiceSteps sheet words x s r
+  pub service-object : (r : WalkStep) → x .kind ≡ 7 → MemberSteps sheet words (x .members) s r → ServiceSteps sheet words x s reader r
   unfolding Ways referenceDetail
   service-object r q m = record {
-    leads = λ n. each-way sheet words s x true r λ e k o tag items members p.
-        rw (step-object e k o tag items members s true (segment-full s n) (sym (p .kinded) ∙ q))
+    leads = λ n. each-way sheet words s x reader true r λ e k o tag items members p.
+        rw (step-object e k o tag items members s reader true (segment-full s n) (sym (p .kinded) ∙ q))
         (m .leads (record { isOpen = o; members = members }) (p .members));
   }
 
-  pub service-union : (r : WalkStep) → x .kind ≡ 11 → UnionSteps sheet (x .tag) s r → ServiceSteps sheet words x s r
+  pub service-union : (r : WalkStep) → x .kind ≡ 11 → UnionSteps sheet (x .tag) s r → ServiceSteps sheet words x s reader r
   unfolding Ways
   service-union r q m = record {
-    leads = λ n. each-way sheet words s x true r λ e k o tag items members p.
-        rw (step-union e k o tag items members s (segment-full s n) (sym (p .kinded) ∙ q), ← p .tagged) (m .leads words);
+    leads = λ n. each-way sheet words s x reader true r λ e k o tag items members p.
+        rw (step-union e k o tag items members s reader (segment-full s n) (sym (p .kinded) ∙ q), ← p .tagged) (m .leads words);
   }
 
   pub service-scalar : (r : WalkStep) → (x .kind ≡ 6 → ⊥) → (x .kind ≡ 10 → ⊥) → (x .kind ≡ 8 → ⊥) → (x .kind ≡ 7 → ⊥) → (x .kind ≡ 11 → ⊥)
-      → ScalarSteps (x .kind) s r → ServiceSteps sheet words x s r
+      → ScalarSteps (x .kind) s reader r → ServiceSteps sheet words x s reader r
   unfolding Ways
   service-scalar r a b c d f m = record {
-    leads = λ n. each-way sheet words s x true r λ e k o tag items members p.
+    leads = λ n. each-way sheet words s x reader true r λ e k o tag items members p.
         rw (
-          step-scalar e k o tag items members s (segment-full s n) (λ z. a (p .kinded ∙ z)) (λ z. b (p .kinded ∙ z)) (λ z. c (p .kinded ∙ z)) (λ z. d (p .kinded ∙ z))
+          step-scalar e k o tag items members s reader (segment-full s n) (λ z. a (p .kinded ∙ z)) (λ z. b (p .kinded ∙ z)) (λ z. c (p .kinded ∙ z)) (λ z. d (p .kinded ∙ z))
               (λ z. f (p .kinded ∙ z)),
           ← p .kinded,
         ) (m .leads sheet words);
   }
 
-  pub walk-empty : (service : Bool) → length s ≡ 0 → WalkSteps sheet words x s service (Refuse EmptyPath)
+  pub walk-empty : (service : Bool) → length s ≡ 0 → WalkSteps sheet words x s reader service (Refuse EmptyPath)
   unfolding Ways referenceDetail
   walk-empty service n = record {
-    leads = each-way sheet words s x service (Refuse EmptyPath) λ e k o tag items members p.
-        step-empty e k o tag items members s service (segment-empty s n);
+    leads = each-way sheet words s x reader service (Refuse EmptyPath) λ e k o tag items members p.
+        step-empty e k o tag items members s reader service (segment-empty s n);
   }
 
-  pub walk-service : (service : Bool) (r : WalkStep) → (length s ≡ 0 → ⊥) → service ≡ true → ServiceSteps sheet words x s r → WalkSteps sheet words x s service r
+  pub walk-service : (service : Bool) (r : WalkStep) → (length s ≡ 0 → ⊥) → service ≡ true → ServiceSteps sheet words x s reader r → WalkSteps sheet words x s reader service r
   walk-service service r n e m = rw e (record { leads = m .leads n })
 
-  pub walk-json : (service : Bool) → (length s ≡ 0 → ⊥) → service ≡ false → x .kind ≡ 8 → WalkSteps sheet words x s service Free
+  pub walk-json : (service : Bool) → (length s ≡ 0 → ⊥) → service ≡ false → x .kind ≡ 8 → WalkSteps sheet words x s reader service Free
   unfolding Ways
   walk-json service n v q = record {
-    leads = each-way sheet words s x service Free λ e k o tag items members p.
-        step-json e k o tag items members s service (segment-full s n) (sym (p .kinded) ∙ q);
+    leads = each-way sheet words s x reader service Free λ e k o tag items members p.
+        step-json e k o tag items members s reader service (segment-full s n) (sym (p .kinded) ∙ q);
   }
 
   pub walk-object : (service : Bool) (r : WalkStep) → (length s ≡ 0 → ⊥) → service ≡ false → x .kind ≡ 7 → MemberSteps sheet words (x .members) s r
-      → WalkSteps sheet words x s service r
+      → WalkSteps sheet words x s reader service r
   unfolding Ways referenceDetail
   walk-object service r n v q m = record {
-    leads = each-way sheet words s x service r λ e k o tag items members p.
-        rw (step-object e k o tag items members s service (segment-full s n) (sym (p .kinded) ∙ q))
+    leads = each-way sheet words s x reader service r λ e k o tag items members p.
+        rw (step-object e k o tag items members s reader service (segment-full s n) (sym (p .kinded) ∙ q))
         (m .leads (record { isOpen = o; members = members }) (p .members));
   }
 
-  pub walk-plain : (service : Bool) → (length s ≡ 0 → ⊥) → service ≡ false → (x .kind ≡ 8 → ⊥) → (x .kind ≡ 7 → ⊥) → WalkSteps sheet words x s service (Refuse NoMember)
+  pub walk-plain : (service : Bool) → (length s ≡ 0 → ⊥) → service ≡ false → (x .kind ≡ 8 → ⊥) → (x .kind ≡ 7 → ⊥) → WalkSteps sheet words x s reader service (Refuse NoMember)
   unfolding Ways referenceDetail
   walk-plain service n v c d = rw v (record {
-    leads = each-way sheet words s x false (Refuse NoMember) λ e k o tag items members p.
-        step-plain e k o tag items members s (segment-full s n) (λ z. c (p .kinded ∙ z)) (λ z. d (p .kinded ∙ z));
+    leads = each-way sheet words s x reader false (Refuse NoMember) λ e k o tag items members p.
+        step-plain e k o tag items members s reader (segment-full s n) (λ z. c (p .kinded ∙ z)) (λ z. d (p .kinded ∙ z));
   })

@@ -3,10 +3,13 @@ use Prim.Native.Nat.{ℕ, _≤_}
 use mathlib.Core.List.{List}
 use mathlib.Core.Path.{_≡_}
 use Rattle.definition.specs.Tree.{Text, Field}
+use Rattle.reference.specs.Setting as Setting
 use Rattle.reference.specs.Walk.{Step, refuse, leaf, free, into, Reached, refused, unknown, known}
 use Rattle.schema.specs.Slot.{SlotHolds}
+use Rattle.walk.specs.declared.answer.Reader.{Reader}
+use Rattle.walk.specs.declared.answer.Reader.the-variants.{Kernel, Projection}
 use Rattle.walk.specs.declared.answer.ReferenceFault.{ReferenceFault}
-use Rattle.walk.specs.declared.answer.ReferenceFault.the-variants.{EmptyPath, UnknownRoot, ClosedObject, ArrayMember, MapMember, AfterCount, AfterTag, UnionMember, NoCount, NoMember, NotAvailable, NoReference}
+use Rattle.walk.specs.declared.answer.ReferenceFault.the-variants.{EmptyPath, UnknownRoot, ClosedObject, ArrayMember, MapMember, AfterCount, AfterTag, UnionMember, NoCount, NoMember, NotAvailable, NoReference, TextCount}
 use Rattle.walk.specs.declared.answer.CollectionFault.{CollectionFault}
 use Rattle.walk.specs.declared.answer.CollectionFault.the-variants as Collection
 use Rattle.walk.specs.declared.answer.WalkStep.{WalkStep}
@@ -17,6 +20,10 @@ use Rattle.walk.specs.declared.answer.FieldStep.{FieldStep}
 use Rattle.walk.specs.declared.answer.FieldStep.the-variants as FieldStep
 use Rattle.walk.specs.declared.answer.Collected.{Collected}
 use Rattle.walk.specs.declared.answer.Collected.the-variants as Collected
+
+abbrev pub readerIs : Reader → Setting.Reader
+readerIs Kernel = Setting.kernel
+readerIs Projection = Setting.projection
 
 -- the details of number 18
 unfoldable pub referenceDetail : ReferenceFault → ℕ
@@ -32,6 +39,7 @@ referenceDetail NoCount = 9
 referenceDetail NoMember = 10
 referenceDetail NotAvailable = 11
 referenceDetail NoReference = 12
+referenceDetail TextCount = 13
 
 -- the details of number 22
 unfoldable pub collectionDetail : CollectionFault → ℕ

@@ -8,7 +8,8 @@ use lib.ListN.{length}
 use Rattle.definition.specs.Tree as Tree
 use Rattle.definition.specs.Tree.{Text, Field, Items}
 use Rattle.reference.specs.Path.{isCount, split}
-use Rattle.reference.specs.Walk.{Step, refuse, leaf, lookup, memberStep, itemStep, arrayStep, mapStep, unionStep, walkStep, fieldStep, Reached, arrive, travel, elementOr, elementOfField, elementOf}
+use Rattle.reference.specs.Setting.{Reader}
+use Rattle.reference.specs.Walk.{Step, refuse, lookup, memberStep, itemStep, arrayStep, mapStep, unionStep, textCount, walkStep, fieldStep, Reached, arrive, travel, elementOr, elementOfField, elementOf}
 use Rattle.sheet.specs.Parts.{optionalOf}
 use Rattle.schema.specs.Slot.{SlotHolds, HolderAt, ElementAt, PartsOf}
 use Rattle.walk.specs.Answers.{StepIs, ReadableIs, FieldStepIs, CollectedIs}
@@ -39,17 +40,20 @@ pub record MemberSteps (sheet words : List ℕ) (h : Holder) (s : Text) (r : Wal
   pub leads : (t : Tree.Holder) → HolderAt sheet words h t → StepIs sheet words r (memberStep (lookup s (t .members)) (t .isOpen) 3)
 
 -- a field without members: only a string has a count
-unfoldable pub scalarStep : (kind : ℕ) → Text → Step
-scalarStep kind s = cond (isCount s) (cond (eqb kind 1) (leaf 6) (refuse 9)) (refuse 10)
+unfoldable pub scalarStep : (kind : ℕ) → Text → Reader → Step
+scalarStep kind s reader = cond (isCount s) (cond (eqb kind 1) (textCount reader) (refuse 9)) (refuse 10)
 
-pub record ScalarSteps (kind : ℕ) (s : Text) (r : WalkStep) : Type 0 where
-  pub leads : (sheet words : List ℕ) → StepIs sheet words r (scalarStep kind s)
+pub record TextSteps (reader : Reader) (r : WalkStep) : Type 0 where
+  pub leads : (sheet words : List ℕ) → StepIs sheet words r (textCount reader)
 
-pub record ServiceSteps (sheet words : List ℕ) (x : IndexedField) (s : Text) (r : WalkStep) : Type 0 where
-  pub leads : (length s ≡ 0 → ⊥) → (f : Field) → PartsOf sheet words f x → StepIs sheet words r (walkStep true f s)
+pub record ScalarSteps (kind : ℕ) (s : Text) (reader : Reader) (r : WalkStep) : Type 0 where
+  pub leads : (sheet words : List ℕ) → StepIs sheet words r (scalarStep kind s reader)
 
-pub record WalkSteps (sheet words : List ℕ) (x : IndexedField) (s : Text) (service : Bool) (r : WalkStep) : Type 0 where
-  pub leads : (f : Field) → PartsOf sheet words f x → StepIs sheet words r (walkStep service f s)
+pub record ServiceSteps (sheet words : List ℕ) (x : IndexedField) (s : Text) (reader : Reader) (r : WalkStep) : Type 0 where
+  pub leads : (length s ≡ 0 → ⊥) → (f : Field) → PartsOf sheet words f x → StepIs sheet words r (walkStep reader true f s)
+
+pub record WalkSteps (sheet words : List ℕ) (x : IndexedField) (s : Text) (reader : Reader) (service : Bool) (r : WalkStep) : Type 0 where
+  pub leads : (f : Field) → PartsOf sheet words f x → StepIs sheet words r (walkStep reader service f s)
 
 -- the last segment, of the field with that entry
 pub record LastStep (entry : ℕ) (w : WalkStep) (r : Readable) : Type 0 where
@@ -57,9 +61,9 @@ pub record LastStep (entry : ℕ) (w : WalkStep) (r : Readable) : Type 0 where
       → ReadableIs r (arrive entry s [] (λ g. travel step [] g) x)
 
 -- A path behind the field of slot `k`, as `walk_field_path` goes
-pub record Walks (sheet words : List ℕ) (k : ℕ) (path : Text) (service : Bool) (r : Readable) : Type 0 where
+pub record Walks (sheet words : List ℕ) (k : ℕ) (path : Text) (reader : Reader) (service : Bool) (r : Readable) : Type 0 where
   pub leads : (f : Field) → SlotHolds sheet words k f
-      → ReadableIs r (travel (walkStep service) (split path .first ∷ split path .others) f)
+      → ReadableIs r (travel (walkStep reader service) (split path .first ∷ split path .others) f)
 
 -- The path of an `in` value, as `field_at` and `element_of` go
 

@@ -1,5 +1,12 @@
 // What a walk answers.
 
+// Which walk a path is for.
+pub enum Reader {
+    Kernel,
+    // A projection reads its keys, and texts have no count there.
+    Projection,
+}
+
 // Why a reference cannot be read; docs/FORMAT.md, "Details", number 18, in its order.
 pub enum ReferenceFault {
     EmptyPath,
@@ -14,6 +21,7 @@ pub enum ReferenceFault {
     NoMember,
     NotAvailable,
     NoReference,
+    TextCount,
 }
 
 // Why a value names no collection; docs/FORMAT.md, "Details", number 22, in its order.

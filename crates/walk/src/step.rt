@@ -1,4 +1,5 @@
 // One segment of a reference, as `walk_field_path` takes it.
+use crate::answer::Reader;
 use crate::answer::ReferenceFault;
 use crate::answer::WalkStep;
 use crate::path::is_count;
@@ -15,7 +16,8 @@ ghost use mathlib.Core.Path.{_≡_};
 ghost use Rattle.reference.specs.Walk.{isTag, contentKey};
 ghost use Rattle.sheet.specs.Order.{sameBytes};
 ghost use Rattle.sheet.specs.Parts.{optionalOf};
-ghost use Rattle.walk.specs.Steps.{ItemSteps, ArraySteps, MapSteps, UnionSteps, MemberSteps, ScalarSteps, ServiceSteps, WalkSteps};
+ghost use Rattle.walk.specs.Answers.{readerIs};
+ghost use Rattle.walk.specs.Steps.{ItemSteps, ArraySteps, MapSteps, UnionSteps, MemberSteps, TextSteps, ScalarSteps, ServiceSteps, WalkSteps};
 
 // The kinds of fields that a walk tells apart; docs/FORMAT.md, "The schema sheet".
 pub const STRING: usize = 1;
@@ -105,13 +107,23 @@ fn member_step(schema: &[u8], words: &[u32], holder: Holder, segment: &[u8]) -> 
     WalkStep::Into(slot)
 }
 
+// The length of a text, which no projection reads.
+fn text_count(reader: Reader) -> WalkStep
+    ensures { λ r. ⌜ TextSteps (readerIs reader) r ⌝ }
+{
+    match reader {
+        Reader::Kernel => WalkStep::Leaf(ReferenceFault::AfterCount),
+        Reader::Projection => WalkStep::Refuse(ReferenceFault::TextCount),
+    }
+}
+
 // A field without members: only a string has a count.
-fn scalar_step(kind: usize, segment: &[u8]) -> WalkStep
-    ensures { λ r. ⌜ ScalarSteps kind (now (segment .entry)) r ⌝ }
+fn scalar_step(kind: usize, segment: &[u8], reader: Reader) -> WalkStep
+    ensures { λ r. ⌜ ScalarSteps kind (now (segment .entry)) (readerIs reader) r ⌝ }
 {
     if is_count(segment) {
         if kind == STRING {
-            return WalkStep::Leaf(ReferenceFault::AfterCount);
+            return text_count(reader);
         }
         return WalkStep::Refuse(ReferenceFault::NoCount);
     }
@@ -119,8 +131,14 @@ fn scalar_step(kind: usize, segment: &[u8]) -> WalkStep
 }
 
 // A segment that is not empty, under a service semantics.
-fn service_step(schema: &[u8], words: &[u32], field: IndexedField, segment: &[u8]) -> WalkStep
-    ensures { λ r. ⌜ ServiceSteps (now (schema .entry)) (now (words .entry)) field (now (segment .entry)) r ⌝ }
+fn service_step(
+    schema: &[u8],
+    words: &[u32],
+    field: IndexedField,
+    segment: &[u8],
+    reader: Reader,
+) -> WalkStep
+    ensures { λ r. ⌜ ServiceSteps (now (schema .entry)) (now (words .entry)) field (now (segment .entry)) (readerIs reader) r ⌝ }
 {
     let kind = field.kind;
     if kind == ARRAY {
@@ -141,7 +159,7 @@ fn service_step(schema: &[u8], words: &[u32], field: IndexedField, segment: &[u8
         let tag = field.tag;
         return union_step(schema, tag, segment);
     }
-    scalar_step(kind, segment)
+    scalar_step(kind, segment, reader)
 }
 
 // Where one segment leads from a field.
@@ -151,14 +169,15 @@ pub fn walk_step(
     field: IndexedField,
     segment: &[u8],
     service: bool,
+    reader: Reader,
 ) -> WalkStep
-    ensures { λ r. ⌜ WalkSteps (now (schema .entry)) (now (words .entry)) field (now (segment .entry)) service r ⌝ }
+    ensures { λ r. ⌜ WalkSteps (now (schema .entry)) (now (words .entry)) field (now (segment .entry)) (readerIs reader) service r ⌝ }
 {
     if segment.len() == 0 {
         return WalkStep::Refuse(ReferenceFault::EmptyPath);
     }
     if service {
-        return service_step(schema, words, field, segment);
+        return service_step(schema, words, field, segment, reader);
     }
     let kind = field.kind;
     if kind == JSON {

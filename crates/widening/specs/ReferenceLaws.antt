@@ -5,10 +5,10 @@ use mathlib.Core.List.{List, [], _∷_}
 use mathlib.Core.Option.{Option, none, some}
 use Rattle.definition.specs.Tree.{Text, Field, Holder, Schema, Value, constant, number, string, array, object}
 use Rattle.sheet.specs.Order.{sameBytes}
-use Rattle.reference.specs.Setting.{Name, id, entity, version, fields, state, toState, fromState, args, oldFields, nameOf, Setting}
+use Rattle.reference.specs.Setting.{Name, id, entity, version, fields, state, toState, fromState, args, oldFields, nameOf, Reader, kernel, Setting}
 use Rattle.reference.specs.Path.{Segments, split}
 use Rattle.reference.specs.Walk.{Step, isEmpty}
-use Rattle.reference.specs.Reference.{Environment, bound, Root, noRoot, missing, root, argumentsRoot, rootOf, fromHolder, rootWalk, fromRoot, fromName, fromElement, fromBound, reference, behindFirst, beginsWithDollar, collectionIn, collectionNamed, collectionElement, collectionBound, collectionText, collection}
+use Rattle.reference.specs.Reference.{Environment, bound, Root, noRoot, missing, root, argumentsRoot, rootOf, fromHolder, rootWalk, fromRoot, fromName, fromElement, fromBound, reference, keyWalk, behindFirst, beginsWithDollar, collectionIn, collectionNamed, collectionElement, collectionBound, collectionText, collection}
 use Rattle.widening.specs.Widening.{Level, anything, WiderHolder, WiderArguments, without, appear, stay, WiderSchema}
 use Rattle.widening.specs.Distinct.{DistinctMembers, DistinctArguments, DistinctSchema}
 use Rattle.widening.specs.WalkLaws.{Grown, equal, Fares, stillRefused, stillUnknown, refused-fares, StepFares, lookup-finds, member-fares, arrive-fares, travel-fares, walk-step-fares, field-step-fares, walk-fares, field-fares, if-fares, element-fares}
@@ -77,18 +77,24 @@ holder-fares at detail s path steps w d =
     arrive-fares at at s path (λ f f′ g. travel-fares path steps g)
     (member-fares detail (w .mark) (lookup-finds s (w .members) d))
 
+root-walk-fares : {l : Level} {h h′ : Holder} (reader : Reader) (isService : Bool) (at : ℕ) (s : Text) (path : List Text)
+    → WiderHolder l h h′
+    → DistinctMembers (h′ .members)
+    → Fares l (rootWalk reader isService at h s path) (rootWalk reader isService at h′ s path)
+unfolding rootWalk
+root-walk-fares reader b at s path w d =
+    if-fares (isEmpty s) (stillRefused equal)
+    (holder-fares at 2 s path (λ f f′ t g. walk-step-fares reader b t (g .isWider) (g .isDistinct)) w d)
+
 from-root-fares : {l : Level} {r r′ : Root} (setting : Setting) (n : Name) (s : Text) (path : List Text)
     → RootFares l r r′
     → Fares l (fromRoot setting n r s path) (fromRoot setting n r′ s path)
-unfolding fromRoot rootWalk
+unfolding fromRoot
 from-root-fares setting n s path neverRoot = stillRefused equal
 from-root-fares setting n s path stillMissing = stillRefused equal
 from-root-fares setting n s path appeared = refused-fares _
 from-root-fares setting n s path (stillRoot {at = at} w d) =
-    if-fares (setting .mayRead n)
-    (if-fares (isEmpty s) (stillRefused equal)
-    (holder-fares at 2 s path (λ f f′ t g. walk-step-fares (setting .isService) t (g .isWider) (g .isDistinct)) w d))
-    (stillRefused equal)
+    if-fares (setting .mayRead n) (root-walk-fares (setting .reader) (setting .isService) at s path w d) (stillRefused equal)
 
 from-name-fares : {l : Level} {s s′ : Schema} (setting : Setting) (o : Option Name) (path : List Text)
     → GrownSchema l s s′
@@ -103,7 +109,7 @@ from-element-fares : {l : Level} {x x′ : Option Field} (isService : Bool) (pat
     → Fares l (fromElement isService x path) (fromElement isService x′ path)
 unfolding fromElement
 from-element-fares b path bothUnknown = stillUnknown
-from-element-fares b path (bothKnown g) = walk-fares b path g
+from-element-fares b path (bothKnown g) = walk-fares kernel b path g
 
 from-bound-fares : {l : Level} {s s′ : Schema} {x x′ : Option (Option Field)} (setting : Setting) (p : Segments)
     → GrownSchema l s s′
@@ -119,6 +125,13 @@ pub reference-fares : {l : Level} {s s′ : Schema} {env env′ : Environment} (
     → Fares l (reference setting s env t) (reference setting s′ env′ t)
 unfolding reference
 reference-fares setting t g e = from-bound-fares setting (split t) g (bound-fares (split t .first) e)
+
+-- a path of `$fields`, whichever reader it is for
+pub key-fares : {l : Level} {s s′ : Schema} (reader : Reader) (isService : Bool) (t : Text)
+    → GrownSchema l s s′
+    → Fares l (keyWalk reader isService s t) (keyWalk reader isService s′ t)
+unfolding keyWalk
+key-fares reader b t g = root-walk-fares reader b 1 (split t .first) (split t .others) (g .isWider .fields) (g .isDistinct .fields)
 
 collection-in-fares : {l : Level} {r r′ : Root} (s : Text) (path : List Text)
     → RootFares l r r′

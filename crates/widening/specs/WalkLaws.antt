@@ -8,8 +8,9 @@ use lib.Dec.{eqb}
 use Rattle.definition.specs.Tree.{Text, Field, Items, Members}
 use Rattle.sheet.specs.Order.{sameBytes}
 use Rattle.sheet.specs.OrderLaws.{sameBytes-equal}
+use Rattle.reference.specs.Setting.{Reader, kernel, projection}
 use Rattle.reference.specs.Path.{isOrdinal, isCount}
-use Rattle.reference.specs.Walk.{Step, refuse, leaf, free, into, lookup, memberStep, itemStep, Reached, refused, unknown, known, lastOr, arrive, entryOf, travel, isEmpty, arrayStep, mapStep, isTag, contentKey, unionStep, walkStep, fieldStep, elementOr, elementOfField, elementOf}
+use Rattle.reference.specs.Walk.{Step, refuse, leaf, free, into, lookup, memberStep, itemStep, Reached, refused, unknown, known, lastOr, arrive, entryOf, travel, isEmpty, arrayStep, mapStep, isTag, contentKey, unionStep, textCount, walkStep, fieldStep, elementOr, elementOfField, elementOf}
 use Rattle.widening.specs.Widening.{Level, anything, Opened, kept, opened, MayGrow, closed, WiderField, wider, WiderItems, neither, both, WiderMembers, end, keep, more}
 use Rattle.widening.specs.Distinct.{DistinctField, DistinctItems, DistinctMembers}
 
@@ -123,16 +124,21 @@ union-fares : {l : Level} (tag : Option Text) (s : Text) → StepFares l (unionS
 unfolding unionStep
 union-fares tag s = either-fares (isTag tag s) sameLeaf (either-fares (sameBytes (contentKey tag) s) stillFree sameRefusal)
 
-pub walk-step-fares : {l : Level} {f f′ : Field} (isService : Bool) (s : Text)
+text-fares : {l : Level} (reader : Reader) → StepFares l (textCount reader) (textCount reader)
+unfolding textCount
+text-fares kernel = sameLeaf
+text-fares projection = sameRefusal
+
+pub walk-step-fares : {l : Level} {f f′ : Field} (reader : Reader) (isService : Bool) (s : Text)
     → WiderField l f f′
     → DistinctField f′
-    → StepFares l (walkStep isService f s) (walkStep isService f′ s)
+    → StepFares l (walkStep reader isService f s) (walkStep reader isService f′ s)
 unfolding walkStep
-walk-step-fares b s (wider {kind = k} {tag = tag} p wi wm) d =
+walk-step-fares reader b s (wider {kind = k} {tag = tag} p wi wm) d =
     either-fares (isEmpty s) sameRefusal
     (either-fares (b && eqb k 6) (array-fares s wi (d .0))
     (either-fares (b && eqb k 10) (map-fares s)
-    (either-fares (b && (eqb k 1 && isCount s)) sameLeaf
+    (either-fares (b && (eqb k 1 && isCount s)) (text-fares reader)
     (either-fares (eqb k 8) stillFree
     (either-fares (eqb k 7) (member-fares 3 p (lookup-finds s wm (d .1)))
     (either-fares (b && eqb k 11) (union-fares tag s)
@@ -180,10 +186,10 @@ travel-fares [] h g = stillKnown g
 travel-fares {f = f} {f′ = f′} (s ∷ path) h g =
     arrive-fares (entryOf f) (entryOf f′) s path (λ f₁ f₂ g′. travel-fares path h g′) (h f f′ s g)
 
-pub walk-fares : {l : Level} {f f′ : Field} (isService : Bool) (path : List Text)
+pub walk-fares : {l : Level} {f f′ : Field} (reader : Reader) (isService : Bool) (path : List Text)
     → Grown l f f′
-    → Fares l (travel (walkStep isService) path f) (travel (walkStep isService) path f′)
-walk-fares b path g = travel-fares path (λ f₁ f₂ s g′. walk-step-fares b s (g′ .isWider) (g′ .isDistinct)) g
+    → Fares l (travel (walkStep reader isService) path f) (travel (walkStep reader isService) path f′)
+walk-fares reader b path g = travel-fares path (λ f₁ f₂ s g′. walk-step-fares reader b s (g′ .isWider) (g′ .isDistinct)) g
 
 pub field-fares : {l : Level} {f f′ : Field} (path : List Text)
     → Grown l f f′

@@ -16,11 +16,11 @@ mul-binders c = search needs
 array-set-from-binders : tie.Need-array-set-from-binders
 array-set-from-binders c = search needs
 
-add-t10 : tie.Need-add-t10
-add-t10 c = search needs
+add-t11 : tie.Need-add-t11
+add-t11 c = search needs
 
 returns-2 : tie.Need-returns-2
-returns-2 c = bind-more _ _ _ (omega arith) (simp length-map at (c .before .before .before .before .good .0 .1 .1 .1 .1 .1 .0 .1 .0 .1))
+returns-2 c = bind-more _ _ _ (omega arith) (simp length-map at (c .before .before .before .before .good .0 .1 .1 .1 .1 .1 .1 .0 .1 .0 .1))
 
 pub bind-spec : {M : Type 1} → statement M
-bind-spec = tie.close (tie.spec returns mul-binders array-set-from-binders add-t10 returns-2)
+bind-spec = tie.close (tie.spec returns mul-binders array-set-from-binders add-t11 returns-2)

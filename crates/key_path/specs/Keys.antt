@@ -1,0 +1,27 @@
+-- A call of the code as a run of the definitions, and what it answers where the schema is well formed.
+use Prim.Native.Nat.{ℕ}
+use mathlib.Core.List.{List}
+use mathlib.Core.Path.{_≡_}
+use Rattle.definition.specs.Tree as Tree
+use Rattle.schema.specs.Read.{SchemaAt}
+use Rattle.schema.specs.declared.read.Schema.{Schema}
+use Rattle.validation.specs.Result.{numbersOf}
+use Rattle.validation.specs.KeyPath.{keyChecked, KeyRun}
+use Rattle.validator.specs.Outcomes.{numbersBy}
+use Rattle.validator.specs.declared.outcome.Outcome.{Outcome}
+
+-- for every schema that the index stands for
+pub record KeyTold (semantics reader : ℕ) (path schema : List ℕ) (s : Schema) (words : List ℕ) (r : Outcome) : Type 0 where
+  pub tells : (t : Tree.Schema) → SchemaAt schema words s t → numbersBy r ≡ numbersOf (keyChecked semantics reader path t)
+
+abbrev pub keyRunOf : (semantics reader : ℕ) (path schema scratchBefore : List ℕ) (r : Outcome) (scratch : List ℕ) → KeyRun
+keyRunOf semantics reader path schema scratchBefore r scratch =
+    record {
+      semantics = semantics;
+      reader = reader;
+      path = path;
+      schema = schema;
+      scratchBefore = scratchBefore;
+      result = numbersBy r;
+      scratch = scratch;
+    }

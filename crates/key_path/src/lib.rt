@@ -1,0 +1,113 @@
+// One path of `$fields`, given without `$fields.`: whether the kernel can read it, or a projection as its key (docs/FORMAT.md, "Keys").
+use schema::read::Schema;
+use schema::read::SchemaRead;
+use schema::read::read_schema;
+use scope::references::validate_reference_path;
+use validator::finding::reference_detail;
+use validator::outcome::Outcome;
+use validator::outcome::accepted;
+use validator::outcome::refused;
+use validator::settings::is_within;
+use validator::widths::SCRATCH_WORDS;
+use walk::answer::Readable;
+use walk::answer::Reader;
+use walk::answer::ReferenceFault;
+ghost use mathlib.Core.Bool.{_&&_};
+ghost use mathlib.Core.Path.{_≡_};
+ghost use lib.Dec.{leb};
+ghost use lib.ListN.{length};
+ghost use Rattle.text.specs.Utf8.{isUtf8};
+ghost use Rattle.walk.specs.Answers.{readerIs, referenceDetail};
+ghost use Rattle.validation.specs.Result.{defect, isWithin, firstRefusal, numberIn, numbersOf};
+ghost use Rattle.validation.specs.KeyPath.{readerOf, maxKeyBytes, keyEarly, keyDefect, MeetsKey};
+ghost use Rattle.validator.specs.Outcomes.{numbersBy};
+ghost use Rattle.key_path.specs.Keys.{KeyTold, keyRunOf};
+
+const MAX_KEY_BYTES: usize = 512;
+
+fn are_settings(semantics: u32, reader: u32) -> bool
+    ensures { λ r. ⌜ r ≡ (isWithin 1 4 semantics && isWithin 1 2 reader) ⌝ }
+{
+    is_within(4, semantics) && is_within(2, reader)
+}
+
+fn is_key(path: &[u8]) -> bool
+    ensures { λ r. ⌜ r ≡ (leb (length (now (path .entry))) maxKeyBytes && isUtf8 (now (path .entry))) ⌝ }
+{
+    path.len() <= MAX_KEY_BYTES && text::is_utf8(path)
+}
+
+// The refusal that is due before the schema is read, or 0. `scratch` is how many elements the lent buffer has.
+fn refused_key(semantics: u32, reader: u32, path: &[u8], scratch: usize) -> u32
+    ensures { λ r. ⌜ r ≡ numberIn (firstRefusal (keyEarly semantics reader (now (path .entry)) scratch)) ⌝ }
+{
+    if !are_settings(semantics, reader) {
+        return 1;
+    }
+    if !is_key(path) {
+        return 2;
+    }
+    if SCRATCH_WORDS <= scratch { 0 } else { 3 }
+}
+
+fn reader_of(reader: u32) -> Reader
+    ensures { λ r. ⌜ readerIs r ≡ readerOf reader ⌝ }
+{
+    if reader == 1 {
+        return Reader::Kernel;
+    }
+    Reader::Projection
+}
+
+fn unreadable(fault: ReferenceFault) -> Outcome
+    ensures { λ r. ⌜ numbersBy r ≡ numbersOf (defect (keyDefect (referenceDetail fault))) ⌝ }
+{
+    Outcome {
+        number: 18,
+        family: 0,
+        detail: reference_detail(fault),
+        place: 0,
+        over_place: 0,
+        passed: 0,
+        path_length: 0,
+    }
+}
+
+// The answer about a path, where the schema is well formed.
+fn check_key(
+    semantics: u32,
+    reader: u32,
+    path: &[u8],
+    schema: &[u8],
+    s: Schema,
+    words: &[u32],
+) -> Outcome
+    ensures { λ r. ⌜ KeyTold semantics reader (now (path .entry)) (now (schema .entry)) s (now (words .entry)) r ⌝ }
+{
+    let fields = s.fields;
+    let reader = reader_of(reader);
+    match validate_reference_path(schema, words, 1, fields, path, semantics != 1, reader) {
+        Readable::Yes => accepted(1),
+        Readable::No(fault, _) => unreadable(fault),
+    }
+}
+
+// Checks one path: settings, path and width first, then the schema, then the walk.
+pub fn validate_path(
+    semantics: u32,
+    reader: u32,
+    path: &[u8],
+    schema: &[u8],
+    scratch: &mut [u32],
+) -> Outcome
+    ensures { λ r. ⌜ MeetsKey (keyRunOf semantics reader (now (path .entry)) (now (schema .entry)) (now (scratch .entry)) r (now (scratch .exit))) ⌝ }
+{
+    let number = refused_key(semantics, reader, path, scratch.len());
+    if number != 0 {
+        return refused(number);
+    }
+    let SchemaRead::Good(s) = read_schema(schema, scratch) else {
+        return refused(4);
+    };
+    check_key(semantics, reader, path, schema, s, scratch)
+}
