@@ -1,4 +1,5 @@
 pub mod Writing
 pub mod Entries
+pub mod KeyEntries
 pub mod Examples
 pub mod NumberTests

@@ -78,7 +78,7 @@ pub field-of-answer : {answer : Answer} {pathBefore pathNow resultBefore resultN
 field-of-answer {answer} {pathBefore} {pathNow} {resultBefore} a i less room =
     rw (a .result) (field-of-result i (numbersOf answer) resultBefore less room (a .small))
 
-numbers-of-answer : {answer : Answer} {pathBefore pathNow resultBefore resultNow : List ℕ} {r : ℕ}
+pub numbers-of-answer : {answer : Answer} {pathBefore pathNow resultBefore resultNow : List ℕ} {r : ℕ}
     → Answered answer pathBefore pathNow resultBefore resultNow r
     → resultBytes ≤ length resultBefore
     → numbersIn resultNow ≡ numbersOf answer
@@ -124,7 +124,7 @@ module _ (takes : Takes) (kind semantics : ℕ) (label schema rule pathBefore pa
   unfolding entryRun
   entry-returns a room = a .number ∙ sym (ap (λ (n : Numbers). n .number) (numbers-of-answer a room))
 
-refused-first : (a b : Bool) (rest : Answer) → refusedOr (cond (not a) (some 1) (cond (not b) (some 2) (some 3))) rest ≡ refused (cond a (cond b 3 2) 1)
+pub refused-first : (a b : Bool) (rest : Answer) → refusedOr (cond (not a) (some 1) (cond (not b) (some 2) (some 3))) rest ≡ refused (cond a (cond b 3 2) 1)
 unfolding refusedOr
 refused-first true true rest = refl
 refused-first true false rest = refl

@@ -2,3 +2,5 @@ pub mod Bytes
 pub mod Entry
 pub mod EntryLaws
 pub mod NumberTest
+pub mod KeyEntry
+pub mod KeyEntryLaws

@@ -4,16 +4,19 @@ mod result; // result.rt: the seven numbers as bytes
 use crate::result::RESULT_BYTES;
 use crate::result::read_u32;
 use crate::result::write_result;
+use key_path::validate_path;
 use validator::sheets::Takes;
 use validator::validate_taken;
 use validator::widths::SCRATCH_WORDS;
 ghost use mathlib.Core.Path.{_≡_};
+ghost use mathlib.Core.List.{[]};
 ghost use Prim.Native.Nat.{min};
 ghost use lib.ListN.{length};
 ghost use Rattle.validation.specs.Result.{rules, templates};
 ghost use Rattle.validator.specs.Sheets.{takesOf};
 ghost use Rattle.entity_rules.specs.Bytes.{fieldAt};
 ghost use Rattle.entity_rules.specs.Entry.{pathLent, entryAnswer, Answered};
+ghost use Rattle.entity_rules.specs.KeyEntry.{keyEntryAnswer};
 ghost use Rattle.entity_rules.specs.NumberTest.{finiteNumber};
 
 // Kinds end at 8 and semantics at 4, so 9 stands for all that is too large for either.
@@ -23,7 +26,7 @@ fn setting(n: u64) -> u32
     if 8 < n { 9 } else { n as u32 }
 }
 
-// How much of the path buffer is lent: nothing where the result would have no room, so that both are refused as width.
+// How much of a buffer is lent: nothing where the result would have no room, so that both are refused as width.
 fn path_lent(path: usize, result: usize) -> usize
     ensures { λ r. ⌜ r ≡ pathLent path result ⌝ }
 {
@@ -106,6 +109,31 @@ pub extern "C" fn rulecheck_template(
         path,
         result,
     )
+}
+
+// Checks one path of `$fields`, given without `$fields.`, for reader 1 (Kernel) or 2 (Projection). `result` takes at least 28 bytes; there is no
+// path buffer, so the contract has empty ones.
+#[no_mangle]
+pub extern "C" fn rulecheck_path(
+    semantics: u64,
+    reader: u64,
+    path: &[u8],
+    schema: &[u8],
+    result: &mut [u8],
+) -> u32
+    ensures { λ r. ⌜ Answered (keyEntryAnswer semantics reader (now (path .entry)) (now (schema .entry)) (length (now (result .entry)))) [] [] (now (result .entry)) (now (result .exit)) r ⌝ }
+{
+    let mut scratch = [0u32; SCRATCH_WORDS];
+    let lent = path_lent(SCRATCH_WORDS, result.len());
+    let key = validate_path(
+        setting(semantics),
+        setting(reader),
+        path,
+        schema,
+        &mut scratch[0..lent],
+    );
+    write_result(key, result);
+    key.number
 }
 
 // A number of a result by its index, or 0 where there is none.
