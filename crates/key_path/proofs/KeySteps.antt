@@ -33,10 +33,9 @@ use Rattle.validation.specs.RefusalLaws.{every, first-append, none-due, number-
 use Rattle.validation.specs.KeyPath.{KeyCall, readerOf, maxKeyBytes, keyEarly, keyRefusals, keyDefect, keyAnswer, keyChecked, keyJudged, keyResultOf, keyCallOf, MeetsKey}
 use Rattle.validator.specs.Outcomes.{numbersBy}
 use Rattle.validator.specs.Sheets.{FrontOnly}
+use Rattle.validator.specs.SheetLaws.{front-schema, front-scratch}
 use Rattle.validator.specs.declared.outcome.Outcome.{Outcome}
 use Rattle.validator.proofs.SettingSteps.{turned}
-use Rattle.validator.proofs.SheetSteps.{front-schema}
-use Rattle.validator.proofs.WholeSteps.{front-scratch}
 use Rattle.key_path.specs.Keys.{KeyTold, keyRunOf}
 
 -- What is refused before the schema is read.
