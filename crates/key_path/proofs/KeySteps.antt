@@ -16,7 +16,7 @@ use Rattle.reference.specs.Walk as Walk
 use Rattle.reference.specs.Walk.{Reached, unknown, known}
 use Rattle.reference.specs.Reference.{keyWalk}
 use Rattle.schema.specs.Index.{indexEnd}
-use Rattle.schema.specs.Read.{SchemaPost}
+use Rattle.schema.specs.Read.{SchemaAnswer}
 use Rattle.schema.specs.declared.read.Schema.{Schema}
 use Rattle.schema.specs.declared.read.SchemaRead.{SchemaRead}
 use Rattle.schema.specs.declared.read.SchemaRead.the-variants.{Good, Bad}
@@ -173,7 +173,7 @@ module _ (semantics reader : ℕ) (path schema before : List ℕ) where
       ))
       q (record { size = refl; kept = refl })
 
-  module _ {n : ℕ} (e : n ≡ early semantics reader path (length before)) (z : n ≡ 0) {after : List ℕ} {q : SchemaRead} (post : SchemaPost schema before after q) where
+  module _ {n : ℕ} (e : n ≡ early semantics reader path (length before)) (z : n ≡ 0) {after : List ℕ} {q : SchemaRead} (post : SchemaAnswer schema before after q) where
     front : FrontOnly before after
     front = front-schema (post .kept)
 

@@ -16,7 +16,7 @@ use Rattle.reference.specs.Walk.{Step, refuse, leaf, free, into, lookup, member
 use Rattle.reference.specs.Reference.{Environment, bound, Root, noRoot, missing, root, rootOf, fromHolder, rootWalk, fromRoot, fromName, fromElement, fromBound, reference}
 use Rattle.reference.specs.CollectionLaws.{Reads}
 use Rattle.validation.specs.Check.{Binder, Question, settled, readable, walkable, Check, check, failsIf, references, Literal, literals, literalCheck, operand, compareSide, operatorCheck, body, bodies, literalChecks, checks}
-use Rattle.validation.specs.Judge.{Outcome, verdict, environment, answer, answerIn, outcome, Verdict, allPass, decide, judgeFrom, judge}
+use Rattle.validation.specs.Judge.{CheckOutcome, verdict, environment, answer, answerIn, outcome, Verdict, allPass, decide, judgeFrom, judge}
 use Rattle.validation.specs.CheckLaws.{Every, every-append}
 use Rattle.validation.specs.Service.{literalsIn, AllFinite}
 
@@ -80,11 +80,11 @@ reads-passes (known f) x = refl
 
 -- Verdicts: all pass exactly if each does
 
-module _ (ask : Check → Outcome) where
+module _ (ask : Check → CheckOutcome) where
   abbrev Passes : Check → Type 0
   Passes c = ask c ≡ none
 
-  all-decided : (o : Outcome) (n m : ℕ) (c : Check) (v : Verdict) → decide o n c v ≡ allPass m → (o ≡ none) × (v ≡ allPass m)
+  all-decided : (o : CheckOutcome) (n m : ℕ) (c : Check) (v : Verdict) → decide o n c v ≡ allPass m → (o ≡ none) × (v ≡ allPass m)
   unfolding decide
   all-decided none n m c v e = (refl, e)
   all-decided (some d) n m c v e = let z : _≡_ {A = ℕ} 0 1 = cc in absurd (omega arith)

@@ -31,7 +31,7 @@ use Rattle.judge.specs.Rules.{RuleJudged}
 use Rattle.value_checks.specs.declared.verdict.Fault.{Fault}
 use Rattle.value_checks.specs.declared.verdict.Over.{Over}
 use Rattle.value_checks.specs.declared.verdict.Verdict.the-variants.{Pass, Defect}
-use Rattle.value_checks.specs.declared.verdict.Answer as Judged
+use Rattle.value_checks.specs.declared.verdict.Progress as Judged
 use Rattle.location.specs.Path.{PathWritten}
 use Rattle.location.specs.PathLaws.{HasPath, checks-have-paths}
 use Rattle.location.specs.LengthLaws.{path-length}

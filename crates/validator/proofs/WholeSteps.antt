@@ -5,7 +5,7 @@ use mathlib.Core.Option.{none}
 use mathlib.Core.Path.{_≡_, refl, sym, _∙_}
 use lib.ListN.{length}
 use Rattle.reference.specs.Setting.{Setting, settingOf}
-use Rattle.schema.specs.Read.{SchemaPost}
+use Rattle.schema.specs.Read.{SchemaAnswer}
 use Rattle.schema.specs.declared.read.SchemaRead.{SchemaRead}
 use Rattle.validation.specs.Result as Result
 use Rattle.validation.specs.Result.{Call, scratchWords, early, firstRefusal, numberIn, numbersOf, pathAfter, callOf, Meets}
@@ -42,7 +42,7 @@ module _ (takes : Takes) (kind semantics : ℕ) (label schema sheet pathBefore b
   pub meets-sheets : {n : ℕ} {middle after path : List ℕ} {q : SchemaRead} {setting : Setting} {r : Outcome}
       → EarlyIs kind semantics label (length pathBefore) (length before) n
       → n ≡ 0
-      → SchemaPost schema before middle q
+      → SchemaAnswer schema before middle q
       → setting ≡ settingOf kind semantics
       → SheetChecked takes setting label schema q sheet pathBefore path middle after r
       → Meets (runOf takes kind semantics label schema sheet pathBefore before r path after)

@@ -1,6 +1,5 @@
 // The whole call: one rule or template of a record against the record's schema.
 pub mod outcome; // outcome.rt: the seven numbers of a result
-pub mod widths; // widths.rt: how long the lent buffers are
 pub mod settings; // settings.rt: settings, label and widths
 pub mod sheets; // sheets.rt: one rule sheet under a schema that has been read
 pub mod finding; // finding.rt: what a defect is called
