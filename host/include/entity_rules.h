@@ -1,4 +1,4 @@
-/* One rule or template checked against the schema of its record: the C functions of libentity_rules.a.
+/* One rule, template or key path checked against the schema of its record: the C functions of libentity_rules.a.
  *
  * docs/FORMAT.md says what the sheets hold and what each number means. Lengths are in bytes. A pointer must lead to as many bytes
  * as the length after it says, and must not be null, even where that is 0. path and result must not overlap each other or
@@ -34,6 +34,12 @@ enum entity_rules_semantics {
   ENTITY_RULES_SERVICE_1 = 2,
   ENTITY_RULES_SERVICE_2 = 3,
   ENTITY_RULES_SERVICE_3 = 4
+};
+
+/* Who will read a key path. */
+enum entity_rules_reader {
+  ENTITY_RULES_KERNEL = 1,
+  ENTITY_RULES_PROJECTION = 2
 };
 
 /* The number of an answer: 0, a refusal (1 to 5) or a defect (11 to 22). */
@@ -81,6 +87,12 @@ enum entity_rules_field {
   ENTITY_RULES_PATH_LENGTH = 6
 };
 
+/* The detail of a defect 18 that only a key path can have: a projection cannot read the length of a text. */
+#define ENTITY_RULES_TEXT_COUNT 13
+
+/* What a key path may hold at most. */
+#define ENTITY_RULES_KEY_BYTES 512
+
 /* What the buffers of a call must hold at least. */
 #define ENTITY_RULES_PATH_BYTES 32768
 #define ENTITY_RULES_RESULT_BYTES 28
@@ -101,6 +113,14 @@ uint32_t rulecheck_template(uint64_t kind, uint64_t semantics,
                             const uint8_t *rule, size_t rule_length,
                             uint8_t *path, size_t path_length,
                             uint8_t *result, size_t result_length);
+
+/* Checks one path of the record's fields, without `$fields.` before it, for a reader (enum entity_rules_reader). Returns 0 with one
+ * check passed, 18 with its detail, or a refusal: 1 for an unknown semantics or reader, 2 for a path over 512 bytes or not UTF-8, 3 for a
+ * result under 28 bytes, 4 for the schema. All other numbers of result are 0, and it keeps its other bytes. */
+uint32_t rulecheck_path(uint64_t semantics, uint64_t reader,
+                        const uint8_t *path, size_t path_length,
+                        const uint8_t *schema, size_t schema_length,
+                        uint8_t *result, size_t result_length);
 
 /* One of the numbers of a result, by an index of enum entity_rules_field; 0 where it does not lie in the result. */
 uint32_t rulecheck_field(const uint8_t *result, size_t result_length, uint32_t index);

@@ -29,10 +29,10 @@ pub use build::{
 };
 pub use entries::Operator;
 pub use finite::{Finite, finite};
-pub use settings::{Kind, Semantics, UnknownName};
+pub use settings::{Kind, Reader, Semantics, UnknownName};
 pub use verdict::{
-    CollectionFault, Defect, DefectNumber, Detail, Family, InstantFault, ReferenceFault, Refusal,
-    Side, Verdict,
+    CollectionFault, Defect, DefectNumber, Detail, Family, InstantFault, PathVerdict,
+    ReferenceFault, Refusal, Side, Verdict,
 };
 
 use limits::{PATH_BYTES, RESULT_BYTES};
@@ -121,6 +121,41 @@ pub fn check_template(
     call(raw::template, kind, semantics, label.as_ref(), schema, rule)
 }
 
+/// Checks one path of the record's fields for a reader, as a projection names its key.
+///
+/// The path stands without the `$fields.` that a reference has before it. It is text of at most 512 bytes.
+///
+/// ```
+/// use entity_rules::{check_path, Field, FieldKind, Reader, ReferenceFault, Schema, Semantics};
+///
+/// let bars = Field::new("bars", FieldKind::Array).items(FieldKind::Integer);
+/// let schema = Schema::new().field(bars).field(Field::new("yarn", FieldKind::String)).sheet()?;
+///
+/// let filed = |path| check_path(Semantics::Service1, Reader::Projection, path, &schema);
+/// assert!(filed("yarn")?.is_accepted());
+/// assert!(filed("bars.count")?.is_accepted());
+/// assert_eq!(filed("yarn.count")?.fault(), Some(ReferenceFault::TextCount));
+///
+/// // A rule can read how long a text is.
+/// assert!(check_path(Semantics::Service1, Reader::Kernel, "yarn.count", &schema)?.is_accepted());
+/// # Ok::<(), Box<dyn std::error::Error>>(())
+/// ```
+///
+/// # Errors
+///
+/// If the path or the schema sheet is refused.
+pub fn check_path(
+    semantics: Semantics,
+    reader: Reader,
+    path: impl AsRef<[u8]>,
+    schema: &[u8],
+) -> Result<PathVerdict, Refusal> {
+    let mut result = [0; RESULT_BYTES];
+    let (semantics, reader) = (semantics.number().into(), reader.number().into());
+    raw::path(semantics, reader, path.as_ref(), schema, &mut result);
+    verdict::path_answer(numbers(&result))
+}
+
 type Entry = fn(u64, u64, &[u8], &[u8], &[u8], &mut [u8], &mut [u8]) -> u32;
 
 /// One call with buffers of its own.
@@ -136,6 +171,10 @@ fn call(
     let mut result = [0; RESULT_BYTES];
     let (kind, semantics) = (kind.number().into(), semantics.number().into());
     entry(kind, semantics, label, schema, rule, &mut path, &mut result);
-    let numbers = [0, 1, 2, 3, 4, 5, 6].map(|index| raw::field(&result, index));
-    verdict::answer(numbers, &path)
+    verdict::answer(numbers(&result), &path)
+}
+
+/// The seven numbers of a result.
+fn numbers(result: &[u8]) -> [u32; 7] {
+    [0, 1, 2, 3, 4, 5, 6].map(|index| raw::field(result, index))
 }

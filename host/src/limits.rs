@@ -1,4 +1,4 @@
-//! The limits of sheets, labels and buffers (docs/FORMAT.md).
+//! The limits of sheets, labels, keys and buffers (docs/FORMAT.md).
 //!
 //! ```
 //! use entity_rules::limits::MAX_TEXT_BYTES;
@@ -32,6 +32,9 @@ pub const MAX_VALUE_NESTING: usize = 64;
 
 /// Bytes of a label.
 pub const MAX_LABEL_BYTES: usize = 256;
+
+/// Bytes of a key path.
+pub const MAX_KEY_BYTES: usize = 512;
 
 /// Bytes that a call wants for the path.
 pub const PATH_BYTES: usize = 32_768;

@@ -48,6 +48,17 @@ unsafe extern "C" {
         result_length: usize,
     ) -> u32;
 
+    fn rulecheck_path(
+        semantics: u64,
+        reader: u64,
+        path: *const u8,
+        path_length: usize,
+        schema: *const u8,
+        schema_length: usize,
+        result: *mut u8,
+        result_length: usize,
+    ) -> u32;
+
     fn rulecheck_field(result: *const u8, result_length: usize, index: u32) -> u32;
 
     fn rulecheck_finite(text: *const u8, text_length: usize) -> u32;
@@ -127,6 +138,39 @@ pub fn template(
             rule.len(),
             path.as_mut_ptr(),
             path.len(),
+            result.as_mut_ptr(),
+            result.len(),
+        )
+    }
+}
+
+/// Checks one path of the record's fields, without `$fields.` before it; the answer is the number, and `result` takes all seven numbers.
+///
+/// A result under 28 bytes is refusal 3, a path over 512 bytes refusal 2.
+///
+/// ```
+/// use entity_rules::raw;
+///
+/// let (schema, mut result) = (b"H,0,1,-,0\nF,1,0,0,0,4,-,name\n", [0; 28]);
+/// assert_eq!(raw::path(2, 1, b"name.count", schema, &mut result), 0);
+/// assert_eq!(raw::path(2, 2, b"name.count", schema, &mut result), 18);
+/// assert_eq!(raw::field(&result, 2), 13);
+/// assert_eq!(raw::path(2, 3, b"\xFF", b"", &mut []), 1);
+/// assert_eq!(raw::path(2, 2, b"\xFF", b"", &mut []), 2);
+/// assert_eq!(raw::path(2, 2, b"", b"", &mut []), 3);
+/// assert_eq!(raw::path(2, 2, b"", b"", &mut result), 4);
+/// ```
+pub fn path(semantics: u64, reader: u64, path: &[u8], schema: &[u8], result: &mut [u8]) -> u32 {
+    // SAFETY: each pointer and length are those of a slice. The library reads the first two and writes the last one, none of them beyond
+    // its length, and keeps no pointer; as a slice lent mutably the last one overlaps nothing.
+    unsafe {
+        rulecheck_path(
+            semantics,
+            reader,
+            path.as_ptr(),
+            path.len(),
+            schema.as_ptr(),
+            schema.len(),
             result.as_mut_ptr(),
             result.len(),
         )

@@ -1,4 +1,4 @@
-//! Kind and semantics of a rule or template (docs/FORMAT.md, "Settings and names").
+//! Kind and semantics of a rule or template, and the reader of a key (docs/FORMAT.md, "Settings and names", "Keys").
 
 use crate::numbered::numbered;
 use std::fmt;
@@ -135,7 +135,28 @@ impl Semantics {
     }
 }
 
-/// A text that names no kind, or no semantics.
+numbered! {
+    /// Which walk will read a key path.
+    ///
+    /// The readers differ in one thing: under the service semantics a projection cannot read how long a text is.
+    ///
+    /// ```
+    /// use entity_rules::Reader;
+    ///
+    /// let reader: Reader = "projection".parse()?;
+    /// assert_eq!(reader, Reader::Projection);
+    /// assert_eq!(reader.number(), 2);
+    /// # Ok::<(), entity_rules::UnknownName>(())
+    /// ```
+    Reader {
+        /// The kernel, which reads a path as it reads a reference of a rule.
+        Kernel = 1, "kernel";
+        /// A projection, which files records under what a path leads to.
+        Projection = 2, "projection";
+    }
+}
+
+/// A text that names no kind, no semantics or no reader.
 ///
 /// ```
 /// use entity_rules::{Kind, Semantics};
@@ -148,7 +169,7 @@ impl Semantics {
 /// ```
 #[derive(Clone, Debug, PartialEq, Eq)]
 pub struct UnknownName {
-    /// What was asked for: `kind` or `semantics`.
+    /// What was asked for: `kind`, `semantics` or `reader`.
     pub what: &'static str,
     /// The text that was given.
     pub given: String,
@@ -193,6 +214,19 @@ impl FromStr for Semantics {
             what: "semantics",
             given: given.to_owned(),
             known: Self::ALL.iter().map(|semantics| semantics.text()).collect(),
+        })
+    }
+}
+
+impl FromStr for Reader {
+    type Err = UnknownName;
+
+    fn from_str(given: &str) -> Result<Self, UnknownName> {
+        let found = Self::ALL.iter().find(|reader| reader.text() == given);
+        found.copied().ok_or_else(|| UnknownName {
+            what: "reader",
+            given: given.to_owned(),
+            known: Self::ALL.iter().map(|reader| reader.text()).collect(),
         })
     }
 }

@@ -141,6 +141,8 @@ numbered! {
         RootNotAvailable = 11, "this root may not be read here, or the schema has no arguments";
         /// An unknown name, or one that the kind may not read.
         NoSuchReference = 12, "no such reference, or this kind may not read it";
+        /// Only the kernel reads how long a text is; only a key path can meet this.
+        TextCount = 13, "a projection cannot read the length of a text";
     }
 }
 
@@ -404,6 +406,63 @@ impl fmt::Display for Verdict {
     }
 }
 
+/// The answer to a call for a key path that was not refused.
+///
+/// ```
+/// use entity_rules::{check_path, Field, FieldKind, PathVerdict, Reader, ReferenceFault, Schema, Semantics};
+///
+/// let schema = Schema::new().field(Field::new("yarn", FieldKind::String)).sheet()?;
+/// let verdict = check_path(Semantics::Service1, Reader::Projection, "yran", &schema)?;
+///
+/// assert_eq!(verdict, PathVerdict::Defect(ReferenceFault::UnknownRoot));
+/// assert_eq!(
+///     verdict.to_string(),
+///     "a reference cannot be read: the record or the arguments have no field of that name and are closed"
+/// );
+/// # Ok::<(), Box<dyn std::error::Error>>(())
+/// ```
+#[derive(Clone, Copy, Debug, PartialEq, Eq, Hash)]
+pub enum PathVerdict {
+    /// The reader can read the path.
+    Accepted,
+    /// It cannot, for this reason.
+    Defect(ReferenceFault),
+}
+
+impl PathVerdict {
+    /// Whether the reader can read the path.
+    ///
+    /// ```
+    /// assert!(entity_rules::PathVerdict::Accepted.is_accepted());
+    /// ```
+    #[must_use]
+    pub const fn is_accepted(self) -> bool {
+        matches!(self, Self::Accepted)
+    }
+
+    /// Why the path cannot be read, if it cannot.
+    ///
+    /// ```
+    /// assert_eq!(entity_rules::PathVerdict::Accepted.fault(), None);
+    /// ```
+    #[must_use]
+    pub const fn fault(self) -> Option<ReferenceFault> {
+        match self {
+            Self::Accepted => None,
+            Self::Defect(fault) => Some(fault),
+        }
+    }
+}
+
+impl fmt::Display for PathVerdict {
+    fn fmt(&self, f: &mut fmt::Formatter<'_>) -> fmt::Result {
+        match self {
+            Self::Accepted => f.pad("accepted: its 1 check passed"),
+            Self::Defect(fault) => write!(f, "{}: {fault}", DefectNumber::Reference),
+        }
+    }
+}
+
 /// Why a call was not answered.
 ///
 /// The typed functions never meet [`Setting`](Refusal::Setting) and [`Width`](Refusal::Width), since their settings are known ones and
@@ -418,10 +477,12 @@ impl fmt::Display for Verdict {
 /// ```
 #[derive(Clone, Copy, Debug, PartialEq, Eq, Hash)]
 pub enum Refusal {
-    /// 1: the kind or the semantics is not among the known ones.
+    /// 1: the kind, the semantics or the reader is not among the known ones.
     Setting,
     /// 2: the label is over 256 bytes long, or not UTF-8.
     Label,
+    /// 2 of a call for a key path: the path is over 512 bytes long, or not UTF-8.
+    Path,
     /// 3: a buffer is too short.
     Width,
     /// 4: the schema sheet is not well formed.
@@ -442,7 +503,7 @@ impl Refusal {
     pub const fn number(self) -> u32 {
         match self {
             Self::Setting => 1,
-            Self::Label => 2,
+            Self::Label | Self::Path => 2,
             Self::Width => 3,
             Self::SchemaSheet => 4,
             Self::RuleSheet => 5,
@@ -460,6 +521,7 @@ impl Refusal {
         match self {
             Self::Setting => "setting",
             Self::Label => "label",
+            Self::Path => "path",
             Self::Width => "width",
             Self::SchemaSheet => "schema sheet",
             Self::RuleSheet => "rule sheet",
@@ -482,8 +544,11 @@ impl Refusal {
 impl fmt::Display for Refusal {
     fn fmt(&self, f: &mut fmt::Formatter<'_>) -> fmt::Result {
         match self {
-            Self::Setting => f.pad("the kind is not 1 to 8, or the semantics is not 1 to 4"),
+            Self::Setting => {
+                f.pad("the kind is not 1 to 8, the semantics not 1 to 4, or the reader not 1 or 2")
+            }
             Self::Label => f.pad("the label is over 256 bytes long, or not UTF-8"),
+            Self::Path => f.pad("the path is over 512 bytes long, or not UTF-8"),
             Self::Width => f.pad("the path buffer is under 32,768 bytes, or the result under 28"),
             Self::SchemaSheet => f.pad("the schema sheet is not well formed"),
             Self::RuleSheet => {
@@ -507,6 +572,23 @@ pub(crate) fn answer(numbers: [u32; 7], path: &[u8]) -> Result<Verdict, Refusal>
         None => defect(numbers, path)
             .map(Verdict::Defect)
             .ok_or(Refusal::Unknown(numbers)),
+    }
+}
+
+/// The verdict or refusal that the numbers of a call for a key path stand for.
+pub(crate) fn path_answer(numbers: [u32; 7]) -> Result<PathVerdict, Refusal> {
+    let unknown = Refusal::Unknown(numbers);
+    match numbers {
+        [0, 0, 0, 0, 0, 1, 0] => Ok(PathVerdict::Accepted),
+        [2, 0, 0, 0, 0, 0, 0] => Err(Refusal::Path),
+        [number @ (1 | 3 | 4), 0, 0, 0, 0, 0, 0] => {
+            Err(Refusal::from_number(number).unwrap_or(unknown))
+        }
+        [18, 0, detail, 0, 0, 0, 0] => {
+            let fault = ReferenceFault::from_number(detail).ok_or(unknown)?;
+            Ok(PathVerdict::Defect(fault))
+        }
+        _ => Err(unknown),
     }
 }
 
@@ -535,11 +617,27 @@ mod tests {
         for numbers in [
             [6, 0, 0, 0, 0, 0, 0],
             [18, 9, 1, 1, 0, 0, 0],
-            [18, 1, 13, 1, 0, 0, 0],
+            [18, 1, 14, 1, 0, 0, 0],
             [11, 1, 1, 1, 0, 0, 0],
             [11, 1, 0, 1, 0, 0, 3],
         ] {
             assert_eq!(answer(numbers, b"ab"), Err(Refusal::Unknown(numbers)));
+        }
+    }
+
+    #[test]
+    fn answers_for_a_path_outside_the_format_are_unknown() {
+        for numbers in [
+            [0, 0, 0, 0, 0, 0, 0],
+            [0, 0, 0, 0, 0, 2, 0],
+            [2, 0, 1, 0, 0, 0, 0],
+            [5, 0, 0, 0, 0, 0, 0],
+            [18, 0, 0, 0, 0, 0, 0],
+            [18, 0, 14, 0, 0, 0, 0],
+            [18, 1, 13, 0, 0, 0, 0],
+            [18, 0, 13, 0, 0, 1, 0],
+        ] {
+            assert_eq!(path_answer(numbers), Err(Refusal::Unknown(numbers)));
         }
     }
 

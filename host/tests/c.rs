@@ -1,7 +1,7 @@
 //! The C header and the C example.
 
-use entity_rules::limits::{PATH_BYTES, RESULT_BYTES};
-use entity_rules::{DefectNumber, Family, Kind, Semantics};
+use entity_rules::limits::{MAX_KEY_BYTES, PATH_BYTES, RESULT_BYTES};
+use entity_rules::{DefectNumber, Family, Kind, Reader, ReferenceFault, Semantics};
 use std::path::{Path, PathBuf};
 use std::process::Command;
 
@@ -106,7 +106,11 @@ fn the_header_has_the_numbers_of_the_crate() {
     let families = Family::ALL
         .iter()
         .map(|one| (spelled(one.name()), one.number()));
-    for (name, number) in kinds.chain(semantics).chain(defects).chain(families) {
+    let readers = Reader::ALL
+        .iter()
+        .map(|one| (spelled(one.name()), one.number()));
+    let settings = kinds.chain(semantics).chain(readers);
+    for (name, number) in settings.chain(defects).chain(families) {
         let line = format!("  ENTITY_RULES_{name} = {number}");
         assert!(
             HEADER
@@ -115,8 +119,13 @@ fn the_header_has_the_numbers_of_the_crate() {
             "{line}"
         );
     }
-    assert!(HEADER.contains(&format!("#define ENTITY_RULES_PATH_BYTES {PATH_BYTES}\n")));
-    assert!(HEADER.contains(&format!(
-        "#define ENTITY_RULES_RESULT_BYTES {RESULT_BYTES}\n"
-    )));
+    for (name, number) in [
+        ("TEXT_COUNT", ReferenceFault::TextCount as usize),
+        ("KEY_BYTES", MAX_KEY_BYTES),
+        ("PATH_BYTES", PATH_BYTES),
+        ("RESULT_BYTES", RESULT_BYTES),
+    ] {
+        let line = format!("\n#define ENTITY_RULES_{name} {number}\n");
+        assert!(HEADER.contains(&line), "{line}");
+    }
 }

@@ -284,6 +284,132 @@ fn the_names_of_a_kind_are_those_that_it_may_read() {
     }
 }
 
+fn run_path(folder: &Path, words: &str) -> (Option<i32>, String) {
+    let output = run(folder, &format!("path {words}"));
+    assert!(output.stderr.is_empty(), "{output:?}");
+    let out = String::from_utf8(output.stdout).expect("the tool prints UTF-8");
+    (output.status.code(), out)
+}
+
+#[test]
+fn the_readme_shows_what_is_printed_for_paths() {
+    let readme = include_str!("../README.md");
+    let (_, example) = readme
+        .split_once("$ entity-rules path ")
+        .expect("an example");
+    let (words, rest) = example.split_once('\n').expect("a command");
+    let (shown, _) = rest.split_once("```").expect("the end of the example");
+    let (status, out) = run_path(&mill(), words);
+    assert_eq!((status, out.as_str()), (Some(1), shown));
+}
+
+#[test]
+fn paths_are_read_by_the_kernel_unless_said_otherwise() {
+    let out = |words: &str| run_path(&mill(), &format!("pattern.schema name.count {words}"));
+    let accepted = "name.count: accepted, its 1 check passed\n".to_owned();
+    assert_eq!(out("--semantics service/1"), (Some(0), accepted));
+    assert_eq!(
+        out("--semantics service/1 --quiet"),
+        (Some(0), String::new())
+    );
+    let (status, text) = out("--semantics service/3 --reader projection");
+    let told = "a reference cannot be read: a projection cannot read the length of a text";
+    assert_eq!(status, Some(1));
+    assert_eq!(text, format!("name.count: defect 18 (reference): {told}\n"));
+    for reader in ["kernel", "projection"] {
+        let (status, text) = out(&format!("--semantics kernel/1 --reader {reader}"));
+        assert_eq!(status, Some(1));
+        assert!(
+            text.ends_with(
+                "\n  hint    under kernel/1 only objects and json fields have members\n"
+            )
+        );
+    }
+}
+
+#[test]
+fn the_status_tells_the_worst_outcome_of_paths() {
+    let status = |words: &str| run_path(&mill(), &format!("{words} --semantics service/1")).0;
+    assert_eq!(status("pattern.schema name bars"), Some(0));
+    assert_eq!(status("pattern.schema name nmae"), Some(1));
+    let long = "l".repeat(513);
+    assert_eq!(status(&format!("pattern.schema nmae {long}")), Some(2));
+    assert_eq!(status("release.rule name"), Some(2));
+    assert_eq!(status("missing.schema name"), Some(2));
+    let usage = run(&mill(), "path pattern.schema name");
+    assert_eq!((usage.status.code(), usage.stdout.len()), (Some(2), 0));
+    let usage = run(
+        &mill(),
+        "path pattern.schema name --semantics service/1 --kind invariant",
+    );
+    assert_eq!(usage.status.code(), Some(2));
+}
+
+#[test]
+fn refused_paths_and_schemas_are_named() {
+    let long = "l".repeat(513);
+    let (_, out) = run_path(
+        &mill(),
+        &format!("pattern.schema name {long} --semantics service/1"),
+    );
+    let expected = format!(
+        "name: accepted, its 1 check passed\n\
+         {long}: refused 2 (path): the path is over 512 bytes long, or not UTF-8\n\
+         2 paths: 1 accepted, 0 with a defect, 1 refused\n"
+    );
+    assert_eq!(out, expected);
+    let (_, out) = run_path(&mill(), "release.rule name bars --semantics service/1");
+    assert_eq!(
+        out,
+        "release.rule:1: refused 4 (schema sheet): entry 1, byte 0: expected `H`, which begins a schema sheet\n\
+         2 paths: 0 accepted, 0 with a defect, 0 refused, 2 not checked\n"
+    );
+}
+
+#[test]
+fn machines_read_json_of_paths() {
+    let (status, out) = run_path(
+        &mill(),
+        "pattern.schema name name.count --semantics service/1 --reader projection --json",
+    );
+    assert_eq!(status, Some(1));
+    assert_eq!(
+        out,
+        concat!(
+            r#"{"key":"name","verdict":"accepted","number":0,"passed":1}"#,
+            "\n",
+            r#"{"key":"name.count","verdict":"defect","number":18,"word":"reference","explanation":"a reference cannot be read: a projection cannot read the length of a text","detail":13,"passed":0}"#,
+            "\n"
+        )
+    );
+    let (_, out) = run_path(
+        &mill(),
+        "release.rule name name --semantics service/1 --json",
+    );
+    assert_eq!(
+        out.lines().last(),
+        Some(
+            r#"{"key":"name","verdict":"refused","number":4,"word":"schema sheet","explanation":"entry 1, byte 0: expected `H`, which begins a schema sheet","fault_file":"release.rule","line":1,"place":1,"byte":0}"#
+        )
+    );
+}
+
+#[cfg(unix)]
+#[test]
+fn a_path_that_is_no_text_is_refused() {
+    use std::os::unix::ffi::OsStrExt;
+    let output = Command::new(env!("CARGO_BIN_EXE_entity-rules"))
+        .args(["path", "pattern.schema"])
+        .arg(std::ffi::OsStr::from_bytes(b"a\xFF"))
+        .args(["--semantics", "service/1"])
+        .current_dir(mill())
+        .output()
+        .expect("the tool runs");
+    assert_eq!(output.status.code(), Some(2));
+    let out = String::from_utf8(output.stdout).expect("the tool prints UTF-8");
+    assert!(out.contains(": refused 2 (path): "), "{out}");
+}
+
 #[test]
 fn a_dash_is_standard_input() {
     let mut tool = Command::new(env!("CARGO_BIN_EXE_entity-rules"))

@@ -1,6 +1,6 @@
-//! The two entries of the comparison. As a child of `validation` this module sees the private functions that are called.
+//! The three entries of the comparison. As a child of `validation` this module sees the private functions that are called.
 
-use super::{validate_rule_definition, validate_template, Scope, ScopeKind};
+use super::{validate_reference_path, validate_rule_definition, validate_template, Reader, Scope, ScopeKind};
 use crate::{DefinitionError, ObjectSchema, RuleDefinition, Semantics};
 use serde_json::Value;
 
@@ -25,6 +25,12 @@ pub fn rule(rule: &RuleDefinition, setting: &Setting<'_>) -> Result<(), Definiti
 
 pub fn template(value: &Value, setting: &Setting<'_>) -> Result<(), DefinitionError> {
     validate_template(value, setting.label, setting.scope())
+}
+
+/// One path of the record's fields, without `$fields.`: reader 1 or 2, semantics 1 to 4.
+pub fn key(fields: &ObjectSchema, path: &str, reader: u64, semantics: u64) -> Result<(), String> {
+    let service = self::semantics(semantics).has_service_semantics();
+    validate_reference_path(fields, path, "field", self::reader(reader), service)
 }
 
 /// Whether the instant reader takes the text; the reader itself may be private to its crate.
@@ -58,6 +64,14 @@ fn semantics(number: u64) -> Semantics {
         2 => Semantics::Service1,
         3 => Semantics::Service2,
         4 => Semantics::Service3,
+        _ => unreachable!("refusal 1 comes before the Rust is asked"),
+    }
+}
+
+fn reader(number: u64) -> Reader {
+    match number {
+        1 => Reader::Kernel,
+        2 => Reader::Projection,
         _ => unreachable!("refusal 1 comes before the Rust is asked"),
     }
 }

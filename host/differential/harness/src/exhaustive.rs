@@ -15,7 +15,7 @@ use differential::trees::{Field, Holder, Schema, Sheet};
 
 const TOKENS: [&str; 10] = ["$", "b", ".", "0", "1", "é", "fields", "args", "count", "value"];
 
-const SCHEMAS: usize = 12;
+pub const SCHEMAS: usize = 12;
 const LABEL: &str = "r";
 
 /// All texts of up to that many tokens, in each of the three positions, then the instants.
@@ -127,7 +127,7 @@ fn collections(world: &World, tokens: u32, tally: &mut Tally) -> Result<(), Stri
 }
 
 /// Schema `index`: names that the tokens can spell, with shapes that go round.
-fn numbered_schema(index: usize) -> Schema {
+pub fn numbered_schema(index: usize) -> Schema {
     const NAMES: [&str; 8] = ["b", "é", "0", "count", "value", "fields", "1", "args"];
     let fields = |shift: usize| -> Vec<Field> {
         let named = (0..4).map(|at| Field { name: NAMES[(index + shift + at) % NAMES.len()].to_owned(), ..shape(index + shift + 5 * at) });

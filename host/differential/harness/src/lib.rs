@@ -10,6 +10,7 @@ pub mod exhaustive;
 pub mod fuzzed;
 pub mod generate;
 pub mod instants;
+pub mod keys;
 pub mod leaves;
 pub mod library;
 pub mod longest;

@@ -1,6 +1,6 @@
 //! The commands of the comparison. See README.md beside the script `run`.
 
-use harness::{compare, exhaustive, fuzzed, leaves, memory, moved, published, vectors, widened};
+use harness::{compare, exhaustive, fuzzed, keys, leaves, memory, moved, published, vectors, widened};
 use std::collections::BTreeMap;
 use std::process::ExitCode;
 
@@ -11,6 +11,12 @@ const USAGE: &str = "usage: differential COMMAND [OPTION..]
   widened [--cases N] [--seed S]   N rules, each under a schema and a widening of it that differs
   moved [--cases N] [--seed S]     N rules that kernel/1 accepts, each under the service semantics too
   exhaustive [--tokens N]          every reference of up to N tokens (2 to 7, else 6), every instant near a good one
+  keys [--cases N] [--seed S]      known edges of keys, then N generated ones under both readers and all semantics
+  keys-widened [--cases N] [--seed S]
+                                   N pairs of schemas that differ, the second a widening, each with a key under both readers
+  keys-exhaustive [--tokens N]     every key of up to N tokens (2 to 7, else 6) under both readers and all semantics
+  keys-vectors --out FILE [--seed S]
+                                   writes the fixed list of keys and their answers
   leaves                           text and numbers of the model against Rust's own
   samples [--program FILE]         known edges, slips and published samples: library, model and Rust, and the program rulecheck
   vectors --out FILE [--printed FILE] [--seed S]
@@ -60,6 +66,23 @@ fn run(arguments: &[String]) -> Result<(), Trouble> {
         "exhaustive" => {
             let options = options(rest, &["tokens"])?;
             exhaustive::exhaustive(tokens(&options)?).map_err(Trouble::Failed)
+        }
+        "keys" => {
+            let options = options(rest, &["cases", "seed"])?;
+            keys::run::keys(numeral(&options, "cases", 1_000_000)?, numeral(&options, "seed", 1)?).map_err(Trouble::Failed)
+        }
+        "keys-widened" => {
+            let options = options(rest, &["cases", "seed"])?;
+            keys::widened::widened(numeral(&options, "cases", 1_000_000)?, numeral(&options, "seed", 1)?).map_err(Trouble::Failed)
+        }
+        "keys-exhaustive" => {
+            let options = options(rest, &["tokens"])?;
+            keys::short::exhaustive(tokens(&options)?).map_err(Trouble::Failed)
+        }
+        "keys-vectors" => {
+            let options = options(rest, &["out", "seed"])?;
+            let file = options.get("out").ok_or_else(|| Trouble::Usage("keys-vectors needs --out FILE".to_owned()))?;
+            keys::vectors::vectors(file, numeral(&options, "seed", 1)?).map_err(Trouble::Failed)
         }
         "vectors" => {
             let options = options(rest, &["out", "printed", "seed"])?;

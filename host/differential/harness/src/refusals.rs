@@ -2,12 +2,16 @@
 //! number rules of `str` and serde_json.
 
 use crate::case::Case;
+use crate::keys::KeyCase;
+use crate::library::RESULT_BYTES;
 
 pub const MAX_SHEET_BYTES: usize = 30_000;
 pub const MAX_SCHEMA_ENTRIES: usize = 1_024;
 pub const MAX_RULE_ENTRIES: usize = 2_048;
 pub const MAX_TEXT_BYTES: usize = 512;
 pub const MAX_LABEL_BYTES: usize = 256;
+/// Of a key, which is lent as it is.
+pub const MAX_PATH_BYTES: usize = 512;
 pub const MIN_PATH_BYTES: usize = 32_768;
 pub const MIN_SCRATCH_WORDS: usize = 4_096;
 pub const MAX_FIELD_NESTING: usize = 64;
@@ -21,7 +25,20 @@ pub fn refusal(case: &Case) -> u32 {
     let is_wide = case.path_len >= MIN_PATH_BYTES && case.scratch_len >= MIN_SCRATCH_WORDS;
     let is_schema = is_sheet(&case.schema, b"H", MAX_SCHEMA_ENTRIES);
     let is_rule = is_sheet(&case.rule, b"RT", MAX_RULE_ENTRIES);
-    let tests = [is_known, is_label, is_wide, is_schema, is_rule];
+    first_failing(&[is_known, is_label, is_wide, is_schema, is_rule])
+}
+
+/// The refusal that answers a call for a key, or 0.
+pub fn key_refusal(case: &KeyCase) -> u32 {
+    let is_known = matches!(case.semantics, 1..=4) && matches!(case.reader, 1 | 2);
+    let is_path = case.path.len() <= MAX_PATH_BYTES && std::str::from_utf8(&case.path).is_ok();
+    let is_wide = case.result_len >= RESULT_BYTES;
+    let is_schema = is_sheet(&case.schema, b"H", MAX_SCHEMA_ENTRIES);
+    first_failing(&[is_known, is_path, is_wide, is_schema])
+}
+
+/// From 1, or 0.
+fn first_failing(tests: &[bool]) -> u32 {
     tests.iter().zip(1..).find(|(passes, _)| !**passes).map_or(0, |(_, refusal)| refusal)
 }
 

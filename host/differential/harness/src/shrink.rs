@@ -37,7 +37,7 @@ fn candidates(case: &Case) -> Vec<Case> {
 }
 
 /// Bytes with a part left out, larger parts first.
-fn shorter(bytes: &[u8]) -> Vec<Vec<u8>> {
+pub fn shorter(bytes: &[u8]) -> Vec<Vec<u8>> {
     let halves = std::iter::successors(Some(bytes.len() / 2), |size| (*size > 1).then_some(size / 2)).filter(|size| *size > 0);
     let without = |start: usize, size: usize| [&bytes[..start], &bytes[(start + size).min(bytes.len())..]].concat();
     halves
@@ -46,7 +46,8 @@ fn shorter(bytes: &[u8]) -> Vec<Vec<u8>> {
         .collect()
 }
 
-fn schemas(schema: &Schema) -> Vec<Schema> {
+/// The schema with one part left out.
+pub fn schemas(schema: &Schema) -> Vec<Schema> {
     let mut found = Vec::new();
     for fields in lists(&schema.record.fields, fields) {
         let mut smaller = schema.clone();

@@ -45,8 +45,8 @@ pub fn widened(pairs: u64, seed: u64) -> Result<(), String> {
     Ok(())
 }
 
-/// Two schemas, the second a widening of the first. The rule was made for one of them, mostly for the wider one.
-fn schemas(random: &mut Random, schema: &Schema, level: Level) -> (Schema, Schema) {
+/// Two schemas, the second a widening of the first. The rule or path was made for one of them, mostly for the wider one.
+pub fn schemas(random: &mut Random, schema: &Schema, level: Level) -> (Schema, Schema) {
     if random.chance(75) {
         (unwidened(random, schema, level), schema.clone())
     } else {
@@ -81,7 +81,7 @@ fn fare(cases: &[Case; 2], marks_alone: bool) -> Result<Option<Fared>, (usize, S
 }
 
 /// How the second answer stands to the first; none if the promise is broken.
-fn promise(first: &Answer, second: &Answer, marks_alone: bool) -> Option<Fared> {
+pub fn promise(first: &Answer, second: &Answer, marks_alone: bool) -> Option<Fared> {
     if first.number == 0 {
         return (first == second).then_some(Fared::AcceptedAgain);
     }

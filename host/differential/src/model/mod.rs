@@ -3,6 +3,7 @@
 
 pub mod checks;
 pub mod instant;
+mod keys;
 pub mod number;
 mod paths;
 mod program;
@@ -19,6 +20,7 @@ use crate::trees::{Field, Schema, Sheet};
 use checks::{Binders, Check, Question};
 use settings::Setting;
 
+pub use keys::{check_key, KeyCall, MAX_KEY_BYTES};
 pub use program::rulecheck;
 pub use sheets::{decode_rule, decode_schema, write_rule, write_schema};
 pub use walks::is_ordinal;

@@ -1,4 +1,27 @@
-//! Kind and semantics of a call, and which names a kind may read (docs/FORMAT.md, "Settings and names").
+//! Kind and semantics of a call, which names a kind may read, and who reads a key (docs/FORMAT.md, "Settings and names", "Keys").
+
+/// Which walk will read a path.
+#[derive(Clone, Copy, Debug, PartialEq, Eq)]
+pub enum Reader {
+    Kernel,
+    Projection,
+}
+
+impl Reader {
+    /// None where the number is not among the known ones.
+    pub fn new(number: u64) -> Option<Self> {
+        match number {
+            1 => Some(Self::Kernel),
+            2 => Some(Self::Projection),
+            _ => None,
+        }
+    }
+}
+
+/// Whether semantics is a service's; none where it is not among the known ones.
+pub fn is_service(semantics: u64) -> Option<bool> {
+    (1..=4).contains(&semantics).then_some(semantics >= 2)
+}
 
 /// What the checks need to know of kind and semantics.
 pub struct Setting {
@@ -10,11 +33,11 @@ pub struct Setting {
 impl Setting {
     /// None where kind or semantics is not among the known ones.
     pub fn new(kind: u64, semantics: u64) -> Option<Self> {
-        let known = (1..=8).contains(&kind) && (1..=4).contains(&semantics);
-        known.then_some(Setting {
+        let service = is_service(semantics)?;
+        (1..=8).contains(&kind).then_some(Setting {
             kind,
             rule_kind: matches!(kind, 1 | 2 | 5 | 6),
-            service: semantics >= 2,
+            service,
         })
     }
 

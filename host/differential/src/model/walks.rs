@@ -1,6 +1,6 @@
-//! What a reference may read and what a quantifier may walk over (docs/FORMAT.md, "References" and "Collections").
+//! What a reference or a key may read and what a quantifier may walk over (docs/FORMAT.md, "References", "Keys" and "Collections").
 
-use super::settings::Setting;
+use super::settings::{Reader, Setting};
 use crate::trees::{Data, Field, Holder, Schema, Value};
 
 const STRING: u8 = 1;
@@ -60,7 +60,9 @@ pub fn validate_reference(
     let (name, path) = split(&expression[1..]);
     if let Some(element) = bound(name, binders) {
         return match (element, path) {
-            (Some(field), Some(path)) => walk_field_path(field, path, setting.service),
+            (Some(field), Some(path)) => {
+                walk_field_path(field, path, Reader::Kernel, setting.service)
+            }
             _ => Ok(()),
         };
     }
@@ -78,14 +80,19 @@ pub fn validate_reference(
     };
     match holder {
         Some(holder) if setting.allows(name) => {
-            validate_reference_path(holder, path, setting.service)
+            validate_reference_path(holder, path, Reader::Kernel, setting.service)
         }
         _ => Err(11),
     }
 }
 
 /// The lookup at a root, and the walk on from the field found there.
-fn validate_reference_path(holder: &Holder, path: &str, service: bool) -> Result<(), u32> {
+pub fn validate_reference_path(
+    holder: &Holder,
+    path: &str,
+    reader: Reader,
+    service: bool,
+) -> Result<(), u32> {
     let (root, rest) = split(path);
     if root.is_empty() {
         return Err(1);
@@ -94,7 +101,7 @@ fn validate_reference_path(holder: &Holder, path: &str, service: bool) -> Result
         (None, _) if holder.open => Ok(()),
         (None, _) => Err(2),
         (Some(_), None) => Ok(()),
-        (Some(field), Some(rest)) => walk_field_path(field, rest, service),
+        (Some(field), Some(rest)) => walk_field_path(field, rest, reader, service),
     }
 }
 
@@ -110,19 +117,19 @@ enum Step<'t> {
 }
 
 /// Walks a path from a field, segment by segment.
-fn walk_field_path(field: &Field, path: &str, service: bool) -> Result<(), u32> {
+fn walk_field_path(field: &Field, path: &str, reader: Reader, service: bool) -> Result<(), u32> {
     let (segment, rest) = split(path);
     if segment.is_empty() {
         return Err(1);
     }
     let step = if service {
-        service_step(field, segment)
+        service_step(field, segment, reader)
     } else {
         kernel_step(field, segment)
     };
     match (step, rest) {
         (Step::Fail(detail), _) | (Step::Last(detail), Some(_)) => Err(detail),
-        (Step::Into(next), Some(rest)) => walk_field_path(next, rest, service),
+        (Step::Into(next), Some(rest)) => walk_field_path(next, rest, reader, service),
         (Step::Last(_), None) | (Step::Free, _) | (Step::Into(_), None) => Ok(()),
     }
 }
@@ -143,11 +150,13 @@ fn object_step<'t>(field: &'t Field, segment: &str) -> Step<'t> {
     }
 }
 
-fn service_step<'t>(field: &'t Field, segment: &str) -> Step<'t> {
+fn service_step<'t>(field: &'t Field, segment: &str, reader: Reader) -> Step<'t> {
     match field.kind {
         JSON => Step::Free,
         OBJECT => object_step(field, segment),
         UNION => union_step(field, segment),
+        // What follows is not looked at: the projection reads no text's length at all.
+        STRING if segment == "count" && reader == Reader::Projection => Step::Fail(13),
         STRING | ARRAY | MAP if segment == "count" => Step::Last(6),
         ARRAY if is_ordinal(segment) => field.items.as_deref().map_or(Step::Free, Step::Into),
         ARRAY => Step::Fail(4),

@@ -1,29 +1,34 @@
 //! The command line.
 
-use entity_rules::{Kind, Semantics};
+use entity_rules::{Kind, Reader, Semantics};
 use std::ffi::OsString;
 use std::path::PathBuf;
 use std::str::FromStr;
 
 pub const HELP: &str = "\
-Checks rules and templates against the schema of their record.
+Checks rules, templates and key paths against the schema of their record.
 
 usage: entity-rules check SCHEMA RULE.. --kind KIND --semantics SEMANTICS [OPTION..]
+       entity-rules path SCHEMA PATH.. --semantics SEMANTICS [OPTION..]
 
   SCHEMA, RULE        files that hold a schema sheet, and rule sheets or templates; one of them
                       may be -, which is standard input
-  --kind KIND         invariant, precondition, create_template, operation_template,
+  PATH                a path of the record's fields, without `$fields.` before it
+  --kind KIND         check: invariant, precondition, create_template, operation_template,
                       outcome_selector, create_selector, create_set or create_outcome_template
   --semantics SEMANTICS
                       kernel/1, service/1, service/2 or service/3
-  --label TEXT        what each path begins with (default: the rule's file name without its end)
-  --json              one line of JSON for each rule, and no summary
+  --reader READER     path: kernel or projection, who will read the path (default: kernel)
+  --label TEXT        check: what each path begins with (default: the rule's file name without
+                      its end)
+  --json              one line of JSON for each rule or path, and no summary
   --quiet             print nothing for what is accepted, and no summary if all are
-  --                  all words after this are files
+  --                  all words after this are files, or paths
   --help, --version
 
-Example, in the crate's folder examples/mill:
+Examples, in the crate's folder examples/mill:
   entity-rules check pattern.schema release.rule --kind precondition --semantics service/1
+  entity-rules path pattern.schema bars.count --semantics service/1 --reader projection
 
 Exit status: 0 all are accepted; 1 one has a defect; 2 one is refused or cannot be read, or the
 command line is wrong.
@@ -40,24 +45,47 @@ pub enum Command {
     Check(Arguments),
 }
 
-/// What `check` is given.
+/// What `check` or `path` is given.
 #[derive(Debug, PartialEq)]
 pub struct Arguments {
     pub schema: PathBuf,
-    pub rules: Vec<PathBuf>,
-    pub kind: Kind,
+    pub asked: Asked,
     pub semantics: Semantics,
-    pub label: Option<String>,
     pub json: bool,
     pub quiet: bool,
 }
 
-/// The options as they are met.
+/// What is checked against the schema.
+#[derive(Debug, PartialEq)]
+pub enum Asked {
+    Rules {
+        files: Vec<PathBuf>,
+        kind: Kind,
+        label: Option<String>,
+    },
+    Keys {
+        paths: Vec<OsString>,
+        reader: Reader,
+    },
+}
+
+impl Asked {
+    /// What several of them are called.
+    pub fn noun(&self) -> &'static str {
+        match self {
+            Self::Rules { .. } => "rules",
+            Self::Keys { .. } => "paths",
+        }
+    }
+}
+
+/// The words and options as they are met.
 #[derive(Default)]
 struct Options {
-    files: Vec<PathBuf>,
+    words: Vec<OsString>,
     kind: Option<Kind>,
     semantics: Option<Semantics>,
+    reader: Option<Reader>,
     label: Option<String>,
     json: bool,
     quiet: bool,
@@ -85,8 +113,11 @@ pub fn parse(words: impl IntoIterator<Item = OsString>) -> Result<Command, Strin
     let mut words = words.into_iter();
     match words.next() {
         Some(command) if command == "check" => options(words)?.check().map(Command::Check),
-        Some(other) => Err(format!("expected the command `check`, not {other:?}")),
-        None => Err("expected the command `check`".to_owned()),
+        Some(command) if command == "path" => options(words)?.path().map(Command::Check),
+        Some(other) => Err(format!(
+            "expected the command `check` or `path`, not {other:?}"
+        )),
+        None => Err("expected the command `check` or `path`".to_owned()),
     }
 }
 
@@ -94,11 +125,11 @@ fn options(mut words: impl Iterator<Item = OsString>) -> Result<Options, String>
     let mut options = Options::default();
     while let Some(word) = words.next() {
         if word == "--" {
-            options.files.extend(words.by_ref().map(PathBuf::from));
+            options.words.extend(words.by_ref());
         } else if word != "-" && word.to_string_lossy().starts_with('-') {
             options.take(&word.to_string_lossy(), &mut words)?;
         } else {
-            options.files.push(PathBuf::from(word));
+            options.words.push(word);
         }
     }
     Ok(options)
@@ -125,6 +156,7 @@ impl Options {
             "--quiet" => self.quiet = true,
             "--kind" => self.kind = Some(named(name, &value()?)?),
             "--semantics" => self.semantics = Some(named(name, &value()?)?),
+            "--reader" => self.reader = Some(named(name, &value()?)?),
             "--label" => self.label = Some(value()?),
             _ => return Err(format!("unknown option {name:?}")),
         }
@@ -132,38 +164,72 @@ impl Options {
     }
 
     fn check(self) -> Result<Arguments, String> {
-        let mut files = self.files.into_iter();
-        let schema = files
-            .next()
-            .ok_or("check: expected the files SCHEMA and RULE")?;
-        let rules: Vec<PathBuf> = files.collect();
-        if rules.is_empty() {
-            return Err(format!(
-                "check: expected at least one file RULE after {schema:?}"
-            ));
-        }
-        let files = std::iter::once(&schema).chain(&rules);
-        if files.filter(|file| file.as_os_str() == "-").count() > 1 {
+        let is_given = self.reader.is_some();
+        not_for("check", &[("--reader", is_given)])?;
+        let (schema, rules) = self.split("check", "files SCHEMA and RULE", "file RULE")?;
+        let files: Vec<PathBuf> = rules.iter().map(PathBuf::from).collect();
+        let all = std::iter::once(&schema).chain(&files);
+        if all.filter(|file| file.as_os_str() == "-").count() > 1 {
             return Err("check: expected `-`, standard input, at most once".to_owned());
         }
+        let kind = self
+            .kind
+            .ok_or_else(|| missing("check", "--kind KIND", Kind::ALL))?;
+        let label = self.label.clone();
+        self.arguments("check", schema, Asked::Rules { files, kind, label })
+    }
+
+    fn path(self) -> Result<Arguments, String> {
+        let (kind, label) = (self.kind.is_some(), self.label.is_some());
+        not_for("path", &[("--kind", kind), ("--label", label)])?;
+        let (schema, paths) = self.split("path", "file SCHEMA and a PATH", "PATH")?;
+        let reader = self.reader.unwrap_or(Reader::Kernel);
+        self.arguments("path", schema, Asked::Keys { paths, reader })
+    }
+
+    /// The schema's file and the other words, of which there is one at least.
+    fn split(
+        &self,
+        command: &str,
+        both: &str,
+        other: &str,
+    ) -> Result<(PathBuf, Vec<OsString>), String> {
+        match self.words.split_first() {
+            None => Err(format!("{command}: expected the {both}")),
+            Some((schema, [])) => Err(format!(
+                "{command}: expected at least one {other} after {schema:?}"
+            )),
+            Some((schema, others)) => Ok((PathBuf::from(schema), others.to_vec())),
+        }
+    }
+
+    fn arguments(self, command: &str, schema: PathBuf, asked: Asked) -> Result<Arguments, String> {
+        let semantics = self.semantics.ok_or_else(|| {
+            let option = "--semantics SEMANTICS";
+            missing(command, option, Semantics::ALL)
+        })?;
         Ok(Arguments {
             schema,
-            rules,
-            kind: self.kind.ok_or_else(|| missing("--kind KIND", Kind::ALL))?,
-            semantics: self
-                .semantics
-                .ok_or_else(|| missing("--semantics SEMANTICS", Semantics::ALL))?,
-            label: self.label,
+            asked,
+            semantics,
             json: self.json,
             quiet: self.quiet,
         })
     }
 }
 
+/// That the command does not take an option that is given.
+fn not_for(command: &str, options: &[(&str, bool)]) -> Result<(), String> {
+    match options.iter().find(|(_, is_given)| *is_given) {
+        Some((option, _)) => Err(format!("{command}: {option} is no option of this command")),
+        None => Ok(()),
+    }
+}
+
 /// That an option is missing, and what it could be.
-fn missing(option: &str, all: &[impl ToString]) -> String {
+fn missing(command: &str, option: &str, all: &[impl ToString]) -> String {
     let names: Vec<String> = all.iter().map(ToString::to_string).collect();
-    format!("check: expected {option}, one of {}", names.join(", "))
+    format!("{command}: expected {option}, one of {}", names.join(", "))
 }
 
 fn text(option: &str, value: Option<OsString>) -> Result<String, String> {
@@ -197,10 +263,12 @@ mod tests {
     fn options_stand_anywhere() {
         let expected = Command::Check(Arguments {
             schema: "s".into(),
-            rules: vec!["a".into(), "b".into()],
-            kind: Kind::CreateSelector,
+            asked: Asked::Rules {
+                files: vec!["a".into(), "b".into()],
+                kind: Kind::CreateSelector,
+                label: Some("x".to_owned()),
+            },
             semantics: Semantics::Service1,
-            label: Some("x".to_owned()),
             json: true,
             quiet: false,
         });
@@ -216,11 +284,56 @@ mod tests {
     }
 
     #[test]
+    fn paths_may_look_like_options_and_the_reader_is_the_kernel() {
+        let paths = |line: &str| match parsed(line) {
+            Ok(Command::Check(arguments)) => Some(arguments.asked),
+            _ => None,
+        };
+        let keys = |paths: &[&str], reader| {
+            let paths = paths.iter().map(OsString::from).collect();
+            Some(Asked::Keys { paths, reader })
+        };
+        assert_eq!(
+            paths("path s a - --semantics kernel/1"),
+            keys(&["a", "-"], Reader::Kernel)
+        );
+        assert_eq!(
+            paths("path --reader=projection --semantics service/3 -- s --json"),
+            keys(&["--json"], Reader::Projection)
+        );
+    }
+
+    #[test]
+    fn errors_of_path_say_what_was_expected() {
+        assert_eq!(error("path"), "path: expected the file SCHEMA and a PATH");
+        assert_eq!(
+            error("path s"),
+            "path: expected at least one PATH after \"s\""
+        );
+        assert!(
+            error("path s a")
+                .starts_with("path: expected --semantics SEMANTICS, one of kernel/1, service/1,")
+        );
+        assert_eq!(
+            error("path s a --reader store"),
+            "--reader: \"store\" is no reader; expected one of kernel, projection"
+        );
+        for (line, option) in [
+            ("path s a --kind invariant", "path: --kind"),
+            ("path s a --label x", "path: --label"),
+            ("check s r --reader kernel", "check: --reader"),
+        ] {
+            let expected = format!("{option} is no option of this command");
+            assert_eq!(error(line), expected);
+        }
+    }
+
+    #[test]
     fn errors_say_what_was_expected() {
-        assert_eq!(error(""), "expected the command `check`");
+        assert_eq!(error(""), "expected the command `check` or `path`");
         assert_eq!(
             error("chekc"),
-            "expected the command `check`, not \"chekc\""
+            "expected the command `check` or `path`, not \"chekc\""
         );
         assert_eq!(error("check"), "check: expected the files SCHEMA and RULE");
         assert_eq!(
@@ -258,7 +371,9 @@ mod tests {
 
     #[test]
     fn the_help_has_every_name() {
-        let names = Kind::ALL.iter().map(|kind| kind.text());
+        let kinds = Kind::ALL.iter().map(|kind| kind.text());
+        let readers = Reader::ALL.iter().map(|reader| reader.text());
+        let names = kinds.chain(readers);
         for name in names.chain(Semantics::ALL.iter().map(|semantics| semantics.text())) {
             assert!(HELP.contains(name), "{name}");
         }

@@ -1,18 +1,53 @@
-//! One rule, checked, with what a person wants to know about the answer.
+//! One rule or key path, checked, with what a person wants to know about the answer.
 
-use crate::arguments::Arguments;
-use crate::hint::hint;
+use crate::arguments::{Arguments, Asked};
+use crate::hint::{hint, no_member};
 use entity_rules::entries::{Content, Entry, Malformed, read_rule, read_schema};
 use entity_rules::limits::{MAX_SHEET_BYTES, MAX_TEXT_BYTES};
-use entity_rules::{Defect, Refusal, Verdict, check};
+use entity_rules::{
+    Defect, Kind, PathVerdict, Reader, ReferenceFault, Refusal, Semantics, Verdict, check,
+    check_path,
+};
+use std::ffi::{OsStr, OsString};
 use std::fs::File;
 use std::io::{self, Read};
 use std::path::{Path, PathBuf};
 
-/// A rule's file and what came of it.
-pub struct Checked {
-    pub file: PathBuf,
+/// A question and what came of it.
+pub struct Checked<'a> {
+    pub question: Question<'a>,
     pub outcome: Outcome,
+}
+
+/// What is checked against the schema: one of what the command line asks for.
+#[derive(Clone, Copy)]
+pub enum Question<'a> {
+    /// The rule or template in a file.
+    Rule {
+        file: &'a Path,
+        kind: Kind,
+        label: Option<&'a str>,
+    },
+    /// A path of the record's fields.
+    Key { path: &'a OsStr, reader: Reader },
+}
+
+impl Asked {
+    /// Each question, in the order given.
+    pub fn questions(&self) -> Vec<Question<'_>> {
+        match self {
+            Self::Rules { files, kind, label } => {
+                let (kind, label) = (*kind, label.as_deref());
+                let rule = |file| Question::Rule { file, kind, label };
+                files.iter().map(PathBuf::as_path).map(rule).collect()
+            }
+            Self::Keys { paths, reader } => {
+                let reader = *reader;
+                let key = |path| Question::Key { path, reader };
+                paths.iter().map(OsString::as_os_str).map(key).collect()
+            }
+        }
+    }
 }
 
 pub enum Outcome {
@@ -23,6 +58,11 @@ pub enum Outcome {
         defect: Defect,
         at: Option<Spot>,
         over: Option<Spot>,
+        hint: Option<String>,
+    },
+    /// A key path that cannot be read; no check passed before that one.
+    KeyDefect {
+        fault: ReferenceFault,
         hint: Option<String>,
     },
     Refused {
@@ -63,7 +103,7 @@ pub enum Sheet {
 }
 
 impl Outcome {
-    /// Whether the schema is at fault, so that every other rule would fare the same.
+    /// Whether the schema is at fault, so that every other question would fare the same.
     pub fn blames_the_schema(&self) -> bool {
         match self {
             Self::Refused { refusal, .. } => *refusal == Refusal::SchemaSheet,
@@ -73,17 +113,22 @@ impl Outcome {
     }
 }
 
-impl Checked {
-    pub fn new(arguments: &Arguments, schema: &Result<Vec<u8>, Unreadable>, file: &Path) -> Self {
-        let outcome = match (schema, read_sheet(file, Sheet::Rule)) {
-            (Ok(schema), Ok(rule)) => outcome(arguments, schema, file, &rule),
+impl<'a> Checked<'a> {
+    pub fn new(
+        arguments: &Arguments,
+        schema: &Result<Vec<u8>, Unreadable>,
+        question: Question<'a>,
+    ) -> Self {
+        let outcome = match (schema, question) {
             (Err(unreadable), _) => Outcome::Unreadable(unreadable.clone()),
-            (_, Err(unreadable)) => Outcome::Unreadable(unreadable),
+            (Ok(schema), Question::Rule { file, kind, label }) => {
+                rule_outcome(arguments, schema, file, kind, label)
+            }
+            (Ok(schema), Question::Key { path, reader }) => {
+                key_outcome(arguments, schema, path, reader)
+            }
         };
-        Self {
-            file: file.to_owned(),
-            outcome,
-        }
+        Self { question, outcome }
     }
 }
 
@@ -111,31 +156,52 @@ fn start(input: impl Read) -> io::Result<Vec<u8>> {
     Ok(bytes)
 }
 
-fn outcome(arguments: &Arguments, schema: &[u8], file: &Path, rule: &[u8]) -> Outcome {
-    let label = match &arguments.label {
-        Some(label) => label.clone(),
-        None => file
-            .file_stem()
-            .unwrap_or_default()
-            .to_string_lossy()
-            .into_owned(),
+fn rule_outcome(
+    arguments: &Arguments,
+    schema: &[u8],
+    file: &Path,
+    kind: Kind,
+    label: Option<&str>,
+) -> Outcome {
+    let rule = match read_sheet(file, Sheet::Rule) {
+        Ok(rule) => rule,
+        Err(unreadable) => return Outcome::Unreadable(unreadable),
     };
-    match check(arguments.kind, arguments.semantics, label, schema, rule) {
+    let stem = file.file_stem().unwrap_or_default().to_string_lossy();
+    let label = label.unwrap_or(&stem);
+    match check(kind, arguments.semantics, label, schema, &rule) {
         Ok(Verdict::Accepted { passed }) => Outcome::Accepted { passed },
-        Ok(Verdict::Defect(defect)) => located(arguments, defect, rule),
-        Err(refusal) => {
-            let fault = match refusal {
-                Refusal::SchemaSheet => fault(&arguments.schema, schema, read_schema),
-                Refusal::RuleSheet => fault(file, rule, read_rule),
-                _ => None,
-            };
-            Outcome::Refused { refusal, fault }
-        }
+        Ok(Verdict::Defect(defect)) => located(kind, arguments.semantics, defect, &rule),
+        Err(refusal @ Refusal::RuleSheet) => Outcome::Refused {
+            refusal,
+            fault: fault(file, &rule, read_rule),
+        },
+        Err(refusal) => refused(arguments, schema, refusal),
     }
 }
 
+fn key_outcome(arguments: &Arguments, schema: &[u8], path: &OsStr, reader: Reader) -> Outcome {
+    match check_path(arguments.semantics, reader, path.as_encoded_bytes(), schema) {
+        Ok(PathVerdict::Accepted) => Outcome::Accepted { passed: 1 },
+        Ok(PathVerdict::Defect(fault)) => Outcome::KeyDefect {
+            fault,
+            hint: no_member(arguments.semantics, fault),
+        },
+        Err(refusal) => refused(arguments, schema, refusal),
+    }
+}
+
+/// A refusal that is not the rule's, with the schema's fault if it is that one.
+fn refused(arguments: &Arguments, schema: &[u8], refusal: Refusal) -> Outcome {
+    let fault = match refusal {
+        Refusal::SchemaSheet => fault(&arguments.schema, schema, read_schema),
+        _ => None,
+    };
+    Outcome::Refused { refusal, fault }
+}
+
 /// A defect with the entries that it names.
-fn located(arguments: &Arguments, defect: Defect, rule: &[u8]) -> Outcome {
+fn located(kind: Kind, semantics: Semantics, defect: Defect, rule: &[u8]) -> Outcome {
     let entries = read_rule(rule).unwrap_or_default();
     let entry = |place: u32| entries.get(usize::try_from(place).ok()?.checked_sub(1)?);
     let spot = |place: u32| {
@@ -153,14 +219,14 @@ fn located(arguments: &Arguments, defect: Defect, rule: &[u8]) -> Outcome {
     Outcome::Defect {
         at: spot(defect.place),
         over: defect.over_place.and_then(spot),
-        hint: hint(arguments.kind, arguments.semantics, defect.detail, text),
+        hint: hint(kind, semantics, defect.detail, text),
         defect,
     }
 }
 
-type Reader = for<'a> fn(&'a [u8]) -> Result<Vec<Entry<'a>>, Malformed>;
+type SheetReader = for<'a> fn(&'a [u8]) -> Result<Vec<Entry<'a>>, Malformed>;
 
-fn fault(file: &Path, sheet: &[u8], read: Reader) -> Option<Fault> {
+fn fault(file: &Path, sheet: &[u8], read: SheetReader) -> Option<Fault> {
     let malformed = read(sheet).err()?;
     Some(Fault {
         file: file.to_owned(),

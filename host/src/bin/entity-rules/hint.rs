@@ -8,15 +8,19 @@ const INSTANT: &str = "an instant is YYYY-MM-DD or YYYY-MM-DDTHH:MM:SS, the latt
 /// The hint for a defect of that detail, whose entry is a string of that text.
 pub fn hint(kind: Kind, semantics: Semantics, detail: Detail, text: &str) -> Option<String> {
     match detail {
-        Detail::Reference(ReferenceFault::NoMember) if !semantics.is_service() => {
-            Some("under kernel/1 only objects and json fields have members".to_owned())
-        }
         Detail::Reference(ReferenceFault::RootNotAvailable | ReferenceFault::NoSuchReference) => {
             Some(readable(kind, text))
         }
+        Detail::Reference(fault) => no_member(semantics, fault),
         Detail::Instant(_) => Some(INSTANT.to_owned()),
         _ => None,
     }
+}
+
+/// The hint for a path that goes on where kernel/1, other than service, has no members.
+pub fn no_member(semantics: Semantics, fault: ReferenceFault) -> Option<String> {
+    let is_kernels = fault == ReferenceFault::NoMember && !semantics.is_service();
+    is_kernels.then(|| "under kernel/1 only objects and json fields have members".to_owned())
 }
 
 /// What may be read where a name may not.

@@ -1,13 +1,16 @@
 //! Outcomes as JSON (RFC 8259), one object on one line.
 
-use crate::checked::{Checked, Outcome, Spot};
+use crate::checked::{Checked, Outcome, Question, Spot};
 use crate::report::{not_read, refused};
-use entity_rules::Defect;
+use entity_rules::{Defect, DefectNumber, PathVerdict};
 
-/// The line for one rule.
+/// The line for one rule or path.
 pub fn line(checked: &Checked) -> String {
     let mut object = Object::new();
-    object.text("file", &checked.file.to_string_lossy());
+    match checked.question {
+        Question::Rule { file, .. } => object.text("file", &file.to_string_lossy()),
+        Question::Key { path, .. } => object.text("key", &path.to_string_lossy()),
+    }
     match &checked.outcome {
         Outcome::Accepted { passed } => {
             object.text("verdict", "accepted");
@@ -21,6 +24,18 @@ pub fn line(checked: &Checked) -> String {
             hint,
         } => {
             defect_members(&mut object, defect, at.as_ref(), over.as_ref());
+            if let Some(hint) = hint {
+                object.text("hint", hint);
+            }
+        }
+        Outcome::KeyDefect { fault, hint } => {
+            let number = DefectNumber::Reference;
+            object.text("verdict", "defect");
+            object.number("number", number.number());
+            object.text("word", number.word());
+            object.text("explanation", &PathVerdict::Defect(*fault).to_string());
+            object.number("detail", fault.number());
+            object.number("passed", 0);
             if let Some(hint) = hint {
                 object.text("hint", hint);
             }

@@ -1,4 +1,4 @@
-//! The command-line tool: `entity-rules check SCHEMA RULE.. --kind KIND --semantics SEMANTICS`.
+//! The command-line tool: `entity-rules check SCHEMA RULE.. --kind KIND --semantics SEMANTICS`, and `entity-rules path SCHEMA PATH..` for keys.
 
 #![forbid(unsafe_code)]
 #![deny(
@@ -26,7 +26,7 @@ use std::env;
 use std::io::{self, ErrorKind, IsTerminal, Write};
 use std::process::ExitCode;
 
-/// The exit status of bad usage and of whatever keeps a rule from being checked.
+/// The exit status of bad usage and of whatever keeps a rule or path from being checked.
 const REFUSED: u8 = 2;
 
 fn main() -> ExitCode {
@@ -57,16 +57,17 @@ fn run(command: &Command) -> io::Result<u8> {
     Ok(0)
 }
 
-/// Checks every rule, and prints what comes of it.
+/// Checks every rule or path, and prints what comes of it.
 fn check(arguments: &Arguments, out: &mut impl Write) -> io::Result<u8> {
     let schema = read_sheet(&arguments.schema, Sheet::Schema);
-    let total = arguments.rules.len();
+    let (questions, noun) = (arguments.asked.questions(), arguments.asked.noun());
+    let total = questions.len();
     let palette = Palette::new(io::stdout().is_terminal());
     let has_bar = io::stderr().is_terminal() && !terminal::is_dumb();
-    let mut progress = Progress::new(io::stderr(), has_bar, total);
+    let mut progress = Progress::new(io::stderr(), has_bar, total, noun);
     let mut tally = Tally::default();
-    for rule in &arguments.rules {
-        let checked = Checked::new(arguments, &schema, rule);
+    for question in questions {
+        let checked = Checked::new(arguments, &schema, question);
         tally.count(&checked.outcome);
         if arguments.shows(&checked.outcome) {
             progress.clear();
@@ -80,7 +81,7 @@ fn check(arguments: &Arguments, out: &mut impl Write) -> io::Result<u8> {
     progress.clear();
     let status = tally.status();
     if !arguments.json && total > 1 && !(arguments.quiet && status == 0) {
-        writeln!(out, "{}", tally.summary(total))?;
+        writeln!(out, "{}", tally.summary(total, noun))?;
     }
     out.flush()?;
     Ok(status)
@@ -94,7 +95,7 @@ fn show(arguments: &Arguments, palette: &Palette, checked: &Checked) -> String {
 }
 
 impl Arguments {
-    /// Whether a rule's outcome is printed.
+    /// Whether an outcome is printed.
     fn shows(&self, outcome: &Outcome) -> bool {
         !(self.quiet && matches!(outcome, Outcome::Accepted { .. }))
     }

@@ -1,4 +1,4 @@
-//! A bar that shows how many rules are checked.
+//! A bar that shows how many rules or paths are checked.
 
 use std::io::Write;
 use std::time::{Duration, Instant};
@@ -15,12 +15,13 @@ pub struct Progress<W: Write> {
     is_drawn: bool,
     done: usize,
     total: usize,
+    noun: &'static str,
     next: Option<Instant>,
 }
 
 impl<W: Write> Progress<W> {
-    /// A bar for several rules, drawn only on a terminal that can take it off again.
-    pub fn new(out: W, is_terminal: bool, total: usize) -> Self {
+    /// A bar for several of what the noun says, drawn only on a terminal that can take it off again.
+    pub fn new(out: W, is_terminal: bool, total: usize, noun: &'static str) -> Self {
         let next = Instant::now().checked_add(PAUSE);
         Self {
             out,
@@ -28,11 +29,12 @@ impl<W: Write> Progress<W> {
             is_drawn: false,
             done: 0,
             total,
+            noun,
             next,
         }
     }
 
-    /// One more rule is checked.
+    /// One more is checked.
     pub fn step(&mut self) {
         self.done = self.done.saturating_add(1);
         let now = Instant::now();
@@ -51,7 +53,7 @@ impl<W: Write> Progress<W> {
     }
 
     fn draw(&mut self) {
-        let line = bar(self.done, self.total);
+        let line = bar(self.done, self.total, self.noun);
         let _ = write!(self.out, "\r{line}\x1b[K");
         let _ = self.out.flush();
         self.is_drawn = true;
@@ -59,7 +61,7 @@ impl<W: Write> Progress<W> {
 }
 
 /// The bar for so many of a total.
-fn bar(done: usize, total: usize) -> String {
+fn bar(done: usize, total: usize, noun: &str) -> String {
     let filled = done
         .min(total)
         .saturating_mul(WIDTH)
@@ -67,7 +69,7 @@ fn bar(done: usize, total: usize) -> String {
         .unwrap_or(WIDTH);
     let empty = WIDTH.saturating_sub(filled);
     format!(
-        "[{}{}] {done} of {total} rules",
+        "[{}{}] {done} of {total} {noun}",
         "#".repeat(filled),
         ".".repeat(empty)
     )
@@ -79,18 +81,27 @@ mod tests {
 
     #[test]
     fn the_bar_fills() {
-        assert_eq!(bar(0, 4), format!("[{}] 0 of 4 rules", ".".repeat(30)));
         assert_eq!(
-            bar(2, 4),
+            bar(0, 4, "rules"),
+            format!("[{}] 0 of 4 rules", ".".repeat(30))
+        );
+        assert_eq!(
+            bar(2, 4, "rules"),
             format!("[{}{}] 2 of 4 rules", "#".repeat(15), ".".repeat(15))
         );
-        assert_eq!(bar(4, 4), format!("[{}] 4 of 4 rules", "#".repeat(30)));
-        assert_eq!(bar(0, 0), format!("[{}] 0 of 0 rules", "#".repeat(30)));
+        assert_eq!(
+            bar(4, 4, "rules"),
+            format!("[{}] 4 of 4 rules", "#".repeat(30))
+        );
+        assert_eq!(
+            bar(0, 0, "rules"),
+            format!("[{}] 0 of 0 rules", "#".repeat(30))
+        );
     }
 
     fn drawn(is_terminal: bool, total: usize) -> Vec<u8> {
         let mut out = Vec::new();
-        let mut progress = Progress::new(&mut out, is_terminal, total);
+        let mut progress = Progress::new(&mut out, is_terminal, total, "rules");
         progress.next = Some(Instant::now());
         progress.step();
         progress.clear();
@@ -100,7 +111,7 @@ mod tests {
 
     #[test]
     fn it_is_drawn_and_cleared_only_on_a_terminal() {
-        let line = format!("\r{}\x1b[K\r\x1b[K", bar(1, 2));
+        let line = format!("\r{}\x1b[K\r\x1b[K", bar(1, 2, "rules"));
         assert_eq!(drawn(true, 2), line.as_bytes());
         assert_eq!(drawn(false, 2), b"");
         assert_eq!(drawn(true, 1), b"");

@@ -1,9 +1,9 @@
 //! Outcomes in words.
 
-use crate::checked::{Checked, Fault, Outcome, Sheet, Spot, Unreadable};
+use crate::checked::{Checked, Fault, Outcome, Question, Sheet, Spot, Unreadable};
 use crate::terminal::{is_dumb, is_plain};
-use entity_rules::{Defect, Refusal};
-use std::path::Path;
+use entity_rules::{Defect, DefectNumber, PathVerdict, Refusal};
+use std::ffi::OsStr;
 
 /// The colours, or none.
 pub struct Palette {
@@ -34,12 +34,16 @@ impl Palette {
     }
 }
 
-/// What is printed for one rule. A sheet that is at fault is named itself, be it the rule's or the schema's.
+/// What is printed for one rule or path. A sheet that is at fault is named itself, be it the rule's or the schema's.
 pub fn text(palette: &Palette, checked: &Checked) -> String {
+    let subject = name(match checked.question {
+        Question::Rule { file, .. } => file.as_os_str(),
+        Question::Key { path, .. } => path,
+    });
     match &checked.outcome {
         Outcome::Accepted { passed } => {
             let word = palette.paint(Colour::Green, "accepted");
-            format!("{}: {word}, {}\n", name(&checked.file), accepted(*passed))
+            format!("{subject}: {word}, {}\n", accepted(*passed))
         }
         Outcome::Defect {
             defect,
@@ -48,7 +52,16 @@ pub fn text(palette: &Palette, checked: &Checked) -> String {
             hint,
         } => {
             let rows = rows(defect, at.as_ref(), over.as_ref(), hint.as_deref());
-            defect_text(palette, &checked.file, defect, at.as_ref(), &rows)
+            let line = at.as_ref().map(|spot| format!(":{}", spot.line));
+            let place = format!("{subject}{}", line.unwrap_or_default());
+            let explanation = defect.explanation();
+            defect_text(palette, &place, defect.number, &explanation, &rows)
+        }
+        Outcome::KeyDefect { fault, hint } => {
+            let rows: Vec<_> = hint.iter().map(|hint| ("hint", hint.clone())).collect();
+            let explanation = PathVerdict::Defect(*fault).to_string();
+            let number = DefectNumber::Reference;
+            defect_text(palette, &subject, number, &explanation, &rows)
         }
         Outcome::Refused { refusal, fault } => {
             let word = palette.paint(
@@ -56,22 +69,22 @@ pub fn text(palette: &Palette, checked: &Checked) -> String {
                 &format!("refused {} ({})", refusal.number(), refusal.word()),
             );
             let place = match fault {
-                Some(fault) => format!("{}:{}", name(&fault.file), fault.line),
-                None => name(&checked.file),
+                Some(fault) => format!("{}:{}", name(fault.file.as_os_str()), fault.line),
+                None => subject,
             };
             format!("{place}: {word}: {}\n", refused(*refusal, fault.as_ref()))
         }
         Outcome::Unreadable(unreadable) => {
             let word = palette.paint(Colour::Yellow, "unreadable");
-            let file = name(&unreadable.file);
+            let file = name(unreadable.file.as_os_str());
             format!("{file}: {word}: {}\n", not_read(unreadable))
         }
     }
 }
 
-/// A file's name as it is printed.
-fn name(file: &Path) -> String {
-    visible(&file.to_string_lossy())
+/// A file's name, or a path, as it is printed.
+fn name(given: &OsStr) -> String {
+    visible(&given.to_string_lossy())
 }
 
 /// That so many checks, which are all, passed.
@@ -85,20 +98,14 @@ fn accepted(passed: u32) -> String {
 
 fn defect_text(
     palette: &Palette,
-    file: &Path,
-    defect: &Defect,
-    at: Option<&Spot>,
+    place: &str,
+    number: DefectNumber,
+    explanation: &str,
     rows: &[(&'static str, String)],
 ) -> String {
-    let file = name(file);
-    let line = at.map_or_else(String::new, |spot| format!(":{}", spot.line));
-    let number = format!(
-        "defect {} ({})",
-        defect.number.number(),
-        defect.number.word()
-    );
-    let word = palette.paint(Colour::Red, &number);
-    let mut text = format!("{file}{line}: {word}: {}\n", defect.explanation());
+    let word = format!("defect {} ({})", number.number(), number.word());
+    let word = palette.paint(Colour::Red, &word);
+    let mut text = format!("{place}: {word}: {explanation}\n");
     for (name, value) in rows {
         text.push_str(&format!("  {name:<8}{value}\n"));
     }
@@ -166,14 +173,14 @@ pub fn visible(text: &str) -> String {
     shown
 }
 
-/// How many rules there were of each outcome.
+/// How many rules or paths there were of each outcome.
 #[derive(Default)]
 pub struct Tally {
     accepted: usize,
     defects: usize,
     refused: usize,
     unreadable: usize,
-    /// Whether the schema is refused or unreadable. No rule is checked then.
+    /// Whether the schema is refused or unreadable. Nothing is checked then.
     without_schema: bool,
 }
 
@@ -185,7 +192,7 @@ impl Tally {
         }
         let counter = match outcome {
             Outcome::Accepted { .. } => &mut self.accepted,
-            Outcome::Defect { .. } => &mut self.defects,
+            Outcome::Defect { .. } | Outcome::KeyDefect { .. } => &mut self.defects,
             Outcome::Refused { .. } => &mut self.refused,
             Outcome::Unreadable(_) => &mut self.unreadable,
         };
@@ -202,8 +209,8 @@ impl Tally {
         }
     }
 
-    /// One line for all of so many rules.
-    pub fn summary(&self, total: usize) -> String {
+    /// One line for all of so many rules, or whatever the noun says.
+    pub fn summary(&self, total: usize, noun: &str) -> String {
         let Self {
             accepted,
             defects,
@@ -221,7 +228,7 @@ impl Tally {
         let unreadable = some(*unreadable, "unreadable");
         let left = some(total.saturating_sub(checked), "not checked");
         format!(
-            "{total} rules: {accepted} accepted, {defects} with a defect, {refused} refused{unreadable}{left}"
+            "{total} {noun}: {accepted} accepted, {defects} with a defect, {refused} refused{unreadable}{left}"
         )
     }
 }

@@ -17,7 +17,8 @@ pub fn case(random: &mut Random) -> Case {
     case.expecting(Expect::Anything)
 }
 
-fn damage(random: &mut Random, sheet: &mut Vec<u8>) {
+/// One change to a sheet.
+pub fn damage(random: &mut Random, sheet: &mut Vec<u8>) {
     if sheet.is_empty() {
         return;
     }

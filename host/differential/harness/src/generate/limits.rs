@@ -13,7 +13,7 @@ use differential::trees::{Field, Operator, Rule, Schema, Sheet, Value};
 /// Numbers of kinds and semantics that there are not, some past 32 bits.
 const NO_SETTINGS: [u64; 6] = [0, 9, 255, 256 + 1, (1 << 32) + 1, u64::MAX];
 
-const NO_UTF8: [&[u8]; 8] =
+pub const NO_UTF8: [&[u8]; 8] =
     [b"\x80", b"\xc3", b"\xc0\x80", b"\xed\xa0\x80", b"\xf4\x90\x80\x80", b"a\xffb", b"\xe2\x82", b"\xf0\x8f\xbf\xbf"];
 
 /// A right case with some of the refusals 1 to 5 called for: the first of them answers.
@@ -45,7 +45,7 @@ fn refuse(random: &mut Random, case: &mut Case, refusal: u32) {
 }
 
 /// A sheet that is not well formed: nothing may follow the last entry or be missing there.
-fn broken(random: &mut Random, sheet: &[u8]) -> Vec<u8> {
+pub fn broken(random: &mut Random, sheet: &[u8]) -> Vec<u8> {
     match random.below(3) {
         0 => sheet[..sheet.len() - 1].to_vec(),
         1 => [sheet, b"\n"].concat(),
@@ -77,7 +77,7 @@ fn empty() -> Schema {
 }
 
 /// A text of that many bytes, of characters of one, two or three bytes.
-fn long(random: &mut Random, bytes: usize) -> String {
+pub fn long(random: &mut Random, bytes: usize) -> String {
     let wide = random.pick(&["x", "é", "日"]);
     let mut text = wide.repeat(bytes / wide.len());
     text.push_str(&"x".repeat(bytes - text.len()));

@@ -82,6 +82,13 @@ impl<'s> Scope<'s> {
         starts
     }
 
+    /// A path of the record, without its root, that the kernel can read; none where the record has nothing to name.
+    pub fn key(&self, random: &mut Random) -> Option<String> {
+        let mut path = String::new();
+        self.walk(random, &Start::Holder(&self.schema.record), &mut path);
+        path.strip_prefix('.').map(str::to_owned)
+    }
+
     /// A text that begins with one `$`, and can be read if nothing slips.
     pub fn reference(&self, random: &mut Random) -> String {
         let right = self.right_reference(random);
@@ -204,7 +211,7 @@ fn segment(random: &mut Random) -> String {
 const PIECES: [&str; 16] = ["$", ".", "b", "0", "1", "01", "é", "fields", "args", "old_fields", "count", "value", "state", "id", " ", "x"];
 
 /// A text that begins with `$` and is some edits away from a reference.
-fn damaged_reference(random: &mut Random, right: &str) -> String {
+pub fn damaged_reference(random: &mut Random, right: &str) -> String {
     let (stem, last) = right.rsplit_once('.').unwrap_or((right, ""));
     match random.below(8) {
         0 => format!("{right}.{}", name(random)),

@@ -1,7 +1,8 @@
 //! The buffers that are lent, each amid bytes that the library must not touch.
 
-use super::{numbers, raw, Lent, RESULT_BYTES};
+use super::{numbers, raw, Lent, Slot, RESULT_BYTES};
 use crate::case::Case;
+use crate::keys::KeyCase;
 use crate::random::Random;
 use crate::refusals::MIN_PATH_BYTES;
 use differential::model::Answer;
@@ -42,22 +43,42 @@ impl Arena {
             return Err(format!("it returns {number}"));
         }
         fields(&result[result_lent])?;
-        self.result(lent, expected)?;
+        self.result(&lent.slot(), expected)?;
         self.path(lent, expected)
     }
 
+    /// Makes the call for a key, whose inputs must keep their bytes as well, amid others.
+    pub fn key(&mut self, case: &KeyCase, slot: &Slot, expected: &Answer) -> Result<(), String> {
+        let around = &self.patterns[slot.pattern][..AROUND];
+        let inputs = [&case.path, &case.schema].map(|input| [around, input, around].concat());
+        let untouched = inputs.clone();
+        let [path, schema] = &inputs;
+        let own = |input: &[u8]| AROUND..input.len() - AROUND;
+        let start = AROUND + slot.shift;
+        let result = &mut self.results[slot.pattern][start..start + slot.length];
+        let number = raw::key(case.semantics, case.reader, &path[own(path)], &schema[own(schema)], result);
+        if number != expected.number {
+            return Err(format!("it returns {number}"));
+        }
+        fields(result)?;
+        if inputs != untouched {
+            return Err("a byte of its inputs, or around them, has changed".to_owned());
+        }
+        self.result(slot, expected)
+    }
+
     /// The seven numbers where there is room, all else as it was; then the pattern again.
-    fn result(&mut self, lent: &Lent, expected: &Answer) -> Result<(), String> {
-        let pattern = &self.patterns[lent.pattern][..RESULT_ARENA];
-        let found = &mut self.results[lent.pattern];
+    fn result(&mut self, slot: &Slot, expected: &Answer) -> Result<(), String> {
+        let pattern = &self.patterns[slot.pattern][..RESULT_ARENA];
+        let found = &mut self.results[slot.pattern];
         let mut wanted = pattern.to_vec();
-        if lent.result >= RESULT_BYTES {
+        if slot.length >= RESULT_BYTES {
             let bytes: Vec<u8> = numbers(expected).into_iter().flat_map(u32::to_le_bytes).collect();
-            let start = AROUND + lent.shift;
+            let start = AROUND + slot.shift;
             wanted[start..start + RESULT_BYTES].copy_from_slice(&bytes);
         }
         if let Some(at) = differs(found, &wanted) {
-            let place = at as isize - (AROUND + lent.shift) as isize;
+            let place = at as isize - (AROUND + slot.shift) as isize;
             return Err(format!("byte {place} of the result is {}, not {}", found[at], wanted[at]));
         }
         found.copy_from_slice(pattern);

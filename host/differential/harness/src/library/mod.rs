@@ -1,6 +1,7 @@
 //! The library under its C functions, held against what the model answers: every byte of both buffers and around them, and every number.
 
 mod arena;
+pub mod keys;
 pub mod raw;
 
 use crate::case::Case;
@@ -8,6 +9,7 @@ use crate::refusals::{MIN_PATH_BYTES, MIN_SCRATCH_WORDS};
 use arena::Arena;
 use differential::model::Answer;
 use std::cell::RefCell;
+use std::fmt::Debug;
 
 /// The bytes of a result that are written.
 pub const RESULT_BYTES: usize = 28;
@@ -58,6 +60,20 @@ pub struct Lent {
     pub pattern: usize,
 }
 
+/// Where a result is lent, and the pattern that it holds before the call.
+#[derive(Clone, Copy, Debug, PartialEq, Eq)]
+pub struct Slot {
+    pub length: usize,
+    pub shift: usize,
+    pub pattern: usize,
+}
+
+impl Lent {
+    fn slot(&self) -> Slot {
+        Slot { length: self.result, shift: self.shift, pattern: self.pattern }
+    }
+}
+
 /// How many of the calls that a case allows are made.
 #[derive(Clone, Copy, Debug, PartialEq, Eq)]
 pub enum Extent {
@@ -72,12 +88,11 @@ pub fn hold(case: &Case, answer: &Answer, extent: Extent) -> Result<(), String> 
     calls(case, extent).iter().try_for_each(|lent| one(case, answer, lent))
 }
 
-/// A number that depends on the whole case.
-fn mixed(case: &Case) -> u64 {
-    let parts = [case.label.as_slice(), &case.schema, &case.rule];
+/// A number that depends on the whole case: on its settings and on all its bytes.
+fn mixed(settings: [u64; 2], parts: &[&[u8]]) -> u64 {
     let bytes = parts.iter().flat_map(|part| part.chunks(8)).map(|chunk| chunk.iter().fold(0, |sum, byte| sum << 8 | u64::from(*byte)));
     let mix = |sum: u64, part: u64| (sum ^ part).wrapping_mul(0x9E37_79B9_7F4A_7C15).rotate_left(29);
-    mix([case.kind, case.semantics].into_iter().chain(bytes).fold(1, mix), 1)
+    mix(settings.into_iter().chain(bytes).fold(1, mix), 1)
 }
 
 /// Which of the other calls is made, each row equally often: the other entry in a quarter of the cases, short buffers less often. The last one, buffers
@@ -89,7 +104,7 @@ const PICKS: [Option<usize>; 16] = {
 
 /// The calls of a case: its own, with short buffers where the case has them, and others.
 fn calls(case: &Case, extent: Extent) -> Vec<Lent> {
-    let chance = mixed(case);
+    let chance = mixed([case.kind, case.semantics], &[&case.label, &case.schema, &case.rule]);
     let entry = Entry::of(&case.rule, chance);
     let spare = [0, 0, 1, 7, 64][chance as usize % 5];
     let path = if case.path_len < MIN_PATH_BYTES { case.path_len } else { MIN_PATH_BYTES + spare };
@@ -129,13 +144,16 @@ thread_local! {
 
 fn one(case: &Case, answer: &Answer, lent: &Lent) -> Result<(), String> {
     let expected = expected(case, answer, lent);
-    let differ = |what: String| Err(format!("the library, {lent:?}: {what}; expected {}", crate::agreement::line(&expected)));
-    ARENA.with_borrow_mut(|arena| match arena.call(case, lent, &expected) {
-        Ok(()) => Ok(()),
-        Err(what) => {
+    in_arena(lent, &expected, |arena| arena.call(case, lent, &expected))
+}
+
+/// Makes a call in the arena, which is a new one after a difference.
+fn in_arena(lent: &impl Debug, expected: &Answer, call: impl FnOnce(&mut Arena) -> Result<(), String>) -> Result<(), String> {
+    ARENA.with_borrow_mut(|arena| {
+        call(arena).map_err(|what| {
             *arena = Arena::new();
-            differ(what)
-        }
+            format!("the library, {lent:?}: {what}; expected {}", crate::agreement::line(expected))
+        })
     })
 }
 

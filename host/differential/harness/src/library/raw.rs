@@ -36,6 +36,17 @@ extern "C" {
         result_length: usize,
     ) -> u32;
 
+    fn rulecheck_path(
+        semantics: u64,
+        reader: u64,
+        path: *const u8,
+        path_length: usize,
+        schema: *const u8,
+        schema_length: usize,
+        result: *mut u8,
+        result_length: usize,
+    ) -> u32;
+
     fn rulecheck_field(result: *const u8, result_length: usize, index: u32) -> u32;
 
     fn rulecheck_finite(text: *const u8, text_length: usize) -> u32;
@@ -90,6 +101,12 @@ pub fn fresh(case: &Case, entry: Entry, result_length: usize) -> (u32, Option<[u
     // SAFETY: as long as this the path was written.
     let path = unsafe { std::slice::from_raw_parts(path.as_ptr().cast::<u8>(), numbers[6] as usize) };
     (number, Some(numbers), path.to_vec())
+}
+
+pub fn key(semantics: u64, reader: u64, path: &[u8], schema: &[u8], result: &mut [u8]) -> u32 {
+    let (path, schema, result) = ((path.as_ptr(), path.len()), (schema.as_ptr(), schema.len()), (result.as_mut_ptr(), result.len()));
+    // SAFETY: pointers and lengths are those of slices, and no two of them overlap.
+    unsafe { rulecheck_path(semantics, reader, path.0, path.1, schema.0, schema.1, result.0, result.1) }
 }
 
 pub fn field(result: &[u8], index: u32) -> u32 {

@@ -84,6 +84,15 @@ pub fn ask(frame: Frame<'_>, schemas: &Schemas, sheet: &Sheet) -> Result<Verdict
     }
 }
 
+/// Asks the Rust for one path of the record, without `$fields.`: the detail of 18, or 0. An error is a finding, as for `ask`.
+pub fn ask_key(schemas: &Schemas, semantics: u64, reader: u64, path: &str) -> Result<u32, String> {
+    match catch_unwind(AssertUnwindSafe(|| entry::key(&schemas.0.fields, path, reader, semantics))) {
+        Err(_) => Err("the Rust panics".to_owned()),
+        Ok(Ok(())) => Ok(0),
+        Ok(Err(message)) => sentences::of_key(path, &message),
+    }
+}
+
 /// A value as the Rust prints it: compact JSON.
 pub fn json(value: &Value) -> String {
     convert::value(value).to_string()

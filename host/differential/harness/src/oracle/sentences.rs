@@ -31,6 +31,14 @@ const INSTANT_END: &str = ", so the comparison would be unobservable at every ev
 const ESCAPED_END: &str = "', which is not an instant this kernel reads";
 const UNREAD_END: &str = " is not an instant this kernel reads";
 
+/// End of the sentence that begins with the address of a text's length.
+const TEXT_COUNT_END: &str =
+    "' reads the length of a text, and a projection key reads object members only, so the read model would file no \
+                              instance under it";
+
+/// The sentence of an empty path or segment.
+const EMPTY: &str = "the path is empty";
+
 /// The kinds of a field as a message spells them.
 const KINDS: [&str; 12] = ["string", "integer", "number", "boolean", "enum", "array", "object", "json", "ref", "map", "union", "binary64"];
 
@@ -128,7 +136,9 @@ fn of_value<'a>(value: &'a Value, strings: &mut Vec<&'a str>) {
 fn reference_detail(kind: u64, reference: &str, message: &str) -> Option<u32> {
     let rest = message.strip_prefix('\'')?.strip_prefix(reference)?.strip_prefix('\'')?;
     if let Some(sentence) = rest.strip_prefix(" cannot resolve: ") {
-        return root_detail(reference, sentence).or_else(|| walk_detail(reference, sentence));
+        // A walk below a root is spelled from the first name on, one below a binder from its `$`.
+        let below_root = ROOTS.iter().find_map(|(prefix, noun)| Some((reference.strip_prefix(prefix)?, *noun)));
+        return below_root.and_then(|(path, noun)| path_detail(path, noun, sentence)).or_else(|| walk_detail(reference, sentence));
     }
     let (what, allowed) = readable(kind);
     match rest.strip_suffix(&format!("; {what} may read {allowed}"))? {
@@ -138,15 +148,18 @@ fn reference_detail(kind: u64, reference: &str, message: &str) -> Option<u32> {
     }
 }
 
-fn root_detail(reference: &str, sentence: &str) -> Option<u32> {
-    if sentence == "the path is empty" {
-        return Some(1);
+/// The detail of 18 for a path of the record: its sentence stands alone, without the reference before it.
+pub fn of_key(path: &str, sentence: &str) -> Result<u32, String> {
+    path_detail(path, "field", sentence).ok_or_else(|| unknown(sentence))
+}
+
+/// The detail for a path below a root whose members are called by that noun.
+fn path_detail(path: &str, noun: &str, sentence: &str) -> Option<u32> {
+    let root = path.split('.').next()?;
+    if sentence == format!("unknown {noun} '{root}'") {
+        return Some(2);
     }
-    let is_unknown = |(prefix, noun): &(&str, &str)| {
-        let root = reference.strip_prefix(prefix).and_then(|path| path.split('.').next());
-        root.is_some_and(|root| sentence == format!("unknown {noun} '{root}'"))
-    };
-    ROOTS.iter().any(is_unknown).then_some(2)
+    walk_detail(path, sentence)
 }
 
 /// One step of a walk: what was walked before, the segment, and what follows it.
@@ -156,27 +169,27 @@ struct Step<'a> {
     rest: Option<&'a str>,
 }
 
-/// Every step of a reference. A walk below a root is spelled from the first name on, one below a binder from its `$`.
-fn steps(reference: &str) -> impl Iterator<Item = Step<'_>> {
-    let below_root = ROOTS.iter().filter_map(move |(prefix, _)| reference.strip_prefix(prefix));
-    below_root.chain(std::iter::once(reference)).flat_map(|start| {
-        start.match_indices('.').map(move |(dot, _)| {
-            let tail = &start[dot + 1..];
-            let (segment, rest) = tail.split_once('.').map_or((tail, None), |(segment, rest)| (segment, Some(rest)));
-            Step { walked: &start[..dot], segment, rest }
-        })
+/// Every step of a path, from its first dot on.
+fn steps(path: &str) -> impl Iterator<Item = Step<'_>> {
+    path.match_indices('.').map(move |(dot, _)| {
+        let tail = &path[dot + 1..];
+        let (segment, rest) = tail.split_once('.').map_or((tail, None), |(segment, rest)| (segment, Some(rest)));
+        Step { walked: &path[..dot], segment, rest }
     })
 }
 
-fn walk_detail(reference: &str, sentence: &str) -> Option<u32> {
-    steps(reference).find_map(|step| step_detail(&step, sentence))
+fn walk_detail(path: &str, sentence: &str) -> Option<u32> {
+    if sentence == EMPTY {
+        return Some(1);
+    }
+    steps(path).find_map(|step| step_detail(&step, sentence))
 }
 
 fn step_detail(step: &Step<'_>, sentence: &str) -> Option<u32> {
     let Step { walked, segment, .. } = step;
     let rest = sentence.strip_prefix('\'')?.strip_prefix(walked)?;
     if let Some(rest) = rest.strip_prefix('.') {
-        return after_detail(rest.strip_prefix(segment)?, step.rest?);
+        return address_detail(rest.strip_prefix(segment)?, step);
     }
     let rest = rest.strip_prefix("' ")?;
     if rest == format!("declares no property '{segment}'") {
@@ -188,8 +201,12 @@ fn step_detail(step: &Step<'_>, sentence: &str) -> Option<u32> {
     kind_detail(rest.strip_prefix("is a ")?, segment)
 }
 
-/// Something after a count or after a tag.
-fn after_detail(sentence: &str, rest: &str) -> Option<u32> {
+/// A sentence that goes on after the address: a text's length, or something after a count or after a tag.
+fn address_detail(sentence: &str, step: &Step<'_>) -> Option<u32> {
+    if sentence == TEXT_COUNT_END {
+        return (step.segment == "count").then_some(13);
+    }
+    let rest = step.rest?;
     if sentence == format!("' is a count, so '{rest}' resolves to nothing") {
         return Some(6);
     }
@@ -237,7 +254,7 @@ fn member_detail(segment: &str, sentence: &str) -> Option<u32> {
 
 #[cfg(test)]
 mod tests {
-    use super::{is_union_end, of_collection, reference_detail};
+    use super::{is_union_end, of_collection, of_key, reference_detail, TEXT_COUNT_END};
 
     /// A reference whose name reads like the end of another message.
     const TRICKY: &str = "$fields.a' cannot resolve: the path is empty";
@@ -247,6 +264,17 @@ mod tests {
         let message = format!("'{TRICKY}' cannot resolve: unknown field 'a' cannot resolve: the path is empty'");
         assert_eq!(reference_detail(1, TRICKY, &message), Some(2));
         assert_eq!(reference_detail(1, "$fields.a", &message), None);
+    }
+
+    #[test]
+    fn a_key_that_holds_a_message_is_not_taken_for_it() {
+        let end = TEXT_COUNT_END;
+        let key = "a' reads the length of a text.count.x";
+        assert_eq!(of_key(key, &format!("'a' reads the length of a text.count{end}")), Ok(13));
+        assert_eq!(of_key("a.b.count", &format!("'a.b.count{end}")), Ok(13));
+        assert!(of_key("a.b.size", &format!("'a.b.size{end}")).is_err());
+        assert_eq!(of_key("unknown field 'a'", "unknown field 'unknown field 'a''"), Ok(2));
+        assert!(of_key("a", "'$fields.a' cannot resolve: unknown field 'a'").is_err());
     }
 
     #[test]

@@ -3,6 +3,7 @@
 mod collections;
 mod defects;
 mod edges;
+mod keys;
 mod references;
 mod refusals;
 mod sheets;
