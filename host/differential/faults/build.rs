@@ -24,9 +24,12 @@ fn main() {
         plant(&fault, &model, &folder);
         let path = folder.join("mod.rs");
         modules.push_str(&format!("#[allow(dead_code, unused)]\n#[path = {path:?}]\npub mod fault_{index};\n"));
-        rows.push_str(&format!("    ({:?}, fault_{index}::answer),\n", fault.name));
+        rows.push_str(&format!(
+            "    ({:?}, Faulty {{ answer: fault_{index}::answer, key_answer: fault_{index}::key_answer }}),\n",
+            fault.name
+        ));
     }
-    let table = format!("pub type Faulty = fn(&Call) -> Answer;\n\npub const FAULTS: &[(&str, Faulty)] = &[\n{rows}];\n");
+    let table = format!("pub const FAULTS: &[(&str, Faulty)] = &[\n{rows}];\n");
     fs::write(out.join("faults.rs"), format!("{modules}\n{table}")).expect("the folder can be written to");
 }
 
@@ -48,7 +51,7 @@ fn read(block: &str) -> Fault<'_> {
     }
 }
 
-/// Copies the model with the fault in it, and with a function around its types.
+/// Copies the model with the fault in it, and with functions around its types.
 fn plant(fault: &Fault, model: &Path, folder: &Path) {
     fs::create_dir_all(folder).expect("the folder can be written to");
     for entry in fs::read_dir(model).expect("the model can be read") {

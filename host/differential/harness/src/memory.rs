@@ -5,13 +5,14 @@
 use crate::case::Case;
 use crate::edges::edges;
 use crate::generate;
+use crate::keys::{self, KeyCase};
 use crate::library::{numbers, raw, Entry, RESULT_BYTES};
 use crate::longest::longest;
 use crate::random::Random;
 use crate::vectors;
 use differential::model::{self, Answer};
 
-/// The known edges, the list of answers, then so many generated cases; an error is a difference from the model.
+/// The known edges, the list of answers, then so many generated cases, and the same of keys; an error is a difference from the model.
 pub fn memory(list: &str, cases: u64, seed: u64) -> Result<(), String> {
     let known: Vec<Case> = edges().into_iter().chain(longest()).collect();
     for case in &known {
@@ -25,8 +26,28 @@ pub fn memory(list: &str, cases: u64, seed: u64) -> Result<(), String> {
         let (_, case) = generate::case(&mut Random::of_case(seed, number));
         one(&case).map_err(|trouble| format!("case {number} of seed {seed}: {trouble}"))?;
     }
+    let known_keys = keys::edges::edges();
+    for case in &known_keys {
+        one_key(case)?;
+    }
+    for number in 0..cases {
+        let (_, case) = keys::generate::case(&mut Random::of_case(seed, number));
+        one_key(&case).map_err(|trouble| format!("key {number} of seed {seed}: {trouble}"))?;
+    }
     println!("{} known edges, {} cases of {list}, {cases} generated ones (seed {seed}): answers as the model's", known.len(), listed.len());
+    println!("{} known edges of keys, {cases} generated ones (seed {seed}): answers as the model's", known_keys.len());
     Ok(())
+}
+
+fn one_key(case: &KeyCase) -> Result<(), String> {
+    let expected = model::check_key(&case.call());
+    let found = raw::fresh_key(case);
+    let wanted = (expected.number, (case.result_len >= RESULT_BYTES).then(|| numbers(&expected)));
+    if found == wanted {
+        Ok(())
+    } else {
+        Err(format!("a key is answered {found:?}, not {wanted:?}"))
+    }
 }
 
 /// Both entries; a case with a short scratch gets a short result.

@@ -2,6 +2,8 @@
 
 use super::{Entry, RESULT_BYTES};
 use crate::case::Case;
+use crate::keys::KeyCase;
+use std::mem::MaybeUninit;
 
 type Check = unsafe extern "C" fn(u64, u64, *const u8, usize, *const u8, usize, *const u8, usize, *mut u8, usize, *mut u8, usize) -> u32;
 
@@ -92,21 +94,48 @@ pub fn fresh(case: &Case, entry: Entry, result_length: usize) -> (u32, Option<[u
     let (path_lent, result_lent) = ((path.as_mut_ptr().cast(), path.len()), (result.as_mut_ptr().cast(), result.len()));
     // SAFETY: the boxes are as long as said, and only read again after the call.
     let number = unsafe { call(case, entry, [label, schema, rule], path_lent, result_lent) };
-    if result_length < RESULT_BYTES {
+    // SAFETY: the call wrote the result, if it has room.
+    let Some(numbers) = (unsafe { written(&result) }) else {
         return (number, None, Vec::new());
-    }
-    // SAFETY: a result with room is written in its first bytes by every call.
-    let written = unsafe { std::slice::from_raw_parts(result.as_ptr().cast::<u8>(), RESULT_BYTES) };
-    let numbers = [0, 1, 2, 3, 4, 5, 6].map(|index| field(written, index));
+    };
     // SAFETY: as long as this the path was written.
     let path = unsafe { std::slice::from_raw_parts(path.as_ptr().cast::<u8>(), numbers[6] as usize) };
     (number, Some(numbers), path.to_vec())
 }
 
+/// The seven numbers of a result, if it has room for them.
+///
+/// # Safety
+///
+/// A result with room was written in its first bytes, as every call does.
+unsafe fn written(result: &[MaybeUninit<u8>]) -> Option<[u32; 7]> {
+    let written = result.get(..RESULT_BYTES)?;
+    let written = std::slice::from_raw_parts(written.as_ptr().cast::<u8>(), RESULT_BYTES);
+    Some([0, 1, 2, 3, 4, 5, 6].map(|index| field(written, index)))
+}
+
+/// A call for a key with a result fresh from the allocator and copies of the inputs, as `fresh`.
+pub fn fresh_key(case: &KeyCase) -> (u32, Option<[u32; 7]>) {
+    let [path, schema] = [&case.path, &case.schema].map(|input| input.clone().into_boxed_slice());
+    let mut result = Box::<[u8]>::new_uninit_slice(case.result_len);
+    let lent = (result.as_mut_ptr().cast(), result.len());
+    // SAFETY: the boxes are as long as said, and only read again after the call, which wrote the result if it has room.
+    unsafe {
+        let number = call_key(case.semantics, case.reader, &path, &schema, lent);
+        (number, written(&result))
+    }
+}
+
 pub fn key(semantics: u64, reader: u64, path: &[u8], schema: &[u8], result: &mut [u8]) -> u32 {
-    let (path, schema, result) = ((path.as_ptr(), path.len()), (schema.as_ptr(), schema.len()), (result.as_mut_ptr(), result.len()));
-    // SAFETY: pointers and lengths are those of slices, and no two of them overlap.
-    unsafe { rulecheck_path(semantics, reader, path.0, path.1, schema.0, schema.1, result.0, result.1) }
+    // SAFETY: pointer and length are those of a slice that overlaps nothing.
+    unsafe { call_key(semantics, reader, path, schema, (result.as_mut_ptr(), result.len())) }
+}
+
+/// # Safety
+///
+/// The pointer of the result leads to as many bytes as its length says, and nothing else refers to these.
+unsafe fn call_key(semantics: u64, reader: u64, path: &[u8], schema: &[u8], result: (*mut u8, usize)) -> u32 {
+    rulecheck_path(semantics, reader, path.as_ptr(), path.len(), schema.as_ptr(), schema.len(), result.0, result.1)
 }
 
 pub fn field(result: &[u8], index: u32) -> u32 {
