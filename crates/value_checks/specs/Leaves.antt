@@ -2,7 +2,7 @@
 use Prim.Native.Nat.{ℕ, zero, suc, _+_}
 use mathlib.Core.List.{List, [], _∷_, _++_, append-assoc, append-nil}
 use mathlib.Core.Option.{Option, none, some}
-use mathlib.Core.Path.{_≡_, refl, ap₂, _∙_}
+use mathlib.Core.Path.{_≡_, refl, ap, ap₂, _∙_}
 use native.Mathlib.Omega.{arith}
 use mathlib.Core.Bool.{Bool, true, false}
 use lib.ListN.{drop}
@@ -105,7 +105,9 @@ module _ {A : Type 0} (says : ℕ → ValueHead → List A) where
     said-pairs : (sheet words : List ℕ) (i : ℕ) (ps : Pairs) → PairsAt sheet words i ps → saidIn sheet words (pairsEntries ps) i ≡ leavesOfPairs ps
     said-pairs sheet words i noPairs a = refl
     said-pairs sheet words i (pair key v others) a =
-        said-append sheet words (1 + valueEntries v) (pairsEntries others) i
+        let sizes : 1 + (valueEntries v + pairsEntries others) ≡ 1 + valueEntries v + pairsEntries others = omega arith in
+        ap (λ (n : ℕ). saidIn sheet words n i) sizes
+        ∙ said-append sheet words (1 + valueEntries v) (pairsEntries others) i
         ∙ ap₂ _++_
         (said-append sheet words 1 (valueEntries v) i
         ∙ ap₂ _++_ (said-key sheet words i _ _ key (a .0)) (said-value sheet words (i + 1) v (a .1)))
