@@ -92,7 +92,7 @@ shown-within setting tree x from =
     (every-judged (Small (ruleEntries x)) setting tree (checks setting x) (checks-small setting x from))
     (every-judged (HasPath x) setting tree (checks setting x) (checks-have-paths setting x from))
 
-module _ (set : Code.Setting) {schema sheet : List ℕ} {s : Schema} {words : List ℕ} {scope : Scope} {a : Judged.Answer} {p : ℕ}
+module _ (set : Code.Setting) {schema sheet : List ℕ} {s : Schema} {words : List ℕ} {scope : Scope} {a : Judged.Progress} {p : ℕ}
     (u : Unbound (set .row) (set .service) Kernel s scope) (j : RuleJudged schema sheet words scope a) (n : Narrow (a .passed) p)
   where
     abbrev setting : Setting
