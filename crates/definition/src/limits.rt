@@ -15,8 +15,10 @@ pub const MAX_VALUE_NESTING: usize = 64;
 // A word of an index is where an entry starts, times this, and the number of an entry, which is below it.
 pub const WORD_ENTRIES: usize = 4096;
 
-// What a label has at most, and what a caller lends at least.
+// What a label and a key have at most, and what a caller lends at least.
 pub const MAX_LABEL_BYTES: usize = 256;
+
+pub const MAX_KEY_BYTES: usize = 512;
 
 pub const PATH_BYTES: usize = 32768;
 

@@ -16,7 +16,7 @@ use Rattle.validator.specs.Sheets.{takesOf}
 use Rattle.validator.specs.Outcomes.{numbersBy}
 use Rattle.validator.specs.declared.sheets.Takes.{Takes}
 use Rattle.validator.specs.declared.outcome.Outcome.{Outcome}
-use Rattle.entity_rules.specs.Entry.{resultBytes, pathLent, resultAfter, entryCall, entryAnswer, Answered, Written}
+use Rattle.entity_rules.specs.Entry.{resultBytes, pathLent, resultAfter, entryCall, entryAnswer, EntryAnswered, Written}
 use Rattle.entity_rules.specs.EntryLaws.{short-result-refused}
 
 pub lent-nothing : (path result : ℕ) → result < resultBytes → 0 ≡ pathLent path result
@@ -80,7 +80,7 @@ module _ (takes : Takes) (kind semantics : ℕ) (label schema rule path result :
       → lent ≡ pathLent (length path) (length result)
       → Meets (runOf takes k s label schema rule (take (lent - 0) path) (replicate scratchWords 0) r last scratchNow)
       → Written r result resultNow
-      → Answered (entryAnswer (takesOf takes) kind semantics label schema rule (length path) (length result)) path (last ++ drop (lent - 0) path) result resultNow (r .number)
+      → EntryAnswered (entryAnswer (takesOf takes) kind semantics label schema rule (length path) (length result)) path (last ++ drop (lent - 0) path) result resultNow (r .number)
   answered {k} {s} {lent} r last scratchNow ek es el m w =
       let same = made k s lent r last scratchNow ek es el in
       let answer = entryAnswer (takesOf takes) kind semantics label schema rule (length path) (length result) in

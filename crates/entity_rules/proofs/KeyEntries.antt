@@ -11,7 +11,7 @@ use Rattle.validation.specs.KeyLaws.{key-heard, keyCapped, key-capped-same}
 use Rattle.validator.specs.Outcomes.{numbersBy}
 use Rattle.validator.specs.declared.outcome.Outcome.{Outcome}
 use Rattle.key_path.specs.Keys.{keyRunOf}
-use Rattle.entity_rules.specs.Entry.{pathLent, resultAfter, Answered, Written}
+use Rattle.entity_rules.specs.Entry.{pathLent, resultAfter, EntryAnswered, Written}
 use Rattle.entity_rules.specs.KeyEntry.{keyEntryCall, keyEntryAnswer}
 use Rattle.entity_rules.proofs.Entries.{lent-within}
 
@@ -42,7 +42,7 @@ module _ (semantics reader : ℕ) (path schema result : List ℕ) where
       → lent ≡ pathLent scratchWords (length result)
       → MeetsKey (keyRunOf s k path schema (take (lent - 0) (replicate scratchWords 0)) r last)
       → Written r result resultNow
-      → Answered (keyEntryAnswer semantics reader path schema (length result)) [] [] result resultNow (r .number)
+      → EntryAnswered (keyEntryAnswer semantics reader path schema (length result)) [] [] result resultNow (r .number)
   unfolding keyEntryAnswer
   key-answered {s} {k} {lent} r last es ek el m w =
       let same = made s k lent r last es ek el in

@@ -8,7 +8,7 @@ use lib.Seq.{sets}
 use borrow.Author.Tests.{le-leb, lt-leb}
 use Rattle.validator.specs.Outcomes.{numbersBy}
 use Rattle.validator.specs.declared.outcome.Outcome.{Outcome}
-use Rattle.entity_rules.specs.Bytes.{littleEndian, bytesOf, Small, no-more, one-more, numberAt, fieldAt}
+use Rattle.entity_rules.specs.Bytes.{littleEndian, bytesOf, InFourBytes, no-more, one-more, numberAt, fieldAt}
 use Rattle.entity_rules.specs.Entry.{resultBytes, fieldsOf, resultAfter}
 
 pub number-written : (l : List ℕ) (at n : ℕ)
@@ -50,7 +50,7 @@ field-there index r l fits e =
 
 -- the code's numbers are of 32 bits
 pub small-numbers : (o : Outcome) → o .number < 2 ^ 32 → o .family < 2 ^ 32 → o .detail < 2 ^ 32 → o .place < 2 ^ 32 → o .«over_place» < 2 ^ 32
-    → o .passed < 2 ^ 32 → o .«path_length» < 2 ^ 32 → Small (fieldsOf (numbersBy o))
+    → o .passed < 2 ^ 32 → o .«path_length» < 2 ^ 32 → InFourBytes (fieldsOf (numbersBy o))
 unfolding fieldsOf
 small-numbers o number family detail place over passed size =
     one-more number (one-more family (one-more detail (one-more place (one-more over (one-more passed (one-more size no-more))))))

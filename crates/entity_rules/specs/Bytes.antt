@@ -13,9 +13,9 @@ bytesOf [] = []
 bytesOf (n ∷ ns) = littleEndian n ++ bytesOf ns
 
 -- numbers of 32 bits at most, so that four bytes hold each
-pub data Small : List ℕ → Type 0 where
-  no-more : Small []
-  one-more : {n : ℕ} {ns : List ℕ} → n < 2 ^ 32 → Small ns → Small (n ∷ ns)
+pub data InFourBytes : List ℕ → Type 0 where
+  no-more : InFourBytes []
+  one-more : {n : ℕ} {ns : List ℕ} → n < 2 ^ 32 → InFourBytes ns → InFourBytes (n ∷ ns)
 
 -- the number that four bytes stand for, the first of them at `at`
 unfoldable pub numberAt : (at : ℕ) → List ℕ → ℕ

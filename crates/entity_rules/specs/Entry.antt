@@ -9,7 +9,7 @@ use lib.Seq.{sets}
 use Rattle.validation.specs.Result.{Takes, Call, Answer, Numbers, resultOf, numbersOf, pathAfter, scratchWords, Run}
 use Rattle.validator.specs.declared.outcome.Outcome.{Outcome}
 use Rattle.validator.specs.Outcomes.{numbersBy}
-use Rattle.entity_rules.specs.Bytes.{bytesOf, Small, fieldAt}
+use Rattle.entity_rules.specs.Bytes.{bytesOf, InFourBytes, fieldAt}
 
 -- seven numbers of four bytes
 abbrev pub resultBytes : ℕ
@@ -50,11 +50,11 @@ entryAnswer takes kind semantics label schema rule pathLength resultLength =
     resultOf (entryCall takes kind semantics label schema rule pathLength resultLength)
 
 -- what is returned, and both buffers; since the numbers are small, they can be read back (EntryLaws, `field-of-answer`)
-pub record Answered (answer : Answer) (pathBefore pathNow resultBefore resultNow : List ℕ) (r : ℕ) : Type 0 where
+pub record EntryAnswered (answer : Answer) (pathBefore pathNow resultBefore resultNow : List ℕ) (r : ℕ) : Type 0 where
   pub number : r ≡ numbersOf answer .number
   pub path : pathNow ≡ pathAfter answer pathBefore
   pub result : resultNow ≡ resultAfter (numbersOf answer) resultBefore
-  pub small : Small (fieldsOf (numbersOf answer))
+  pub small : InFourBytes (fieldsOf (numbersOf answer))
 
 -- the seven numbers that a result's bytes stand for
 unfoldable pub numbersIn : List ℕ → Numbers
@@ -86,4 +86,4 @@ entryRun takes kind semantics label schema rule pathBefore pathNow resultNow =
 -- what writing a result promises
 pub record Written (o : Outcome) (before after : List ℕ) : Type 0 where
   pub stands : after ≡ resultAfter (numbersBy o) before
-  pub small : Small (fieldsOf (numbersBy o))
+  pub small : InFourBytes (fieldsOf (numbersBy o))

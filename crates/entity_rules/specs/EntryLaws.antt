@@ -13,8 +13,8 @@ use borrow.Author.Tests.{le-leb, lt-leb}
 use Rattle.text.specs.Utf8.{isUtf8}
 use Rattle.validation.specs.Result.{Takes, Call, Answer, refused, Numbers, numbersOf, isWithin, maxLabelBytes, scratchWords, resultOf, early, refusals, firstRefusal, refusedOr, pathAfter, callOf, Meets}
 use Rattle.validation.specs.RefusalLaws.{kind-refused, semantics-refused}
-use Rattle.entity_rules.specs.Bytes.{littleEndian, bytesOf, Small, no-more, one-more, numberAt, fieldAt}
-use Rattle.entity_rules.specs.Entry.{resultBytes, fieldsOf, resultAfter, pathLent, entryCall, entryAnswer, Answered, numbersIn, entryRun}
+use Rattle.entity_rules.specs.Bytes.{littleEndian, bytesOf, InFourBytes, no-more, one-more, numberAt, fieldAt}
+use Rattle.entity_rules.specs.Entry.{resultBytes, fieldsOf, resultAfter, pathLent, entryCall, entryAnswer, EntryAnswered, numbersIn, entryRun}
 
 whole : (n : ℕ) → n ≡ n / 256 * 256 + n % 256
 whole n = omega arith
@@ -45,7 +45,7 @@ number-later n i rest =
     let third : 4 * suc i + 3 ≡ suc (suc (suc (suc (4 * i + 3)))) = omega arith in
     rw (first, second, third, zeroth)
 
-number-of-bytes : (ns : List ℕ) (i : ℕ) (rest : List ℕ) → i < length ns → Small ns → numberAt (4 * i) (bytesOf ns ++ rest) ≡ getD ns i 0
+number-of-bytes : (ns : List ℕ) (i : ℕ) (rest : List ℕ) → i < length ns → InFourBytes ns → numberAt (4 * i) (bytesOf ns ++ rest) ≡ getD ns i 0
 unfolding bytesOf
 number-of-bytes [] i rest less no-more = absurd (omega arith)
 number-of-bytes (n ∷ ns) zero rest less (one-more h hs) = rw append-assoc (number-first n (bytesOf ns ++ rest) h)
@@ -56,7 +56,7 @@ number-of-bytes (n ∷ ns) (suc i) rest less (one-more h hs) =
 pub field-of-result : (i : ℕ) (n : Numbers) (before : List ℕ)
     → i < 7
     → resultBytes ≤ length before
-    → Small (fieldsOf n)
+    → InFourBytes (fieldsOf n)
     → fieldAt i (resultAfter n before) ≡ getD (fieldsOf n) i 0
 unfolding fieldAt resultAfter fieldsOf bytesOf littleEndian
 field-of-result i n before less room small =
@@ -70,7 +70,7 @@ field-of-result i n before less room small =
 
 -- so `rulecheck_field` gives the numbers of the answer
 pub field-of-answer : {answer : Answer} {pathBefore pathNow resultBefore resultNow : List ℕ} {r : ℕ}
-    → Answered answer pathBefore pathNow resultBefore resultNow r
+    → EntryAnswered answer pathBefore pathNow resultBefore resultNow r
     → (i : ℕ)
     → i < 7
     → resultBytes ≤ length resultBefore
@@ -79,7 +79,7 @@ field-of-answer {answer} {pathBefore} {pathNow} {resultBefore} a i less room =
     rw (a .result) (field-of-result i (numbersOf answer) resultBefore less room (a .small))
 
 pub numbers-of-answer : {answer : Answer} {pathBefore pathNow resultBefore resultNow : List ℕ} {r : ℕ}
-    → Answered answer pathBefore pathNow resultBefore resultNow r
+    → EntryAnswered answer pathBefore pathNow resultBefore resultNow r
     → resultBytes ≤ length resultBefore
     → numbersIn resultNow ≡ numbersOf answer
 unfolding numbersIn fieldsOf
@@ -104,7 +104,7 @@ module _ (takes : Takes) (kind semantics : ℕ) (label schema rule pathBefore pa
   entry-call room = rw (le-leb resultBytes (length resultBefore) room, length-replicate {A = ℕ} scratchWords 0)
 
   pub entry-meets : {r : ℕ}
-      → Answered (entryAnswer takes kind semantics label schema rule (length pathBefore) (length resultBefore)) pathBefore pathNow resultBefore resultNow r
+      → EntryAnswered (entryAnswer takes kind semantics label schema rule (length pathBefore) (length resultBefore)) pathBefore pathNow resultBefore resultNow r
       → resultBytes ≤ length resultBefore
       → Meets (entryRun takes kind semantics label schema rule pathBefore pathNow resultNow)
   unfolding entryRun entryAnswer
@@ -118,7 +118,7 @@ module _ (takes : Takes) (kind semantics : ℕ) (label schema rule pathBefore pa
 
   -- and what is returned is the run's number
   pub entry-returns : {r : ℕ}
-      → Answered (entryAnswer takes kind semantics label schema rule (length pathBefore) (length resultBefore)) pathBefore pathNow resultBefore resultNow r
+      → EntryAnswered (entryAnswer takes kind semantics label schema rule (length pathBefore) (length resultBefore)) pathBefore pathNow resultBefore resultNow r
       → resultBytes ≤ length resultBefore
       → r ≡ entryRun takes kind semantics label schema rule pathBefore pathNow resultNow .result .number
   unfolding entryRun

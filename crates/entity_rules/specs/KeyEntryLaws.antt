@@ -10,7 +10,7 @@ use Rattle.text.specs.Utf8.{isUtf8}
 use Rattle.validation.specs.Result.{Numbers, refused, isWithin, scratchWords, firstRefusal, numbersOf}
 use Rattle.validation.specs.KeyPath.{KeyCall, maxKeyBytes, keyEarly, keyRefusals, keyResultOf, keyCallOf, MeetsKey}
 use Rattle.validation.specs.KeyLaws.{key-semantics-refused, key-reader-refused}
-use Rattle.entity_rules.specs.Entry.{resultBytes, pathLent, Answered}
+use Rattle.entity_rules.specs.Entry.{resultBytes, pathLent, EntryAnswered}
 use Rattle.entity_rules.specs.EntryLaws.{numbers-of-answer, refused-first}
 use Rattle.entity_rules.specs.KeyEntry.{keyEntryCall, keyEntryAnswer, keyEntryRun}
 
@@ -22,7 +22,7 @@ module _ (semantics reader : ℕ) (path schema resultBefore resultNow : List ℕ
 
   -- so the demands hold of it (crate `validation`, specs/KeyDemands)
   pub key-entry-meets : {r : ℕ}
-      → Answered (keyEntryAnswer semantics reader path schema (length resultBefore)) [] [] resultBefore resultNow r
+      → EntryAnswered (keyEntryAnswer semantics reader path schema (length resultBefore)) [] [] resultBefore resultNow r
       → resultBytes ≤ length resultBefore
       → MeetsKey (keyEntryRun semantics reader path schema resultNow)
   unfolding keyEntryRun keyEntryAnswer
@@ -34,7 +34,7 @@ module _ (semantics reader : ℕ) (path schema resultBefore resultNow : List ℕ
 
   -- and what is returned is the run's number
   pub key-entry-returns : {r : ℕ}
-      → Answered (keyEntryAnswer semantics reader path schema (length resultBefore)) [] [] resultBefore resultNow r
+      → EntryAnswered (keyEntryAnswer semantics reader path schema (length resultBefore)) [] [] resultBefore resultNow r
       → resultBytes ≤ length resultBefore
       → r ≡ keyEntryRun semantics reader path schema resultNow .result .number
   unfolding keyEntryRun

@@ -4,10 +4,10 @@ mod result; // result.rt: the seven numbers as bytes
 use crate::result::RESULT_BYTES;
 use crate::result::read_u32;
 use crate::result::write_result;
+use definition::limits::SCRATCH_WORDS;
 use key_path::validate_path;
 use validator::sheets::Takes;
 use validator::validate_taken;
-use validator::widths::SCRATCH_WORDS;
 ghost use mathlib.Core.Path.{_≡_};
 ghost use mathlib.Core.List.{[]};
 ghost use Prim.Native.Nat.{min};
@@ -15,7 +15,7 @@ ghost use lib.ListN.{length};
 ghost use Rattle.validation.specs.Result.{rules, templates};
 ghost use Rattle.validator.specs.Sheets.{takesOf};
 ghost use Rattle.entity_rules.specs.Bytes.{fieldAt};
-ghost use Rattle.entity_rules.specs.Entry.{pathLent, entryAnswer, Answered};
+ghost use Rattle.entity_rules.specs.Entry.{pathLent, entryAnswer, EntryAnswered};
 ghost use Rattle.entity_rules.specs.KeyEntry.{keyEntryAnswer};
 ghost use Rattle.entity_rules.specs.NumberTest.{finiteNumber};
 
@@ -43,7 +43,7 @@ fn check(
     path: &mut [u8],
     result: &mut [u8],
 ) -> u32
-    ensures { λ r. ⌜ Answered (entryAnswer (takesOf takes) kind semantics (now (label .entry)) (now (schema .entry)) (now (rule .entry)) (length (now (path .entry))) (length (now (result .entry)))) (now (path .entry)) (now (path .exit)) (now (result .entry)) (now (result .exit)) r ⌝ }
+    ensures { λ r. ⌜ EntryAnswered (entryAnswer (takesOf takes) kind semantics (now (label .entry)) (now (schema .entry)) (now (rule .entry)) (length (now (path .entry))) (length (now (result .entry)))) (now (path .entry)) (now (path .exit)) (now (result .entry)) (now (result .exit)) r ⌝ }
 {
     let mut scratch = [0u32; SCRATCH_WORDS];
     let lent = path_lent(path.len(), result.len());
@@ -72,7 +72,7 @@ pub extern "C" fn rulecheck_rule(
     path: &mut [u8],
     result: &mut [u8],
 ) -> u32
-    ensures { λ r. ⌜ Answered (entryAnswer rules kind semantics (now (label .entry)) (now (schema .entry)) (now (rule .entry)) (length (now (path .entry))) (length (now (result .entry)))) (now (path .entry)) (now (path .exit)) (now (result .entry)) (now (result .exit)) r ⌝ }
+    ensures { λ r. ⌜ EntryAnswered (entryAnswer rules kind semantics (now (label .entry)) (now (schema .entry)) (now (rule .entry)) (length (now (path .entry))) (length (now (result .entry)))) (now (path .entry)) (now (path .exit)) (now (result .entry)) (now (result .exit)) r ⌝ }
 {
     check(
         Takes::Rules,
@@ -97,7 +97,7 @@ pub extern "C" fn rulecheck_template(
     path: &mut [u8],
     result: &mut [u8],
 ) -> u32
-    ensures { λ r. ⌜ Answered (entryAnswer templates kind semantics (now (label .entry)) (now (schema .entry)) (now (rule .entry)) (length (now (path .entry))) (length (now (result .entry)))) (now (path .entry)) (now (path .exit)) (now (result .entry)) (now (result .exit)) r ⌝ }
+    ensures { λ r. ⌜ EntryAnswered (entryAnswer templates kind semantics (now (label .entry)) (now (schema .entry)) (now (rule .entry)) (length (now (path .entry))) (length (now (result .entry)))) (now (path .entry)) (now (path .exit)) (now (result .entry)) (now (result .exit)) r ⌝ }
 {
     check(
         Takes::Templates,
@@ -121,7 +121,7 @@ pub extern "C" fn rulecheck_path(
     schema: &[u8],
     result: &mut [u8],
 ) -> u32
-    ensures { λ r. ⌜ Answered (keyEntryAnswer semantics reader (now (path .entry)) (now (schema .entry)) (length (now (result .entry)))) [] [] (now (result .entry)) (now (result .exit)) r ⌝ }
+    ensures { λ r. ⌜ EntryAnswered (keyEntryAnswer semantics reader (now (path .entry)) (now (schema .entry)) (length (now (result .entry)))) [] [] (now (result .entry)) (now (result .exit)) r ⌝ }
 {
     let mut scratch = [0u32; SCRATCH_WORDS];
     let lent = path_lent(SCRATCH_WORDS, result.len());

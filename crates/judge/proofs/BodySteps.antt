@@ -12,13 +12,14 @@ use lib.Dec.{eqb}
 use borrow.Author.Tests.{eq-eqb, ne-eqb, le-leb, lt-leb}
 use Rattle.sheet.specs.Entries.{ConditionHead, literalHead, manyHead, negationHead, oneHead, twoHead, comparisonHead, quantifierHead, conditionHead}
 use Rattle.sheet.specs.Places.{ReadsTo, conditionOf}
-use Rattle.sheet.specs.declared.rule.ConditionHead.{ConditionHead as Head}
+use Rattle.sheet.specs.declared.rule_heads.ConditionHead.{ConditionHead as Head}
 use Rattle.definition.specs.Tree.{Text, Schema, Value, string, Condition, literal, many, negation, one, two, comparison, quantifier, Conditions, noConditions, condition}
 use Rattle.definition.specs.Tree as Tree
 use Rattle.reference.specs.Setting.{Setting}
 use Rattle.reference.specs.Walk.{refused}
 use Rattle.reference.specs.Reference.{Environment, collection}
-use Rattle.rule.specs.Index.{startOf, sizeOfValue, sizeOfCondition, sizeOfConditions, countOfConditions, ValueAt}
+use Rattle.definition.specs.Within.{conditionEntries, conditionsEntries, valueEntries}
+use Rattle.rule.specs.Index.{startOf, countOfConditions, ValueAt}
 use Rattle.walk.specs.Answers.{collectionDetail, CollectedIs}
 use Rattle.walk.specs.declared.answer.Collected.{Collected}
 use Rattle.walk.specs.declared.answer.Collected.the-variants as Collected
@@ -34,7 +35,7 @@ use Rattle.scope.specs.declared.binder.Scope.{Scope}
 use Rattle.value_checks.specs.declared.verdict.Over.{Over}
 use Rattle.value_checks.specs.declared.verdict.Side.the-variants.{Left, Right}
 use Rattle.value_checks.specs.declared.verdict.Fault.the-variants.{Operator, Empty}
-use Rattle.value_checks.specs.declared.verdict.Answer.{Answer}
+use Rattle.value_checks.specs.declared.verdict.Progress.{Progress}
 use Rattle.value_checks.proofs.Going.{goes-nothing, goes-then}
 use Rattle.value_checks.proofs.NodeSteps.{same-head, condition-unread, tailOf, first-stands, tail-stands, none-left, none-ends}
 use Rattle.value_checks.proofs.LiteralSteps.{settled-outcome}
@@ -43,7 +44,7 @@ use Rattle.value_checks.proofs.OperandSteps.{asked-outcome}
 
 -- Operators.
 
-module _ {scope : Scope} {over : Over} {h : Head} {i : ℕ} {a r : Answer} (op : ℕ) (said : (rule : List ℕ) → op ≡ operatorIn (conditionOf rule h)) where
+module _ {scope : Scope} {over : Over} {h : Head} {i : ℕ} {a r : Progress} (op : ℕ) (said : (rule : List ℕ) → op ≡ operatorIn (conditionOf rule h)) where
   pub operator-early : op < 18 → PassedOn a r → OperatorJudged scope over h i a r
   unfolding operatorCheck failsIf
   operator-early l p =
@@ -133,9 +134,9 @@ module _ {schema rule words : List ℕ} {scope : Scope} {i : ℕ} where
 
 -- A condition, by its head.
 
-abbrev pub Inner : Frame → (i end left : ℕ) → (b r : Answer) → ConditionHead → Type 0
+abbrev pub Inner : Frame → (i end left : ℕ) → (b r : Progress) → ConditionHead → Type 0
 Inner f i end left b r (literalHead truth) = r ≡ b
-Inner f i end left b r (manyHead op n) = (d : Answer) × Required b (eqb n 0) Empty (i + 1) (f .over) d × BodiesJudged f (i + 1) end (left - 1) d r
+Inner f i end left b r (manyHead op n) = (d : Progress) × Required b (eqb n 0) Empty (i + 1) (f .over) d × BodiesJudged f (i + 1) end (left - 1) d r
 Inner f i end left b r negationHead = BodiesJudged f (i + 1) end (left - 1) b r
 Inner f i end left b r (oneHead op) = ReferencesIn f (i + 1) (end - (i + 1)) b r
 Inner f i end left b r (twoHead op) = PairJudged f (operand op) (operand op) (i + 1) end b r
@@ -157,7 +158,7 @@ depth-some (two e op left right) = omega arith
 depth-some (comparison e which left right) = omega arith
 depth-some (quantifier e op bind over that) = omega arith
 
-module _ {schema rule words : List ℕ} {scope : Scope} {over : Over} {i end left : ℕ} {a : Answer} where
+module _ {schema rule words : List ℕ} {scope : Scope} {over : Over} {i end left : ℕ} {a : Progress} where
   pub body-zero : left ≡ 0 → BodyJudged (frame schema rule words scope over) i end left a a
   body-zero z =
       record {
@@ -172,7 +173,7 @@ module _ {schema rule words : List ℕ} {scope : Scope} {over : Over} {i end lef
         goes = λ setting tree binders env c s w d k. absurd (condition-unread rule words i c (w .stands) start r);
       }
 
-module _ (schema rule words : List ℕ) (scope : Scope) (over : Over) (i end left : ℕ) {a b : Answer} (r : Answer) {h : Head} (some-left : left ≡ 0 → ⊥) (judged : OperatorJudged scope over h i a b) (inner : Inner (frame schema rule words scope over) i end left b r (conditionOf rule h)) where
+module _ (schema rule words : List ℕ) (scope : Scope) (over : Over) (i end left : ℕ) {a b : Progress} (r : Progress) {h : Head} (some-left : left ≡ 0 → ⊥) (judged : OperatorJudged scope over h i a b) (inner : Inner (frame schema rule words scope over) i end left b r (conditionOf rule h)) where
   module _ (setting : Setting) (tree : Schema) (binders : List Binder) (env : Environment) {at next : ℕ} (start : at ≡ startOf words i) (reads : ReadsTo conditionHead rule at (conditionOf rule h) next) (s : Stands (frame schema rule words scope over) setting tree binders env) where
     -- the operator's check, by the head that the tree has
     operator-goes : (k : ConditionHead) → conditionOf rule h ≡ k → GoesOn (outcome setting tree) a (operatorCheck setting binders (i + 1) (operatorIn k) ∷ []) b
@@ -182,7 +183,7 @@ module _ (schema rule words : List ℕ) (scope : Scope) (over : Over) (i end lef
     inner-by k e = rw e at inner
 
     body-goes : (c : Condition) → IsCondition rule words i end c → depth c ≤ left → scope .count + left ≤ 32 → GoesOn (outcome setting tree) a (body setting binders c) r
-    unfolding body operatorIn depth depthOfConditions sizeOfCondition sizeOfConditions bodies sideDetail compareSide numberOf detailOf check
+    unfolding body operatorIn depth depthOfConditions conditionEntries conditionsEntries bodies sideDetail compareSide numberOf detailOf check
     body-goes (literal e truth) w d k =
         let q = same-head start reads (w .stands) in
         rw (w .stands .isEntry, inner-by _ q) (operator-goes _ q)
@@ -209,14 +210,14 @@ module _ (schema rule words : List ℕ) (scope : Scope) (over : Over) (i end lef
         let q = same-head start reads (w .stands .0) in
         rw (w .stands .0 .isEntry)
         (goes-then (operator-goes _ q)
-        ((inner-by _ q) .goes setting tree binders env (i + 1 + sizeOfValue left) left right s
+        ((inner-by _ q) .goes setting tree binders env (i + 1 + valueEntries left) left right s
         (record { stands = w .stands .1; ends = refl })
         (record { stands = w .stands .2; ends = omega (arith, w .ends) })))
     body-goes (comparison e which left right) w d k =
         let q = same-head start reads (w .stands .0) in
         rw (w .stands .0 .isEntry)
         (goes-then (operator-goes _ q)
-        ((inner-by _ q) .goes setting tree binders env (i + 1 + sizeOfValue left) left right s
+        ((inner-by _ q) .goes setting tree binders env (i + 1 + valueEntries left) left right s
         (record { stands = w .stands .1; ends = refl })
         (record { stands = w .stands .2; ends = omega (arith, w .ends) })))
     body-goes (quantifier e op bind in-value that) w d k =
@@ -235,19 +236,19 @@ module _ (schema rule words : List ℕ) (scope : Scope) (over : Over) (i end lef
 
 -- Several conditions.
 
-pub record BodiesLeft (f : Frame) (start i end left : ℕ) (a b : Answer) : Type 0 where
+pub record BodiesLeft (f : Frame) (start i end left : ℕ) (a b : Progress) : Type 0 where
   pub atMost : b .passed ≤ a .passed + 8 * (i - start)
   pub rest : (cs : Conditions) → AreConditions (f .rule) (f .words) start end cs → Conditions
   pub stand : (cs : Conditions) (w : AreConditions (f .rule) (f .words) start end cs) → AreConditions (f .rule) (f .words) i end (rest cs w)
   pub deep : (cs : Conditions) (w : AreConditions (f .rule) (f .words) start end cs) → depthOfConditions (rest cs w) ≤ depthOfConditions cs
-  pub onward : (setting : Setting) (tree : Schema) (binders : List Binder) (env : Environment) (cs : Conditions) (w : AreConditions (f .rule) (f .words) start end cs) (r : Answer)
+  pub onward : (setting : Setting) (tree : Schema) (binders : List Binder) (env : Environment) (cs : Conditions) (w : AreConditions (f .rule) (f .words) start end cs) (r : Progress)
       → Stands f setting tree binders env
       → depthOfConditions cs ≤ left
       → f .scope .count + left ≤ 32
       → GoesOn (outcome setting tree) b (bodies setting binders (rest cs w)) r
       → GoesOn (outcome setting tree) a (bodies setting binders cs) r
 
-pub bodies-begin : {f : Frame} {start end left : ℕ} {a : Answer} → BodiesLeft f start start end left a a
+pub bodies-begin : {f : Frame} {start end left : ℕ} {a : Progress} → BodiesLeft f start start end left a a
 bodies-begin =
     record {
       atMost = omega arith;
@@ -262,8 +263,8 @@ unfolding tailOf depthOfConditions
 tail-deep noConditions = omega arith
 tail-deep (condition c others) = omega arith
 
-module _ {f : Frame} {i end next left : ℕ} {b d : Answer} (inside : i < end) (k : Behind (f .words) i end next) (p : BodyJudged f i next left b d) where
-  first-goes : (setting : Setting) (tree : Schema) (binders : List Binder) (env : Environment) (cs : Conditions) (r : Answer)
+module _ {f : Frame} {i end next left : ℕ} {b d : Progress} (inside : i < end) (k : Behind (f .words) i end next) (p : BodyJudged f i next left b d) where
+  first-goes : (setting : Setting) (tree : Schema) (binders : List Binder) (env : Environment) (cs : Conditions) (r : Progress)
       → AreConditions (f .rule) (f .words) i end cs
       → Stands f setting tree binders env
       → depthOfConditions cs ≤ left
@@ -275,7 +276,7 @@ module _ {f : Frame} {i end next left : ℕ} {b d : Answer} (inside : i < end) (
   first-goes setting tree binders env (condition c others) r w s m n g =
       goes-then (p .goes setting tree binders env c s (first-stands inside k w) (omega arith) n) g
 
-  pub bodies-next : {start : ℕ} {a : Answer} → start ≤ i → BodiesLeft f start i end left a b → BodiesLeft f start next end left a d
+  pub bodies-next : {start : ℕ} {a : Progress} → start ≤ i → BodiesLeft f start i end left a b → BodiesLeft f start next end left a d
   bodies-next {start} {a} low l =
       record {
         atMost = omega (arith, l .atMost, p .atMost, k .past inside);
@@ -288,7 +289,7 @@ module _ {f : Frame} {i end next left : ℕ} {b d : Answer} (inside : i < end) (
             (first-goes setting tree binders env (l .rest cs w) r (l .stand cs w) s (omega (arith, l .deep cs w)) n g);
       }
 
-pub bodies-all : {f : Frame} {start i end left : ℕ} {a b : Answer} → end ≤ i → i - start ≤ end - start → BodiesLeft f start i end left a b → BodiesJudged f start end left a b
+pub bodies-all : {f : Frame} {start i end left : ℕ} {a b : Progress} → end ≤ i → i - start ≤ end - start → BodiesLeft f start i end left a b → BodiesJudged f start end left a b
 unfolding bodies
 bodies-all {f} {start} {i} {end} {left} {a} {b} h m l =
     record {

@@ -16,14 +16,15 @@ use Rattle.reference.specs.Setting.{Setting}
 use Rattle.reference.specs.Walk.{Reached, refused, unknown, known}
 use Rattle.reference.specs.Reference.{Environment, reference, collectionText, collection}
 use Rattle.reference.specs.CollectionLaws.{Reads, Listed, Explained, text-explained}
-use Rattle.rule.specs.Index.{endOf, sizeOfValue, sizeOfCondition, sizeOfConditions, ValueAt, ConditionAt}
+use Rattle.definition.specs.Within.{conditionEntries, conditionsEntries, valueEntries}
+use Rattle.rule.specs.Index.{endOf, ValueAt, ConditionAt}
 use Rattle.rule.specs.IndexLaws.{value-next}
 use Rattle.walk.specs.Answers.{collectionDetail, CollectedIs}
 use Rattle.walk.specs.declared.answer.Collected.{Collected}
 use Rattle.walk.specs.declared.answer.Collected.the-variants as Collected
 use Rattle.walk.specs.declared.answer.CollectionFault.{CollectionFault}
 use Rattle.validation.specs.Check.{Binder, walkable, readable, Check, check, failsIf, referenceText, referenceCheck, references, hasDot, body, bodies, depth, depthOfConditions}
-use Rattle.validation.specs.Judge.{Outcome, outcome, verdict, extend, enter, environment, answer, answerIn, decide, judgeFrom}
+use Rattle.validation.specs.Judge.{CheckOutcome, outcome, verdict, extend, enter, environment, answer, answerIn, decide, judgeFrom}
 use Rattle.value_checks.specs.Shown.{Shown, passes, fails, overOf, shownOf, goOn}
 use Rattle.value_checks.specs.Nodes.{Behind}
 use Rattle.value_checks.specs.Verdicts.{numberOf, detailOf, overBy, shownBy, failed, GoesOn, PassedOn, Failed, Required}
@@ -37,7 +38,7 @@ use Rattle.scope.specs.declared.binder.Scope.{Scope}
 use Rattle.value_checks.specs.declared.verdict.Over.{Over}
 use Rattle.value_checks.specs.declared.verdict.Over.the-variants.{In}
 use Rattle.value_checks.specs.declared.verdict.Fault.the-variants.{Bind, Collection}
-use Rattle.value_checks.specs.declared.verdict.Answer.{Answer}
+use Rattle.value_checks.specs.declared.verdict.Progress.{Progress}
 use Rattle.value_checks.proofs.Going.{goes-then}
 use Rattle.value_checks.proofs.NodeSteps.{value-size}
 use Rattle.value_checks.proofs.LiteralSteps.{settled-outcome}
@@ -123,14 +124,14 @@ record Shows (s : Shown) : Type 0 where
   pub detail : ℕ
   pub shown : s ≡ fails n number place over detail
 
-one-fails : (ask : Check → Outcome) (c : Check) (d : ℕ) → ask c ≡ some d → (s : Shown) → Shows (goOn s (λ n. shownOf (judgeFrom ask n (c ∷ []))))
+one-fails : (ask : Check → CheckOutcome) (c : Check) (d : ℕ) → ask c ≡ some d → (s : Shown) → Shows (goOn s (λ n. shownOf (judgeFrom ask n (c ∷ []))))
 unfolding goOn judgeFrom decide shownOf
 one-fails ask c d e (passes n) =
     record { n = n; number = c .number; place = c .place; over = overOf (c .binders); detail = d; shown = rw e }
 one-fails ask c d e (fails n m place over detail) =
     record { n = n; number = m; place = place; over = over; detail = detail; shown = refl }
 
-unread-shows : (f : Frame) (setting : Setting) (tree : Schema) (binders : List Binder) (env : Environment) (v : Value) {b d : Answer}
+unread-shows : (f : Frame) (setting : Setting) (tree : Schema) (binders : List Binder) (env : Environment) (v : Value) {b d : Progress}
     → Stands f setting tree binders env
     → Unread setting tree env v
     → GoesOn (outcome setting tree) b (references binders v) d
@@ -152,12 +153,12 @@ known-passes : (x : Reached) (f : Field) → x ≡ known f → verdict x ≡ non
 unfolding verdict
 known-passes x f e = rw e
 
-module _ (schema rule words : List ℕ) (scope : Scope) (over : Over) (name : Part) (i end left : ℕ) {wrong : Bool} {text : Text} {middle : ℕ} {a b d : Answer} (inside : i < end) (k : Behind words (i + 1) end middle) (same : text ≡ partOf rule name) (said : wrong ≡ (isBlank text || hasDot text)) (bound : Required a wrong Bind (i + 1) over b) (refs : ReferencesIn (frame schema rule words scope over) (i + 1) (middle - (i + 1)) b d) where
-  module _ (setting : Setting) (tree : Schema) (binders : List Binder) (env : Environment) (v : Value) (that : Condition) (s : Stands (frame schema rule words scope over) setting tree binders env) (w : ValueAt rule words (i + 1) v) (ends : end ≡ i + 1 + sizeOfValue v + sizeOfCondition that) where
-    middle-is : middle ≡ i + 1 + sizeOfValue v
+module _ (schema rule words : List ℕ) (scope : Scope) (over : Over) (name : Part) (i end left : ℕ) {wrong : Bool} {text : Text} {middle : ℕ} {a b d : Progress} (inside : i < end) (k : Behind words (i + 1) end middle) (same : text ≡ partOf rule name) (said : wrong ≡ (isBlank text || hasDot text)) (bound : Required a wrong Bind (i + 1) over b) (refs : ReferencesIn (frame schema rule words scope over) (i + 1) (middle - (i + 1)) b d) where
+  module _ (setting : Setting) (tree : Schema) (binders : List Binder) (env : Environment) (v : Value) (that : Condition) (s : Stands (frame schema rule words scope over) setting tree binders env) (w : ValueAt rule words (i + 1) v) (ends : end ≡ i + 1 + valueEntries v + conditionEntries that) where
+    middle-is : middle ≡ i + 1 + valueEntries v
     middle-is =
-        let n : endOf words (i + 1) ≡ i + 1 + sizeOfValue v = value-next rule words (i + 1) v w in
-        let p : 1 ≤ sizeOfValue v = value-size v in
+        let n : endOf words (i + 1) ≡ i + 1 + valueEntries v = value-next rule words (i + 1) v w in
+        let p : 1 ≤ valueEntries v = value-size v in
         k .exact (omega arith) (omega arith) ∙ n
 
     bind-goes : GoesOn (outcome setting tree) a (check 21 (i + 1) binders (failsIf (isBlank (partOf rule name) || hasDot (partOf rule name)) 0) ∷ []) b
@@ -172,12 +173,12 @@ module _ (schema rule words : List ℕ) (scope : Scope) (over : Over) (name : Pa
     over-goes = references-judged refs setting tree binders env v s (record { stands = w; ends = middle-is })
 
   -- the body, where the value is walked
-  module _ {element : Element} {inner : Scope} {g r : Answer} (binds : Binds scope name element inner) (goes-on : PassedOn d g) (judged : BodiesJudged (frame schema rule words inner (In (i + 1 + 1))) middle end left g r) where
+  module _ {element : Element} {inner : Scope} {g r : Progress} (binds : Binds scope name element inner) (goes-on : PassedOn d g) (judged : BodiesJudged (frame schema rule words inner (In (i + 1 + 1))) middle end left g r) where
     walked : (setting : Setting) (tree : Schema) (binders : List Binder) (env : Environment) (v : Value) (that : Condition) (o : Option Field)
         → Stands (frame schema rule words scope over) setting tree binders env
         → ValueAt rule words (i + 1) v
-        → ConditionAt rule words (i + 1 + sizeOfValue v) that
-        → end ≡ i + 1 + sizeOfValue v + sizeOfCondition that
+        → ConditionAt rule words (i + 1 + valueEntries v) that
+        → end ≡ i + 1 + valueEntries v + conditionEntries that
         → depth that ≤ left
         → scope .count + suc left ≤ 32
         → BoundElement schema words element o
@@ -189,10 +190,10 @@ module _ (schema rule words : List ℕ) (scope : Scope) (over : Over) (name : Pa
         ++ (check 22 (i + 1) binders (walkable v)
         ∷ body setting (record { name = partOf rule name; over = v } ∷ binders) that)))
         r
-    unfolding environment enter overOf overBy bodies depthOfConditions sizeOfConditions
+    unfolding environment enter overOf overBy bodies depthOfConditions conditionsEntries
     walked setting tree binders env v that o s w u ends deep room element-is entered walks =
         let few : scope .count < 31 = omega (arith, depth-some that) in
-        let m : middle ≡ i + 1 + sizeOfValue v = middle-is setting tree binders env v that s w ends in
+        let m : middle ≡ i + 1 + valueEntries v = middle-is setting tree binders env v that s w ends in
         let stands : Stands (frame schema rule words inner (In (i + 1 + 1))) setting tree (record { name = partOf rule name; over = v } ∷ binders) (record { name = partOf rule name; element = o } ∷ env) =
         record {
           scoped = scope-bound schema rule words scope name element inner o setting tree env binds few element-is (s .scoped);
@@ -214,7 +215,7 @@ module _ (schema rule words : List ℕ) (scope : Scope) (over : Over) (name : Pa
     most : r .passed ≤ a .passed + 2 + 8 * (end - (i + 1))
     most = omega (arith, bound .atMost, refs .atMost, goes-on .atMost, judged .atMost, k .most, k .least (omega arith))
 
-  pub quantifier-known : {slot : ℕ} {x : Collected} {inner : Scope} {g r : Answer}
+  pub quantifier-known : {slot : ℕ} {x : Collected} {inner : Scope} {g r : Progress}
       → CollectionOf schema rule words scope (i + 1) x
       → x ≡ Collected.Known slot
       → Binds scope name (Element.Known slot) inner
@@ -232,7 +233,7 @@ module _ (schema rule words : List ℕ) (scope : Scope) (over : Over) (name : Pa
             (known-extends (partOf rule name) env (collection tree env v) (q .0) (q .1)) (known-passes (collection tree env v) (q .0) (q .1));
       }
 
-  pub quantifier-unknown : {x : Collected} {inner : Scope} {g r : Answer}
+  pub quantifier-unknown : {x : Collected} {inner : Scope} {g r : Progress}
       → CollectionOf schema rule words scope (i + 1) x
       → x ≡ Collected.Unknown
       → Binds scope name Element.Unknown inner
@@ -249,7 +250,7 @@ module _ (schema rule words : List ℕ) (scope : Scope) (over : Over) (name : Pa
             walked binds goes-on judged setting tree binders env v that none s w u ends deep room tt (rw q) (rw q);
       }
 
-  pub quantifier-refused : {x : Collected} {fault : CollectionFault} {place : ℕ} {r : Answer}
+  pub quantifier-refused : {x : Collected} {fault : CollectionFault} {place : ℕ} {r : Progress}
       → CollectionOf schema rule words scope (i + 1) x
       → x ≡ Collected.No fault place
       → Failed d (Collection fault place) (i + 1) over r

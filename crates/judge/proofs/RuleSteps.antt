@@ -15,7 +15,8 @@ use Rattle.sheet.specs.Parts.{optionalOf}
 use Rattle.sheet.specs.declared.part.OptionalPart.{OptionalPart}
 use Rattle.definition.specs.Tree.{Schema, Condition, noConditions, condition, Rule, rule, template}
 use Rattle.reference.specs.Setting.{Setting}
-use Rattle.rule.specs.Index.{startOf, endOf, sizeOfConditions, RuleAt}
+use Rattle.definition.specs.Within.{conditionsEntries}
+use Rattle.rule.specs.Index.{startOf, endOf, RuleAt}
 use Rattle.validation.specs.Check.{Check, check, failsIf, literalCheck, literals, literalsOfConditions, literalChecks, isBlankText, depth, references, checks}
 use Rattle.validation.specs.Judge.{outcome, environment, judge}
 use Rattle.scope.specs.Scopes.{chainOf, ChainAt, ScopeAt}
@@ -32,17 +33,17 @@ use Rattle.value_checks.specs.declared.verdict.Fault.{Fault}
 use Rattle.value_checks.specs.declared.verdict.Fault.the-variants.{Name, Message, Deep}
 use Rattle.value_checks.specs.declared.verdict.Over.the-variants.{Outside}
 use Rattle.value_checks.specs.declared.verdict.Verdict.the-variants.{Pass}
-use Rattle.value_checks.specs.declared.verdict.Answer.{Answer}
+use Rattle.value_checks.specs.declared.verdict.Progress.{Progress}
 use Rattle.value_checks.proofs.Going.{goes-nothing, goes-then}
 use Rattle.value_checks.proofs.NodeSteps.{same-head, condition-size}
 use Rattle.value_checks.proofs.LiteralSteps.{settled-outcome}
 use Rattle.value_checks.proofs.ReferenceSteps.{references-judged}
 
 -- before the first check
-abbrev pub begin : Answer
+abbrev pub begin : Progress
 begin = record { passed = 0; verdict = Pass }
 
-pub begin-judges : (setting : Setting) (tree : Schema) (cs : List Check) (r : Answer) → GoesOn (outcome setting tree) begin cs r → shownBy r ≡ shownOf (judge setting tree cs)
+pub begin-judges : (setting : Setting) (tree : Schema) (cs : List Check) (r : Progress) → GoesOn (outcome setting tree) begin cs r → shownBy r ≡ shownOf (judge setting tree cs)
 unfolding shownBy shownWith goOn judge
 begin-judges setting tree cs r g = g .shows
 
@@ -67,11 +68,11 @@ kernel-literals : (setting : Setting) (c : Condition) → setting .isService ≡
 unfolding literalChecks
 kernel-literals setting c m = rw m
 
-pub pass-service : {sheet words : List ℕ} {service : Bool} {end : ℕ} {a r : Answer}
+pub pass-service : {sheet words : List ℕ} {service : Bool} {end : ℕ} {a r : Progress}
     → service ≡ true
     → ConditionLiterals sheet words 1 end a r
     → PassJudged sheet words service end a r
-unfolding literalsOfConditions sizeOfConditions
+unfolding literalsOfConditions conditionsEntries
 pass-service {sheet} {words} {service} {end} t p =
     record {
       atMost = p .atMost;
@@ -82,7 +83,7 @@ pass-service {sheet} {words} {service} {end} t p =
           rw (service-literals setting c m) (rw append-nil at g);
     }
 
-pub pass-kernel : {sheet words : List ℕ} {service : Bool} {end : ℕ} {a : Answer} → service ≡ false → PassJudged sheet words service end a a
+pub pass-kernel : {sheet words : List ℕ} {service : Bool} {end : ℕ} {a : Progress} → service ≡ false → PassJudged sheet words service end a a
 pass-kernel t =
     record {
       atMost = omega arith;
@@ -91,7 +92,7 @@ pass-kernel t =
 
 -- Checks outside all quantifiers.
 
-outside-required : {a r : Answer} {wrong : Bool} {fault : Fault} {place : ℕ} (n d : ℕ) (flag : Bool) (setting : Setting) (tree : Schema)
+outside-required : {a r : Progress} {wrong : Bool} {fault : Fault} {place : ℕ} (n d : ℕ) (flag : Bool) (setting : Setting) (tree : Schema)
     → Required a wrong fault place Outside r
     → wrong ≡ flag
     → n ≡ numberOf fault
@@ -102,7 +103,7 @@ outside-required {a} {r} {wrong} {fault} {place} n d flag setting tree p e m q =
     p .goes (outcome setting tree) _ (record { numbered = m; placed = refl; held = refl })
     (settled-outcome setting tree [] [] n place flag d refl ∙ ap (λ (x : Bool). failed x d) (sym e) ∙ ap (λ (x : ℕ). failed wrong x) q)
 
-both-go : (sheet : List ℕ) (name message : OptionalPart) {unnamed untold : Bool} {b c : Answer} (setting : Setting) (tree : Schema)
+both-go : (sheet : List ℕ) (name message : OptionalPart) {unnamed untold : Bool} {b c : Progress} (setting : Setting) (tree : Schema)
     → unnamed ≡ isBlankText (optionalOf sheet name)
     → untold ≡ isBlankText (optionalOf sheet message)
     → Required begin unnamed Name 1 Outside b
@@ -117,12 +118,12 @@ both-go sheet name message setting tree blank-name blank-message named told =
     goes-then (outside-required 11 0 (isBlankText (optionalOf sheet name)) setting tree named blank-name refl refl)
     (outside-required 12 0 (isBlankText (optionalOf sheet message)) setting tree told blank-message refl refl)
 
-module _ {schema sheet words : List ℕ} {scope : Scope} {name message : OptionalPart} {end : ℕ} {unnamed untold : Bool} {b c : Answer} (blank-name : unnamed ≡ isBlankText (optionalOf sheet name)) (blank-message : untold ≡ isBlankText (optionalOf sheet message)) (named : Required begin unnamed Name 1 Outside b) (told : Required b untold Message 1 Outside c) where
+module _ {schema sheet words : List ℕ} {scope : Scope} {name message : OptionalPart} {end : ℕ} {unnamed untold : Bool} {b c : Progress} (blank-name : unnamed ≡ isBlankText (optionalOf sheet name)) (blank-message : untold ≡ isBlankText (optionalOf sheet message)) (named : Required begin unnamed Name 1 Outside b) (told : Required b untold Message 1 Outside c) where
   pub definition-none : end ≤ 1 → DefinitionJudged schema sheet words scope name message end c
   definition-none h =
       record { shows = λ setting tree assert s w. absurd (omega (arith, w .ends, condition-size assert)) }
 
-  pub definition-deep : {n : ℕ} {r : Answer}
+  pub definition-deep : {n : ℕ} {r : Progress}
       → DepthIs sheet words 1 end 33 n
       → 32 < n
       → Failed c Deep 2 Outside r
@@ -140,7 +141,7 @@ module _ {schema sheet words : List ℕ} {scope : Scope} {name message : Optiona
             (settled-outcome setting tree [] [] 13 2 (not (leb (depth assert) 32)) 0 refl ∙ ap (λ (x : Bool). failed (not x) 0) k)));
       }
 
-  pub definition-judged : {n : ℕ} {d g r : Answer}
+  pub definition-judged : {n : ℕ} {d g r : Progress}
       → DepthIs sheet words 1 end 33 n
       → n ≤ 32
       → PassedOn c d
@@ -184,7 +185,7 @@ module _ {schema sheet words : List ℕ} {scope : Scope} {at end : ℕ} (start :
       unread (rule name message assert) w = clash _ _ (w .0 .reads)
       unread (template v) w = clash _ _ (w .0 .reads)
 
-  pub judge-rule : {next : ℕ} {name message : OptionalPart} {r : Answer}
+  pub judge-rule : {next : ℕ} {name message : OptionalPart} {r : Progress}
       → ReadsTo ruleHead sheet at (Entries.rule (optionalOf sheet name) (optionalOf sheet message)) next
       → DefinitionJudged schema sheet words scope name message end r
       → RuleJudged schema sheet words scope r
@@ -205,7 +206,7 @@ module _ {schema sheet words : List ℕ} {scope : Scope} {at end : ℕ} (start :
           let z : _≡_ {A = ℕ} 0 1 = cc in
           absurd (omega arith)
 
-  pub judge-template : {next : ℕ} {r : Answer}
+  pub judge-template : {next : ℕ} {r : Progress}
       → ReadsTo ruleHead sheet at Entries.template next
       → ReferencesIn (frame schema sheet words scope Outside) 1 (end - 1) begin r
       → RuleJudged schema sheet words scope r

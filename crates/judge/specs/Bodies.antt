@@ -6,11 +6,12 @@ use mathlib.Core.Path.{_≡_}
 use Rattle.text.specs.Blank.{isBlank}
 use Rattle.sheet.specs.Entries.{ConditionHead, literalHead, manyHead, negationHead, oneHead, twoHead, comparisonHead, quantifierHead}
 use Rattle.sheet.specs.Places.{conditionOf}
-use Rattle.sheet.specs.declared.rule.ConditionHead.{ConditionHead as Head}
+use Rattle.sheet.specs.declared.rule_heads.ConditionHead.{ConditionHead as Head}
 use Rattle.definition.specs.Tree.{Text, Schema, Value, Condition, Conditions}
 use Rattle.reference.specs.Setting.{Setting}
 use Rattle.reference.specs.Reference.{Environment, collection}
-use Rattle.rule.specs.Index.{sizeOfValue, sizeOfCondition, ValueAt, ConditionAt}
+use Rattle.definition.specs.Within.{conditionEntries, valueEntries}
+use Rattle.rule.specs.Index.{ValueAt, ConditionAt}
 use Rattle.walk.specs.Answers.{CollectedIs}
 use Rattle.walk.specs.declared.answer.Collected.{Collected}
 use Rattle.validation.specs.Check.{Binder, check, failsIf, walkable, references, hasDot, operatorCheck, body, bodies, depth, depthOfConditions}
@@ -21,7 +22,7 @@ use Rattle.scope.specs.Scopes.{ScopeAt}
 use Rattle.value_checks.specs.Frames.{Frame, frame, Stands}
 use Rattle.scope.specs.declared.binder.Scope.{Scope}
 use Rattle.value_checks.specs.declared.verdict.Over.{Over}
-use Rattle.value_checks.specs.declared.verdict.Answer.{Answer}
+use Rattle.value_checks.specs.declared.verdict.Progress.{Progress}
 
 -- the operator's number, which a literal's, a negation's and a comparison's head leave out
 unfoldable pub operatorIn : ConditionHead → ℕ
@@ -33,7 +34,7 @@ operatorIn (twoHead op) = op
 operatorIn (comparisonHead which) = 18
 operatorIn (quantifierHead op bind) = op
 
-pub record OperatorJudged (scope : Scope) (over : Over) (h : Head) (i : ℕ) (a r : Answer) : Type 0 where
+pub record OperatorJudged (scope : Scope) (over : Over) (h : Head) (i : ℕ) (a r : Progress) : Type 0 where
   pub atMost : r .passed ≤ a .passed + 1
   pub goes : (schema rule words : List ℕ) (setting : Setting) (tree : Schema) (binders : List Binder) (env : Environment)
       → Stands (frame schema rule words scope over) setting tree binders env
@@ -49,7 +50,7 @@ pub record CollectionOf (schema rule words : List ℕ) (scope : Scope) (i : ℕ)
       → CollectedIs schema words r (collection tree env v)
 
 -- a condition that is at most `left` deep, with room for as many binders
-pub record BodyJudged (f : Frame) (i end left : ℕ) (a r : Answer) : Type 0 where
+pub record BodyJudged (f : Frame) (i end left : ℕ) (a r : Progress) : Type 0 where
   pub atMost : r .passed ≤ a .passed + 8 * (end - i)
   pub goes : (setting : Setting) (tree : Schema) (binders : List Binder) (env : Environment) (c : Condition)
       → Stands f setting tree binders env
@@ -58,7 +59,7 @@ pub record BodyJudged (f : Frame) (i end left : ℕ) (a r : Answer) : Type 0 whe
       → f .scope .count + left ≤ 32
       → GoesOn (outcome setting tree) a (body setting binders c) r
 
-pub record BodiesJudged (f : Frame) (start end left : ℕ) (a r : Answer) : Type 0 where
+pub record BodiesJudged (f : Frame) (start end left : ℕ) (a r : Progress) : Type 0 where
   pub atMost : r .passed ≤ a .passed + 8 * (end - start)
   pub goes : (setting : Setting) (tree : Schema) (binders : List Binder) (env : Environment) (cs : Conditions)
       → Stands f setting tree binders env
@@ -68,13 +69,13 @@ pub record BodiesJudged (f : Frame) (start end left : ℕ) (a r : Answer) : Type
       → GoesOn (outcome setting tree) a (bodies setting binders cs) r
 
 -- what a quantifier at word `i` is asked behind its operator
-pub record QuantifierJudged (f : Frame) (bind : Text) (i end left : ℕ) (a r : Answer) : Type 0 where
+pub record QuantifierJudged (f : Frame) (bind : Text) (i end left : ℕ) (a r : Progress) : Type 0 where
   pub atMost : r .passed ≤ a .passed + 2 + 8 * (end - (i + 1))
   pub goes : (setting : Setting) (tree : Schema) (binders : List Binder) (env : Environment) (over : Value) (that : Condition)
       → Stands f setting tree binders env
       → ValueAt (f .rule) (f .words) (i + 1) over
-      → ConditionAt (f .rule) (f .words) (i + 1 + sizeOfValue over) that
-      → end ≡ i + 1 + sizeOfValue over + sizeOfCondition that
+      → ConditionAt (f .rule) (f .words) (i + 1 + valueEntries over) that
+      → end ≡ i + 1 + valueEntries over + conditionEntries that
       → depth that ≤ left
       → f .scope .count + suc left ≤ 32
       → GoesOn (outcome setting tree) a

@@ -15,10 +15,10 @@ use Rattle.scope.specs.declared.binder.Scope.{Scope}
 use Rattle.value_checks.specs.Nodes.{IsCondition}
 use Rattle.value_checks.specs.Shown.{shownOf}
 use Rattle.value_checks.specs.Verdicts.{shownBy, GoesOn}
-use Rattle.value_checks.specs.declared.verdict.Answer.{Answer}
+use Rattle.value_checks.specs.declared.verdict.Progress.{Progress}
 
 -- the literal pass, which belongs to service
-pub record PassJudged (rule words : List ℕ) (isService : Bool) (end : ℕ) (a r : Answer) : Type 0 where
+pub record PassJudged (rule words : List ℕ) (isService : Bool) (end : ℕ) (a r : Progress) : Type 0 where
   pub atMost : r .passed ≤ a .passed + (end - 1)
   pub goes : (setting : Setting) (tree : Schema) (c : Condition)
       → isService ≡ setting .isService
@@ -26,7 +26,7 @@ pub record PassJudged (rule words : List ℕ) (isService : Bool) (end : ℕ) (a 
       → GoesOn (outcome setting tree) a (literalChecks setting c) r
 
 -- a rule with that name and that message, whose condition stands from word 1 on
-pub record DefinitionJudged (schema sheet words : List ℕ) (scope : Scope) (name message : OptionalPart) (end : ℕ) (r : Answer) : Type 0 where
+pub record DefinitionJudged (schema sheet words : List ℕ) (scope : Scope) (name message : OptionalPart) (end : ℕ) (r : Progress) : Type 0 where
   pub shows : (setting : Setting) (tree : Schema) (assert : Condition)
       → ScopeAt schema sheet words scope setting tree []
       → IsCondition sheet words 1 end assert
@@ -36,7 +36,7 @@ pub record DefinitionJudged (schema sheet words : List ℕ) (scope : Scope) (nam
       (checks setting (rule (optionalOf sheet name) (optionalOf sheet message) assert)))
 
 -- what the sheet holds, whatever it is
-pub record RuleJudged (schema sheet words : List ℕ) (scope : Scope) (r : Answer) : Type 0 where
+pub record RuleJudged (schema sheet words : List ℕ) (scope : Scope) (r : Progress) : Type 0 where
   pub shows : (setting : Setting) (tree : Schema) (x : Rule)
       → ScopeAt schema sheet words scope setting tree []
       → RuleAt sheet words x

@@ -6,18 +6,21 @@ use scope::binder::bind;
 use scope::collections::collection_element;
 use sheet::part::Part;
 use sheet::part::bytes_of;
-use sheet::rule::ConditionHead;
-use sheet::rule::ConditionRead;
-use sheet::rule::condition_head;
+use sheet::rule_heads::COMPARE;
+use sheet::rule_heads::ConditionHead;
+use sheet::rule_heads::ConditionRead;
+use sheet::rule_heads::LITERAL;
+use sheet::rule_heads::NOT;
+use sheet::rule_heads::condition_head;
 use value_checks::node::behind;
 use value_checks::operand::Form;
 use value_checks::operand::form_of;
 use value_checks::operand::validate_comparison;
 use value_checks::operand::validate_pair;
 use value_checks::references::validate_references;
-use value_checks::verdict::Answer;
 use value_checks::verdict::Fault;
 use value_checks::verdict::Over;
+use value_checks::verdict::Progress;
 use value_checks::verdict::fail;
 use value_checks::verdict::pass;
 use value_checks::verdict::require;
@@ -39,22 +42,28 @@ fn operator_of(head: ConditionHead) -> usize
     ensures { λ r. ⌜ ((rule : List ℕ) → r ≡ operatorIn (conditionOf rule head)) ⌝ }
 {
     match head {
-        ConditionHead::Literal(_) => 1,
+        ConditionHead::Literal(_) => LITERAL,
         ConditionHead::Many(op, _) => op,
-        ConditionHead::Negation => 4,
+        ConditionHead::Negation => NOT,
         ConditionHead::One(op) => op,
         ConditionHead::Two(op) => op,
-        ConditionHead::Comparison(_) => 18,
+        ConditionHead::Comparison(_) => COMPARE,
         ConditionHead::Quantifier(op, _) => op,
     }
 }
 
 // Operators from 18 on are there under service alone.
-fn validate_operator(a: Answer, scope: Scope, over: Over, head: ConditionHead, i: usize) -> Answer
+fn validate_operator(
+    a: Progress,
+    scope: Scope,
+    over: Over,
+    head: ConditionHead,
+    i: usize,
+) -> Progress
     requires { ⌜ HasRoom a 1 × (i < 4096) ⌝ }
     ensures { λ r. ⌜ OperatorJudged scope over head i a r ⌝ }
 {
-    if operator_of(head) < 18 {
+    if operator_of(head) < COMPARE {
         return pass(a);
     }
     if scope.service {
@@ -98,7 +107,7 @@ fn collection_of(schema: &[u8], rule: &[u8], words: &[u32], scope: Scope, i: usi
 
 // The condition at word `i`, which ends at `end` and is at most `left` deep.
 pub fn validate_condition_body(
-    a: Answer,
+    a: Progress,
     schema: &[u8],
     rule: &[u8],
     words: &[u32],
@@ -107,7 +116,7 @@ pub fn validate_condition_body(
     i: usize,
     end: usize,
     left: usize,
-) -> Answer
+) -> Progress
     requires { ⌜ HasRoom a (8 * (end - i)) × (i < end) × (end < 4096) ⌝ }
     ensures { λ r. ⌜ BodyJudged (frame (now (schema .entry)) (now (rule .entry)) (now (words .entry)) scope over) i end left a r ⌝ }
 {
@@ -144,7 +153,7 @@ pub fn validate_condition_body(
 
 // The conditions from word `start` on, which end at `end`.
 fn validate_conditions(
-    a: Answer,
+    a: Progress,
     schema: &[u8],
     rule: &[u8],
     words: &[u32],
@@ -153,7 +162,7 @@ fn validate_conditions(
     start: usize,
     end: usize,
     left: usize,
-) -> Answer
+) -> Progress
     requires { ⌜ HasRoom a (8 * (end - start)) × (end < 4096) ⌝ }
     ensures { λ r. ⌜ BodiesJudged (frame (now (schema .entry)) (now (rule .entry)) (now (words .entry)) scope over) start end left a r ⌝ }
 {
@@ -169,7 +178,7 @@ fn validate_conditions(
 
 // A quantifier at word `i`, behind its operator: its bind, the value that it walks, and its body with one binder more.
 fn validate_quantifier(
-    a: Answer,
+    a: Progress,
     schema: &[u8],
     rule: &[u8],
     words: &[u32],
@@ -179,7 +188,7 @@ fn validate_quantifier(
     i: usize,
     end: usize,
     left: usize,
-) -> Answer
+) -> Progress
     requires { ⌜ HasRoom a (2 + 8 * (end - (i + 1))) × (i < end) × (end < 4096) ⌝ }
     ensures { λ r. ⌜ QuantifierJudged (frame (now (schema .entry)) (now (rule .entry)) (now (words .entry)) scope over) (partOf (now (rule .entry)) name) i end left a r ⌝ }
 {

@@ -1,7 +1,7 @@
 // How deep conditions nest: siblings by a loop, children by recursion.
 use rule::index::start_of;
-use sheet::rule::ConditionRead;
-use sheet::rule::condition_head;
+use sheet::rule_heads::ConditionRead;
+use sheet::rule_heads::condition_head;
 use value_checks::node::behind;
 use value_checks::node::children_from;
 ghost use mathlib.Core.Path.{_≡_};

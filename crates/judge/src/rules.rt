@@ -6,14 +6,14 @@ use rule::index::start_of;
 use scope::binder::Scope;
 use sheet::part::OptionalPart;
 use sheet::part::bytes_of;
-use sheet::rule::RuleHead;
-use sheet::rule::RuleRead;
-use sheet::rule::rule_head;
+use sheet::rule_heads::RuleHead;
+use sheet::rule_heads::RuleHeadRead;
+use sheet::rule_heads::rule_head;
 use value_checks::literal::unobservable_condition_literals;
 use value_checks::references::validate_references;
-use value_checks::verdict::Answer;
 use value_checks::verdict::Fault;
 use value_checks::verdict::Over;
+use value_checks::verdict::Progress;
 use value_checks::verdict::Verdict;
 use value_checks::verdict::fail;
 use value_checks::verdict::pass;
@@ -40,12 +40,12 @@ fn is_blank_text(rule: &[u8], text: OptionalPart) -> bool
 
 // Literals are looked at under service alone.
 fn validate_condition_literals(
-    a: Answer,
+    a: Progress,
     rule: &[u8],
     words: &[u32],
     service: bool,
     end: usize,
-) -> Answer
+) -> Progress
     requires { ⌜ HasRoom a (end - 1) × (end ≤ 4096) ⌝ }
     ensures { λ r. ⌜ PassJudged (now (rule .entry)) (now (words .entry)) service end a r ⌝ }
 {
@@ -64,11 +64,11 @@ fn validate_rule_definition(
     name: OptionalPart,
     message: OptionalPart,
     end: usize,
-) -> Answer
+) -> Progress
     requires { ⌜ end < 4096 ⌝ }
     ensures { λ r. ⌜ DefinitionJudged (now (schema .entry)) (now (rule .entry)) (now (words .entry)) scope name message end r ⌝ }
 {
-    let a = Answer {
+    let a = Progress {
         passed: 0,
         verdict: Verdict::Pass,
     };
@@ -102,15 +102,15 @@ fn validate_rule_definition(
 }
 
 // The rule or the template of a sheet, by its index. The scope has no binders.
-pub fn judge(schema: &[u8], rule: &[u8], words: &[u32], scope: Scope) -> Answer
+pub fn judge(schema: &[u8], rule: &[u8], words: &[u32], scope: Scope) -> Progress
     ensures { λ r. ⌜ RuleJudged (now (schema .entry)) (now (rule .entry)) (now (words .entry)) scope r ⌝ }
 {
     let end = end_of(words, 0);
-    let a = Answer {
+    let a = Progress {
         passed: 0,
         verdict: Verdict::Pass,
     };
-    let RuleRead::Is(head, _) = rule_head(rule, start_of(words, 0)) else {
+    let RuleHeadRead::Is(head, _) = rule_head(rule, start_of(words, 0)) else {
         return a;
     };
     let RuleHead::Rule(name, message) = head else {

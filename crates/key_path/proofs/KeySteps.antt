@@ -16,7 +16,7 @@ use Rattle.reference.specs.Walk as Walk
 use Rattle.reference.specs.Walk.{Reached, unknown, known}
 use Rattle.reference.specs.Reference.{keyWalk}
 use Rattle.schema.specs.Index.{indexEnd}
-use Rattle.schema.specs.Read.{SchemaPost}
+use Rattle.schema.specs.Read.{SchemaAnswer}
 use Rattle.schema.specs.declared.read.Schema.{Schema}
 use Rattle.schema.specs.declared.read.SchemaRead.{SchemaRead}
 use Rattle.schema.specs.declared.read.SchemaRead.the-variants.{Good, Bad}
@@ -33,10 +33,9 @@ use Rattle.validation.specs.RefusalLaws.{every, first-append, none-due, number-
 use Rattle.validation.specs.KeyPath.{KeyCall, readerOf, maxKeyBytes, keyEarly, keyRefusals, keyDefect, keyAnswer, keyChecked, keyJudged, keyResultOf, keyCallOf, MeetsKey}
 use Rattle.validator.specs.Outcomes.{numbersBy}
 use Rattle.validator.specs.Sheets.{FrontOnly}
+use Rattle.validator.specs.SheetLaws.{front-schema, front-scratch}
 use Rattle.validator.specs.declared.outcome.Outcome.{Outcome}
 use Rattle.validator.proofs.SettingSteps.{turned}
-use Rattle.validator.proofs.SheetSteps.{front-schema}
-use Rattle.validator.proofs.WholeSteps.{front-scratch}
 use Rattle.key_path.specs.Keys.{KeyTold, keyRunOf}
 
 -- What is refused before the schema is read.
@@ -174,7 +173,7 @@ module _ (semantics reader : ℕ) (path schema before : List ℕ) where
       ))
       q (record { size = refl; kept = refl })
 
-  module _ {n : ℕ} (e : n ≡ early semantics reader path (length before)) (z : n ≡ 0) {after : List ℕ} {q : SchemaRead} (post : SchemaPost schema before after q) where
+  module _ {n : ℕ} (e : n ≡ early semantics reader path (length before)) (z : n ≡ 0) {after : List ℕ} {q : SchemaRead} (post : SchemaAnswer schema before after q) where
     front : FrontOnly before after
     front = front-schema (post .kept)
 

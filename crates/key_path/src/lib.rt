@@ -1,4 +1,6 @@
 // One path of `$fields`, given without `$fields.`: whether the kernel can read it, or a projection as its key (docs/FORMAT.md, "Keys").
+use definition::limits::MAX_KEY_BYTES;
+use definition::limits::SCRATCH_WORDS;
 use schema::read::Schema;
 use schema::read::SchemaRead;
 use schema::read::read_schema;
@@ -8,7 +10,6 @@ use validator::outcome::Outcome;
 use validator::outcome::accepted;
 use validator::outcome::refused;
 use validator::settings::is_within;
-use validator::widths::SCRATCH_WORDS;
 use walk::answer::Readable;
 use walk::answer::Reader;
 use walk::answer::ReferenceFault;
@@ -22,8 +23,6 @@ ghost use Rattle.validation.specs.Result.{defect, isWithin, firstRefusal, numbe
 ghost use Rattle.validation.specs.KeyPath.{readerOf, maxKeyBytes, keyEarly, keyDefect, MeetsKey};
 ghost use Rattle.validator.specs.Outcomes.{numbersBy};
 ghost use Rattle.key_path.specs.Keys.{KeyTold, keyRunOf};
-
-const MAX_KEY_BYTES: usize = 512;
 
 fn are_settings(semantics: u32, reader: u32) -> bool
     ensures { λ r. ⌜ r ≡ (isWithin 1 4 semantics && isWithin 1 2 reader) ⌝ }

@@ -3,20 +3,20 @@ use Prim.Native.Nat.{ℕ, _<_, _≤_}
 use mathlib.Core.Bool.{Bool, true, false}
 use mathlib.Core.List.{List}
 use lib.ListN.{length}
-use Rattle.sheet.specs.declared.schema.SchemaRead.{SchemaRead}
-use Rattle.sheet.specs.declared.schema.SchemaRead.the-variants as schema
-use Rattle.sheet.specs.declared.schema.FieldRead.{FieldRead}
-use Rattle.sheet.specs.declared.schema.FieldRead.the-variants as field
-use Rattle.sheet.specs.declared.rule.RuleRead.{RuleRead}
-use Rattle.sheet.specs.declared.rule.RuleRead.the-variants as rule
-use Rattle.sheet.specs.declared.rule.ConditionRead.{ConditionRead}
-use Rattle.sheet.specs.declared.rule.ConditionRead.the-variants as condition
-use Rattle.sheet.specs.declared.rule.ValueRead.{ValueRead}
-use Rattle.sheet.specs.declared.rule.ValueRead.the-variants as value
-use Rattle.sheet.specs.declared.rule.KeyRead.{KeyRead}
-use Rattle.sheet.specs.declared.rule.KeyRead.the-variants as key
+use Rattle.sheet.specs.declared.schema_heads.SchemaHeadRead.{SchemaHeadRead}
+use Rattle.sheet.specs.declared.schema_heads.SchemaHeadRead.the-variants as schema
+use Rattle.sheet.specs.declared.schema_heads.FieldRead.{FieldRead}
+use Rattle.sheet.specs.declared.schema_heads.FieldRead.the-variants as field
+use Rattle.sheet.specs.declared.rule_heads.RuleHeadRead.{RuleHeadRead}
+use Rattle.sheet.specs.declared.rule_heads.RuleHeadRead.the-variants as rule
+use Rattle.sheet.specs.declared.rule_heads.ConditionRead.{ConditionRead}
+use Rattle.sheet.specs.declared.rule_heads.ConditionRead.the-variants as condition
+use Rattle.sheet.specs.declared.rule_heads.ValueRead.{ValueRead}
+use Rattle.sheet.specs.declared.rule_heads.ValueRead.the-variants as value
+use Rattle.sheet.specs.declared.rule_heads.KeyRead.{KeyRead}
+use Rattle.sheet.specs.declared.rule_heads.KeyRead.the-variants as key
 
-abbrev pub schemaEnd : SchemaRead → ℕ → ℕ
+abbrev pub schemaEnd : SchemaHeadRead → ℕ → ℕ
 schemaEnd (schema.Is h next) at = next
 schemaEnd schema.Bad at = at
 
@@ -24,7 +24,7 @@ abbrev pub fieldEnd : FieldRead → ℕ → ℕ
 fieldEnd (field.Is h next) at = next
 fieldEnd field.Bad at = at
 
-abbrev pub ruleEnd : RuleRead → ℕ → ℕ
+abbrev pub ruleEnd : RuleHeadRead → ℕ → ℕ
 ruleEnd (rule.Is h next) at = next
 ruleEnd rule.Bad at = at
 

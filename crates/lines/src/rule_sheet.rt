@@ -1,36 +1,36 @@
 // The entries of a rule sheet, one after the other.
 use crate::Lines;
 use crate::new;
-use sheet::rule::ConditionRead;
-use sheet::rule::KeyRead;
-use sheet::rule::RuleRead;
-use sheet::rule::ValueRead;
+use sheet::rule_heads::ConditionRead;
+use sheet::rule_heads::KeyRead;
+use sheet::rule_heads::RuleHeadRead;
+use sheet::rule_heads::ValueRead;
 ghost use mathlib.Core.Path.{_≡_};
 ghost use Rattle.sheet.specs.Places.{RuleIs, ConditionIs, ValueIs, KeyIs};
 ghost use Rattle.lines.specs.Ends.{ruleEnd, conditionEnd, valueEnd, keyEnd};
 ghost use Rattle.lines.specs.Passed.{Passed};
 
 // Where the entry behind the sheet's first entry starts; a reader that finds none stays where it is.
-fn rule_end(read: RuleRead, at: usize) -> usize
+fn rule_end(read: RuleHeadRead, at: usize) -> usize
     ensures { λ r. ⌜ r ≡ ruleEnd read at ⌝ }
 {
     match read {
-        RuleRead::Is(_, next) => next,
-        RuleRead::Bad => at,
+        RuleHeadRead::Is(_, next) => next,
+        RuleHeadRead::Bad => at,
     }
 }
 
 // The next entry's head, with the reader moved past it.
-pub fn next_rule<'s, 'a>(lines: &'s mut Lines<'a>) -> RuleRead
+pub fn next_rule<'s, 'a>(lines: &'s mut Lines<'a>) -> RuleHeadRead
     ensures { λ r. ⌜ Passed RuleIs ruleEnd (now (lines .entry)) (now (lines .exit)) r ⌝ }
 {
-    let read = sheet::rule::rule_head(lines.sheet, lines.at);
+    let read = sheet::rule_heads::rule_head(lines.sheet, lines.at);
     lines.at = rule_end(read, lines.at);
     read
 }
 
 // The head of the entry that starts at `at`, for callers without a reader.
-pub fn rule_head(sheet: &[u8], at: usize) -> RuleRead
+pub fn rule_head(sheet: &[u8], at: usize) -> RuleHeadRead
     ensures { λ r. ⌜ RuleIs (now (sheet .entry)) at r ⌝ }
 {
     let mut lines = new(sheet, at);
@@ -51,7 +51,7 @@ fn condition_end(read: ConditionRead, at: usize) -> usize
 pub fn next_condition<'s, 'a>(lines: &'s mut Lines<'a>) -> ConditionRead
     ensures { λ r. ⌜ Passed ConditionIs conditionEnd (now (lines .entry)) (now (lines .exit)) r ⌝ }
 {
-    let read = sheet::rule::condition_head(lines.sheet, lines.at);
+    let read = sheet::rule_heads::condition_head(lines.sheet, lines.at);
     lines.at = condition_end(read, lines.at);
     read
 }
@@ -78,7 +78,7 @@ fn value_end(read: ValueRead, at: usize) -> usize
 pub fn next_value<'s, 'a>(lines: &'s mut Lines<'a>) -> ValueRead
     ensures { λ r. ⌜ Passed ValueIs valueEnd (now (lines .entry)) (now (lines .exit)) r ⌝ }
 {
-    let read = sheet::rule::value_head(lines.sheet, lines.at);
+    let read = sheet::rule_heads::value_head(lines.sheet, lines.at);
     lines.at = value_end(read, lines.at);
     read
 }
@@ -105,7 +105,7 @@ fn key_end(read: KeyRead, at: usize) -> usize
 pub fn next_key<'s, 'a>(lines: &'s mut Lines<'a>) -> KeyRead
     ensures { λ r. ⌜ Passed KeyIs keyEnd (now (lines .entry)) (now (lines .exit)) r ⌝ }
 {
-    let read = sheet::rule::key_head(lines.sheet, lines.at);
+    let read = sheet::rule_heads::key_head(lines.sheet, lines.at);
     lines.at = key_end(read, lines.at);
     read
 }

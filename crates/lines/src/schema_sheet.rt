@@ -1,34 +1,34 @@
 // The entries of a schema sheet, one after the other.
 use crate::Lines;
 use crate::new;
-use sheet::schema::FieldRead;
-use sheet::schema::SchemaRead;
+use sheet::schema_heads::FieldRead;
+use sheet::schema_heads::SchemaHeadRead;
 ghost use mathlib.Core.Path.{_≡_};
 ghost use Rattle.sheet.specs.Places.{SchemaIs, FieldIs};
 ghost use Rattle.lines.specs.Ends.{schemaEnd, fieldEnd};
 ghost use Rattle.lines.specs.Passed.{Passed};
 
 // Where the entry behind the sheet's first entry starts; a reader that finds none stays where it is.
-fn schema_end(read: SchemaRead, at: usize) -> usize
+fn schema_end(read: SchemaHeadRead, at: usize) -> usize
     ensures { λ r. ⌜ r ≡ schemaEnd read at ⌝ }
 {
     match read {
-        SchemaRead::Is(_, next) => next,
-        SchemaRead::Bad => at,
+        SchemaHeadRead::Is(_, next) => next,
+        SchemaHeadRead::Bad => at,
     }
 }
 
 // The next entry's head, with the reader moved past it.
-pub fn next_schema<'s, 'a>(lines: &'s mut Lines<'a>) -> SchemaRead
+pub fn next_schema<'s, 'a>(lines: &'s mut Lines<'a>) -> SchemaHeadRead
     ensures { λ r. ⌜ Passed SchemaIs schemaEnd (now (lines .entry)) (now (lines .exit)) r ⌝ }
 {
-    let read = sheet::schema::schema_head(lines.sheet, lines.at);
+    let read = sheet::schema_heads::schema_head(lines.sheet, lines.at);
     lines.at = schema_end(read, lines.at);
     read
 }
 
 // The head of the entry that starts at `at`, for callers without a reader.
-pub fn schema_head(sheet: &[u8], at: usize) -> SchemaRead
+pub fn schema_head(sheet: &[u8], at: usize) -> SchemaHeadRead
     ensures { λ r. ⌜ SchemaIs (now (sheet .entry)) at r ⌝ }
 {
     let mut lines = new(sheet, at);
@@ -49,7 +49,7 @@ fn field_end(read: FieldRead, at: usize) -> usize
 pub fn next_field<'s, 'a>(lines: &'s mut Lines<'a>) -> FieldRead
     ensures { λ r. ⌜ Passed FieldIs fieldEnd (now (lines .entry)) (now (lines .exit)) r ⌝ }
 {
-    let read = sheet::schema::field_head(lines.sheet, lines.at);
+    let read = sheet::schema_heads::field_head(lines.sheet, lines.at);
     lines.at = field_end(read, lines.at);
     read
 }

@@ -12,7 +12,8 @@ use Rattle.sheet.specs.Ascii.{ascii}
 use Rattle.sheet.specs.Reader.{orElse}
 use Rattle.sheet.specs.Entries.{ConditionHead, literalHead, manyHead, negationHead, oneHead, twoHead, comparisonHead, quantifierHead, conditionHead}
 use Rattle.definition.specs.Tree.{Text, Value, Condition, literal, many, negation, one, two, comparison, quantifier, Conditions, noConditions, condition}
-use Rattle.rule.specs.Index.{startOf, endOf, sizeOfValue, sizeOfCondition, countOfConditions, ValueAt, ConditionAt, ConditionsAt}
+use Rattle.definition.specs.Within.{conditionEntries, valueEntries}
+use Rattle.rule.specs.Index.{startOf, endOf, countOfConditions, ValueAt, ConditionAt, ConditionsAt}
 use Rattle.rule.specs.IndexLaws.{value-next, condition-next}
 use Rattle.validation.specs.Check.{entryOf}
 use Rattle.validation.specs.Location.{operatorName, dotted, index, through, hereOr, hereAs, inValue, inSide, atQuantifier, inCondition, inConditions}
@@ -44,8 +45,8 @@ isValueNode (ofValue v) = true
 isValueNode (ofCondition c) = false
 
 abbrev sizeOfNode : Node → ℕ
-sizeOfNode (ofValue v) = sizeOfValue v
-sizeOfNode (ofCondition c) = sizeOfCondition c
+sizeOfNode (ofValue v) = valueEntries v
+sizeOfNode (ofCondition c) = conditionEntries c
 
 abbrev inNode : (defect place : ℕ) → Node → Option Text
 inNode defect place (ofValue v) = inValue place v
@@ -102,7 +103,7 @@ module _ (sheet words : List ℕ) (defect target : ℕ) where
   unfolding nodesOf isValueNode isValueAt
   conditions-standing op count noConditions k i at = tt
   conditions-standing op count (condition c others) k i at =
-      ((at .0, refl), conditions-standing op count others (k + 1) (i + sizeOfCondition c) (at .1))
+      ((at .0, refl), conditions-standing op count others (k + 1) (i + conditionEntries c) (at .1))
 
   conditions-first : (op count : ℕ) (cs : Conditions) (k : ℕ)
       → inConditions defect (target + 1) op k cs

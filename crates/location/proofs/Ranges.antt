@@ -10,7 +10,8 @@ use borrow.Author.Tests.{eqb-true}
 use Rattle.sheet.specs.Ascii.{ascii}
 use Rattle.sheet.specs.Reader.{orElse}
 use Rattle.definition.specs.Tree.{Text, Value, constant, number, string, array, object, Values, noValues, value, Pairs, noPairs, pair, Condition, literal, many, negation, one, two, comparison, quantifier, Conditions, noConditions, condition}
-use Rattle.rule.specs.Index.{sizeOfValue, sizeOfValues, sizeOfPairs, sizeOfCondition, sizeOfConditions, ValueAt, ValuesAt, PairsAt, ConditionAt, ConditionsAt}
+use Rattle.definition.specs.Within.{conditionEntries, conditionsEntries, pairsEntries, valueEntries, valuesEntries}
+use Rattle.rule.specs.Index.{ValueAt, ValuesAt, PairsAt, ConditionAt, ConditionsAt}
 use Rattle.validation.specs.Check.{entryOf}
 use Rattle.validation.specs.Location.{operatorName, dotted, index, through, hereOr, hereAs, inValue, inValues, inPairs, inSide, atQuantifier, inCondition, inConditions}
 
@@ -70,35 +71,35 @@ module _ (place i n : ℕ) where
 
 module _ (sheet words : List ℕ) (place : ℕ) where
   mutual
-    unfolding inValue sizeOfValue
+    unfolding inValue valueEntries
 
-    pub value-among : (v : Value) (i : ℕ) (p : Text) → ValueAt sheet words i v → inValue place v ≡ some p → Among place i (sizeOfValue v)
+    pub value-among : (v : Value) (i : ℕ) (p : Text) → ValueAt sheet words i v → inValue place v ≡ some p → Among place i (valueEntries v)
     value-among (constant e type) i p at h = among-own place i 1 e none p (at .isEntry) (omega arith) (λ z. none-found z) h
     value-among (number e digits) i p at h = among-own place i 1 e none p (at .isEntry) (omega arith) (λ z. none-found z) h
     value-among (string e t) i p at h = among-own place i 1 e none p (at .isEntry) (omega arith) (λ z. none-found z) h
     value-among (array e values) i p at h =
-        among-own place i (1 + sizeOfValues values) e (inValues place 0 values) p (at .0 .isEntry) (omega arith)
+        among-own place i (1 + valuesEntries values) e (inValues place 0 values) p (at .0 .isEntry) (omega arith)
         (λ z. let r = values-among values (i + 1) 0 p (at .1) z in omega arith)
         h
     value-among (object e pairs) i p at h =
-        among-own place i (1 + sizeOfPairs pairs) e (inPairs place pairs) p (at .0 .isEntry) (omega arith)
+        among-own place i (1 + pairsEntries pairs) e (inPairs place pairs) p (at .0 .isEntry) (omega arith)
         (λ z. let r = pairs-among pairs (i + 1) p (at .1) z in omega arith)
         h
 
-    values-among : (vs : Values) (i k : ℕ) (p : Text) → ValuesAt sheet words i vs → inValues place k vs ≡ some p → Among place i (sizeOfValues vs)
+    values-among : (vs : Values) (i k : ℕ) (p : Text) → ValuesAt sheet words i vs → inValues place k vs ≡ some p → Among place i (valuesEntries vs)
     values-among noValues i k p at h = none-found h
     values-among (value v others) i k p at h =
         either-found (through (index k) (inValue place v)) (inValues place (k + 1) others) p
         (through-found (index k) (inValue place v) p (λ q z _. let r = value-among v i q (at .0) z in omega arith))
-        (λ z. let r = values-among others (i + sizeOfValue v) (k + 1) p (at .1) z in omega arith)
+        (λ z. let r = values-among others (i + valueEntries v) (k + 1) p (at .1) z in omega arith)
         h
 
-    pairs-among : (ps : Pairs) (i : ℕ) (p : Text) → PairsAt sheet words i ps → inPairs place ps ≡ some p → Among place i (sizeOfPairs ps)
+    pairs-among : (ps : Pairs) (i : ℕ) (p : Text) → PairsAt sheet words i ps → inPairs place ps ≡ some p → Among place i (pairsEntries ps)
     pairs-among noPairs i p at h = none-found h
     pairs-among (pair key v others) i p at h =
         either-found (through (dotted key) (inValue place v)) (inPairs place others) p
         (through-found (dotted key) (inValue place v) p (λ q z _. let r = value-among v (i + 1) q (at .1) z in omega arith))
-        (λ z. let r = pairs-among others (i + (1 + sizeOfValue v)) p (at .2) z in omega arith)
+        (λ z. let r = pairs-among others (i + (1 + valueEntries v)) p (at .2) z in omega arith)
         h
 
   value-own : (v : Value) (i : ℕ) → ValueAt sheet words i v → entryOf v ≡ i + 1
@@ -109,16 +110,16 @@ module _ (sheet words : List ℕ) (place : ℕ) where
   value-own (array e values) i at = at .0 .isEntry
   value-own (object e pairs) i at = at .0 .isEntry
 
-  pub value-size : (v : Value) → 0 < sizeOfValue v
-  unfolding sizeOfValue
+  pub value-size : (v : Value) → 0 < valueEntries v
+  unfolding valueEntries
   value-size (constant e type) = omega arith
   value-size (number e digits) = omega arith
   value-size (string e t) = omega arith
   value-size (array e values) = omega arith
   value-size (object e pairs) = omega arith
 
-  pub condition-size : (c : Condition) → 0 < sizeOfCondition c
-  unfolding sizeOfCondition
+  pub condition-size : (c : Condition) → 0 < conditionEntries c
+  unfolding conditionEntries
   condition-size (literal e truth) = omega arith
   condition-size (many e op children) = omega arith
   condition-size (negation e child) = omega arith
@@ -130,69 +131,69 @@ module _ (sheet words : List ℕ) (place : ℕ) where
   side-among : (defect : ℕ) (part : Text) (v : Value) (i : ℕ) (p : Text)
       → ValueAt sheet words i v
       → inSide defect place part v ≡ some p
-      → Among place i (sizeOfValue v)
+      → Among place i (valueEntries v)
   unfolding inSide
   side-among defect part v i p at h = by-defect (eqb defect 17) h
     where
       by-defect : (b : Bool)
           → cond b (hereOr (eqb (entryOf v) place) none) (through part (inValue place v)) ≡ some p
-          → Among place i (sizeOfValue v)
-      by-defect true z = among-own place i (sizeOfValue v) (entryOf v) none p (value-own v i at) (value-size v) (λ y. none-found y) z
+          → Among place i (valueEntries v)
+      by-defect true z = among-own place i (valueEntries v) (entryOf v) none p (value-own v i at) (value-size v) (λ y. none-found y) z
       by-defect false z = through-found part (inValue place v) p (λ q y _. value-among v i q at y) z
 
   mutual
-    unfolding inCondition sizeOfCondition
+    unfolding inCondition conditionEntries
 
     pub condition-among : (defect : ℕ) (c : Condition) (i : ℕ) (p : Text)
         → ConditionAt sheet words i c
         → inCondition defect place c ≡ some p
-        → Among place i (sizeOfCondition c)
+        → Among place i (conditionEntries c)
     condition-among defect (literal e truth) i p at h = among-own place i 1 e none p (at .isEntry) (omega arith) (λ z. none-found z) h
     condition-among defect (many e op children) i p at h =
-        among-own place i (1 + sizeOfConditions children) e (inConditions defect place op 0 children) p (at .0 .isEntry) (omega arith)
+        among-own place i (1 + conditionsEntries children) e (inConditions defect place op 0 children) p (at .0 .isEntry) (omega arith)
         (λ z. let r = conditions-among defect op children (i + 1) 0 p (at .1) z in omega arith)
         h
     condition-among defect (negation e child) i p at h =
-        among-own place i (1 + sizeOfCondition child) e _ p (at .0 .isEntry) (omega arith)
+        among-own place i (1 + conditionEntries child) e _ p (at .0 .isEntry) (omega arith)
         (through-found (ascii ".not") (inCondition defect place child) p
         (λ q z _. let r = condition-among defect child (i + 1) q (at .1) z in omega arith))
         h
     condition-among defect (one e op v) i p at h =
-        among-own place i (1 + sizeOfValue v) e _ p (at .0 .isEntry) (omega arith)
+        among-own place i (1 + valueEntries v) e _ p (at .0 .isEntry) (omega arith)
         (through-found (dotted (operatorName op)) (inValue place v) p
         (λ q z _. let r = value-among v (i + 1) q (at .1) z in omega arith))
         h
     condition-among defect (two e op left right) i p at h =
-        among-own place i (1 + (sizeOfValue left + sizeOfValue right)) e _ p (at .0 .isEntry) (omega arith)
+        among-own place i (1 + (valueEntries left + valueEntries right)) e _ p (at .0 .isEntry) (omega arith)
         (either-found _ _ p
         (through-found (dotted (operatorName op) ++ index 0) (inValue place left) p
         (λ q z _. let r = value-among left (i + 1) q (at .1) z in omega arith))
         (through-found (dotted (operatorName op) ++ index 1) (inValue place right) p
-        (λ q z _. let r = value-among right (i + 1 + sizeOfValue left) q (at .2) z in omega arith)))
+        (λ q z _. let r = value-among right (i + 1 + valueEntries left) q (at .2) z in omega arith)))
         h
     condition-among defect (comparison e which left right) i p at h =
-        among-own place i (1 + (sizeOfValue left + sizeOfValue right)) e _ p (at .0 .isEntry) (omega arith)
+        among-own place i (1 + (valueEntries left + valueEntries right)) e _ p (at .0 .isEntry) (omega arith)
         (either-found _ _ p
         (λ z. let r = side-among defect (ascii ".compare.left") left (i + 1) p (at .1) z in omega arith)
-        (λ z. let r = side-among defect (ascii ".compare.right") right (i + 1 + sizeOfValue left) p (at .2) z in omega arith))
+        (λ z. let r = side-among defect (ascii ".compare.right") right (i + 1 + valueEntries left) p (at .2) z in omega arith))
         h
     condition-among defect (quantifier e op bind over body) i p at h =
-        among-here place i (1 + (sizeOfValue over + sizeOfCondition body)) e (atQuantifier defect op) _ p (at .0 .isEntry) (omega arith)
+        among-here place i (1 + (valueEntries over + conditionEntries body)) e (atQuantifier defect op) _ p (at .0 .isEntry) (omega arith)
         (either-found _ _ p
         (through-found (dotted (operatorName op) ++ ascii ".in") (inValue place over) p
         (λ q z _. let r = value-among over (i + 1) q (at .1) z in omega arith))
         (through-found (dotted (operatorName op) ++ ascii ".that") (inCondition defect place body) p
-        (λ q z _. let r = condition-among defect body (i + 1 + sizeOfValue over) q (at .2) z in omega arith)))
+        (λ q z _. let r = condition-among defect body (i + 1 + valueEntries over) q (at .2) z in omega arith)))
         h
 
     conditions-among : (defect op : ℕ) (cs : Conditions) (i k : ℕ) (p : Text)
         → ConditionsAt sheet words i cs
         → inConditions defect place op k cs ≡ some p
-        → Among place i (sizeOfConditions cs)
+        → Among place i (conditionsEntries cs)
     conditions-among defect op noConditions i k p at h = none-found h
     conditions-among defect op (condition c others) i k p at h =
         either-found _ (inConditions defect place op (k + 1) others) p
         (through-found (dotted (operatorName op) ++ index k) (inCondition defect place c) p
         (λ q z _. let r = condition-among defect c i q (at .0) z in omega arith))
-        (λ z. let r = conditions-among defect op others (i + sizeOfCondition c) (k + 1) p (at .1) z in omega arith)
+        (λ z. let r = conditions-among defect op others (i + conditionEntries c) (k + 1) p (at .1) z in omega arith)
         h

@@ -10,7 +10,8 @@ use borrow.Author.Tests.{eqb-true, eq-eqb}
 use Rattle.sheet.specs.Reader.{orElse}
 use Rattle.sheet.specs.Entries.{ValueHead, constantHead, numberHead, stringHead, arrayHead, objectHead, valueHead, keyHead}
 use Rattle.definition.specs.Tree.{Text, Value, constant, number, string, array, object, Values, noValues, value, Pairs, noPairs, pair}
-use Rattle.rule.specs.Index.{startOf, sizeOfValue, countOfValues, countOfPairs, EntryAt, ValueAt, ValuesAt, PairsAt}
+use Rattle.definition.specs.Within.{valueEntries}
+use Rattle.rule.specs.Index.{startOf, countOfValues, countOfPairs, EntryAt, ValueAt, ValuesAt, PairsAt}
 use Rattle.rule.specs.IndexLaws.{value-next}
 use Rattle.validation.specs.Location.{dotted, index, through, hereOr, inValue, inValues, inPairs}
 use Rattle.buffer.specs.Wrote.{Wrote}
@@ -60,12 +61,12 @@ membersOf (pair key v others) = (key, v) ∷ membersOf others
 
 module _ (sheet words : List ℕ) (target : ℕ) where
   abbrev MemberAt : (k i : ℕ) → Text × Value → Type 0
-  MemberAt k i m = EntryAt keyHead sheet words i (1 + sizeOfValue (m .1)) (i + 1) (m .0) × ValueAt sheet words (i + 1) (m .1)
+  MemberAt k i m = EntryAt keyHead sheet words i (1 + valueEntries (m .1)) (i + 1) (m .0) × ValueAt sheet words (i + 1) (m .1)
 
-  values-standing : (vs : Values) (k i : ℕ) → ValuesAt sheet words i vs → Standing (λ _ j v. ValueAt sheet words j v) sizeOfValue k i (valuesOf vs)
+  values-standing : (vs : Values) (k i : ℕ) → ValuesAt sheet words i vs → Standing (λ _ j v. ValueAt sheet words j v) valueEntries k i (valuesOf vs)
   unfolding valuesOf
   values-standing noValues k i at = tt
-  values-standing (value v others) k i at = (at .0, values-standing others (k + 1) (i + sizeOfValue v) (at .1))
+  values-standing (value v others) k i at = (at .0, values-standing others (k + 1) (i + valueEntries v) (at .1))
 
   values-first : (vs : Values) (k : ℕ) → inValues (target + 1) k vs ≡ firstOf (λ j _. index j) (inValue (target + 1)) k (valuesOf vs)
   unfolding valuesOf inValues firstOf
@@ -73,10 +74,10 @@ module _ (sheet words : List ℕ) (target : ℕ) where
   values-first (value v others) k =
       ap (λ (o : Option Text). orElse (through (index k) (inValue (target + 1) v)) o) (values-first others (k + 1))
 
-  pairs-standing : (ps : Pairs) (k i : ℕ) → PairsAt sheet words i ps → Standing MemberAt (λ m. 1 + sizeOfValue (m .1)) k i (membersOf ps)
+  pairs-standing : (ps : Pairs) (k i : ℕ) → PairsAt sheet words i ps → Standing MemberAt (λ m. 1 + valueEntries (m .1)) k i (membersOf ps)
   unfolding membersOf
   pairs-standing noPairs k i at = tt
-  pairs-standing (pair key v others) k i at = ((at .0, at .1), pairs-standing others (k + 1) (i + (1 + sizeOfValue v)) (at .2))
+  pairs-standing (pair key v others) k i at = ((at .0, at .1), pairs-standing others (k + 1) (i + (1 + valueEntries v)) (at .2))
 
   pairs-first : (ps : Pairs) (k : ℕ) → inPairs (target + 1) ps ≡ firstOf (λ _ m. dotted (m .0)) (λ m. inValue (target + 1) (m .1)) k (membersOf ps)
   unfolding membersOf inPairs firstOf
@@ -134,7 +135,7 @@ module _ (sheet words : List ℕ) (target : ℕ) where
           → Reaches words target (i + 1) 0 word k
           → Found (λ _ j v. ValueAt sheet words j v) (λ j _. index j) (inValue (target + 1)) k word p
       element-found vs p st found r =
-          reached (λ _ j v. ValueAt sheet words j v) sizeOfValue (λ j _. index j) (inValue (target + 1)) words target
+          reached (λ _ j v. ValueAt sheet words j v) valueEntries (λ j _. index j) (inValue (target + 1)) words target
           (λ _ j v a. value-next sheet words j v a)
           (value-size sheet words target)
           (λ _ j v q a z. value-among sheet words (target + 1) v j q a z)
@@ -149,7 +150,7 @@ module _ (sheet words : List ℕ) (target : ℕ) where
           → Reaches words target (i + 1) 0 word k
           → Found MemberAt (λ _ m. dotted (m .0)) (λ m. inValue (target + 1) (m .1)) k word p
       member-found ps p st found r =
-          reached MemberAt (λ m. 1 + sizeOfValue (m .1)) (λ _ m. dotted (m .0)) (λ m. inValue (target + 1) (m .1)) words target
+          reached MemberAt (λ m. 1 + valueEntries (m .1)) (λ _ m. dotted (m .0)) (λ m. inValue (target + 1) (m .1)) words target
           (λ _ j m a. a .0 .ends)
           (λ m. omega arith)
           (λ _ j m q a z. let r = value-among sheet words (target + 1) (m .1) (j + 1) q (a .1) z in omega arith)

@@ -1,13 +1,15 @@
 // Down through conditions.
 use crate::bracket::put_index;
+use crate::defect::BIND;
+use crate::defect::OPERAND;
 use crate::operator::put_operator;
 use crate::value::put_value;
 use crate::word::find_sibling;
 use buffer::put;
 use rule::index::start_of;
-use sheet::rule::ConditionHead;
-use sheet::rule::ConditionRead;
-use sheet::rule::condition_head;
+use sheet::rule_heads::ConditionHead;
+use sheet::rule_heads::ConditionRead;
+use sheet::rule_heads::condition_head;
 ghost use mathlib.Core.Path.{_≡_};
 ghost use mathlib.Core.List.{List, _++_};
 ghost use mathlib.Core.Bool.{cond};
@@ -96,7 +98,7 @@ fn is_whole(number: u32, head: ConditionHead) -> bool
         ConditionHead::Negation => false,
         ConditionHead::One(_) => false,
         ConditionHead::Two(_) => false,
-        ConditionHead::Comparison(_) => number == 17,
+        ConditionHead::Comparison(_) => number == OPERAND,
         ConditionHead::Quantifier(_, _) => false,
     }
 }
@@ -113,7 +115,7 @@ fn put_own(path: &mut [u8], at: usize, number: u32, head: ConditionHead) -> usiz
         ConditionHead::Two(_) => at,
         ConditionHead::Comparison(_) => at,
         ConditionHead::Quantifier(op, _) => {
-            if 21 <= number {
+            if BIND <= number {
                 return put_operator(path, at, op);
             }
             at

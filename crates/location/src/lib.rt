@@ -1,4 +1,5 @@
 // The path of a defect, from the label to its entry: a descent over the index of the rule sheet.
+mod defect; // defect.rt: numbers of defects
 mod bracket; // bracket.rt: indexes in brackets
 mod operator; // operator.rt: the operators' names
 mod word; // word.rt: the words of the index
@@ -6,13 +7,14 @@ mod value; // value.rt: down through values
 mod condition; // condition.rt: down through conditions
 
 use crate::condition::put_condition;
+use crate::defect::MESSAGE;
 use crate::value::put_value;
 use crate::word::wide;
 use buffer::put;
 use rule::index::start_of;
-use sheet::rule::RuleHead;
-use sheet::rule::RuleRead;
-use sheet::rule::rule_head;
+use sheet::rule_heads::RuleHead;
+use sheet::rule_heads::RuleHeadRead;
+use sheet::rule_heads::rule_head;
 ghost use Prim.Native.Nat.{_<_};
 ghost use Rattle.location.specs.Descent.{AssertWritten, RuleWritten};
 ghost use Rattle.location.specs.Path.{placeBound, PathWritten};
@@ -29,7 +31,7 @@ fn put_assert(
     requires { ⌜ target < placeBound ⌝ }
     ensures { λ r. ⌜ AssertWritten (now (rule .entry)) (now (words .entry)) number target (now (path .entry)) (now (path .exit)) at r ⌝ }
 {
-    if number <= 12 {
+    if number <= MESSAGE {
         return at;
     }
     let next = put(path, at, b".assert");
@@ -47,7 +49,7 @@ fn put_rule(
 ) -> usize
     ensures { λ r. ⌜ RuleWritten (now (rule .entry)) (now (words .entry)) number place (now (path .entry)) (now (path .exit)) at r ⌝ }
 {
-    let RuleRead::Is(head, _) = rule_head(rule, start_of(words, 0)) else {
+    let RuleHeadRead::Is(head, _) = rule_head(rule, start_of(words, 0)) else {
         return at;
     };
     if place == 0 {

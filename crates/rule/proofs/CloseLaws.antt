@@ -12,8 +12,9 @@ use Rattle.sheet.specs.Entries.{ValueHead, valueHead, keyHead}
 use Rattle.definition.specs.Limits.{maxRuleEntries}
 use Rattle.definition.specs.Tree.{Text}
 use Rattle.definition.specs.Decode.{Ahead, valueIn}
+use Rattle.definition.specs.Within.{valueEntries}
 use Rattle.rule.specs.declared.cursor.Cursor.{Cursor}
-use Rattle.rule.specs.Index.{sizeOfValue, EntryAt, ValueAt}
+use Rattle.rule.specs.Index.{EntryAt, ValueAt}
 use Rattle.rule.specs.IndexLaws.{Agree, value-frame}
 use Rattle.rule.specs.Read.{aheadOf, Kept, Ready, Indexed, pairIn, PairAt, sizeOfPair}
 use Rattle.rule.proofs.KeptLaws.{kept-then, kept-set, agree-above, set-start, set-end}
@@ -47,7 +48,7 @@ module _ {T : Type 0} (reader : Reader Ahead T) (At : List ℕ → ℕ → T →
         → x ≡ c .at * 4096 + next .word
         → (inner : Indexed reader At sizeOf s before mid cost (record { at = behind; word = c .word + 1; left = c .left - cost }) next)
         → Holder s (c .word + 1) h (valueIn k) (record { next = c .word + 1 + 1; left = c .left; rest = drop behind s }) (aheadOf s next) (sizeOf (inner .tree)) (λ words i. At words i (inner .tree))
-        → Indexed (valueIn depth) (ValueAt s) sizeOfValue s before (set mid (c .word) x) 1 c next
+        → Indexed (valueIn depth) (ValueAt s) valueEntries s before (set mid (c .word) x) 1 c next
     value-closed s before mid c next depth k behind cost x h ready deep head pays word inner holder =
         let end : next .word ≡ c .word + (1 + sizeOf (inner .tree)) = omega (arith, inner .size) in
         let limit : next .word ≤ maxRuleEntries = omega (arith, inner .budget, ready .budget) in
@@ -74,12 +75,12 @@ module _ (s before mid : List ℕ) (c next : Cursor) (depth behind x : ℕ) (pre
       → keyHead (drop (c .at) s) ≡ some (key, drop behind s)
       → follows previous key ≡ true
       → x ≡ c .at * 4096 + next .word
-      → (inner : Indexed (valueIn depth) (ValueAt s) sizeOfValue s before mid 1 value-ahead next)
+      → (inner : Indexed (valueIn depth) (ValueAt s) valueEntries s before mid 1 value-ahead next)
       → (i : Indexed (pairIn previous (valueIn depth)) (PairAt s) sizeOfPair s before (set mid (c .word) x) 2 c next) × (i .tree .0 ≡ key)
   unfolding sizeOfPair
   pair-closed ready head rises word inner =
       let v = inner .tree in
-      let end : next .word ≡ c .word + (1 + sizeOfValue v) = omega (arith, inner .size) in
+      let end : next .word ≡ c .word + (1 + valueEntries v) = omega (arith, inner .size) in
       let limit : next .word ≤ maxRuleEntries = omega (arith, inner .budget, ready .budget) in
       let inside : c .word < length mid = omega (arith, inner .kept .len, ready .room, ready .budget) in (
         record {

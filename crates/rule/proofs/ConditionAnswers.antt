@@ -8,13 +8,14 @@ use native.Mathlib.Nat.{zero-add}
 use lib.ListN.{length, drop, set}
 use Rattle.sheet.specs.Entries.{conditionHead, maxCount}
 use Rattle.sheet.specs.Places.{ReadsTo, conditionOf, conditionCount}
-use Rattle.sheet.specs.declared.rule.ConditionHead.{ConditionHead}
-use Rattle.sheet.specs.declared.rule.ConditionHead.the-variants as head
+use Rattle.sheet.specs.declared.rule_heads.ConditionHead.{ConditionHead}
+use Rattle.sheet.specs.declared.rule_heads.ConditionHead.the-variants as head
 use Rattle.definition.specs.Limits.{maxRuleEntries}
 use Rattle.definition.specs.Decode.{Ahead, anyValue, conditionIn, valuesOf, conditionsOf}
 use Rattle.definition.specs.Decode as decode
+use Rattle.definition.specs.Within.{conditionEntries, conditionsEntries, valuesEntries}
 use Rattle.rule.specs.declared.cursor.Cursor.{Cursor}
-use Rattle.rule.specs.Index.{sizeOfValues, sizeOfCondition, sizeOfConditions, ConditionAt, ValuesAt, ConditionsAt}
+use Rattle.rule.specs.Index.{ConditionAt, ValuesAt, ConditionsAt}
 use Rattle.rule.specs.IndexLaws.{agree-within, agree-then, values-frame, conditions-frame}
 use Rattle.rule.specs.Read.{aheadOf, operandsOf, Kept, Ready, Indexed}
 use Rattle.rule.proofs.KeptLaws.{kept-all, kept-wider, kept-then, agree-below}
@@ -83,7 +84,7 @@ module _ (s words : List ℕ) (depth behind v k : ℕ) (c : Cursor) (h : Conditi
       operands-valueless-answer bad =
           (headed ∙ operands-valueless (c .word + 1) (conditionIn (depth - 1)) ahead announces pays (bad .0), kept-wider (bad .1) (omega arith) (omega arith))
 
-      module _ {mid : List ℕ} {middle : Cursor} (ready : Ready s words 1 c) (values : Indexed (valuesOf v anyValue) (ValuesAt s) sizeOfValues s words mid v inner middle) where
+      module _ {mid : List ℕ} {middle : Cursor} (ready : Ready s words 1 c) (values : Indexed (valuesOf v anyValue) (ValuesAt s) valuesEntries s words mid v inner middle) where
         pub operands-ready : Ready s mid k middle
         operands-ready =
             record {
@@ -101,14 +102,14 @@ module _ (s words : List ℕ) (depth behind v k : ℕ) (c : Cursor) (h : Conditi
 
         pub operands-answer : {late : List ℕ} {next : Cursor} {x : ℕ}
             → x ≡ c .at * 4096 + next .word
-            → Indexed (conditionsOf k (conditionIn (depth - 1))) (ConditionsAt s) sizeOfConditions s mid late k middle next
-            → Indexed (conditionIn depth) (ConditionAt s) sizeOfCondition s words (set late (c .word) x) 1 c next
+            → Indexed (conditionsOf k (conditionIn (depth - 1))) (ConditionsAt s) conditionsEntries s mid late k middle next
+            → Indexed (conditionIn depth) (ConditionAt s) conditionEntries s words (set late (c .word) x) 1 c next
         operands-answer {late} {next} {x} word conditions =
             let vs = values .tree in
             let cs = conditions .tree in
             let holder = operands-held s (c .word + 1) (conditionIn (depth - 1)) ahead (aheadOf s middle) (aheadOf s next) vs cs announces pays (values .reads) (conditions .reads) in
-            let behind-values : middle .word ≡ c .word + 1 + sizeOfValues vs = values .size in
-            let end : next .word ≡ c .word + (1 + (sizeOfValues vs + sizeOfConditions cs)) = omega (arith, values .size, conditions .size) in
+            let behind-values : middle .word ≡ c .word + 1 + valuesEntries vs = values .size in
+            let end : next .word ≡ c .word + (1 + (valuesEntries vs + conditionsEntries cs)) = omega (arith, values .size, conditions .size) in
             let limit : next .word ≤ maxRuleEntries = omega (arith, values .budget, conditions .budget, ready .budget) in
             let inside : c .word < length late = omega (arith, values .kept .len, conditions .kept .len, ready .room, ready .budget) in
             let kept : Kept words late (c .word + 1) (next .word) = kept-then (values .kept) (conditions .kept) (omega arith) (omega arith) (omega arith) (omega arith) in

@@ -9,7 +9,8 @@ use Rattle.sheet.specs.Reader.{Reader, pure, refuse, andThen, _>>=_, _>>_}
 use Rattle.sheet.specs.Entries.{ConditionHead, literalHead, manyHead, negationHead, oneHead, twoHead, comparisonHead, quantifierHead, conditionHead}
 use Rattle.definition.specs.Tree.{Value, constant, Values, noValues, value, Condition, literal, many, negation, one, two, comparison, quantifier, Conditions, noConditions, condition}
 use Rattle.definition.specs.Decode.{Ahead, entered, entry, anyValue, valuesOf, conditionsOf, conditionOf, conditionIn}
-use Rattle.rule.specs.Index.{countOfValues, countOfConditions, sizeOfValues, sizeOfCondition, sizeOfConditions, EntryAt, ValuesAt, ConditionAt, ConditionsAt}
+use Rattle.definition.specs.Within.{conditionEntries, conditionsEntries, valuesEntries}
+use Rattle.rule.specs.Index.{countOfValues, countOfConditions, EntryAt, ValuesAt, ConditionAt, ConditionsAt}
 use Rattle.rule.proofs.ReaderLaws.{some-both, First, then-first, paid, announced, not-announced, nothing-paid}
 use Rattle.rule.proofs.ValueLaws.{values-count}
 
@@ -225,11 +226,11 @@ moved-one sheet words c z at = rw z at at
 
 -- the size and the index of a condition over its operands
 pub record Operands (sheet : List ℕ) (e : ℕ) (h : ConditionHead) (vs : Values) (cs : Conditions) (tree : Condition) : Type 0 where
-  pub isSize : sizeOfCondition tree ≡ 1 + (sizeOfValues vs + sizeOfConditions cs)
+  pub isSize : conditionEntries tree ≡ 1 + (valuesEntries vs + conditionsEntries cs)
   pub isAt : (words : List ℕ) (i : ℕ)
-      → EntryAt conditionHead sheet words i (1 + (sizeOfValues vs + sizeOfConditions cs)) e h
+      → EntryAt conditionHead sheet words i (1 + (valuesEntries vs + conditionsEntries cs)) e h
       → ValuesAt sheet words (i + 1) vs
-      → ConditionsAt sheet words (i + 1 + sizeOfValues vs) cs
+      → ConditionsAt sheet words (i + 1 + valuesEntries vs) cs
       → ConditionAt sheet words i tree
 
 module _ (sheet : List ℕ) (e : ℕ) where
@@ -239,7 +240,7 @@ module _ (sheet : List ℕ) (e : ℕ) where
       → countOfValues vs ≡ v
       → countOfConditions cs ≡ k
       → Operands sheet e h vs cs (built e h vs cs)
-  unfolding built value-at condition-of sizeOfCondition sizeOfConditions sizeOfValues
+  unfolding built value-at condition-of conditionEntries conditionsEntries valuesEntries
   operands-built literal-announces vs cs f g =
       rw (← no-value vs f, ← no-condition cs g) (record { isSize = refl; isAt = λ words i at values conditions. at })
   operands-built many-announces vs cs f g =

@@ -11,16 +11,17 @@ use Rattle.sheet.specs.Reader.{Reader, pure, ensure, andThen, _>>=_, _>>_}
 use Rattle.sheet.specs.Entries.{ruleHead}
 use Rattle.sheet.specs.Entries as entries
 use Rattle.sheet.specs.Places.{ruleOf}
-use Rattle.sheet.specs.declared.rule.RuleHead.{RuleHead}
-use Rattle.sheet.specs.declared.rule.RuleHead.the-variants as head
+use Rattle.sheet.specs.declared.rule_heads.RuleHead.{RuleHead}
+use Rattle.sheet.specs.declared.rule_heads.RuleHead.the-variants as head
 use Rattle.sheet.specs.Parts.{optionalOf}
 use Rattle.definition.specs.Limits.{maxSheetBytes, maxRuleEntries, maxConditionNesting}
 use Rattle.definition.specs.Tree.{Rule, rule, template}
 use Rattle.definition.specs.Decode.{Ahead, entered, entry, announce, atEnd, whole, anyValue, conditionIn, anyRule, decodeRule}
 use Rattle.definition.specs.Decode as decode
+use Rattle.definition.specs.Within.{conditionEntries, valueEntries}
 use Rattle.rule.specs.declared.cursor.Cursor.{Cursor}
 use Rattle.rule.specs.declared.cursor.TreeRead.the-variants as tree
-use Rattle.rule.specs.Index.{sizeOfValue, sizeOfCondition, sizeOfRule, ValueAt, ConditionAt}
+use Rattle.rule.specs.Index.{sizeOfRule, ValueAt, ConditionAt}
 use Rattle.rule.specs.IndexLaws.{value-frame, condition-frame}
 use Rattle.rule.specs.Read.{aheadOf, Kept, Ready, Indexed}
 use Rattle.rule.specs.Rule.{isTemplate, isTemplateHead, TreeAnswer, RuleIndexed}
@@ -127,8 +128,8 @@ module _ (s words mid : List ℕ) (behind : ℕ) (short : length s ≤ maxSheetB
       → Bad s words mid
   unfolding ruleOf
   rule-treeless-answer (head.Rule name message) reads bad =
-      treeless (conditionIn maxConditionNesting) (ConditionAt s) sizeOfCondition (rule (optionalOf s name) (optionalOf s message)) s behind (entries.rule (optionalOf s name) (optionalOf s message)) short reads (condition-holds s behind (optionalOf s name) (optionalOf s message)) bad
-  rule-treeless-answer head.Template reads bad = treeless anyValue (ValueAt s) sizeOfValue template s behind entries.template short reads (value-holds s behind) bad
+      treeless (conditionIn maxConditionNesting) (ConditionAt s) conditionEntries (rule (optionalOf s name) (optionalOf s message)) s behind (entries.rule (optionalOf s name) (optionalOf s message)) short reads (condition-holds s behind (optionalOf s name) (optionalOf s message)) bad
+  rule-treeless-answer head.Template reads bad = treeless anyValue (ValueAt s) valueEntries template s behind entries.template short reads (value-holds s behind) bad
 
   pub rule-unended-answer : (h : RuleHead) (next : Cursor)
       → ruleHead s ≡ some (ruleOf s h, drop behind s)
@@ -137,8 +138,8 @@ module _ (s words mid : List ℕ) (behind : ℕ) (short : length s ≤ maxSheetB
       → Bad s words mid
   unfolding ruleOf
   rule-unended-answer (head.Rule name message) next reads inner q =
-      unended (conditionIn maxConditionNesting) (ConditionAt s) sizeOfCondition (rule (optionalOf s name) (optionalOf s message)) s behind (entries.rule (optionalOf s name) (optionalOf s message)) short reads (condition-holds s behind (optionalOf s name) (optionalOf s message)) inner q
-  rule-unended-answer head.Template next reads inner q = unended anyValue (ValueAt s) sizeOfValue template s behind entries.template short reads (value-holds s behind) inner q
+      unended (conditionIn maxConditionNesting) (ConditionAt s) conditionEntries (rule (optionalOf s name) (optionalOf s message)) s behind (entries.rule (optionalOf s name) (optionalOf s message)) short reads (condition-holds s behind (optionalOf s name) (optionalOf s message)) inner q
+  rule-unended-answer head.Template next reads inner q = unended anyValue (ValueAt s) valueEntries template s behind entries.template short reads (value-holds s behind) inner q
 
   pub tree-limit : (t : Bool) (next : Cursor) → TreeAnswer s words mid t (tree-at behind) (tree.Good next) → next .word ≤ maxRuleEntries
   tree-limit true next inner = omega (arith, inner .budget)
@@ -153,10 +154,10 @@ module _ (s words mid : List ℕ) (behind : ℕ) (short : length s ≤ maxSheetB
       → RuleIndexed s words (set mid 0 x) (record { «is_template» = isTemplateHead h; entries = next .word })
   unfolding ruleOf isTemplate sizeOfRule
   rule-answer (head.Rule name message) next {x} reads room inner q word =
-      let end : next .word ≡ 0 + (1 + sizeOfCondition (inner .tree)) = omega (arith, inner .size) in
+      let end : next .word ≡ 0 + (1 + conditionEntries (inner .tree)) = omega (arith, inner .size) in
       record {
         tree = rule (optionalOf s name) (optionalOf s message) (inner .tree);
-        reads = ended (conditionIn maxConditionNesting) (ConditionAt s) sizeOfCondition (rule (optionalOf s name) (optionalOf s message)) s behind (entries.rule (optionalOf s name) (optionalOf s message)) short reads (condition-holds s behind (optionalOf s name) (optionalOf s message)) inner q;
+        reads = ended (conditionIn maxConditionNesting) (ConditionAt s) conditionEntries (rule (optionalOf s name) (optionalOf s message)) s behind (entries.rule (optionalOf s name) (optionalOf s message)) short reads (condition-holds s behind (optionalOf s name) (optionalOf s message)) inner q;
         indexed =
             (entry-closed mid 0 0 word reads (omega arith) end (omega (arith, inner .budget)), condition-frame s mid (set mid 0 x) (inner .tree) 1 (inner .indexed) (agree-closed mid 0 x));
         kind = refl;
@@ -165,10 +166,10 @@ module _ (s words mid : List ℕ) (behind : ℕ) (short : length s ≤ maxSheetB
         kept = kept-wider (kept-closed x (inner .kept) (omega arith)) (omega arith) (omega (arith, inner .budget));
       }
   rule-answer head.Template next {x} reads room inner q word =
-      let end : next .word ≡ 0 + (1 + sizeOfValue (inner .tree)) = omega (arith, inner .size) in
+      let end : next .word ≡ 0 + (1 + valueEntries (inner .tree)) = omega (arith, inner .size) in
       record {
         tree = template (inner .tree);
-        reads = ended anyValue (ValueAt s) sizeOfValue template s behind entries.template short reads (value-holds s behind) inner q;
+        reads = ended anyValue (ValueAt s) valueEntries template s behind entries.template short reads (value-holds s behind) inner q;
         indexed =
             (entry-closed mid 0 0 word reads (omega arith) end (omega (arith, inner .budget)), value-frame s mid (set mid 0 x) (inner .tree) 1 (inner .indexed) (agree-closed mid 0 x));
         kind = refl;

@@ -10,8 +10,9 @@ use Rattle.sheet.specs.declared.part.Part.{Part}
 use Rattle.sheet.specs.declared.part.OptionalPart.the-variants.{Is}
 use Rattle.definition.specs.Tree.{Text, Value, Values, noValues, value, Pairs, noPairs, pair, Condition, Conditions, noConditions, condition}
 use Rattle.definition.specs.Decode.{Ahead, valueIn, valuesOf, pairsOf, conditionIn, conditionsOf}
+use Rattle.definition.specs.Within.{conditionEntries, conditionsEntries, pairsEntries, valueEntries, valuesEntries}
 use Rattle.rule.specs.declared.cursor.Cursor.{Cursor}
-use Rattle.rule.specs.Index.{sizeOfValue, sizeOfValues, sizeOfPairs, sizeOfCondition, sizeOfConditions, ValueAt, ValuesAt, PairsAt, ConditionAt, ConditionsAt}
+use Rattle.rule.specs.Index.{ValueAt, ValuesAt, PairsAt, ConditionAt, ConditionsAt}
 use Rattle.rule.specs.IndexLaws.{Agree, agree-within, entry-frame, value-frame, condition-frame}
 use Rattle.rule.specs.Read.{pairIn, PairAt, sizeOfPair, Indexed}
 use Rattle.rule.proofs.SiblingLaws.{Siblings, Passing, siblings-next}
@@ -39,28 +40,28 @@ module _ (p : Reader Ahead Condition) where
   unfolding conditionsOf _>>=_
   conditions-suc n a = refl
 
-pub values-size : (v : Value) (vs : Values) → sizeOfValues (value v vs) ≡ sizeOfValue v + sizeOfValues vs
-unfolding sizeOfValues
+pub values-size : (v : Value) (vs : Values) → valuesEntries (value v vs) ≡ valueEntries v + valuesEntries vs
+unfolding valuesEntries
 values-size v vs = refl
 
-pub no-values-size : sizeOfValues noValues ≡ 0
-unfolding sizeOfValues
+pub no-values-size : valuesEntries noValues ≡ 0
+unfolding valuesEntries
 no-values-size = refl
 
-pub conditions-size : (c : Condition) (cs : Conditions) → sizeOfConditions (condition c cs) ≡ sizeOfCondition c + sizeOfConditions cs
-unfolding sizeOfConditions
+pub conditions-size : (c : Condition) (cs : Conditions) → conditionsEntries (condition c cs) ≡ conditionEntries c + conditionsEntries cs
+unfolding conditionsEntries
 conditions-size c cs = refl
 
-pub no-conditions-size : sizeOfConditions noConditions ≡ 0
-unfolding sizeOfConditions
+pub no-conditions-size : conditionsEntries noConditions ≡ 0
+unfolding conditionsEntries
 no-conditions-size = refl
 
-pub pairs-size : (kv : Text × Value) (ps : Pairs) → sizeOfPairs (pair (kv .0) (kv .1) ps) ≡ sizeOfPair kv + sizeOfPairs ps
-unfolding sizeOfPairs sizeOfPair
-pairs-size kv ps = refl
+pub pairs-size : (kv : Text × Value) (ps : Pairs) → pairsEntries (pair (kv .0) (kv .1) ps) ≡ sizeOfPair kv + pairsEntries ps
+unfolding pairsEntries sizeOfPair
+pairs-size kv ps = omega arith
 
-pub no-pairs-size : sizeOfPairs noPairs ≡ 0
-unfolding sizeOfPairs
+pub no-pairs-size : pairsEntries noPairs ≡ 0
+unfolding pairsEntries
 no-pairs-size = refl
 
 module _ (s : List ℕ) where
@@ -84,8 +85,8 @@ module _ (s : List ℕ) where
         cons = value;
         ItemAt = ValueAt s;
         AllAt = ValuesAt s;
-        itemSize = sizeOfValue;
-        allSize = sizeOfValues;
+        itemSize = valueEntries;
+        allSize = valuesEntries;
         all-zero = λ k. values-zero (valueIn depth);
         all-suc = λ k. values-suc (valueIn depth);
         none-at = λ words i. tt;
@@ -106,8 +107,8 @@ module _ (s : List ℕ) where
         cons = condition;
         ItemAt = ConditionAt s;
         AllAt = ConditionsAt s;
-        itemSize = sizeOfCondition;
-        allSize = sizeOfConditions;
+        itemSize = conditionEntries;
+        allSize = conditionsEntries;
         all-zero = λ k. conditions-zero (conditionIn depth);
         all-suc = λ k. conditions-suc (conditionIn depth);
         none-at = λ words i. tt;
@@ -129,7 +130,7 @@ module _ (s : List ℕ) where
         ItemAt = PairAt s;
         AllAt = PairsAt s;
         itemSize = sizeOfPair;
-        allSize = sizeOfPairs;
+        allSize = pairsEntries;
         all-zero = pairs-zero (valueIn depth);
         all-suc = λ previous n a. pairs-first n (valueIn depth) previous a;
         none-at = λ words i. tt;

@@ -7,16 +7,17 @@ use native.Mathlib.Omega.{arith}
 use lib.ListN.{drop, set}
 use Rattle.sheet.specs.Entries.{objectHead, valueHead, maxCount}
 use Rattle.sheet.specs.Places.{ReadsTo, valueOf, valueCount}
-use Rattle.sheet.specs.declared.rule.ValueHead.{ValueHead}
-use Rattle.sheet.specs.declared.rule.ValueHead.the-variants as head
+use Rattle.sheet.specs.declared.rule_heads.ValueHead.{ValueHead}
+use Rattle.sheet.specs.declared.rule_heads.ValueHead.the-variants as head
 use Rattle.definition.specs.Limits.{maxRuleEntries}
 use Rattle.definition.specs.Decode.{Ahead, valueIn, valuesOf, pairsOf}
 use Rattle.definition.specs.Decode as decode
+use Rattle.definition.specs.Within.{pairsEntries, valueEntries, valuesEntries}
 use Rattle.rule.specs.declared.cursor.Cursor.{Cursor}
 use Rattle.rule.specs.declared.cursor.TreeRead.the-variants as tree
 use Rattle.rule.specs.declared.value.Held.{Held}
 use Rattle.rule.specs.declared.value.Held.the-variants as held
-use Rattle.rule.specs.Index.{sizeOfValue, sizeOfValues, sizeOfPairs, ValueAt, ValuesAt, PairsAt}
+use Rattle.rule.specs.Index.{ValueAt, ValuesAt, PairsAt}
 use Rattle.rule.specs.IndexLaws.{values-frame, pairs-frame}
 use Rattle.rule.specs.Read.{aheadOf, heldBy, countOf, costOf, HeldAnswer, Kept, Ready, Indexed}
 use Rattle.rule.proofs.KeptLaws.{kept-all, kept-wider}
@@ -110,14 +111,14 @@ module _ (s words : List ℕ) (depth behind : ℕ) (c : Cursor) (h : ValueHead) 
         → Ready s words 1 c
         → x ≡ c .at * 4096 + next .word
         → HeldAnswer s words mid (depth - 1) what (inside c behind cost) (tree.Good next)
-        → Indexed (valueIn depth) (ValueAt s) sizeOfValue s words (set mid (c .word) x) 1 c next
+        → Indexed (valueIn depth) (ValueAt s) valueEntries s words (set mid (c .word) x) 1 c next
     held-answer next {x} (held.Values n) e f ready word inner =
         let within = rw f at inner in
-        value-closed (valuesOf n (valueIn (depth - 1))) (ValuesAt s) sizeOfValues (λ words later i vs at agree. values-frame s words later vs i at agree) s words mid c next depth (depth - 1) behind n x (valueOf s h) ready below-depth (reads .reads) (omega arith) word within
+        value-closed (valuesOf n (valueIn (depth - 1))) (ValuesAt s) valuesEntries (λ words later i vs at agree. values-frame s words later vs i at agree) s words mid c next depth (depth - 1) behind n x (valueOf s h) ready below-depth (reads .reads) (omega arith) word within
         (values-held s (c .word + 1) (valueIn (depth - 1)) ahead (aheadOf s next) (within .tree) (held-values s h n (sym e)) (omega arith) (within .reads))
     held-answer next {x} (held.Pairs n) e f ready word inner =
         let within = rw f at inner in
-        value-closed (pairsOf n none (valueIn (depth - 1))) (PairsAt s) sizeOfPairs (λ words later i ps at agree. pairs-frame s words later ps i at agree) s words mid c next depth (depth - 1) behind (2 * n) x (objectHead n) ready below-depth
+        value-closed (pairsOf n none (valueIn (depth - 1))) (PairsAt s) pairsEntries (λ words later i ps at agree. pairs-frame s words later ps i at agree) s words mid c next depth (depth - 1) behind (2 * n) x (objectHead n) ready below-depth
         (reads .reads ∙ ap (λ h. some (h, drop behind s)) (sym (held-pairs s h n (sym e))))
         (omega arith)
         word

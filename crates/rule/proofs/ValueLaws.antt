@@ -10,7 +10,8 @@ use Rattle.sheet.specs.Order.{follows}
 use Rattle.sheet.specs.Entries.{ValueHead, constantHead, numberHead, stringHead, arrayHead, objectHead, valueHead, keyHead}
 use Rattle.definition.specs.Tree.{Text, Value, constant, number, string, array, object, Values, noValues, value, Pairs, noPairs, pair}
 use Rattle.definition.specs.Decode.{Ahead, entered, entry, valuesOf, pairsOf, valueOf, valueIn}
-use Rattle.rule.specs.Index.{countOfValues, countOfPairs, sizeOfValue, sizeOfValues, sizeOfPairs, EntryAt, ValueAt, ValuesAt, PairsAt}
+use Rattle.definition.specs.Within.{pairsEntries, valueEntries, valuesEntries}
+use Rattle.rule.specs.Index.{countOfValues, countOfPairs, EntryAt, ValueAt, ValuesAt, PairsAt}
 use Rattle.rule.specs.Read.{pairIn}
 use Rattle.rule.proofs.ReaderLaws.{some-both, then-some, First, then-first, paid, announced, not-announced, nothing-paid}
 
@@ -127,20 +128,20 @@ pub record Holder (sheet : List ℕ) (e : ℕ) (h : ValueHead) (p : Reader Ahead
     : Type 0 where
   pub tree : Value
   pub reads : valueOf e h p a ≡ some (tree, b)
-  pub isSize : sizeOfValue tree ≡ 1 + size
+  pub isSize : valueEntries tree ≡ 1 + size
   pub isAt : (words : List ℕ) (i : ℕ) → EntryAt valueHead sheet words i (1 + size) e h → Inside words (i + 1) → ValueAt sheet words i tree
 
 module _ (sheet : List ℕ) (e : ℕ) (p : Reader Ahead Value) (a b : Ahead) where
   single : (h : ValueHead) (v : Value) (vs : Values)
       → valueOf e h p a ≡ some (v, a)
-      → sizeOfValue v ≡ 1
+      → valueEntries v ≡ 1
       → ((words : List ℕ) (i : ℕ) → EntryAt valueHead sheet words i 1 e h → ValueAt sheet words i v)
       → valuesOf 0 p (paid 0 a) ≡ some (vs, b)
-      → Holder sheet e h p a b (sizeOfValues vs) (λ words i. ValuesAt sheet words i vs)
-  unfolding sizeOfValues
+      → Holder sheet e h p a b (valuesEntries vs) (λ words i. ValuesAt sheet words i vs)
+  unfolding valuesEntries
   single h v vs r z t f =
       let both = values-none p (paid 0 a) b vs f in
-      let none-inside : sizeOfValues vs ≡ 0 = ap sizeOfValues (sym (both .0)) in
+      let none-inside : valuesEntries vs ≡ 0 = ap valuesEntries (sym (both .0)) in
       record {
         tree = v;
         reads = r ∙ ap (λ (m : Ahead). some (v, m)) (nothing-paid a b (both .1));
@@ -152,8 +153,8 @@ module _ (sheet : List ℕ) (e : ℕ) (p : Reader Ahead Value) (a b : Ahead) whe
       → HoldsValues h n
       → n ≤ a .left
       → valuesOf n p (paid n a) ≡ some (vs, b)
-      → Holder sheet e h p a b (sizeOfValues vs) (λ words i. ValuesAt sheet words i vs)
-  unfolding valueOf pure _>>=_ _>>_ andThen sizeOfValue
+      → Holder sheet e h p a b (valuesEntries vs) (λ words i. ValuesAt sheet words i vs)
+  unfolding valueOf pure _>>=_ _>>_ andThen valueEntries
   values-held vs (constant-holds {type}) q f = single (constantHead type) (constant e type) vs refl refl (λ words i at. at) f
   values-held vs (number-holds {digits}) q f = single (numberHead digits) (number e digits) vs refl refl (λ words i at. at) f
   values-held vs (string-holds {t}) q f = single (stringHead t) (string e t) vs refl refl (λ words i at. at) f
@@ -168,8 +169,8 @@ module _ (sheet : List ℕ) (e : ℕ) (p : Reader Ahead Value) (a b : Ahead) whe
   pub pairs-held : (n : ℕ) (ps : Pairs)
       → 2 * n ≤ a .left
       → pairsOf n none p (paid (2 * n) a) ≡ some (ps, b)
-      → Holder sheet e (objectHead n) p a b (sizeOfPairs ps) (λ words i. PairsAt sheet words i ps)
-  unfolding valueOf pure _>>=_ _>>_ andThen sizeOfValue
+      → Holder sheet e (objectHead n) p a b (pairsEntries ps) (λ words i. PairsAt sheet words i ps)
+  unfolding valueOf pure _>>=_ _>>_ andThen valueEntries
   pairs-held n ps q f =
       record {
         tree = object e ps;

@@ -8,6 +8,7 @@ use lib.ListN.{getD, drop}
 use Rattle.sheet.specs.Reader.{Reader}
 use Rattle.sheet.specs.Entries.{literalHead, manyHead, negationHead, oneHead, twoHead, comparisonHead, quantifierHead, conditionHead, constantHead, numberHead, stringHead, arrayHead, objectHead, valueHead, keyHead, ruleHead}
 use Rattle.sheet.specs.Entries as Entries
+use Rattle.definition.specs.Within.{valueEntries, valuesEntries, pairsEntries, conditionEntries, conditionsEntries}
 use Rattle.definition.specs.Tree.{Value, constant, number, string, array, object, Values, noValues, value, Pairs, noPairs, pair, Condition, literal, many, negation, one, two, comparison, quantifier, Conditions, noConditions, condition, Rule, rule, template}
 
 abbrev pub startOf : List ℕ → ℕ → ℕ
@@ -15,38 +16,6 @@ startOf words i = getD words i 0 / 4096
 
 abbrev pub endOf : List ℕ → ℕ → ℕ
 endOf words i = getD words i 0 % 4096
-
--- the entries of a subtree, its own among them
-unfoldable mutual
-  pub sizeOfValue : Value → ℕ
-  sizeOfValue (constant e type) = 1
-  sizeOfValue (number e digits) = 1
-  sizeOfValue (string e t) = 1
-  sizeOfValue (array e values) = 1 + sizeOfValues values
-  sizeOfValue (object e pairs) = 1 + sizeOfPairs pairs
-
-  pub sizeOfValues : Values → ℕ
-  sizeOfValues noValues = 0
-  sizeOfValues (value v others) = sizeOfValue v + sizeOfValues others
-
-  -- a member's key is an entry of its own
-  pub sizeOfPairs : Pairs → ℕ
-  sizeOfPairs noPairs = 0
-  sizeOfPairs (pair key v others) = 1 + sizeOfValue v + sizeOfPairs others
-
-unfoldable mutual
-  pub sizeOfCondition : Condition → ℕ
-  sizeOfCondition (literal e truth) = 1
-  sizeOfCondition (many e op children) = 1 + sizeOfConditions children
-  sizeOfCondition (negation e child) = 1 + sizeOfCondition child
-  sizeOfCondition (one e op v) = 1 + sizeOfValue v
-  sizeOfCondition (two e op left right) = 1 + (sizeOfValue left + sizeOfValue right)
-  sizeOfCondition (comparison e which left right) = 1 + (sizeOfValue left + sizeOfValue right)
-  sizeOfCondition (quantifier e op bind over body) = 1 + (sizeOfValue over + sizeOfCondition body)
-
-  pub sizeOfConditions : Conditions → ℕ
-  sizeOfConditions noConditions = 0
-  sizeOfConditions (condition c others) = sizeOfCondition c + sizeOfConditions others
 
 -- word `i` is that of an entry with that number and that head, with a subtree of `size` entries
 pub record EntryAt {H : Type 0} (reader : Reader (List ℕ) H) (sheet words : List ℕ) (i size e : ℕ) (h : H) : Type 0 where
@@ -73,58 +42,58 @@ abbrev mutual
   ValueAt sheet words i (number e digits) = EntryAt valueHead sheet words i 1 e (numberHead digits)
   ValueAt sheet words i (string e t) = EntryAt valueHead sheet words i 1 e (stringHead t)
   ValueAt sheet words i (array e values) =
-      EntryAt valueHead sheet words i (1 + sizeOfValues values) e (arrayHead (countOfValues values))
+      EntryAt valueHead sheet words i (1 + valuesEntries values) e (arrayHead (countOfValues values))
       × ValuesAt sheet words (i + 1) values
   ValueAt sheet words i (object e pairs) =
-      EntryAt valueHead sheet words i (1 + sizeOfPairs pairs) e (objectHead (countOfPairs pairs))
+      EntryAt valueHead sheet words i (1 + pairsEntries pairs) e (objectHead (countOfPairs pairs))
       × PairsAt sheet words (i + 1) pairs
 
   pub ValuesAt : (sheet words : List ℕ) (i : ℕ) → Values → Type 0
   ValuesAt sheet words i noValues = Unit {0}
-  ValuesAt sheet words i (value v others) = ValueAt sheet words i v × ValuesAt sheet words (i + sizeOfValue v) others
+  ValuesAt sheet words i (value v others) = ValueAt sheet words i v × ValuesAt sheet words (i + valueEntries v) others
 
   pub PairsAt : (sheet words : List ℕ) (i : ℕ) → Pairs → Type 0
   PairsAt sheet words i noPairs = Unit {0}
   PairsAt sheet words i (pair key v others) =
-      EntryAt keyHead sheet words i (1 + sizeOfValue v) (i + 1) key
+      EntryAt keyHead sheet words i (1 + valueEntries v) (i + 1) key
       × ValueAt sheet words (i + 1) v
-      × PairsAt sheet words (i + (1 + sizeOfValue v)) others
+      × PairsAt sheet words (i + (1 + valueEntries v)) others
 
 abbrev mutual
   pub ConditionAt : (sheet words : List ℕ) (i : ℕ) → Condition → Type 0
   ConditionAt sheet words i (literal e truth) = EntryAt conditionHead sheet words i 1 e (literalHead truth)
   ConditionAt sheet words i (many e op children) =
-      EntryAt conditionHead sheet words i (1 + sizeOfConditions children) e (manyHead op (countOfConditions children))
+      EntryAt conditionHead sheet words i (1 + conditionsEntries children) e (manyHead op (countOfConditions children))
       × ConditionsAt sheet words (i + 1) children
   ConditionAt sheet words i (negation e child) =
-      EntryAt conditionHead sheet words i (1 + sizeOfCondition child) e negationHead × ConditionAt sheet words (i + 1) child
+      EntryAt conditionHead sheet words i (1 + conditionEntries child) e negationHead × ConditionAt sheet words (i + 1) child
   ConditionAt sheet words i (one e op v) =
-      EntryAt conditionHead sheet words i (1 + sizeOfValue v) e (oneHead op) × ValueAt sheet words (i + 1) v
+      EntryAt conditionHead sheet words i (1 + valueEntries v) e (oneHead op) × ValueAt sheet words (i + 1) v
   ConditionAt sheet words i (two e op left right) =
-      EntryAt conditionHead sheet words i (1 + (sizeOfValue left + sizeOfValue right)) e (twoHead op)
+      EntryAt conditionHead sheet words i (1 + (valueEntries left + valueEntries right)) e (twoHead op)
       × ValueAt sheet words (i + 1) left
-      × ValueAt sheet words (i + 1 + sizeOfValue left) right
+      × ValueAt sheet words (i + 1 + valueEntries left) right
   ConditionAt sheet words i (comparison e which left right) =
-      EntryAt conditionHead sheet words i (1 + (sizeOfValue left + sizeOfValue right)) e (comparisonHead which)
+      EntryAt conditionHead sheet words i (1 + (valueEntries left + valueEntries right)) e (comparisonHead which)
       × ValueAt sheet words (i + 1) left
-      × ValueAt sheet words (i + 1 + sizeOfValue left) right
+      × ValueAt sheet words (i + 1 + valueEntries left) right
   ConditionAt sheet words i (quantifier e op bind over body) =
-      EntryAt conditionHead sheet words i (1 + (sizeOfValue over + sizeOfCondition body)) e (quantifierHead op bind)
+      EntryAt conditionHead sheet words i (1 + (valueEntries over + conditionEntries body)) e (quantifierHead op bind)
       × ValueAt sheet words (i + 1) over
-      × ConditionAt sheet words (i + 1 + sizeOfValue over) body
+      × ConditionAt sheet words (i + 1 + valueEntries over) body
 
   pub ConditionsAt : (sheet words : List ℕ) (i : ℕ) → Conditions → Type 0
   ConditionsAt sheet words i noConditions = Unit {0}
   ConditionsAt sheet words i (condition c others) =
-      ConditionAt sheet words i c × ConditionsAt sheet words (i + sizeOfCondition c) others
+      ConditionAt sheet words i c × ConditionsAt sheet words (i + conditionEntries c) others
 
 -- the whole sheet: word 0 is that of its `R` or `T`
 abbrev pub RuleAt : (sheet words : List ℕ) → Rule → Type 0
 RuleAt sheet words (rule name message assert) =
-    EntryAt ruleHead sheet words 0 (1 + sizeOfCondition assert) 1 (Entries.rule name message) × ConditionAt sheet words 1 assert
+    EntryAt ruleHead sheet words 0 (1 + conditionEntries assert) 1 (Entries.rule name message) × ConditionAt sheet words 1 assert
 RuleAt sheet words (template v) =
-    EntryAt ruleHead sheet words 0 (1 + sizeOfValue v) 1 Entries.template × ValueAt sheet words 1 v
+    EntryAt ruleHead sheet words 0 (1 + valueEntries v) 1 Entries.template × ValueAt sheet words 1 v
 
 unfoldable pub sizeOfRule : Rule → ℕ
-sizeOfRule (rule name message assert) = 1 + sizeOfCondition assert
-sizeOfRule (template v) = 1 + sizeOfValue v
+sizeOfRule (rule name message assert) = 1 + conditionEntries assert
+sizeOfRule (template v) = 1 + valueEntries v

@@ -6,7 +6,8 @@ use native.Mathlib.Omega.{arith}
 use lib.ListN.{getD}
 use Rattle.sheet.specs.Reader.{Reader}
 use Rattle.definition.specs.Tree.{Value, constant, number, string, array, object, Values, noValues, value, Pairs, noPairs, pair, Condition, literal, many, negation, one, two, comparison, quantifier, Conditions, noConditions, condition, Rule, rule, template}
-use Rattle.rule.specs.Index.{endOf, sizeOfValue, sizeOfValues, sizeOfPairs, sizeOfCondition, sizeOfConditions, sizeOfRule, EntryAt, ValueAt, ValuesAt, PairsAt, ConditionAt, ConditionsAt, RuleAt}
+use Rattle.definition.specs.Within.{conditionEntries, conditionsEntries, pairsEntries, valueEntries, valuesEntries}
+use Rattle.rule.specs.Index.{endOf, sizeOfRule, EntryAt, ValueAt, ValuesAt, PairsAt, ConditionAt, ConditionsAt, RuleAt}
 
 -- the words from `a` up to `b` are the same in both
 pub record Agree (words later : List ℕ) (a b : ℕ) : Type 0 where
@@ -33,9 +34,9 @@ entry-frame {i} at agree l r =
 
 module _ (sheet words later : List ℕ) where
   mutual
-    unfolding sizeOfValue sizeOfValues sizeOfPairs
+    unfolding valueEntries valuesEntries pairsEntries
 
-    pub value-frame : (v : Value) (i : ℕ) → ValueAt sheet words i v → Agree words later i (i + sizeOfValue v) → ValueAt sheet later i v
+    pub value-frame : (v : Value) (i : ℕ) → ValueAt sheet words i v → Agree words later i (i + valueEntries v) → ValueAt sheet later i v
     value-frame (constant e type) i at agree = entry-frame at agree (omega arith) (omega arith)
     value-frame (number e digits) i at agree = entry-frame at agree (omega arith) (omega arith)
     value-frame (string e t) i at agree = entry-frame at agree (omega arith) (omega arith)
@@ -44,22 +45,22 @@ module _ (sheet words later : List ℕ) where
     value-frame (object e pairs) i at agree =
         (entry-frame (at .0) agree (omega arith) (omega arith), pairs-frame pairs (i + 1) (at .1) (agree-within agree (omega arith) (omega arith)))
 
-    pub values-frame : (vs : Values) (i : ℕ) → ValuesAt sheet words i vs → Agree words later i (i + sizeOfValues vs) → ValuesAt sheet later i vs
+    pub values-frame : (vs : Values) (i : ℕ) → ValuesAt sheet words i vs → Agree words later i (i + valuesEntries vs) → ValuesAt sheet later i vs
     values-frame noValues i at agree = tt
     values-frame (value v others) i at agree =
-        (value-frame v i (at .0) (agree-within agree (omega arith) (omega arith)), values-frame others (i + sizeOfValue v) (at .1) (agree-within agree (omega arith) (omega arith)))
+        (value-frame v i (at .0) (agree-within agree (omega arith) (omega arith)), values-frame others (i + valueEntries v) (at .1) (agree-within agree (omega arith) (omega arith)))
 
-    pub pairs-frame : (ps : Pairs) (i : ℕ) → PairsAt sheet words i ps → Agree words later i (i + sizeOfPairs ps) → PairsAt sheet later i ps
+    pub pairs-frame : (ps : Pairs) (i : ℕ) → PairsAt sheet words i ps → Agree words later i (i + pairsEntries ps) → PairsAt sheet later i ps
     pairs-frame noPairs i at agree = tt
     pairs-frame (pair key v others) i at agree =
-        (entry-frame (at .0) agree (omega arith) (omega arith), value-frame v (i + 1) (at .1) (agree-within agree (omega arith) (omega arith)), pairs-frame others (i + (1 + sizeOfValue v)) (at .2) (agree-within agree (omega arith) (omega arith)))
+        (entry-frame (at .0) agree (omega arith) (omega arith), value-frame v (i + 1) (at .1) (agree-within agree (omega arith) (omega arith)), pairs-frame others (i + (1 + valueEntries v)) (at .2) (agree-within agree (omega arith) (omega arith)))
 
   mutual
-    unfolding sizeOfCondition sizeOfConditions
+    unfolding conditionEntries conditionsEntries
 
     pub condition-frame : (c : Condition) (i : ℕ)
         → ConditionAt sheet words i c
-        → Agree words later i (i + sizeOfCondition c)
+        → Agree words later i (i + conditionEntries c)
         → ConditionAt sheet later i c
     condition-frame (literal e truth) i at agree = entry-frame at agree (omega arith) (omega arith)
     condition-frame (many e op children) i at agree =
@@ -69,19 +70,19 @@ module _ (sheet words later : List ℕ) where
     condition-frame (one e op v) i at agree =
         (entry-frame (at .0) agree (omega arith) (omega arith), value-frame v (i + 1) (at .1) (agree-within agree (omega arith) (omega arith)))
     condition-frame (two e op left right) i at agree =
-        (entry-frame (at .0) agree (omega arith) (omega arith), value-frame left (i + 1) (at .1) (agree-within agree (omega arith) (omega arith)), value-frame right (i + 1 + sizeOfValue left) (at .2) (agree-within agree (omega arith) (omega arith)))
+        (entry-frame (at .0) agree (omega arith) (omega arith), value-frame left (i + 1) (at .1) (agree-within agree (omega arith) (omega arith)), value-frame right (i + 1 + valueEntries left) (at .2) (agree-within agree (omega arith) (omega arith)))
     condition-frame (comparison e which left right) i at agree =
-        (entry-frame (at .0) agree (omega arith) (omega arith), value-frame left (i + 1) (at .1) (agree-within agree (omega arith) (omega arith)), value-frame right (i + 1 + sizeOfValue left) (at .2) (agree-within agree (omega arith) (omega arith)))
+        (entry-frame (at .0) agree (omega arith) (omega arith), value-frame left (i + 1) (at .1) (agree-within agree (omega arith) (omega arith)), value-frame right (i + 1 + valueEntries left) (at .2) (agree-within agree (omega arith) (omega arith)))
     condition-frame (quantifier e op bind over body) i at agree =
-        (entry-frame (at .0) agree (omega arith) (omega arith), value-frame over (i + 1) (at .1) (agree-within agree (omega arith) (omega arith)), condition-frame body (i + 1 + sizeOfValue over) (at .2) (agree-within agree (omega arith) (omega arith)))
+        (entry-frame (at .0) agree (omega arith) (omega arith), value-frame over (i + 1) (at .1) (agree-within agree (omega arith) (omega arith)), condition-frame body (i + 1 + valueEntries over) (at .2) (agree-within agree (omega arith) (omega arith)))
 
     pub conditions-frame : (cs : Conditions) (i : ℕ)
         → ConditionsAt sheet words i cs
-        → Agree words later i (i + sizeOfConditions cs)
+        → Agree words later i (i + conditionsEntries cs)
         → ConditionsAt sheet later i cs
     conditions-frame noConditions i at agree = tt
     conditions-frame (condition c others) i at agree =
-        (condition-frame c i (at .0) (agree-within agree (omega arith) (omega arith)), conditions-frame others (i + sizeOfCondition c) (at .1) (agree-within agree (omega arith) (omega arith)))
+        (condition-frame c i (at .0) (agree-within agree (omega arith) (omega arith)), conditions-frame others (i + conditionEntries c) (at .1) (agree-within agree (omega arith) (omega arith)))
 
   pub rule-frame : (r : Rule) → RuleAt sheet words r → Agree words later 0 (sizeOfRule r) → RuleAt sheet later r
   unfolding sizeOfRule
@@ -92,16 +93,16 @@ module _ (sheet words later : List ℕ) where
 
 -- the next sibling, or the sibling of the nearest holder that has one
 module _ (sheet words : List ℕ) (i : ℕ) where
-  pub value-next : (v : Value) → ValueAt sheet words i v → endOf words i ≡ i + sizeOfValue v
-  unfolding sizeOfValue
+  pub value-next : (v : Value) → ValueAt sheet words i v → endOf words i ≡ i + valueEntries v
+  unfolding valueEntries
   value-next (constant e type) at = at .ends
   value-next (number e digits) at = at .ends
   value-next (string e t) at = at .ends
   value-next (array e values) at = at .0 .ends
   value-next (object e pairs) at = at .0 .ends
 
-  pub condition-next : (c : Condition) → ConditionAt sheet words i c → endOf words i ≡ i + sizeOfCondition c
-  unfolding sizeOfCondition
+  pub condition-next : (c : Condition) → ConditionAt sheet words i c → endOf words i ≡ i + conditionEntries c
+  unfolding conditionEntries
   condition-next (literal e truth) at = at .ends
   condition-next (many e op children) at = at .0 .ends
   condition-next (negation e child) at = at .0 .ends

@@ -9,13 +9,14 @@ use Rattle.sheet.specs.Order.{follows}
 use Rattle.sheet.specs.Entries.{keyHead}
 use Rattle.sheet.specs.Parts.{partOf, optionalOf}
 use Rattle.sheet.specs.declared.part.OptionalPart.{OptionalPart}
-use Rattle.sheet.specs.declared.rule.ValueHead.{ValueHead}
-use Rattle.sheet.specs.declared.rule.ValueHead.the-variants as value-head
-use Rattle.sheet.specs.declared.rule.ConditionHead.{ConditionHead}
-use Rattle.sheet.specs.declared.rule.ConditionHead.the-variants as condition-head
+use Rattle.sheet.specs.declared.rule_heads.ValueHead.{ValueHead}
+use Rattle.sheet.specs.declared.rule_heads.ValueHead.the-variants as value-head
+use Rattle.sheet.specs.declared.rule_heads.ConditionHead.{ConditionHead}
+use Rattle.sheet.specs.declared.rule_heads.ConditionHead.the-variants as condition-head
 use Rattle.definition.specs.Limits.{maxSheetBytes, maxRuleEntries}
 use Rattle.definition.specs.Tree.{Text, Value, Values, Pairs}
 use Rattle.definition.specs.Decode.{Ahead, entry, valueIn, valuesOf, pairsOf, conditionIn, conditionsOf}
+use Rattle.definition.specs.Within.{conditionEntries, conditionsEntries, pairsEntries, valueEntries, valuesEntries}
 use Rattle.rule.specs.declared.cursor.Cursor.{Cursor}
 use Rattle.rule.specs.declared.cursor.TreeRead.{TreeRead}
 use Rattle.rule.specs.declared.cursor.TreeRead.the-variants.{Good, Bad}
@@ -24,7 +25,7 @@ use Rattle.rule.specs.declared.value.Held.{Held}
 use Rattle.rule.specs.declared.value.Held.the-variants as held
 use Rattle.rule.specs.declared.value.PairRead.{PairRead}
 use Rattle.rule.specs.declared.value.PairRead.the-variants as pair
-use Rattle.rule.specs.Index.{EntryAt, sizeOfValue, sizeOfValues, sizeOfPairs, sizeOfCondition, sizeOfConditions, ValueAt, ValuesAt, PairsAt, ConditionAt, ConditionsAt}
+use Rattle.rule.specs.Index.{EntryAt, ValueAt, ValuesAt, PairsAt, ConditionAt, ConditionsAt}
 
 -- what lies ahead of the decoder where the code stands: the entry of word i has the number i + 1
 abbrev pub aheadOf : List ℕ → Cursor → Ahead
@@ -40,10 +41,10 @@ pairIn before p = do
 
 -- its index: the key's word ends behind the value
 abbrev pub PairAt : (s words : List ℕ) (i : ℕ) → Text × Value → Type 0
-PairAt s words i kv = EntryAt keyHead s words i (1 + sizeOfValue (kv .1)) (i + 1) (kv .0) × ValueAt s words (i + 1) (kv .1)
+PairAt s words i kv = EntryAt keyHead s words i (1 + valueEntries (kv .1)) (i + 1) (kv .0) × ValueAt s words (i + 1) (kv .1)
 
 unfoldable pub sizeOfPair : Text × Value → ℕ
-sizeOfPair kv = 1 + sizeOfValue (kv .1)
+sizeOfPair kv = 1 + valueEntries (kv .1)
 
 abbrev pub heldBy : ValueHead → Held
 heldBy (value-head.Constant type) = held.Values 0
@@ -102,10 +103,10 @@ Answers reader At sizeOf s before after n c (Good next) = Indexed reader At size
 Answers reader At sizeOf s before after n c Bad = (reader (aheadOf s c) ≡ none) × Kept before after (c .word) maxRuleEntries
 
 abbrev pub ValueAnswer : (s before after : List ℕ) (depth : ℕ) (c : Cursor) → TreeRead → Type 0
-ValueAnswer s before after depth c r = Answers (valueIn depth) (ValueAt s) sizeOfValue s before after 1 c r
+ValueAnswer s before after depth c r = Answers (valueIn depth) (ValueAt s) valueEntries s before after 1 c r
 
 abbrev pub ValuesAnswer : (s before after : List ℕ) (depth n : ℕ) (c : Cursor) → TreeRead → Type 0
-ValuesAnswer s before after depth n c r = Answers (valuesOf n (valueIn depth)) (ValuesAt s) sizeOfValues s before after n c r
+ValuesAnswer s before after depth n c r = Answers (valuesOf n (valueIn depth)) (ValuesAt s) valuesEntries s before after n c r
 
 abbrev pub PairAnswer : (s before after : List ℕ) (depth : ℕ) (previous : OptionalPart) (c : Cursor) → PairRead → Type 0
 PairAnswer s before after depth previous c (pair.Good key next) =
@@ -114,15 +115,15 @@ PairAnswer s before after depth previous c pair.Bad =
     (pairIn (optionalOf s previous) (valueIn depth) (aheadOf s c) ≡ none) × Kept before after (c .word) maxRuleEntries
 
 abbrev pub PairsAnswer : (s before after : List ℕ) (depth n : ℕ) (c : Cursor) → TreeRead → Type 0
-PairsAnswer s before after depth n c r = Answers (pairsOf n none (valueIn depth)) (PairsAt s) sizeOfPairs s before after (2 * n) c r
+PairsAnswer s before after depth n c r = Answers (pairsOf n none (valueIn depth)) (PairsAt s) pairsEntries s before after (2 * n) c r
 
 abbrev pub HeldAnswer : (s before after : List ℕ) (depth : ℕ) (what : Held) (c : Cursor) → TreeRead → Type 0
 HeldAnswer s before after depth (held.Values n) c r = ValuesAnswer s before after depth n c r
 HeldAnswer s before after depth (held.Pairs n) c r = PairsAnswer s before after depth n c r
 
 abbrev pub ConditionAnswer : (s before after : List ℕ) (depth : ℕ) (c : Cursor) → TreeRead → Type 0
-ConditionAnswer s before after depth c r = Answers (conditionIn depth) (ConditionAt s) sizeOfCondition s before after 1 c r
+ConditionAnswer s before after depth c r = Answers (conditionIn depth) (ConditionAt s) conditionEntries s before after 1 c r
 
 abbrev pub ConditionsAnswer : (s before after : List ℕ) (depth n : ℕ) (c : Cursor) → TreeRead → Type 0
 ConditionsAnswer s before after depth n c r =
-    Answers (conditionsOf n (conditionIn depth)) (ConditionsAt s) sizeOfConditions s before after n c r
+    Answers (conditionsOf n (conditionIn depth)) (ConditionsAt s) conditionsEntries s before after n c r

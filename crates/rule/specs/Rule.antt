@@ -4,8 +4,8 @@ use mathlib.Core.Bool.{Bool, true, false}
 use mathlib.Core.List.{List}
 use mathlib.Core.Option.{none, some}
 use mathlib.Core.Path.{_≡_}
-use Rattle.sheet.specs.declared.rule.RuleHead.{RuleHead}
-use Rattle.sheet.specs.declared.rule.RuleHead.the-variants as rule-head
+use Rattle.sheet.specs.declared.rule_heads.RuleHead.{RuleHead}
+use Rattle.sheet.specs.declared.rule_heads.RuleHead.the-variants as rule-head
 use Rattle.definition.specs.Limits.{maxRuleEntries, maxConditionNesting, maxValueNesting}
 use Rattle.definition.specs.Tree.{Rule, rule, template}
 use Rattle.definition.specs.Decode.{decodeRule}

@@ -5,8 +5,8 @@ use crate::cursor::word_of;
 use crate::value::read_values;
 use definition::limits::MAX_VALUE_NESTING;
 use lines::rule_sheet::condition_head;
-use sheet::rule::ConditionHead;
-use sheet::rule::ConditionRead;
+use sheet::rule_heads::ConditionHead;
+use sheet::rule_heads::ConditionRead;
 ghost use mathlib.Core.Path.{_≡_};
 ghost use Rattle.rule.specs.Read.{Ready, operandsOf, ConditionAnswer, ConditionsAnswer};
 

@@ -13,7 +13,7 @@ use definition::limits::MAX_RULE_ENTRIES;
 use definition::limits::MAX_SHEET_BYTES;
 use definition::limits::MAX_VALUE_NESTING;
 use lines::rule_sheet::rule_head;
-use sheet::rule::RuleHead;
+use sheet::rule_heads::RuleHead;
 use value::read_value;
 ghost use mathlib.Core.Path.{_≡_};
 ghost use Prim.Native.Nat.{_≤_};
@@ -62,7 +62,7 @@ pub fn read_rule(s: &[u8], scratch: &mut [u32]) -> RuleRead
     if MAX_SHEET_BYTES < s.len() {
         return RuleRead::Bad;
     }
-    let sheet::rule::RuleRead::Is(head, behind) = rule_head(s, 0) else {
+    let sheet::rule_heads::RuleHeadRead::Is(head, behind) = rule_head(s, 0) else {
         return RuleRead::Bad;
     };
     let template = is_template(head);

@@ -14,8 +14,8 @@ use Rattle.schema.specs.Index.{maxSlots, placeWord, childWord, hasElemen
 use Rattle.schema.specs.IndexLaws.{elements-marked}
 use Rattle.schema.specs.Slot.{ElementAt, elementFrom, IndexedIs}
 use Rattle.sheet.specs.Places.{Knows, fieldOf}
-use Rattle.sheet.specs.declared.schema.FieldHead.{FieldHead}
-use Rattle.schema.specs.declared.index.Element.{Element}
+use Rattle.sheet.specs.declared.schema_heads.FieldHead.{FieldHead}
+use Rattle.schema.specs.declared.index.ElementSlot.{ElementSlot}
 use Rattle.schema.specs.declared.index.IndexedField.{IndexedField}
 
 -- a slot that holds a field has a head
@@ -29,7 +29,7 @@ unfolding elementFrom hasElement belowItems
 items-element s w k low absent at rises room = tt
 items-element s w k low (element f) at rises room = record { name = []; low = low; indexed = at; rises = rises; room = room }
 
-pub indexed-parts : (s w : List ℕ) (k : ℕ) (head : FieldHead) (place child elems : ℕ) (el : Element)
+pub indexed-parts : (s w : List ℕ) (k : ℕ) (head : FieldHead) (place child elems : ℕ) (el : ElementSlot)
     → Knows fieldHead s (placeWord w k / 4096) (fieldOf s head) → place ≡ placeWord w k → child ≡ childWord w k
     → elems ≡ toCount (head .items) → el ≡ elementFrom (head .items) child
     → IndexedIs s w k

@@ -66,7 +66,7 @@ abbrev pub FieldIs : (s before after : List ℕ) (depth slot : ℕ) (from : Curs
 FieldIs s before after depth slot from One.Bad = fieldIn depth (ahead s from) ≡ none
 FieldIs s before after depth slot from (One.Good name to) = FieldGood s before after depth slot from (partOf s name) to
 
-pub record FieldPost (s before after : List ℕ) (depth slot : ℕ) (from : Cursor) (r : OneRead) : Type 0 where
+pub record FieldAnswer (s before after : List ℕ) (depth slot : ℕ) (from : Cursor) (r : OneRead) : Type 0 where
   pub kept : Kept before after
   pub answer : FieldIs s before after depth slot from r
 
@@ -84,7 +84,7 @@ abbrev pub ItemsIs : (s before after : List ℕ) (depth : ℕ) (has : Bool) (slo
 ItemsIs s before after depth has slot from Many.Bad = elementOf has (fieldIn depth) (ahead s from) ≡ none
 ItemsIs s before after depth has slot from (Many.Good to) = ItemsGood s before after depth has slot from to
 
-pub record ItemsPost (s before after : List ℕ) (depth : ℕ) (has : Bool) (slot : ℕ) (from : Cursor) (r : ManyRead) : Type 0 where
+pub record ItemsAnswer (s before after : List ℕ) (depth : ℕ) (has : Bool) (slot : ℕ) (from : Cursor) (r : ManyRead) : Type 0 where
   pub kept : Kept before after
   pub answer : ItemsIs s before after depth has slot from r
 
@@ -107,6 +107,6 @@ abbrev pub MembersIs : (s before after : List ℕ) (depth first count : ℕ) (fr
 MembersIs s before after depth first count from Many.Bad = membersOf count none (fieldIn depth) (ahead s from) ≡ none
 MembersIs s before after depth first count from (Many.Good to) = MembersGood s before after depth first count from to
 
-pub record MembersPost (s before after : List ℕ) (depth first count : ℕ) (from : Cursor) (r : ManyRead) : Type 0 where
+pub record MembersAnswer (s before after : List ℕ) (depth first count : ℕ) (from : Cursor) (r : ManyRead) : Type 0 where
   pub kept : Kept before after
   pub answer : MembersIs s before after depth first count from r

@@ -46,7 +46,7 @@ abbrev pub SchemaIs : (sheet after : List ℕ) → SchemaRead → Type 0
 SchemaIs sheet after SchemaRead.Bad = decodeSchema sheet ≡ none
 SchemaIs sheet after (SchemaRead.Good s) = SchemaGood sheet after s
 
-pub record SchemaPost (sheet before after : List ℕ) (r : SchemaRead) : Type 0 where
+pub record SchemaAnswer (sheet before after : List ℕ) (r : SchemaRead) : Type 0 where
   pub kept : Kept before after
   pub answer : SchemaIs sheet after r
 
@@ -70,7 +70,7 @@ abbrev pub HolderIs : (s before after : List ℕ) (h : HolderHead) (from : Curso
 HolderIs s before after h from HolderRead.Bad = holderOf h (ahead s from) ≡ none
 HolderIs s before after h from (HolderRead.Good holder to) = HolderGood s before after h from holder to
 
-pub record HolderPost (s before after : List ℕ) (h : HolderHead) (from : Cursor) (r : HolderRead) : Type 0 where
+pub record HolderAnswer (s before after : List ℕ) (h : HolderHead) (from : Cursor) (r : HolderRead) : Type 0 where
   pub kept : Kept before after
   pub answer : HolderIs s before after h from r
 
@@ -85,6 +85,6 @@ abbrev pub ArgumentsIs : (s before after : List ℕ) (h : Option HolderHead) (fr
 ArgumentsIs s before after h from ArgumentsRead.Bad = argumentsOf h (ahead s from) ≡ none
 ArgumentsIs s before after h from (ArgumentsRead.Good arguments to) = ArgumentsGood s before after h from arguments to
 
-pub record ArgumentsPost (s before after : List ℕ) (h : Option HolderHead) (from : Cursor) (r : ArgumentsRead) : Type 0 where
+pub record ArgumentsAnswer (s before after : List ℕ) (h : Option HolderHead) (from : Cursor) (r : ArgumentsRead) : Type 0 where
   pub kept : Kept before after
   pub answer : ArgumentsIs s before after h from r

@@ -10,8 +10,8 @@ use Rattle.definition.specs.Within.{FieldRises, MembersRise}
 use Rattle.schema.specs.Index.{maxSlots, countOf, below, belowMembers, FieldAt, MembersAt}
 use Rattle.sheet.specs.Parts.{optionalOf}
 use Rattle.schema.specs.declared.index.Holder.{Holder}
-use Rattle.schema.specs.declared.index.Element.{Element}
-use Rattle.schema.specs.declared.index.Element.the-variants as Element
+use Rattle.schema.specs.declared.index.ElementSlot.{ElementSlot}
+use Rattle.schema.specs.declared.index.ElementSlot.the-variants as ElementSlot
 use Rattle.schema.specs.declared.index.IndexedField.{IndexedField}
 
 -- slot `k` holds a field, in which sibling names rise; all slots of what lies below it are slots of the index
@@ -32,16 +32,16 @@ pub record HolderAt (sheet words : List ℕ) (h : Holder) (t : Tree.Holder) : Ty
   pub slots : h .first + h .count ≤ maxSlots
   pub room : low + belowMembers (t .members) ≤ maxSlots
 
-abbrev pub ElementAt : (sheet words : List ℕ) → Element → Items → Type 0
-ElementAt sheet words Element.Absent absent = Unit {0}
-ElementAt sheet words Element.Absent (element f) = ⊥
-ElementAt sheet words (Element.At k) absent = ⊥
-ElementAt sheet words (Element.At k) (element f) = SlotHolds sheet words k f
+abbrev pub ElementAt : (sheet words : List ℕ) → ElementSlot → Items → Type 0
+ElementAt sheet words ElementSlot.Absent absent = Unit {0}
+ElementAt sheet words ElementSlot.Absent (element f) = ⊥
+ElementAt sheet words (ElementSlot.At k) absent = ⊥
+ElementAt sheet words (ElementSlot.At k) (element f) = SlotHolds sheet words k f
 
 -- where an element is, if there is one
-unfoldable pub elementFrom : Bool → ℕ → Element
-elementFrom true k = Element.At k
-elementFrom false k = Element.Absent
+unfoldable pub elementFrom : Bool → ℕ → ElementSlot
+elementFrom true k = ElementSlot.At k
+elementFrom false k = ElementSlot.Absent
 
 pub record FieldParts (sheet words : List ℕ) (e kind : ℕ) (tag : Option Text) (items : Items) (holder : Tree.Holder) (r : IndexedField) : Type 0 where
   pub numbered : r .entry ≡ e

@@ -4,10 +4,10 @@ use crate::index::put_slot;
 use crate::index::to_count;
 use sheet::order::ByteOrder;
 use sheet::part::Part;
-use sheet::schema::FieldRead;
+use sheet::schema_heads::FieldRead;
 ghost use mathlib.Core.Path.{_≡_};
 ghost use Rattle.definition.specs.Decode.{toCount};
-ghost use Rattle.schema.specs.Fields.{Ready, FieldPost, ItemsPost, MembersPost, nameBefore};
+ghost use Rattle.schema.specs.Fields.{Ready, FieldAnswer, ItemsAnswer, MembersAnswer, nameBefore};
 ghost use Rattle.sheet.specs.Parts.{partOf};
 ghost use Rattle.sheet.specs.Order.{follows};
 
@@ -33,7 +33,7 @@ pub enum ManyRead {
 // A field, with all that lies below it, into `slot`. What lies below it takes the slots that follow those in use.
 fn read_field(sheet: &[u8], words: &mut [u32], depth: usize, slot: usize, from: Cursor) -> OneRead
     requires { ⌜ Ready (now sheet) (now words) from slot 1 ⌝ }
-    ensures { λ r. ⌜ FieldPost (now (sheet .entry)) (now (words .entry)) (now (words .exit)) depth slot from r ⌝ }
+    ensures { λ r. ⌜ FieldAnswer (now (sheet .entry)) (now (words .entry)) (now (words .exit)) depth slot from r ⌝ }
 {
     if depth == 0 {
         return OneRead::Bad;
@@ -87,7 +87,7 @@ fn read_element(
     from: Cursor,
 ) -> ManyRead
     requires { ⌜ Ready (now sheet) (now words) from slot (toCount has) ⌝ }
-    ensures { λ r. ⌜ ItemsPost (now (sheet .entry)) (now (words .entry)) (now (words .exit)) depth has slot from r ⌝ }
+    ensures { λ r. ⌜ ItemsAnswer (now (sheet .entry)) (now (words .entry)) (now (words .exit)) depth has slot from r ⌝ }
 {
     if has {
         let OneRead::Good(name, to) = read_field(sheet, words, depth, slot, from) else {
@@ -128,7 +128,7 @@ pub fn read_members(
     from: Cursor,
 ) -> ManyRead
     requires { ⌜ Ready (now sheet) (now words) from first count ⌝ }
-    ensures { λ r. ⌜ MembersPost (now (sheet .entry)) (now (words .entry)) (now (words .exit)) depth first count from r ⌝ }
+    ensures { λ r. ⌜ MembersAnswer (now (sheet .entry)) (now (words .entry)) (now (words .exit)) depth first count from r ⌝ }
 {
     let mut to = from;
     let mut before = Part { start: 0, len: 0 };

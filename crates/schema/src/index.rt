@@ -3,7 +3,7 @@ use definition::limits::MAX_RULE_ENTRIES;
 use definition::limits::MAX_SCHEMA_ENTRIES;
 use definition::limits::WORD_ENTRIES;
 use sheet::part::OptionalPart;
-use sheet::schema::KnownField;
+use sheet::schema_heads::KnownField;
 ghost use mathlib.Core.Path.{_≡_};
 ghost use Prim.Native.Nat.{_/_};
 ghost use lib.ListN.{getD};
@@ -27,7 +27,7 @@ pub struct Holder {
 }
 
 // The slot of a field's element.
-pub enum Element {
+pub enum ElementSlot {
     At(usize),
     Absent,
 }
@@ -37,7 +37,7 @@ pub struct IndexedField {
     pub entry: usize,
     pub kind: usize,
     pub tag: OptionalPart,
-    pub element: Element,
+    pub element: ElementSlot,
     pub members: Holder,
 }
 
@@ -82,7 +82,7 @@ pub fn head_of(sheet: &[u8], words: &[u32], k: usize) -> KnownField
     ensures { λ r. ⌜ KnownFieldIs (now (sheet .entry)) (placeWord (now (words .entry)) k / 4096) r ⌝ }
 {
     let start = place_word(words, k) as usize / WORD_ENTRIES;
-    sheet::schema::known_field(sheet, start)
+    sheet::schema_heads::known_field(sheet, start)
 }
 
 pub fn to_count(is: bool) -> usize
@@ -91,10 +91,14 @@ pub fn to_count(is: bool) -> usize
     if is { 1 } else { 0 }
 }
 
-fn element_at(has: bool, k: usize) -> Element
+fn element_at(has: bool, k: usize) -> ElementSlot
     ensures { λ r. ⌜ r ≡ elementFrom has k ⌝ }
 {
-    if has { Element::At(k) } else { Element::Absent }
+    if has {
+        ElementSlot::At(k)
+    } else {
+        ElementSlot::Absent
+    }
 }
 
 // A field of no kind and without members, for a slot that holds none.
@@ -105,7 +109,7 @@ fn no_field() -> IndexedField {
         count: 0,
     };
     let tag = OptionalPart::Absent;
-    let element = Element::Absent;
+    let element = ElementSlot::Absent;
     IndexedField {
         entry: 0,
         kind: 0,

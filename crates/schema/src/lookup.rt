@@ -2,7 +2,7 @@
 use crate::index::Holder;
 use crate::index::MAX_SLOTS;
 use sheet::order::ByteOrder;
-use sheet::schema::KnownField;
+use sheet::schema_heads::KnownField;
 ghost use Rattle.schema.specs.Lookup.{LookedUp};
 
 pub enum Found {

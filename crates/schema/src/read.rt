@@ -5,14 +5,14 @@ use crate::index::Holder;
 use crate::index::MAX_SLOTS;
 use definition::limits::MAX_FIELD_NESTING;
 use definition::limits::MAX_SHEET_BYTES;
-use sheet::schema::HolderHead;
+use sheet::schema_heads::HolderHead;
 ghost use mathlib.Core.Path.{_≡_};
 ghost use Prim.Native.Nat.{_≤_};
 ghost use lib.ListN.{length};
 ghost use Rattle.schema.specs.Index.{indexEnd};
 ghost use Rattle.schema.specs.Fields.{Ready};
 ghost use Rattle.sheet.specs.Places.{holderOf, argumentsOf};
-ghost use Rattle.schema.specs.Read.{HolderPost, ArgumentsPost, SchemaPost};
+ghost use Rattle.schema.specs.Read.{HolderAnswer, ArgumentsAnswer, SchemaAnswer};
 
 pub enum Arguments {
     Are(Holder),
@@ -44,7 +44,7 @@ pub enum ArgumentsRead {
 
 fn read_holder(sheet: &[u8], words: &mut [u32], head: HolderHead, from: Cursor) -> HolderRead
     requires { ⌜ Ready (now sheet) (now words) from 0 0 ⌝ }
-    ensures { λ r. ⌜ HolderPost (now (sheet .entry)) (now (words .entry)) (now (words .exit)) (holderOf head) from r ⌝ }
+    ensures { λ r. ⌜ HolderAnswer (now (sheet .entry)) (now (words .entry)) (now (words .exit)) (holderOf head) from r ⌝ }
 {
     let first = from.used;
     let count = head.count;
@@ -79,13 +79,13 @@ fn read_holder(sheet: &[u8], words: &mut [u32], head: HolderHead, from: Cursor) 
 fn read_arguments(
     sheet: &[u8],
     words: &mut [u32],
-    head: sheet::schema::Arguments,
+    head: sheet::schema_heads::Arguments,
     from: Cursor,
 ) -> ArgumentsRead
     requires { ⌜ Ready (now sheet) (now words) from 0 0 ⌝ }
-    ensures { λ r. ⌜ ArgumentsPost (now (sheet .entry)) (now (words .entry)) (now (words .exit)) (argumentsOf head) from r ⌝ }
+    ensures { λ r. ⌜ ArgumentsAnswer (now (sheet .entry)) (now (words .entry)) (now (words .exit)) (argumentsOf head) from r ⌝ }
 {
-    let sheet::schema::Arguments::Are(h) = head else {
+    let sheet::schema_heads::Arguments::Are(h) = head else {
         return ArgumentsRead::Good(Arguments::Absent, from);
     };
     let HolderRead::Good(holder, to) = read_holder(sheet, words, h, from) else {
@@ -98,12 +98,15 @@ fn read_arguments(
 // matter, and of its words only those of the index change.
 pub fn read_schema(sheet: &[u8], scratch: &mut [u32]) -> SchemaRead
     requires { ⌜ indexEnd ≤ length (now scratch) ⌝ }
-    ensures { λ r. ⌜ SchemaPost (now (sheet .entry)) (now (scratch .entry)) (now (scratch .exit)) r ⌝ }
+    ensures { λ r. ⌜ SchemaAnswer (now (sheet .entry)) (now (scratch .entry)) (now (scratch .exit)) r ⌝ }
 {
     if MAX_SHEET_BYTES < sheet.len() {
         return SchemaRead::Bad;
     }
-    let sheet::schema::SchemaRead::Is(head, end) = lines::schema_sheet::schema_head(sheet, 0) else {
+    let sheet::schema_heads::SchemaHeadRead::Is(head, end) = lines::schema_sheet::schema_head(
+        sheet,
+        0,
+    ) else {
         return SchemaRead::Bad;
     };
     let start = Cursor {

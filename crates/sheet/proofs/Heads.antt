@@ -18,11 +18,11 @@ use Rattle.sheet.specs.Pieces.{first, dashed, lastText, fieldMarks, fiel
 use Rattle.sheet.specs.Places.{ReadsTo, Refuses, TextIs, LastTextIs, holderOf, fieldOf, RuleTextsAre, RuleIs, conditionOf, conditionCount, valueOf, valueCount}
 use Rattle.sheet.specs.declared.part.Part.{Part}
 use Rattle.sheet.specs.declared.part.OptionalPart.{OptionalPart}
-use Rattle.sheet.specs.declared.schema.FieldMarks.{FieldMarks}
-use Rattle.sheet.specs.declared.rule.RuleRead.{RuleRead}
-use Rattle.sheet.specs.declared.rule.RuleRead.the-variants as rule
-use Rattle.sheet.specs.declared.rule.ValueKind.{ValueKind}
-use Rattle.sheet.specs.declared.rule.ValueKind.the-variants as kind
+use Rattle.sheet.specs.declared.schema_heads.FieldMarks.{FieldMarks}
+use Rattle.sheet.specs.declared.rule_heads.RuleHeadRead.{RuleHeadRead}
+use Rattle.sheet.specs.declared.rule_heads.RuleHeadRead.the-variants as rule
+use Rattle.sheet.specs.declared.rule_heads.ValueKind.{ValueKind}
+use Rattle.sheet.specs.declared.rule_heads.ValueKind.the-variants as kind
 use Rattle.sheet.proofs.Chains.{then-then, then-bind, byte-other, item-dashed, mark-refused}
 
 -- Holders
@@ -264,7 +264,7 @@ unfolding ruleHead ruleTexts ruleEnd either
 rule-pieces l = refl
 
 module _ {s : List ℕ} {at : ℕ} {u : Unit {0}} (c : ReadsTo (byte 82) s at u (at + 1)) where
-  pub rule-named : (r : RuleRead) → RuleTextsAre s (at + 1) r → RuleIs s at r
+  pub rule-named : (r : RuleHeadRead) → RuleTextsAre s (at + 1) r → RuleIs s at r
   unfolding orElse _>>_ _>>=_ andThen
   rule-named (rule.Is h next) e =
       record {

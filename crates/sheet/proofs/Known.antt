@@ -15,7 +15,7 @@ use Rattle.sheet.specs.Pieces.{fieldMarks, fieldTexts}
 use Rattle.sheet.specs.Places.{ReadsTo, Knows, lengthOf, fieldOf, tagAt}
 use Rattle.sheet.specs.declared.entry.Length.{Length}
 use Rattle.sheet.specs.declared.entry.Length.the-variants.{Of, Absent}
-use Rattle.sheet.specs.declared.schema.FieldMarks.{FieldMarks}
+use Rattle.sheet.specs.declared.schema_heads.FieldMarks.{FieldMarks}
 use Rattle.sheet.proofs.Heads.{fieldBy, field-pieces}
 
 -- What is read, and where reading stops, by the place where it began.

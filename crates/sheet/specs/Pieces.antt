@@ -8,15 +8,15 @@ use Rattle.number.specs.Grammar.{isNumber}
 use Rattle.sheet.specs.Reader.{Reader, _>>=_, _>>_, pure}
 use Rattle.sheet.specs.Entries.{maxText, maxCount, byte, comma, dash, lineEnd, item, mark, textLength, text, optionalText, Shape, literal, many, negation, one, two, comparison, quantifier, RuleHead, rule, ConditionHead, literalHead, manyHead, negationHead, oneHead, twoHead, comparisonHead, quantifierHead, ValueHead, constantHead, numberHead, stringHead, arrayHead, objectHead}
 use Rattle.sheet.specs.declared.part.Part.{Part}
-use Rattle.sheet.specs.declared.schema.FieldMarks.{FieldMarks}
-use Rattle.sheet.specs.declared.rule.Shape.{Shape as CodeShape}
-use Rattle.sheet.specs.declared.rule.Shape.the-variants as shape
-use Rattle.sheet.specs.declared.rule.ConditionHead.{ConditionHead as CodeCondition}
-use Rattle.sheet.specs.declared.rule.ConditionHead.the-variants as condition
-use Rattle.sheet.specs.declared.rule.ValueKind.{ValueKind}
-use Rattle.sheet.specs.declared.rule.ValueKind.the-variants as kind
-use Rattle.sheet.specs.declared.rule.ValueHead.{ValueHead as CodeValue}
-use Rattle.sheet.specs.declared.rule.ValueHead.the-variants as value
+use Rattle.sheet.specs.declared.schema_heads.FieldMarks.{FieldMarks}
+use Rattle.sheet.specs.declared.rule_heads.Shape.{Shape as CodeShape}
+use Rattle.sheet.specs.declared.rule_heads.Shape.the-variants as shape
+use Rattle.sheet.specs.declared.rule_heads.ConditionHead.{ConditionHead as CodeCondition}
+use Rattle.sheet.specs.declared.rule_heads.ConditionHead.the-variants as condition
+use Rattle.sheet.specs.declared.rule_heads.ValueKind.{ValueKind}
+use Rattle.sheet.specs.declared.rule_heads.ValueKind.the-variants as kind
+use Rattle.sheet.specs.declared.rule_heads.ValueHead.{ValueHead as CodeValue}
+use Rattle.sheet.specs.declared.rule_heads.ValueHead.the-variants as value
 
 -- an entry's letter and its first field
 unfoldable pub first : ℕ → ℕ → ℕ → Reader (List ℕ) ℕ

@@ -20,41 +20,41 @@ use Rattle.sheet.specs.declared.entry.LengthRead.{LengthRead}
 use Rattle.sheet.specs.declared.entry.LengthRead.the-variants as text-length
 use Rattle.sheet.specs.declared.entry.OptionalRead.{OptionalRead}
 use Rattle.sheet.specs.declared.entry.OptionalRead.the-variants as optional
-use Rattle.sheet.specs.declared.schema.HolderHead.{HolderHead}
-use Rattle.sheet.specs.declared.schema.HolderRead.{HolderRead}
-use Rattle.sheet.specs.declared.schema.HolderRead.the-variants as holder
-use Rattle.sheet.specs.declared.schema.Arguments.{Arguments}
-use Rattle.sheet.specs.declared.schema.Arguments.the-variants as arguments
-use Rattle.sheet.specs.declared.schema.ArgumentsRead.{ArgumentsRead}
-use Rattle.sheet.specs.declared.schema.ArgumentsRead.the-variants as arguments-head
-use Rattle.sheet.specs.declared.schema.SchemaHead.{SchemaHead}
-use Rattle.sheet.specs.declared.schema.SchemaRead.{SchemaRead}
-use Rattle.sheet.specs.declared.schema.SchemaRead.the-variants as schema
-use Rattle.sheet.specs.declared.schema.FieldMarksRead.{FieldMarksRead}
-use Rattle.sheet.specs.declared.schema.FieldMarksRead.the-variants as field-marks
-use Rattle.sheet.specs.declared.schema.FieldTextsRead.{FieldTextsRead}
-use Rattle.sheet.specs.declared.schema.FieldTextsRead.the-variants as field-texts
-use Rattle.sheet.specs.declared.schema.FieldHead.{FieldHead}
-use Rattle.sheet.specs.declared.schema.FieldRead.{FieldRead}
-use Rattle.sheet.specs.declared.schema.FieldRead.the-variants as field
-use Rattle.sheet.specs.declared.schema.KnownField.{KnownField}
-use Rattle.sheet.specs.declared.schema.KnownField.the-variants as known-field
+use Rattle.sheet.specs.declared.schema_heads.HolderHead.{HolderHead}
+use Rattle.sheet.specs.declared.schema_heads.HolderRead.{HolderRead}
+use Rattle.sheet.specs.declared.schema_heads.HolderRead.the-variants as holder
+use Rattle.sheet.specs.declared.schema_heads.Arguments.{Arguments}
+use Rattle.sheet.specs.declared.schema_heads.Arguments.the-variants as arguments
+use Rattle.sheet.specs.declared.schema_heads.ArgumentsRead.{ArgumentsRead}
+use Rattle.sheet.specs.declared.schema_heads.ArgumentsRead.the-variants as arguments-head
+use Rattle.sheet.specs.declared.schema_heads.SchemaHead.{SchemaHead}
+use Rattle.sheet.specs.declared.schema_heads.SchemaHeadRead.{SchemaHeadRead}
+use Rattle.sheet.specs.declared.schema_heads.SchemaHeadRead.the-variants as schema
+use Rattle.sheet.specs.declared.schema_heads.FieldMarksRead.{FieldMarksRead}
+use Rattle.sheet.specs.declared.schema_heads.FieldMarksRead.the-variants as field-marks
+use Rattle.sheet.specs.declared.schema_heads.FieldTextsRead.{FieldTextsRead}
+use Rattle.sheet.specs.declared.schema_heads.FieldTextsRead.the-variants as field-texts
+use Rattle.sheet.specs.declared.schema_heads.FieldHead.{FieldHead}
+use Rattle.sheet.specs.declared.schema_heads.FieldRead.{FieldRead}
+use Rattle.sheet.specs.declared.schema_heads.FieldRead.the-variants as field
+use Rattle.sheet.specs.declared.schema_heads.KnownField.{KnownField}
+use Rattle.sheet.specs.declared.schema_heads.KnownField.the-variants as known-field
 use Rattle.sheet.specs.declared.part.OptionalPart.{OptionalPart}
 use Rattle.sheet.specs.declared.part.OptionalPart.the-variants as part
-use Rattle.sheet.specs.declared.rule.RuleHead.{RuleHead}
-use Rattle.sheet.specs.declared.rule.RuleHead.the-variants as rule-head
-use Rattle.sheet.specs.declared.rule.RuleRead.{RuleRead}
-use Rattle.sheet.specs.declared.rule.RuleRead.the-variants as rule
-use Rattle.sheet.specs.declared.rule.ConditionHead.{ConditionHead}
-use Rattle.sheet.specs.declared.rule.ConditionHead.the-variants as condition-head
-use Rattle.sheet.specs.declared.rule.ConditionRead.{ConditionRead}
-use Rattle.sheet.specs.declared.rule.ConditionRead.the-variants as condition
-use Rattle.sheet.specs.declared.rule.ValueHead.{ValueHead}
-use Rattle.sheet.specs.declared.rule.ValueHead.the-variants as value-head
-use Rattle.sheet.specs.declared.rule.ValueRead.{ValueRead}
-use Rattle.sheet.specs.declared.rule.ValueRead.the-variants as value
-use Rattle.sheet.specs.declared.rule.KeyRead.{KeyRead}
-use Rattle.sheet.specs.declared.rule.KeyRead.the-variants as key
+use Rattle.sheet.specs.declared.rule_heads.RuleHead.{RuleHead}
+use Rattle.sheet.specs.declared.rule_heads.RuleHead.the-variants as rule-head
+use Rattle.sheet.specs.declared.rule_heads.RuleHeadRead.{RuleHeadRead}
+use Rattle.sheet.specs.declared.rule_heads.RuleHeadRead.the-variants as rule
+use Rattle.sheet.specs.declared.rule_heads.ConditionHead.{ConditionHead}
+use Rattle.sheet.specs.declared.rule_heads.ConditionHead.the-variants as condition-head
+use Rattle.sheet.specs.declared.rule_heads.ConditionRead.{ConditionRead}
+use Rattle.sheet.specs.declared.rule_heads.ConditionRead.the-variants as condition
+use Rattle.sheet.specs.declared.rule_heads.ValueHead.{ValueHead}
+use Rattle.sheet.specs.declared.rule_heads.ValueHead.the-variants as value-head
+use Rattle.sheet.specs.declared.rule_heads.ValueRead.{ValueRead}
+use Rattle.sheet.specs.declared.rule_heads.ValueRead.the-variants as value
+use Rattle.sheet.specs.declared.rule_heads.KeyRead.{KeyRead}
+use Rattle.sheet.specs.declared.rule_heads.KeyRead.the-variants as key
 
 -- `p` reads `a` from place `at` on, and stops further on, at `next`
 pub record ReadsTo {A : Type 0} (p : Reader (List ℕ) A) (s : List ℕ) (at : ℕ) (a : A) (next : ℕ) : Type 0 where
@@ -145,7 +145,7 @@ ArgumentsAre s at arguments-head.Bad = Refuses entries.argumentsHead s at
 unfoldable pub schemaOf : SchemaHead → entries.SchemaHead
 schemaOf h = record { fields = holderOf (h .fields); arguments = argumentsOf (h .arguments) }
 
-abbrev pub SchemaIs : List ℕ → ℕ → SchemaRead → Type 0
+abbrev pub SchemaIs : List ℕ → ℕ → SchemaHeadRead → Type 0
 SchemaIs s at (schema.Is h next) =
     ReadsTo entries.schemaHead s at (schemaOf h) next × (h .fields .count ≤ entries.maxCount) × (argumentCount (h .arguments) ≤ entries.maxCount)
 SchemaIs s at schema.Bad = Refuses entries.schemaHead s at
@@ -188,11 +188,11 @@ unfoldable pub ruleOf : List ℕ → RuleHead → entries.RuleHead
 ruleOf s (rule-head.Rule name message) = entries.rule (optionalOf s name) (optionalOf s message)
 ruleOf s rule-head.Template = entries.template
 
-abbrev pub RuleTextsAre : List ℕ → ℕ → RuleRead → Type 0
+abbrev pub RuleTextsAre : List ℕ → ℕ → RuleHeadRead → Type 0
 RuleTextsAre s at (rule.Is h next) = ReadsTo ruleTexts s at (ruleOf s h) next
 RuleTextsAre s at rule.Bad = Refuses ruleTexts s at
 
-abbrev pub RuleIs : List ℕ → ℕ → RuleRead → Type 0
+abbrev pub RuleIs : List ℕ → ℕ → RuleHeadRead → Type 0
 RuleIs s at (rule.Is h next) = ReadsTo entries.ruleHead s at (ruleOf s h) next
 RuleIs s at rule.Bad = Refuses entries.ruleHead s at
 

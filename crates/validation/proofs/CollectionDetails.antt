@@ -9,7 +9,7 @@ use Rattle.reference.specs.Setting.{Setting}
 use Rattle.reference.specs.CollectionLaws.{Listed}
 use Rattle.validation.specs.Check.{Check, checks}
 use Rattle.validation.specs.CheckLaws.{Explains, Sure, sure-checks}
-use Rattle.validation.specs.Judge.{Outcome, outcome, Verdict, allPass, failsAt, decide, judgeFrom, judge}
+use Rattle.validation.specs.Judge.{CheckOutcome, outcome, Verdict, allPass, failsAt, decide, judgeFrom, judge}
 use Rattle.validation.specs.Result.{Call, Defect, Answer, refused, accepted, defect, answerOf, refusals, firstRefusal, settingFor, checked, judged, refusedOr, resultOf}
 
 abbrev ExplainedVerdict : Verdict → Type 0
@@ -21,7 +21,7 @@ ExplainedAnswer (refused n) = Unit {0}
 ExplainedAnswer (accepted n) = Unit {0}
 ExplainedAnswer (defect d) = d .number ≡ 22 → Listed (d .detail)
 
-decide-explained : (o : Outcome) (n : ℕ) (c : Check) (v : Verdict)
+decide-explained : (o : CheckOutcome) (n : ℕ) (c : Check) (v : Verdict)
     → (c .number ≡ 22 → Explains o)
     → (o ≡ none → ExplainedVerdict v)
     → ExplainedVerdict (decide o n c v)

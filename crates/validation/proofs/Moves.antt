@@ -11,7 +11,7 @@ use Rattle.validation.specs.Result.{Call}
 use Rattle.validation.specs.Service.{literalsIn}
 use Rattle.validation.specs.KernelToService.{kernel-to-service}
 use Rattle.validation.proofs.Calls.{ask, heard, accepts, finds}
-use Rattle.validation.proofs.Runs.{runOf, run-meets}
+use Rattle.validation.proofs.Runs.{exactRun, run-meets}
 use Rattle.validation.proofs.Edges.{empty, bars}
 
 -- 9 equals 9
@@ -68,10 +68,10 @@ before = ask 1 1 empty nines
 unfoldable after : Call
 after = ask 1 2 empty nines
 
-nines-move : (runOf after .result .number ≡ 0) × (runOf after .result .passed ≡ runOf before .result .passed + 2)
-unfolding heard empty nines runOf before after literalsIn
+nines-move : (exactRun after .result .number ≡ 0) × (exactRun after .result .passed ≡ exactRun before .result .passed + 2)
+unfolding heard empty nines exactRun before after literalsIn
 nines-move =
-    kernel-to-service (runOf before) (runOf after) (rule none none (two 2 8 (number 3 (ascii "9")) (number 4 (ascii "9"))))
+    kernel-to-service (exactRun before) (exactRun after) (rule none none (two 2 8 (number 3 (ascii "9")) (number 4 (ascii "9"))))
     (run-meets before)
     (run-meets after)
     (record { takes = refl; kind = refl; label = refl; rule = refl; schema = refl })

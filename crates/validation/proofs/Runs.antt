@@ -29,20 +29,20 @@ call-of-run result path c = λ i.
     }
 
 -- the run that gives what the definitions say
-unfoldable pub runOf : Call → Run
+unfoldable pub exactRun : Call → Run
 unfolding runWith
-runOf c = runWith (numbersOf (resultOf c)) (pathAfter (resultOf c) (replicate (c .lent .path) 0)) c
+exactRun c = runWith (numbersOf (resultOf c)) (pathAfter (resultOf c) (replicate (c .lent .path) 0)) c
 
-pub run-meets : (c : Call) → Meets (runOf c)
-unfolding runOf
+pub run-meets : (c : Call) → Meets (exactRun c)
+unfolding exactRun
 run-meets c =
-    let same : c ≡ callOf (runOf c) = sym (call-of-run (numbersOf (resultOf c)) (pathAfter (resultOf c) (replicate (c .lent .path) 0)) c) in
+    let same : c ≡ callOf (exactRun c) = sym (call-of-run (numbersOf (resultOf c)) (pathAfter (resultOf c) (replicate (c .lent .path) 0)) c) in
     record {
       result = ap (λ (d : Call). numbersOf (resultOf d)) same;
       path = ap (λ (d : Call). pathAfter (resultOf d) (replicate (c .lent .path) 0)) same;
       scratch = record { size = refl; kept = refl };
     }
 
-pub run-unrefused : (c : Call) → Unrefused c → Unrefused (callOf (runOf c))
-unfolding runOf
+pub run-unrefused : (c : Call) → Unrefused c → Unrefused (callOf (exactRun c))
+unfolding exactRun
 run-unrefused c n = rw (call-of-run (numbersOf (resultOf c)) (pathAfter (resultOf c) (replicate (c .lent .path) 0)) c) n

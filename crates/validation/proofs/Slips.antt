@@ -13,21 +13,21 @@ use Rattle.validation.specs.Result.{Call, Numbers, numbersOf, resultOf}
 use Rattle.validation.specs.Growth.{against, Widens}
 use Rattle.validation.specs.Demands.{Demand3}
 use Rattle.validation.proofs.Calls.{ask, heard, accepts, finds}
-use Rattle.validation.proofs.Runs.{runOf}
+use Rattle.validation.proofs.Runs.{exactRun}
 
 -- a call, and the same against another schema that is no widening, and to which the demand does not extend
 pub record Slips (c : Call) (schema′ : List ℕ) (passed : ℕ) (second : Numbers × Text) : Type 0 where
   pub before : heard c ≡ accepts passed
   pub after : heard (against c schema′ (c .lent)) ≡ second
-  pub noDemand : (l : Level) → Demand3 l (runOf c) (runOf (against c schema′ (c .lent))) → ⊥
+  pub noDemand : (l : Level) → Demand3 l (exactRun c) (exactRun (against c schema′ (c .lent))) → ⊥
   pub noWidening : (l : Level) → Widens l (c .schema) schema′ → ⊥
 
 no-demand : {l : Level} (c c′ : Call) (k : ℕ)
     → numbersOf (resultOf c) .number ≡ 0
     → numbersOf (resultOf c′) .number ≡ suc k
-    → Demand3 l (runOf c) (runOf c′)
+    → Demand3 l (exactRun c) (exactRun c′)
     → ⊥
-unfolding runOf
+unfolding exactRun
 no-demand c c′ k e e′ demand = omega (arith, e′, demand .accepts e .0)
 
 no-widening : {l : Level} {sheet sheet′ : List ℕ} (s s′ : Schema)

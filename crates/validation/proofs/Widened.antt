@@ -11,7 +11,7 @@ use Rattle.validation.specs.Result.{Lent, Call, Unrefused, Numbers}
 use Rattle.validation.specs.Growth.{against, Widens}
 use Rattle.validation.specs.Demands.{Demand3, demand-3}
 use Rattle.validation.proofs.Calls.{ask, heard, accepts, finds}
-use Rattle.validation.proofs.Runs.{runOf, run-meets, run-unrefused}
+use Rattle.validation.proofs.Runs.{exactRun, run-meets, run-unrefused}
 
 -- more than has to be lent
 unfoldable pub roomy : Lent
@@ -22,7 +22,7 @@ pub record Shows (l : Level) (c : Call) (schema′ : List ℕ) (first second : N
   pub widens : Widens l (c .schema) schema′
   pub before : heard c ≡ first
   pub after : heard (against c schema′ roomy) ≡ second
-  pub demand : Demand3 l (runOf c) (runOf (against c schema′ roomy))
+  pub demand : Demand3 l (exactRun c) (exactRun (against c schema′ roomy))
 
 shows : {l : Level} {c : Call} {schema′ : List ℕ} {first second : Numbers × Text} (s s′ : Schema)
     → decodeSchema (c .schema) ≡ some s
@@ -33,7 +33,7 @@ shows : {l : Level} {c : Call} {schema′ : List ℕ} {first second : Numbers ×
     → Unrefused c
     → Unrefused (against c schema′ roomy)
     → Shows l c schema′ first second
-unfolding runOf against
+unfolding exactRun against
 shows {l} {c} {schema′} s s′ e e′ w before after n n′ =
     let widens : Widens l (c .schema) schema′ = record { first = s; second = s′; decodesFirst = e; decodesSecond = e′; isWider = w } in
     let c′ = against c schema′ roomy in
@@ -42,7 +42,7 @@ shows {l} {c} {schema′} s s′ e e′ w before after n n′ =
       before = before;
       after = after;
       demand =
-          demand-3 (runOf c) (runOf c′) (run-meets c) (run-meets c′)
+          demand-3 (exactRun c) (exactRun c′) (run-meets c) (run-meets c′)
           (record { asked = refl })
           widens
           (run-unrefused c n)

@@ -15,7 +15,7 @@ use Rattle.reference.specs.Walk.{Reached, refused, unknown, known}
 use Rattle.reference.specs.Reference.{Environment, reference, collectionText, collection}
 use Rattle.reference.specs.CollectionLaws.{Reads, Listed, Explained, text-explained}
 use Rattle.validation.specs.Check.{Binder, Question, settled, readable, walkable, IsDefect, failsIf, Check, check, referenceText, referenceCheck, references, referencesOfValues, referencesOfPairs, Literal, literals, literalCheck, entryOf, isString, isHolder, instantForm, instantOperand, affixOperand, compareSide, operand, operatorCheck, body, bodies, literalChecks, checks}
-use Rattle.validation.specs.Judge.{Outcome, verdict, extend, enter, environment, answer, answerIn, outcome}
+use Rattle.validation.specs.Judge.{CheckOutcome, verdict, extend, enter, environment, answer, answerIn, outcome}
 
 -- the numbers that checks of values and operands have
 record IsOperandDefect (n : ℕ) : Type 0 where
@@ -159,7 +159,7 @@ under-literals [] = tt
 under-literals (l ∷ ls) = (record { binders = refl; other = λ e. omega arith }, under-literals ls)
 
 -- passes, or fails with one of the details of number 22
-abbrev pub Explains : Outcome → Type 0
+abbrev pub Explains : CheckOutcome → Type 0
 Explains none = Unit {0}
 Explains (some d) = Listed d
 

@@ -10,7 +10,7 @@ use Rattle.definition.specs.Tree.{Text, Schema, Value, constant, number, string
 use Rattle.definition.specs.Within.{valueEntries, valuesEntries, pairsEntries, conditionEntries, conditionsEntries, ruleEntries, ValueFrom, ValuesFrom, PairsFrom, ConditionFrom, ConditionsFrom, RuleFrom}
 use Rattle.reference.specs.Setting.{Setting}
 use Rattle.validation.specs.Check.{Binder, Question, Check, check, referenceText, referenceCheck, references, referencesOfValues, referencesOfPairs, Literal, numbers, numbersOfValues, numbersOfPairs, literals, literalsOfConditions, literalCheck, entryOf, instantOperand, affixOperand, compareSide, operand, operatorCheck, body, bodies, literalChecks, checks}
-use Rattle.validation.specs.Judge.{Outcome, outcome, Verdict, allPass, failsAt, decide, judgeFrom, judge}
+use Rattle.validation.specs.Judge.{CheckOutcome, outcome, Verdict, allPass, failsAt, decide, judgeFrom, judge}
 use Rattle.validation.specs.CheckLaws.{Every, every-append, every-if}
 use Rattle.validation.specs.WideningLaws.{passedOf}
 
@@ -20,12 +20,12 @@ abbrev pub VerdictIs : (P : Check → Type 0) → Verdict → Type 0
 VerdictIs P (allPass n) = Unit {0}
 VerdictIs P (failsAt n c d) = P c
 
-every-decided : (P : Check → Type 0) (o : Outcome) (n : ℕ) (c : Check) (v : Verdict) → P c → VerdictIs P v → VerdictIs P (decide o n c v)
+every-decided : (P : Check → Type 0) (o : CheckOutcome) (n : ℕ) (c : Check) (v : Verdict) → P c → VerdictIs P v → VerdictIs P (decide o n c v)
 unfolding decide
 every-decided P none n c v p h = h
 every-decided P (some d) n c v p h = p
 
-pub every-judged-from : (P : Check → Type 0) (ask : Check → Outcome) (n : ℕ) (cs : List Check) → Every P cs → VerdictIs P (judgeFrom ask n cs)
+pub every-judged-from : (P : Check → Type 0) (ask : Check → CheckOutcome) (n : ℕ) (cs : List Check) → Every P cs → VerdictIs P (judgeFrom ask n cs)
 unfolding judgeFrom
 every-judged-from P ask n [] h = tt
 every-judged-from P ask n (c ∷ cs) h =
@@ -37,12 +37,12 @@ every-judged P setting s cs h = every-judged-from P (outcome setting s) 0 cs h
 
 -- No more checks pass than there are
 
-decides-at-most : (o : Outcome) (n m : ℕ) (c : Check) (v : Verdict) → n ≤ m → passedOf v ≤ m → passedOf (decide o n c v) ≤ m
+decides-at-most : (o : CheckOutcome) (n m : ℕ) (c : Check) (v : Verdict) → n ≤ m → passedOf v ≤ m → passedOf (decide o n c v) ≤ m
 unfolding decide passedOf
 decides-at-most none n m c v p h = h
 decides-at-most (some d) n m c v p h = p
 
-pub passes-at-most-from : (ask : Check → Outcome) (n : ℕ) (cs : List Check) → passedOf (judgeFrom ask n cs) ≤ n + length cs
+pub passes-at-most-from : (ask : Check → CheckOutcome) (n : ℕ) (cs : List Check) → passedOf (judgeFrom ask n cs) ≤ n + length cs
 unfolding judgeFrom passedOf
 passes-at-most-from ask n [] = omega arith
 passes-at-most-from ask n (c ∷ cs) =

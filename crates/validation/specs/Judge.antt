@@ -9,10 +9,10 @@ use Rattle.reference.specs.Reference.{Environment, reference, collection}
 use Rattle.validation.specs.Check.{Binder, Question, settled, readable, walkable, Check}
 
 -- none passes, a detail fails
-abbrev pub Outcome : Type 0
-Outcome = Option ℕ
+abbrev pub CheckOutcome : Type 0
+CheckOutcome = Option ℕ
 
-unfoldable pub verdict : Reached → Outcome
+unfoldable pub verdict : Reached → CheckOutcome
 verdict (refused d at left) = some d
 verdict unknown = none
 verdict (known f) = none
@@ -31,17 +31,17 @@ unfoldable pub environment : Schema → List Binder → Option Environment
 environment schema [] = some []
 environment schema (b ∷ bs) = enter schema b (environment schema bs)
 
-unfoldable pub answer : Setting → Schema → Environment → Question → Outcome
+unfoldable pub answer : Setting → Schema → Environment → Question → CheckOutcome
 answer setting schema env (settled o) = o
 answer setting schema env (readable t) = verdict (reference setting schema env t)
 answer setting schema env (walkable v) = verdict (collection schema env v)
 
 -- under a binder that walks no collection nothing passes; its own check fails before
-unfoldable pub answerIn : Setting → Schema → Question → Option Environment → Outcome
+unfoldable pub answerIn : Setting → Schema → Question → Option Environment → CheckOutcome
 answerIn setting schema q none = some 0
 answerIn setting schema q (some env) = answer setting schema env q
 
-unfoldable pub outcome : Setting → Schema → Check → Outcome
+unfoldable pub outcome : Setting → Schema → Check → CheckOutcome
 outcome setting schema c = answerIn setting schema (c .question) (environment schema (c .binders))
 
 pub data Verdict : Type 0 where
@@ -50,11 +50,11 @@ pub data Verdict : Type 0 where
   -- the check failed with the detail, behind so many that passed
   failsAt : (passed : ℕ) (c : Check) (detail : ℕ) → Verdict
 
-unfoldable pub decide : Outcome → ℕ → Check → Verdict → Verdict
+unfoldable pub decide : CheckOutcome → ℕ → Check → Verdict → Verdict
 decide none passed c others = others
 decide (some d) passed c others = failsAt passed c d
 
-unfoldable pub judgeFrom : (Check → Outcome) → ℕ → List Check → Verdict
+unfoldable pub judgeFrom : (Check → CheckOutcome) → ℕ → List Check → Verdict
 judgeFrom ask passed [] = allPass passed
 judgeFrom ask passed (c ∷ cs) = let others = judgeFrom ask (passed + 1) cs in decide (ask c) passed c others
 

@@ -12,12 +12,12 @@ use Rattle.reference.specs.Walk.{Reached, unknown, known}
 use Rattle.reference.specs.Reference.{Environment, reference}
 use Rattle.reference.specs.DetailLaws.{Has, Kernel, kernel-details}
 use Rattle.validation.specs.Check.{Binder, Question, settled, readable, walkable, IsDefect, Check, check, checks}
-use Rattle.validation.specs.Judge.{Outcome, verdict, environment, answer, answerIn, outcome, Verdict, allPass, failsAt, decide, judgeFrom, judge}
+use Rattle.validation.specs.Judge.{CheckOutcome, verdict, environment, answer, answerIn, outcome, Verdict, allPass, failsAt, decide, judgeFrom, judge}
 use Rattle.validation.specs.CheckLaws.{Every, Asks, every-check}
 use Rattle.validation.specs.Result.{Call, Answer, refused, accepted, defect, settingFor, firstRefusal, refusals, answerOf, checked, judged, refusedOr, resultOf, numbersOf, Run, callOf, Meets}
 
 -- what a check of number 18 fails with
-abbrev Fails : Outcome → Type 0
+abbrev Fails : CheckOutcome → Type 0
 Fails none = Unit {0}
 Fails (some d) = Kernel d
 
@@ -47,7 +47,7 @@ module _ (setting : Setting) (is-kernel : setting .reader ≡ kernel) (schema : 
   VerdictByKernel (allPass n) = Unit {0}
   VerdictByKernel (failsAt n c d) = c .number ≡ 18 → Kernel d
 
-  decided-by : (o : Outcome) (n : ℕ) (c : Check) (v : Verdict) → (c .number ≡ 18 → Fails o) → VerdictByKernel v → VerdictByKernel (decide o n c v)
+  decided-by : (o : CheckOutcome) (n : ℕ) (c : Check) (v : Verdict) → (c .number ≡ 18 → Fails o) → VerdictByKernel v → VerdictByKernel (decide o n c v)
   unfolding decide
   decided-by none n c v p h = h
   decided-by (some d) n c v p h = p

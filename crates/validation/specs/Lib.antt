@@ -9,12 +9,12 @@ pub mod CountLaws
 pub mod Growth
 pub mod DemandLaws
 pub mod Demands
-pub mod Service
-pub mod ServiceLaws
-pub mod ServiceCallLaws
-pub mod KernelToService
 pub mod KernelLaws
 pub mod KeyPath
 pub mod KeyLaws
 pub mod KeyDemands
+pub mod Service
+pub mod ServiceLaws
+pub mod ServiceCallLaws
+pub mod KernelToService
 pub mod Computing

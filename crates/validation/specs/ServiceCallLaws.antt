@@ -10,7 +10,7 @@ use borrow.Author.Tests.{le-leb, ne-eqb}
 use Rattle.text.proofs.Bools.{and-true-0}
 use Rattle.definition.specs.Tree.{Text, Rule}
 use Rattle.definition.specs.Decode.{decodeSchema, decodeRule}
-use Rattle.reference.specs.Setting.{Setting, settingOf, stock, oneOf}
+use Rattle.reference.specs.Setting.{Setting, settingOf, stock, oneOf, kernel as kernelReader}
 use Rattle.validation.specs.Check.{isNone, checks}
 use Rattle.validation.specs.Judge.{Verdict, allPass, failsAt, judge}
 use Rattle.validation.specs.Result.{Lent, Call, Answer, accepted, isWithin, answerOf, settingFor, ofBuffers, early, ofSheets, refusals, firstRefusal, Unrefused, refusedOr, checked, resultOf}
@@ -75,6 +75,6 @@ service-call c semantics lent t n kernel low high decodes finite room e =
     let passes = all-pass (settingFor c) (c .asked .label) t (judge (settingFor c) s (checks (settingFor c) t)) n first in
     let passed =
     subst (λ (x : Setting). judge x s (checks x t) ≡ allPass n) (ap (λ (m : ℕ). settingOf (c .asked .kind) m) kernel) passes in
-    let moved = service-accepts (stock (c .asked .kind)) (oneOf (c .asked .kind) (1 ∷ 2 ∷ 5 ∷ 6 ∷ [])) s t n passed finite in
+    let moved = service-accepts (stock (c .asked .kind)) kernelReader (oneOf (c .asked .kind) (1 ∷ 2 ∷ 5 ∷ 6 ∷ [])) s t n passed finite in
     answers-by-checks (under c semantics lent) s t reads decodes (unrefused-moved c semantics lent low high unrefused room)
     ∙ rw (ne-eqb semantics 1 (λ x. omega arith), moved) refl

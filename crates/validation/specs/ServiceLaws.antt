@@ -10,14 +10,13 @@ use lib.ListN.{length, length-append, length-map}
 use borrow.Author.Tests.{eqb-true}
 use Rattle.sheet.specs.ReaderLaws.{by-test}
 use Rattle.definition.specs.Tree.{Text, Field, field, Schema, Condition, literal, many, negation, one, two, comparison, quantifier, Conditions, noConditions, condition, Rule, rule, template}
-use Rattle.reference.specs.Setting as Readers
-use Rattle.reference.specs.Setting.{Name, nameOf, Reader, Setting}
+use Rattle.reference.specs.Setting.{Name, nameOf, Reader, kernel, Setting}
 use Rattle.reference.specs.Path.{Segments, split}
 use Rattle.reference.specs.Walk.{Step, refuse, leaf, free, into, lookup, memberStep, Reached, refused, unknown, known, arrive, entryOf, travel, isEmpty, walkStep}
 use Rattle.reference.specs.Reference.{Environment, bound, Root, noRoot, missing, root, rootOf, fromHolder, rootWalk, fromRoot, fromName, fromElement, fromBound, reference}
 use Rattle.reference.specs.CollectionLaws.{Reads}
 use Rattle.validation.specs.Check.{Binder, Question, settled, readable, walkable, Check, check, failsIf, references, Literal, literals, literalCheck, operand, compareSide, operatorCheck, body, bodies, literalChecks, checks}
-use Rattle.validation.specs.Judge.{Outcome, verdict, environment, answer, answerIn, outcome, Verdict, allPass, decide, judgeFrom, judge}
+use Rattle.validation.specs.Judge.{CheckOutcome, verdict, environment, answer, answerIn, outcome, Verdict, allPass, decide, judgeFrom, judge}
 use Rattle.validation.specs.CheckLaws.{Every, every-append}
 use Rattle.validation.specs.Service.{literalsIn, AllFinite}
 
@@ -81,11 +80,11 @@ reads-passes (known f) x = refl
 
 -- Verdicts: all pass exactly if each does
 
-module _ (ask : Check → Outcome) where
+module _ (ask : Check → CheckOutcome) where
   abbrev Passes : Check → Type 0
   Passes c = ask c ≡ none
 
-  all-decided : (o : Outcome) (n m : ℕ) (c : Check) (v : Verdict) → decide o n c v ≡ allPass m → (o ≡ none) × (v ≡ allPass m)
+  all-decided : (o : CheckOutcome) (n m : ℕ) (c : Check) (v : Verdict) → decide o n c v ≡ allPass m → (o ≡ none) × (v ≡ allPass m)
   unfolding decide
   all-decided none n m c v e = (refl, e)
   all-decided (some d) n m c v e = let z : _≡_ {A = ℕ} 0 1 = cc in absurd (omega arith)
@@ -107,73 +106,73 @@ every-parts : (P : Check → Type 0) (xs ys : List Check) → Every P (xs ++ ys)
 every-parts P [] ys h = (tt, h)
 every-parts P (c ∷ xs) ys h = let r = every-parts P xs ys (h .1) in ((h .0, r .0), r .1)
 
-module _ (mayRead : Name → Bool) (isRuleKind : Bool) (schema : Schema) where
-  abbrev kernel : Setting
-  kernel = record { mayRead = mayRead; reader = Readers.kernel; isRuleKind = isRuleKind; isService = false }
+module _ (mayRead : Name → Bool) (reader : Reader) (isRuleKind : Bool) (schema : Schema) where
+  abbrev underKernel : Setting
+  underKernel = record { mayRead = mayRead; reader = reader; isRuleKind = isRuleKind; isService = false }
 
-  abbrev service : Setting
-  service = record { mayRead = mayRead; reader = Readers.kernel; isRuleKind = isRuleKind; isService = true }
+  abbrev underService : Setting
+  underService = record { mayRead = mayRead; reader = reader; isRuleKind = isRuleKind; isService = true }
 
-  from-root-rises : (n : Name) (r : Root) (s : Text) (path : List Text) → Reads (fromRoot kernel n r s path) → Reads (fromRoot service n r s path)
+  from-root-rises : (n : Name) (r : Root) (s : Text) (path : List Text) → Reads (fromRoot underKernel n r s path) → Reads (fromRoot underService n r s path)
   unfolding fromRoot rootWalk fromHolder
   from-root-rises n noRoot s path x = x
   from-root-rises n missing s path x = x
   from-root-rises n (root at h) s path x =
-      reads-if (rootWalk Readers.kernel false at h s path) (rootWalk Readers.kernel true at h s path) (refused 11 0 (s ∷ path)) (refused 11 0 (s ∷ path)) (mayRead n)
+      reads-if (rootWalk reader false at h s path) (rootWalk reader true at h s path) (refused 11 0 (s ∷ path)) (refused 11 0 (s ∷ path)) (mayRead n)
       (λ y.
-      reads-if (refused 1 at (s ∷ path)) (refused 1 at (s ∷ path)) (fromHolder (walkStep Readers.kernel false) at 2 h s path) (fromHolder (walkStep Readers.kernel true) at 2 h s path) (isEmpty s) (λ z. z)
+      reads-if (refused 1 at (s ∷ path)) (refused 1 at (s ∷ path)) (fromHolder (walkStep reader false) at 2 h s path) (fromHolder (walkStep reader true) at 2 h s path) (isEmpty s) (λ z. z)
       (λ z.
-      arrive-rises at s path (λ g. travel (walkStep Readers.kernel false) path g) (λ g. travel (walkStep Readers.kernel true) path g)
-      (alike {t = memberStep (lookup s (h .members)) (h .isOpen) 2}) (λ g w. travel-rises Readers.kernel path g w) z)
+      arrive-rises at s path (λ g. travel (walkStep reader false) path g) (λ g. travel (walkStep reader true) path g)
+      (alike {t = memberStep (lookup s (h .members)) (h .isOpen) 2}) (λ g w. travel-rises reader path g w) z)
       y)
       (λ y. y)
       x
 
-  from-name-rises : (o : Option Name) (path : List Text) → Reads (fromName kernel schema o path) → Reads (fromName service schema o path)
+  from-name-rises : (o : Option Name) (path : List Text) → Reads (fromName underKernel schema o path) → Reads (fromName underService schema o path)
   unfolding fromName
   from-name-rises none path x = x
   from-name-rises (some n) [] x = x
   from-name-rises (some n) (s ∷ path) x = from-root-rises n (rootOf schema n) s path x
 
-  from-bound-rises : (p : Segments) (o : Option (Option Field)) → Reads (fromBound kernel schema p o) → Reads (fromBound service schema p o)
+  from-bound-rises : (p : Segments) (o : Option (Option Field)) → Reads (fromBound underKernel schema p o) → Reads (fromBound underService schema p o)
   unfolding fromBound fromElement
   from-bound-rises p none x = from-name-rises (nameOf (p .first)) (p .others) x
   from-bound-rises p (some none) x = x
-  from-bound-rises p (some (some f)) x = travel-rises Readers.kernel (p .others) f x
+  from-bound-rises p (some (some f)) x = travel-rises kernel (p .others) f x
 
-  answer-rises : (env : Environment) (q : Question) → answer kernel schema env q ≡ none → answer service schema env q ≡ none
+  answer-rises : (env : Environment) (q : Question) → answer underKernel schema env q ≡ none → answer underService schema env q ≡ none
   unfolding answer reference
   answer-rises env (settled o) e = e
   answer-rises env (readable t) e =
-      reads-passes (reference service schema env t)
-      (from-bound-rises (split t) (bound (split t .first) env) (passes-reads (reference kernel schema env t) e))
+      reads-passes (reference underService schema env t)
+      (from-bound-rises (split t) (bound (split t .first) env) (passes-reads (reference underKernel schema env t) e))
   answer-rises env (walkable v) e = e
 
-  answer-in-rises : (q : Question) (x : Option Environment) → answerIn kernel schema q x ≡ none → answerIn service schema q x ≡ none
+  answer-in-rises : (q : Question) (x : Option Environment) → answerIn underKernel schema q x ≡ none → answerIn underService schema q x ≡ none
   unfolding answerIn
   answer-in-rises q none e = e
   answer-in-rises q (some env) e = answer-rises env q e
 
-  every-rises : (cs : List Check) → Every (Passes (outcome kernel schema)) cs → Every (Passes (outcome service schema)) cs
+  every-rises : (cs : List Check) → Every (Passes (outcome underKernel schema)) cs → Every (Passes (outcome underService schema)) cs
   unfolding outcome
   every-rises [] h = tt
   every-rises (c ∷ cs) h = (answer-in-rises (c .question) (environment schema (c .binders)) (h .0), every-rises cs (h .1))
 
   -- no operator is missing under service
-  operator-in : (b : Bool) (q : Question) (x : Option Environment) → answerIn kernel schema q x ≡ none → answerIn service schema (failsIf (b && false) 0) x ≡ none
+  operator-in : (b : Bool) (q : Question) (x : Option Environment) → answerIn underKernel schema q x ≡ none → answerIn underService schema (failsIf (b && false) 0) x ≡ none
   unfolding answerIn answer failsIf
   operator-in b q none e = e
   operator-in true q (some env) e = refl
   operator-in false q (some env) e = refl
 
-  operator-rises : (bs : List Binder) (e op : ℕ) → outcome kernel schema (operatorCheck kernel bs e op) ≡ none → outcome service schema (operatorCheck service bs e op) ≡ none
+  operator-rises : (bs : List Binder) (e op : ℕ) → outcome underKernel schema (operatorCheck underKernel bs e op) ≡ none → outcome underService schema (operatorCheck underService bs e op) ≡ none
   unfolding operatorCheck check outcome
   operator-rises bs e op h = operator-in (leb 18 op) (failsIf (leb 18 op && true) 0) (environment schema bs) h
 
   mutual
     unfolding body bodies
 
-    body-rises : (bs : List Binder) (c : Condition) → Every (Passes (outcome kernel schema)) (body kernel bs c) → Every (Passes (outcome service schema)) (body service bs c)
+    body-rises : (bs : List Binder) (c : Condition) → Every (Passes (outcome underKernel schema)) (body underKernel bs c) → Every (Passes (outcome underService schema)) (body underService bs c)
     body-rises bs (literal e truth) h = (operator-rises bs e 1 (h .0), tt)
     body-rises bs (many e op children) h =
         (operator-rises bs e op (h .0), (every-rises (check 16 e bs _ ∷ []) (h .1 .0, tt) .0, bodies-rise bs children (h .1 .1)))
@@ -184,27 +183,27 @@ module _ (mayRead : Name → Bool) (isRuleKind : Bool) (schema : Schema) where
     body-rises bs (comparison e which left right) h =
         (operator-rises bs e 18 (h .0), every-rises (compareSide bs 1 left ++ compareSide bs 2 right) (h .1))
     body-rises bs (quantifier e op bind over that) h =
-        let parts = every-parts (Passes (outcome kernel schema)) (references bs over) _ (h .1 .1) in (
+        let parts = every-parts (Passes (outcome underKernel schema)) (references bs over) _ (h .1 .1) in (
           operator-rises bs e op (h .0),
           (
             every-rises (check 21 e bs _ ∷ []) (h .1 .0, tt) .0,
-            every-append (Passes (outcome service schema)) (references bs over) _ (every-rises (references bs over) (parts .0))
+            every-append (Passes (outcome underService schema)) (references bs over) _ (every-rises (references bs over) (parts .0))
                 (every-rises (check 22 e bs (walkable over) ∷ []) (parts .1 .0, tt) .0, body-rises _ that (parts .1 .1)),
           ),
         )
 
-    bodies-rise : (bs : List Binder) (cs : Conditions) → Every (Passes (outcome kernel schema)) (bodies kernel bs cs) → Every (Passes (outcome service schema)) (bodies service bs cs)
+    bodies-rise : (bs : List Binder) (cs : Conditions) → Every (Passes (outcome underKernel schema)) (bodies underKernel bs cs) → Every (Passes (outcome underService schema)) (bodies underService bs cs)
     bodies-rise bs noConditions h = tt
     bodies-rise bs (condition c others) h =
-        let parts = every-parts (Passes (outcome kernel schema)) (body kernel bs c) (bodies kernel bs others) h in
-        every-append (Passes (outcome service schema)) (body service bs c) (bodies service bs others)
+        let parts = every-parts (Passes (outcome underKernel schema)) (body underKernel bs c) (bodies underKernel bs others) h in
+        every-append (Passes (outcome underService schema)) (body underService bs c) (bodies underService bs others)
         (body-rises bs c (parts .0))
         (bodies-rise bs others (parts .1))
 
   mutual
     unfolding body bodies
 
-    body-length : (bs : List Binder) (c : Condition) → length (body service bs c) ≡ length (body kernel bs c)
+    body-length : (bs : List Binder) (c : Condition) → length (body underService bs c) ≡ length (body underKernel bs c)
     body-length bs (literal e truth) = refl
     body-length bs (many e op children) = omega (arith, bodies-length bs children)
     body-length bs (negation e child) = omega (arith, body-length bs child)
@@ -214,16 +213,16 @@ module _ (mayRead : Name → Bool) (isRuleKind : Bool) (schema : Schema) where
     body-length bs (quantifier e op bind over that) =
         simp length-append (omega (arith, body-length (record { name = bind; over = over } ∷ bs) that))
 
-    bodies-length : (bs : List Binder) (cs : Conditions) → length (bodies service bs cs) ≡ length (bodies kernel bs cs)
+    bodies-length : (bs : List Binder) (cs : Conditions) → length (bodies underService bs cs) ≡ length (bodies underKernel bs cs)
     bodies-length bs noConditions = refl
     bodies-length bs (condition c others) = simp length-append (omega (arith, body-length bs c, bodies-length bs others))
 
-  finite-pass : (ls : List Literal) → AllFinite ls → Every (Passes (outcome service schema)) (map literalCheck ls)
+  finite-pass : (ls : List Literal) → AllFinite ls → Every (Passes (outcome underService schema)) (map literalCheck ls)
   unfolding literalCheck check outcome environment answerIn answer failsIf
   finite-pass [] h = tt
   finite-pass (l ∷ ls) h = (rw (h .0), finite-pass ls (h .1))
 
-  checks-rise : (r : Rule) → AllFinite (literalsIn r) → Every (Passes (outcome kernel schema)) (checks kernel r) → Every (Passes (outcome service schema)) (checks service r)
+  checks-rise : (r : Rule) → AllFinite (literalsIn r) → Every (Passes (outcome underKernel schema)) (checks underKernel r) → Every (Passes (outcome underService schema)) (checks underService r)
   unfolding checks literalChecks literalsIn
   checks-rise (rule name message assert) f h = (
     every-rises (check 11 1 [] _ ∷ []) (h .0, tt) .0,
@@ -231,7 +230,7 @@ module _ (mayRead : Name → Bool) (isRuleKind : Bool) (schema : Schema) where
       every-rises (check 12 1 [] _ ∷ []) (h .1 .0, tt) .0,
       (
         every-rises (check 13 2 [] _ ∷ []) (h .1 .1 .0, tt) .0,
-        every-append (Passes (outcome service schema)) (map literalCheck (literals assert)) (body service [] assert)
+        every-append (Passes (outcome underService schema)) (map literalCheck (literals assert)) (body underService [] assert)
             (finite-pass (literals assert) f)
             (body-rises [] assert (h .1 .1 .1)),
       ),
@@ -239,7 +238,7 @@ module _ (mayRead : Name → Bool) (isRuleKind : Bool) (schema : Schema) where
   )
   checks-rise (template v) f h = every-rises (references [] v) h
 
-  checks-length : (r : Rule) → length (checks service r) ≡ length (checks kernel r) + length (literalsIn r)
+  checks-length : (r : Rule) → length (checks underService r) ≡ length (checks underKernel r) + length (literalsIn r)
   unfolding checks literalChecks literalsIn
   checks-length (rule name message assert) =
       simp (length-append, length-map) (omega (arith, body-length [] assert))
@@ -247,11 +246,11 @@ module _ (mayRead : Name → Bool) (isRuleKind : Bool) (schema : Schema) where
 
   -- accepted under kernel/1 is accepted under service, and each of those numbers is one check more
   pub service-accepts : (r : Rule) (n : ℕ)
-      → judge kernel schema (checks kernel r) ≡ allPass n
+      → judge underKernel schema (checks underKernel r) ≡ allPass n
       → AllFinite (literalsIn r)
-      → judge service schema (checks service r) ≡ allPass (n + length (literalsIn r))
+      → judge underService schema (checks underService r) ≡ allPass (n + length (literalsIn r))
   unfolding judge
   service-accepts r n e f =
-      let passed = all-passed (outcome kernel schema) 0 n (checks kernel r) e in
-      pass-all (outcome service schema) 0 (checks service r) (checks-rise r f (passed .0))
+      let passed = all-passed (outcome underKernel schema) 0 n (checks underKernel r) e in
+      pass-all (outcome underService schema) 0 (checks underService r) (checks-rise r f (passed .0))
       ∙ ap allPass (omega (arith, passed .1, checks-length r))

@@ -13,10 +13,10 @@ use Rattle.widening.specs.Widening.{Level}
 use Rattle.widening.specs.WalkLaws.{Details, equal, Fares, stillRefused, nowUnknown, nowKnown, stillUnknown, stillKnown}
 use Rattle.widening.specs.ReferenceLaws.{GrownSchema, bothUnknown, bothKnown, EnvironmentFares, noBinders, binder, reference-fares, collection-fares}
 use Rattle.validation.specs.Check.{Binder, Question, settled, readable, walkable, Check}
-use Rattle.validation.specs.Judge.{Outcome, verdict, extend, enter, environment, answer, answerIn, outcome, Verdict, allPass, failsAt, decide, judgeFrom, judge}
+use Rattle.validation.specs.Judge.{CheckOutcome, verdict, extend, enter, environment, answer, answerIn, outcome, Verdict, allPass, failsAt, decide, judgeFrom, judge}
 use Rattle.validation.specs.CheckLaws.{Resolved, Sure}
 
-data OutcomeFares : Level → Outcome → Outcome → Type 0 where
+data OutcomeFares : Level → CheckOutcome → CheckOutcome → Type 0 where
   stillPasses : {l : Level} → OutcomeFares l none none
   nowPasses : {l : Level} {d : ℕ} → OutcomeFares l (some d) none
   stillFails : {l : Level} {d d′ : ℕ} → Details l d d′ → OutcomeFares l (some d) (some d′)
@@ -58,7 +58,7 @@ unfolding environment
 environment-fares [] g = resolved noBinders
 environment-fares (b ∷ bs) g = enter-fares b g (environment-fares bs g)
 
-settled-fares : {l : Level} (o : Outcome) → OutcomeFares l o o
+settled-fares : {l : Level} (o : CheckOutcome) → OutcomeFares l o o
 settled-fares none = stillPasses
 settled-fares (some d) = stillFails equal
 
@@ -96,17 +96,17 @@ pub data VerdictFares : Level → Verdict → Verdict → Type 0 where
   sameDefect : {l : Level} {n : ℕ} {c : Check} {d d′ : ℕ} → Details l d d′ → VerdictFares l (failsAt n c d) (failsAt n c d′)
   later : {l : Level} {n : ℕ} {c : Check} {d : ℕ} {v : Verdict} → n < passedOf v → VerdictFares l (failsAt n c d) v
 
-passed-decide : (o : Outcome) (n : ℕ) (c : Check) (v : Verdict) → n + 1 ≤ passedOf v → n ≤ passedOf (decide o n c v)
+passed-decide : (o : CheckOutcome) (n : ℕ) (c : Check) (v : Verdict) → n + 1 ≤ passedOf v → n ≤ passedOf (decide o n c v)
 unfolding passedOf decide
 passed-decide none n c v h = omega arith
 passed-decide (some d) n c v h = omega arith
 
-passed-more : (ask : Check → Outcome) (n : ℕ) (cs : List Check) → n ≤ passedOf (judgeFrom ask n cs)
+passed-more : (ask : Check → CheckOutcome) (n : ℕ) (cs : List Check) → n ≤ passedOf (judgeFrom ask n cs)
 unfolding judgeFrom passedOf
 passed-more ask n [] = omega arith
 passed-more ask n (c ∷ cs) = passed-decide (ask c) n c (judgeFrom ask (n + 1) cs) (passed-more ask (n + 1) cs)
 
-decide-fares : {l : Level} {o o′ : Outcome} {v v′ : Verdict} (n : ℕ) (c : Check)
+decide-fares : {l : Level} {o o′ : CheckOutcome} {v v′ : Verdict} (n : ℕ) (c : Check)
     → OutcomeFares l o o′
     → (o ≡ none → VerdictFares l v v′)
     → n + 1 ≤ passedOf v′

@@ -31,7 +31,7 @@ use Rattle.judge.specs.Rules.{RuleJudged}
 use Rattle.value_checks.specs.declared.verdict.Fault.{Fault}
 use Rattle.value_checks.specs.declared.verdict.Over.{Over}
 use Rattle.value_checks.specs.declared.verdict.Verdict.the-variants.{Pass, Defect}
-use Rattle.value_checks.specs.declared.verdict.Answer as Judged
+use Rattle.value_checks.specs.declared.verdict.Progress as Judged
 use Rattle.location.specs.Path.{PathWritten}
 use Rattle.location.specs.PathLaws.{HasPath, checks-have-paths}
 use Rattle.location.specs.LengthLaws.{path-length}
@@ -92,7 +92,7 @@ shown-within setting tree x from =
     (every-judged (Small (ruleEntries x)) setting tree (checks setting x) (checks-small setting x from))
     (every-judged (HasPath x) setting tree (checks setting x) (checks-have-paths setting x from))
 
-module _ (set : Code.Setting) {schema sheet : List ℕ} {s : Schema} {words : List ℕ} {scope : Scope} {a : Judged.Answer} {p : ℕ}
+module _ (set : Code.Setting) {schema sheet : List ℕ} {s : Schema} {words : List ℕ} {scope : Scope} {a : Judged.Progress} {p : ℕ}
     (u : Unbound (set .row) (set .service) Kernel s scope) (j : RuleJudged schema sheet words scope a) (n : Narrow (a .passed) p)
   where
     abbrev setting : Setting

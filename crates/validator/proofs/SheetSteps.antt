@@ -1,28 +1,30 @@
--- Both sheets, read one after the other: what each leaves of the scratch, and of the other's index.
-use Prim.Native.Nat.{ℕ, _≤_, _<_}
-use native.Mathlib.Omega.{arith}
+-- One rule sheet, by each way through its check.
+use Prim.Native.Nat.{ℕ}
 use mathlib.Core.Bool.{Bool, true, false}
 use mathlib.Core.List.{List}
-use mathlib.Core.Option.{none, some}
+use mathlib.Core.Option.{Option, none, some, Option·some-injective, Option·none-ne-some}
 use mathlib.Core.Path.{_≡_, refl, sym, _∙_}
 use Rattle.definition.specs.Tree.{Rule, rule, template}
-use Rattle.definition.specs.Limits.{maxRuleEntries}
-use Rattle.schema.specs.Kept as SchemaKept
-use Rattle.schema.specs.Read.{SchemaPost}
-use Rattle.schema.specs.SchemaLaws.{SchemaAt-kept}
+use Rattle.definition.specs.Decode.{decodeSchema}
+use Rattle.definition.specs.RoundTrip.{rule-round-trip}
+use Rattle.reference.specs.Setting.{Setting}
 use Rattle.schema.specs.declared.read.Schema.{Schema}
 use Rattle.schema.specs.declared.read.SchemaRead.{SchemaRead}
 use Rattle.schema.specs.declared.read.SchemaRead.the-variants as SchemaRead
-use Rattle.rule.specs.Read as RuleKept
+use Rattle.rule.specs.Index.{RuleAt}
 use Rattle.rule.specs.Rule.{isTemplate, RuleAnswer}
 use Rattle.rule.specs.declared.RuleSheet.{RuleSheet}
 use Rattle.rule.specs.declared.RuleRead.{RuleRead}
 use Rattle.rule.specs.declared.RuleRead.the-variants as RuleRead
-use Rattle.validation.specs.Result.{isTaken}
-use Rattle.validator.specs.Sheets.{takesOf, isLetIn, FrontOnly, SheetsAre}
+use Rattle.validation.specs.Result as Result
+use Rattle.validation.specs.Result.{isTaken, judged, numbersOf, pathAfter}
+use Rattle.validator.specs.Outcomes.{numbersBy}
+use Rattle.validator.specs.Answers.{Answered}
+use Rattle.validator.specs.Sheets.{takesOf, isLetIn, takenOf, sheetAnswer, SheetChecked}
+use Rattle.validator.specs.SheetLaws.{still-read}
 use Rattle.validator.specs.declared.sheets.Takes.{Takes}
 use Rattle.validator.specs.declared.sheets.Takes.the-variants.{Any, Rules, Templates}
-use Rattle.validator.specs.declared.sheets.SheetsRead.the-variants.{Good, BadSchema, BadRule}
+use Rattle.validator.specs.declared.outcome.Outcome.{Outcome}
 
 taken-let-in : (takes : Takes) (x : Rule) → isTaken (takesOf takes) (some x) ≡ isLetIn takes (isTemplate x)
 unfolding isTaken takesOf isLetIn isTemplate
@@ -33,64 +35,74 @@ taken-let-in Rules (template v) = refl
 taken-let-in Templates (rule name message assert) = refl
 taken-let-in Templates (template v) = refl
 
-none-taken : (takes : Takes) → isTaken (takesOf takes) none ≡ false
-unfolding isTaken
-none-taken takes = refl
+-- the index of what was read is that of what is decoded
+indexed-so : (sheet words : List ℕ) (x y : Rule) → _≡_ {A = Option Rule} (some x) (some y) → RuleAt sheet words x → RuleAt sheet words y
+indexed-so sheet words x y e h = rw (Option·some-injective x y e) at h
 
-pub front-schema : {before after : List ℕ} → SchemaKept.Kept before after → FrontOnly before after
-front-schema k = record { size = k .size; kept = λ i h. k .upper i (omega arith) }
-
-front-both : {before middle after : List ℕ} → SchemaKept.Kept before middle → RuleKept.Kept middle after 0 maxRuleEntries → FrontOnly before after
-front-both k l =
-    record { size = l .len ∙ k .size; kept = λ i h. l .above i (omega arith) ∙ k .upper i (omega arith) }
-
-module _ {takes : Takes} {schema sheet before middle : List ℕ} where
-  pub schema-bad : {r : SchemaRead} → SchemaPost schema before middle r → r ≡ SchemaRead.Bad → SheetsAre takes schema sheet before middle BadSchema
-  schema-bad p e = record { front = front-schema (p .kept); answer = rw e at (p .answer) }
-
-  pub rule-bad : {after : List ℕ} {r : SchemaRead} {s : Schema} {q : RuleRead}
-      → SchemaPost schema before middle r
-      → r ≡ SchemaRead.Good s
-      → RuleAnswer sheet middle after q
-      → q ≡ RuleRead.Bad
-      → SheetsAre takes schema sheet before after BadRule
-  rule-bad p e a f =
-      let good = rw e at (p .answer) in
-      let bad = rw f at a in
+module _ {takes : Takes} {setting : Setting} {label schema sheet pathBefore before : List ℕ} {q : SchemaRead} where
+  pub sheet-no-schema : {r : Outcome}
+      → q ≡ SchemaRead.Bad
+      → numbersBy r ≡ numbersOf (Result.refused 4)
+      → SheetChecked takes setting label schema q sheet pathBefore pathBefore before before r
+  unfolding sheetAnswer judged pathAfter
+  sheet-no-schema e n =
       record {
-        front = front-both (p .kept) (bad .1);
-        answer = (good .tree, good .reads, rw (bad .0) (none-taken takes));
+        kept = record { len = refl; below = λ j h. refl; above = λ j h. refl };
+        stands = rw e tt;
+        tells = λ is small room.
+            let bad : decodeSchema schema ≡ none = rw e at is in
+            rw bad (record { result = n; path = refl });
       }
 
-  module _ {after : List ℕ} {r : SchemaRead} {s : Schema} {q : RuleRead} {t : RuleSheet} {x : Bool}
-      (p : SchemaPost schema before middle r) (e : r ≡ SchemaRead.Good s) (a : RuleAnswer sheet middle after q) (f : q ≡ RuleRead.Good t)
-      (g : x ≡ isLetIn takes (t .«is_template»))
-    where
-      pub rule-other : x ≡ false → SheetsAre takes schema sheet before after BadRule
-      rule-other h =
-          let good = rw e at (p .answer) in
-          let read = rw f at a in
-          let let-in : isLetIn takes (isTemplate (read .tree)) ≡ x = rw (sym (read .kind)) (sym g) in
+  module _ {s : Schema} (e : q ≡ SchemaRead.Good s) {after : List ℕ} {a : RuleRead} (read : RuleAnswer sheet before after a) where
+    pub sheet-no-rule : {r : Outcome}
+        → a ≡ RuleRead.Bad
+        → numbersBy r ≡ numbersOf (Result.refused 5)
+        → SheetChecked takes setting label schema q sheet pathBefore pathBefore before after r
+    unfolding sheetAnswer judged takenOf pathAfter
+    sheet-no-rule f n =
+        let bad = rw f at read in
+        record {
+          kept = bad .1;
+          stands = rw e (λ x d. absurd (Option·none-ne-some x (sym (bad .0) ∙ d)));
+          tells = λ is small room.
+              let good = rw e at is in
+              rw (good .reads, bad .0) (record { result = n; path = refl });
+        }
+
+    module _ {t : RuleSheet} (f : a ≡ RuleRead.Good t) {x : Bool} (g : x ≡ isLetIn takes (t .«is_template»)) where
+      pub sheet-not-taken : {r : Outcome}
+          → x ≡ false
+          → numbersBy r ≡ numbersOf (Result.refused 5)
+          → SheetChecked takes setting label schema q sheet pathBefore pathBefore before after r
+      unfolding sheetAnswer judged takenOf pathAfter
+      sheet-not-taken h n =
+          let rule = rw f at read in
+          let let-in : isLetIn takes (isTemplate (rule .tree)) ≡ x = rw (sym (rule .kind)) (sym g) in
+          let other = taken-let-in takes (rule .tree) ∙ let-in ∙ h in
           record {
-            front = front-both (p .kept) (read .kept);
-            answer = (good .tree, good .reads, rw (read .reads) (taken-let-in takes (read .tree) ∙ let-in ∙ h));
+            kept = rule .kept;
+            stands = rw e (λ y d. indexed-so sheet after (rule .tree) y (sym (rule .reads) ∙ d) (rule .indexed));
+            tells = λ is small room.
+                let good = rw e at is in
+                rw (good .reads, rule .reads, other) (record { result = n; path = refl });
           }
 
-      pub both-good : x ≡ true → SheetsAre takes schema sheet before after (Good s)
-      both-good h =
-          let good = rw e at (p .answer) in
-          let read = rw f at a in
-          let let-in : isLetIn takes (isTemplate (read .tree)) ≡ x = rw (sym (read .kind)) (sym g) in
+      pub sheet-answered : {path : List ℕ} {r : Outcome}
+          → x ≡ true
+          → Answered setting label schema sheet s after pathBefore path r
+          → SheetChecked takes setting label schema q sheet pathBefore path before after r
+      unfolding sheetAnswer judged takenOf
+      sheet-answered h n =
+          let rule = rw f at read in
+          let let-in : isLetIn takes (isTemplate (rule .tree)) ≡ x = rw (sym (rule .kind)) (sym g) in
+          let taken = taken-let-in takes (rule .tree) ∙ let-in ∙ h in
           record {
-            front = front-both (p .kept) (read .kept);
-            answer =
-                record {
-                  tree = good .tree;
-                  rule = read .tree;
-                  reads = good .reads;
-                  readsRule = read .reads;
-                  taken = taken-let-in takes (read .tree) ∙ let-in ∙ h;
-                  indexed = SchemaAt-kept schema middle after (λ i low high. read .kept .above i (omega arith)) s (good .tree) (good .indexed);
-                  indexedRule = read .indexed;
-                };
+            kept = rule .kept;
+            stands = rw e (λ y d. indexed-so sheet after (rule .tree) y (sym (rule .reads) ∙ d) (rule .indexed));
+            tells = λ is small room.
+                let good = still-read schema (SchemaRead.Good s) (rule .kept) (rw e at is) in
+                let within = rule-round-trip sheet (rule .tree) .0 (rule .reads) .1 in
+                rw (good .reads, rule .reads, taken)
+                (n .tells (good .tree) (rule .tree) (good .indexed) (rule .indexed) within small room);
           }

@@ -1,19 +1,17 @@
 // The whole call: one rule or template of a record against the record's schema.
 pub mod outcome; // outcome.rt: the seven numbers of a result
-pub mod widths; // widths.rt: how long the lent buffers are
 pub mod settings; // settings.rt: settings, label and widths
-pub mod sheets; // sheets.rt: both sheets
+pub mod sheets; // sheets.rt: one rule sheet under a schema that has been read
 pub mod finding; // finding.rt: what a defect is called
 mod answer; // answer.rt: two sheets that are well formed
 
-use crate::answer::answer;
 use crate::outcome::Outcome;
 use crate::outcome::refused;
 use crate::settings::refused_settings;
 use crate::settings::setting_of;
-use crate::sheets::SheetsRead;
 use crate::sheets::Takes;
-use crate::sheets::read_sheets;
+use crate::sheets::check_sheet;
+use schema::read::read_schema;
 ghost use Rattle.validation.specs.Result.{Meets};
 ghost use Rattle.validator.specs.Runs.{runOf};
 ghost use Rattle.validator.specs.declared.sheets.Takes.the-variants.{Any};
@@ -35,20 +33,9 @@ pub fn validate_taken(
     if number != 0 {
         return refused(number);
     }
-    let read = read_sheets(takes, schema, rule, scratch);
-    match read {
-        SheetsRead::BadSchema => refused(4),
-        SheetsRead::BadRule => refused(5),
-        SheetsRead::Good(s) => answer(
-            setting_of(kind, semantics),
-            label,
-            schema,
-            rule,
-            s,
-            scratch,
-            path,
-        ),
-    }
+    let read = read_schema(schema, scratch);
+    let setting = setting_of(kind, semantics);
+    check_sheet(takes, setting, label, schema, read, rule, path, scratch)
 }
 
 // Checks a rule or template.

@@ -1,6 +1,7 @@
 // Settings, label and widths: what is asked before a sheet is read.
-use crate::widths::PATH_BYTES;
-use crate::widths::SCRATCH_WORDS;
+use definition::limits::MAX_LABEL_BYTES;
+use definition::limits::PATH_BYTES;
+use definition::limits::SCRATCH_WORDS;
 use scope::name::Row;
 use scope::name::one_of;
 use scope::name::stock_row;
@@ -13,8 +14,6 @@ ghost use Rattle.text.specs.Utf8.{isUtf8};
 ghost use Rattle.reference.specs.Setting.{oneOf, settingOf};
 ghost use Rattle.validation.specs.Result.{isWithin, maxLabelBytes, pathBytes, scratchWords};
 ghost use Rattle.validator.specs.Settings.{settingBy, EarlyIs};
-
-const MAX_LABEL_BYTES: usize = 256;
 
 pub fn is_within(high: u32, n: u32) -> bool
     ensures { λ r. ⌜ r ≡ isWithin 1 high n ⌝ }

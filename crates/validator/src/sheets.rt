@@ -1,27 +1,23 @@
-// Both sheets, read into the scratch: the schema first, since its refusal comes first.
+// One rule sheet under a schema that has been read into the scratch.
+use crate::answer::answer;
+use crate::outcome::Outcome;
+use crate::outcome::refused;
+use crate::settings::Setting;
 use rule::RuleRead;
 use rule::read_rule;
-use schema::read::Schema;
 use schema::read::SchemaRead;
-use schema::read::read_schema;
 ghost use mathlib.Core.Path.{_≡_};
 ghost use Prim.Native.Nat.{_≤_};
 ghost use lib.ListN.{length};
-ghost use Rattle.validation.specs.Result.{scratchWords};
-ghost use Rattle.validator.specs.Sheets.{isLetIn, SheetsAre};
+ghost use Rattle.definition.specs.Limits.{maxRuleEntries};
+ghost use Rattle.validator.specs.Settings.{settingBy};
+ghost use Rattle.validator.specs.Sheets.{isLetIn, SheetChecked};
 
 // Which rule sheets an entry takes.
 pub enum Takes {
     Any,
     Rules,
     Templates,
-}
-
-pub enum SheetsRead {
-    // Both are well formed, and the second is one that is taken.
-    Good(Schema),
-    BadSchema,
-    BadRule,
 }
 
 fn is_let_in(takes: Takes, template: bool) -> bool
@@ -34,18 +30,28 @@ fn is_let_in(takes: Takes, template: bool) -> bool
     }
 }
 
-pub fn read_sheets(takes: Takes, schema: &[u8], rule: &[u8], scratch: &mut [u32]) -> SheetsRead
-    requires { ⌜ scratchWords ≤ length (now scratch) ⌝ }
-    ensures { λ r. ⌜ SheetsAre takes (now (schema .entry)) (now (rule .entry)) (now (scratch .entry)) (now (scratch .exit)) r ⌝ }
+// Checks a sheet by what reading the schema answered: 4 if that was not well formed, then 5, then the check list. The schema's words stay as they are, for the next sheet.
+pub fn check_sheet(
+    takes: Takes,
+    setting: Setting,
+    label: &[u8],
+    schema: &[u8],
+    read: SchemaRead,
+    rule: &[u8],
+    path: &mut [u8],
+    scratch: &mut [u32],
+) -> Outcome
+    requires { ⌜ maxRuleEntries ≤ length (now scratch) ⌝ }
+    ensures { λ r. ⌜ SheetChecked takes (settingBy setting) (now (label .entry)) (now (schema .entry)) read (now (rule .entry)) (now (path .entry)) (now (path .exit)) (now (scratch .entry)) (now (scratch .exit)) r ⌝ }
 {
-    let SchemaRead::Good(s) = read_schema(schema, scratch) else {
-        return SheetsRead::BadSchema;
+    let SchemaRead::Good(s) = read else {
+        return refused(4);
     };
     let RuleRead::Good(r) = read_rule(rule, scratch) else {
-        return SheetsRead::BadRule;
+        return refused(5);
     };
     if is_let_in(takes, r.is_template) {
-        return SheetsRead::Good(s);
+        return answer(setting, label, schema, rule, s, scratch, path);
     }
-    SheetsRead::BadRule
+    refused(5)
 }

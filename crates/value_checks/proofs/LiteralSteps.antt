@@ -21,7 +21,7 @@ use Rattle.value_checks.specs.Verdicts.{numberOf, detailOf, overBy, fail
 use Rattle.value_checks.specs.Literals.{literalSays, LiteralsJudged}
 use Rattle.value_checks.specs.declared.verdict.Fault.the-variants.{Literal}
 use Rattle.value_checks.specs.declared.verdict.Over.the-variants.{Outside}
-use Rattle.value_checks.specs.declared.verdict.Answer.{Answer}
+use Rattle.value_checks.specs.declared.verdict.Progress.{Progress}
 use Rattle.value_checks.proofs.Going.{goes-nothing, goes-then, said-next}
 
 fails-answer : (setting : Setting) (schema : Schema) (env : Environment) (b : Bool) (d : ℕ) → answer setting schema env (failsIf b d) ≡ failed b d
@@ -51,7 +51,7 @@ pub says-bad : {A : Type 0} (says : ℕ → ValueHead → List A) (s words : Lis
 unfolding saidIn saysAt saysIf
 says-bad says s words i start r = rw (append-nil, sym start, r)
 
-module _ {s words : List ℕ} {i at : ℕ} {a : Answer} (start : at ≡ startOf words i) where
+module _ {s words : List ℕ} {i at : ℕ} {a : Progress} (start : at ≡ startOf words i) where
   pub literal-bad : valueHead (drop at s) ≡ none → LiteralsJudged s words i 1 a a
   literal-bad r =
       record { atMost = omega arith; goes = λ setting schema. rw (says-bad literalSays s words i start r) goes-nothing }
@@ -63,7 +63,7 @@ module _ {s words : List ℕ} {i at : ℕ} {a : Answer} (start : at ≡ startOf 
   literal-silent r e =
       record { atMost = omega arith; goes = λ setting schema. rw (says-read literalSays s words i start r, e) goes-nothing }
 
-  pub literal-number : {digits : List ℕ} {next : ℕ} {r : Answer}
+  pub literal-number : {digits : List ℕ} {next : ℕ} {r : Progress}
       → ReadsTo valueHead s at (numberHead digits) next
       → Required a (not (isFinite digits)) Literal (i + 1) Outside r
       → LiteralsJudged s words i 1 a r
@@ -78,8 +78,8 @@ module _ {s words : List ℕ} {i at : ℕ} {a : Answer} (start : at ≡ startOf 
             (settled-outcome setting schema [] [] 14 (i + 1) (not (isFinite digits)) 0 refl));
       }
 
-module _ {s words : List ℕ} {a : Answer} {start i : ℕ} where
-  pub literals-next : {b r : Answer}
+module _ {s words : List ℕ} {a : Progress} {start i : ℕ} where
+  pub literals-next : {b r : Progress}
       → start ≤ i
       → LiteralsJudged s words start (i - start) a b
       → LiteralsJudged s words i 1 b r
@@ -90,14 +90,14 @@ module _ {s words : List ℕ} {a : Answer} {start i : ℕ} where
         goes = λ setting schema. rw (said-next literalSays s words h) (goes-then (p .goes setting schema) (q .goes setting schema));
       }
 
-  pub literals-all : {end : ℕ} {r : Answer}
+  pub literals-all : {end : ℕ} {r : Progress}
       → end ≤ i
       → i - start ≤ end - start
       → LiteralsJudged s words start (i - start) a r
       → LiteralsJudged s words start (end - start) a r
   literals-all {end} h k p = let e : i - start ≡ end - start = omega arith in rw e at p
 
-pub literals-none : {s words : List ℕ} {a : Answer} {start : ℕ} → LiteralsJudged s words start (start - start) a a
+pub literals-none : {s words : List ℕ} {a : Progress} {start : ℕ} → LiteralsJudged s words start (start - start) a a
 unfolding saidIn
 literals-none {s} {words} {a} {start} =
     let e : start - start ≡ 0 = omega arith in

@@ -9,7 +9,8 @@ use Rattle.sheet.specs.Reader.{Reader}
 use Rattle.sheet.specs.Entries.{ConditionHead, conditionHead}
 use Rattle.sheet.specs.Places.{ReadsTo}
 use Rattle.definition.specs.Tree.{Value, constant, number, string, array, object, Condition, literal, many, negation, one, two, comparison, quantifier, Conditions, noConditions, condition}
-use Rattle.rule.specs.Index.{startOf, endOf, sizeOfValue, sizeOfCondition, sizeOfConditions, EntryAt, ConditionAt}
+use Rattle.definition.specs.Within.{conditionEntries, conditionsEntries, valueEntries}
+use Rattle.rule.specs.Index.{startOf, endOf, EntryAt, ConditionAt}
 use Rattle.rule.specs.IndexLaws.{value-next, condition-next}
 use Rattle.value_checks.specs.Nodes.{IsCondition, AreConditions, Behind, childrenOf, ChildrenAt}
 
@@ -46,16 +47,16 @@ condition-unread rule words i {at} c a start r =
     let z : _≡_ {A = ℕ} 0 1 = cc in
     omega arith
 
-pub value-size : (v : Value) → 1 ≤ sizeOfValue v
-unfolding sizeOfValue
+pub value-size : (v : Value) → 1 ≤ valueEntries v
+unfolding valueEntries
 value-size (constant e type) = omega arith
 value-size (number e digits) = omega arith
 value-size (string e t) = omega arith
 value-size (array e values) = omega arith
 value-size (object e pairs) = omega arith
 
-pub condition-size : (c : Condition) → 1 ≤ sizeOfCondition c
-unfolding sizeOfCondition
+pub condition-size : (c : Condition) → 1 ≤ conditionEntries c
+unfolding conditionEntries
 condition-size (literal e truth) = omega arith
 condition-size (many e op children) = omega arith
 condition-size (negation e child) = omega arith
@@ -66,7 +67,7 @@ condition-size (quantifier e op bind over body) = omega arith
 
 module _ (rule words : List ℕ) (i end : ℕ) {at next r : ℕ} {h : ConditionHead} (start : at ≡ startOf words i) (reads : ReadsTo conditionHead rule at h next) where
   pub children-stand : (c : Condition) → IsCondition rule words i end c → ChildrenAt words i end r h → AreConditions rule words r end (childrenOf c)
-  unfolding childrenOf sizeOfCondition sizeOfConditions
+  unfolding childrenOf conditionEntries conditionsEntries
   children-stand (literal e truth) w k =
       let f : r ≡ end = rw (same-head start reads (w .stands)) at k in
       record { stand = tt; ends = omega arith }
@@ -87,9 +88,9 @@ module _ (rule words : List ℕ) (i end : ℕ) {at next r : ℕ} {h : ConditionH
       record { stand = tt; ends = omega arith }
   children-stand (quantifier e op bind over body) w k =
       let b : Behind words (i + 1) end r = rw (same-head start reads (w .stands .0)) at k in
-      let n : endOf words (i + 1) ≡ i + 1 + sizeOfValue over = value-next rule words (i + 1) over (w .stands .1) in
-      let p : 1 ≤ sizeOfValue over = value-size over in
-      let f : r ≡ i + 1 + sizeOfValue over = b .exact (omega arith) (omega (arith, w .ends)) ∙ n in
+      let n : endOf words (i + 1) ≡ i + 1 + valueEntries over = value-next rule words (i + 1) over (w .stands .1) in
+      let p : 1 ≤ valueEntries over = value-size over in
+      let f : r ≡ i + 1 + valueEntries over = b .exact (omega arith) (omega (arith, w .ends)) ∙ n in
       record { stand = (rw f (w .stands .2), tt); ends = omega (arith, w .ends) }
 
 -- Several conditions, side by side.
@@ -99,28 +100,28 @@ tailOf noConditions = noConditions
 tailOf (condition c others) = others
 
 module _ {rule words : List ℕ} {i end r : ℕ} (inside : i < end) (b : Behind words i end r) where
-  first-end : {c : Condition} {others : Conditions} → AreConditions rule words i end (condition c others) → r ≡ i + sizeOfCondition c
-  unfolding sizeOfConditions
+  first-end : {c : Condition} {others : Conditions} → AreConditions rule words i end (condition c others) → r ≡ i + conditionEntries c
+  unfolding conditionsEntries
   first-end {c} {others} w =
-      let n : endOf words i ≡ i + sizeOfCondition c = condition-next rule words i c (w .stand .0) in
-      let p : 1 ≤ sizeOfCondition c = condition-size c in
+      let n : endOf words i ≡ i + conditionEntries c = condition-next rule words i c (w .stand .0) in
+      let p : 1 ≤ conditionEntries c = condition-size c in
       b .exact (omega arith) (omega (arith, w .ends)) ∙ n
 
   pub first-stands : {c : Condition} {others : Conditions} → AreConditions rule words i end (condition c others) → IsCondition rule words i r c
   first-stands w = record { stands = w .stand .0; ends = first-end w }
 
   pub tail-stands : (cs : Conditions) → AreConditions rule words i end cs → AreConditions rule words r end (tailOf cs)
-  unfolding tailOf sizeOfConditions
+  unfolding tailOf conditionsEntries
   tail-stands noConditions w = absurd (omega (arith, w .ends, inside))
   tail-stands (condition c others) w =
-      let f : r ≡ i + sizeOfCondition c = first-end w in
+      let f : r ≡ i + conditionEntries c = first-end w in
       record { stand = rw f (w .stand .1); ends = omega (arith, w .ends) }
 
 pub none-left : {rule words : List ℕ} {i end : ℕ} (cs : Conditions) → end ≤ i → AreConditions rule words i end cs → cs ≡ noConditions
-unfolding sizeOfConditions
+unfolding conditionsEntries
 none-left noConditions h w = refl
-none-left (condition c others) h w = let p : 1 ≤ sizeOfCondition c = condition-size c in absurd (omega (arith, w .ends))
+none-left (condition c others) h w = let p : 1 ≤ conditionEntries c = condition-size c in absurd (omega (arith, w .ends))
 
 pub none-ends : {rule words : List ℕ} {i end : ℕ} → AreConditions rule words i end noConditions → end ≤ i
-unfolding sizeOfConditions
+unfolding conditionsEntries
 none-ends w = omega (arith, w .ends)

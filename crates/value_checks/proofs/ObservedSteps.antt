@@ -9,21 +9,22 @@ use lib.ListN.{drop}
 use lib.Dec.{leb, eqb}
 use Rattle.sheet.specs.Entries.{ConditionHead, conditionHead}
 use Rattle.sheet.specs.Places.{ReadsTo, conditionOf}
-use Rattle.sheet.specs.declared.rule.ConditionHead.{ConditionHead as Head}
+use Rattle.sheet.specs.declared.rule_heads.ConditionHead.{ConditionHead as Head}
 use Rattle.definition.specs.Tree.{Schema, Value, constant, number, string, array, object, Values, noValues, value, Pairs, noPairs, pair, Condition, literal, many, negation, one, two, comparison, quantifier, Conditions, noConditions, condition}
 use Rattle.reference.specs.Setting.{Setting}
-use Rattle.rule.specs.Index.{startOf, sizeOfValue, sizeOfCondition, sizeOfConditions, ValueAt}
+use Rattle.definition.specs.Within.{conditionEntries, conditionsEntries, valueEntries}
+use Rattle.rule.specs.Index.{startOf, ValueAt}
 use Rattle.validation.specs.Check.{Check, Literal, literalCheck, numbers, numbersOfValues, numbersOfPairs, literals, literalsOfConditions}
 use Rattle.validation.specs.Judge.{outcome}
 use Rattle.value_checks.specs.Leaves.{leaves, leavesOfValues, leavesOfPairs, saidIn, said-append, said-value}
 use Rattle.value_checks.specs.Nodes.{IsCondition, AreConditions, Behind, childrenOf, ChildrenAt}
 use Rattle.value_checks.specs.Verdicts.{GoesOn}
 use Rattle.value_checks.specs.Literals.{literalSays, LiteralsJudged, isObserved, ObservedJudged, ConditionLiterals}
-use Rattle.value_checks.specs.declared.verdict.Answer.{Answer}
+use Rattle.value_checks.specs.declared.verdict.Progress.{Progress}
 use Rattle.value_checks.proofs.Going.{goes-nothing, goes-then}
 use Rattle.value_checks.proofs.NodeSteps.{same-head, condition-unread, children-stand, tailOf, first-stands, tail-stands, none-left, none-ends}
 
-pub observed-yes : {rule words : List ℕ} {h : Head} {start end : ℕ} {a r : Answer} {flag : Bool}
+pub observed-yes : {rule words : List ℕ} {h : Head} {start end : ℕ} {a r : Progress} {flag : Bool}
     → flag ≡ true
     → ((s : List ℕ) → flag ≡ isObserved (conditionOf s h))
     → LiteralsJudged rule words start (end - start) a r
@@ -32,7 +33,7 @@ observed-yes {rule} {words} {h} t e p =
     let q : isObserved (conditionOf rule h) ≡ true = sym (e rule) ∙ t in
     record { atMost = p .atMost; goes = λ setting schema. rw q (p .goes setting schema) }
 
-pub observed-no : {rule words : List ℕ} {h : Head} {start end : ℕ} {a : Answer} {flag : Bool}
+pub observed-no : {rule words : List ℕ} {h : Head} {start end : ℕ} {a : Progress} {flag : Bool}
     → flag ≡ false
     → ((s : List ℕ) → flag ≡ isObserved (conditionOf s h))
     → ObservedJudged rule words h start end a a
@@ -63,16 +64,16 @@ mutual
       ap₂ _++_ (numbers-said v) (numbers-of-pairs others) ∙ sym (map-append literalCheck (numbers v) (numbersOfPairs others))
 
 module _ (rule words : List ℕ) where
-  value-said : (i : ℕ) (v : Value) → ValueAt rule words i v → saidIn literalSays rule words (sizeOfValue v) i ≡ map literalCheck (numbers v)
+  value-said : (i : ℕ) (v : Value) → ValueAt rule words i v → saidIn literalSays rule words (valueEntries v) i ≡ map literalCheck (numbers v)
   value-said i v w = said-value literalSays rule words i v w ∙ numbers-said v
 
   both-said : (i : ℕ) (left right : Value)
       → ValueAt rule words i left
-      → ValueAt rule words (i + sizeOfValue left) right
-      → saidIn literalSays rule words (sizeOfValue left + sizeOfValue right) i ≡ map literalCheck (numbers left ++ numbers right)
+      → ValueAt rule words (i + valueEntries left) right
+      → saidIn literalSays rule words (valueEntries left + valueEntries right) i ≡ map literalCheck (numbers left ++ numbers right)
   both-said i left right w u =
-      said-append literalSays rule words (sizeOfValue left) (sizeOfValue right) i
-      ∙ ap₂ _++_ (value-said i left w) (value-said (i + sizeOfValue left) right u)
+      said-append literalSays rule words (valueEntries left) (valueEntries right) i
+      ∙ ap₂ _++_ (value-said i left w) (value-said (i + valueEntries left) right u)
       ∙ sym (map-append literalCheck (numbers left) (numbers right))
 
   -- where the pass looks, or not
@@ -90,25 +91,25 @@ module _ (rule words : List ℕ) where
         → ChildrenAt words i end next h
         → map literalCheck (literals c)
         ≡ saidIn literalSays rule words (cond (isObserved h) (next - (i + 1)) 0) (i + 1) ++ map literalCheck (literalsOfConditions (childrenOf c))
-    unfolding literals literalsOfConditions childrenOf isObserved saidIn sizeOfCondition
+    unfolding literals literalsOfConditions childrenOf isObserved saidIn conditionEntries
     literals-parts (literal e truth) w k = rw (same-head start reads (w .stands))
     literals-parts (many e op children) w k = rw (same-head start reads (w .stands .0))
     literals-parts (negation e child) w k = rw (same-head start reads (w .stands .0), append-nil)
     literals-parts (one e op v) w k =
         let f : next ≡ end = rw (same-head start reads (w .stands .0)) at k in
-        let n : next - (i + 1) ≡ sizeOfValue v = omega (arith, w .ends) in
-        rw (same-head start reads (w .stands .0), n) (if-observed (eqb op 19) (i + 1) (sizeOfValue v) (numbers v) (value-said (i + 1) v (w .stands .1)))
+        let n : next - (i + 1) ≡ valueEntries v = omega (arith, w .ends) in
+        rw (same-head start reads (w .stands .0), n) (if-observed (eqb op 19) (i + 1) (valueEntries v) (numbers v) (value-said (i + 1) v (w .stands .1)))
     literals-parts (two e op left right) w k =
         let f : next ≡ end = rw (same-head start reads (w .stands .0)) at k in
-        let n : next - (i + 1) ≡ sizeOfValue left + sizeOfValue right = omega (arith, w .ends) in
+        let n : next - (i + 1) ≡ valueEntries left + valueEntries right = omega (arith, w .ends) in
         rw (same-head start reads (w .stands .0), n)
-        (if-observed (leb 8 op && leb op 15) (i + 1) (sizeOfValue left + sizeOfValue right) (numbers left ++ numbers right)
+        (if-observed (leb 8 op && leb op 15) (i + 1) (valueEntries left + valueEntries right) (numbers left ++ numbers right)
         (both-said (i + 1) left right (w .stands .1) (w .stands .2)))
     literals-parts (comparison e which left right) w k =
         let f : next ≡ end = rw (same-head start reads (w .stands .0)) at k in
-        let n : next - (i + 1) ≡ sizeOfValue left + sizeOfValue right = omega (arith, w .ends) in
+        let n : next - (i + 1) ≡ valueEntries left + valueEntries right = omega (arith, w .ends) in
         rw (same-head start reads (w .stands .0), n)
-        (if-observed true (i + 1) (sizeOfValue left + sizeOfValue right) (numbers left ++ numbers right)
+        (if-observed true (i + 1) (valueEntries left + valueEntries right) (numbers left ++ numbers right)
         (both-said (i + 1) left right (w .stands .1) (w .stands .2)))
     literals-parts (quantifier e op bind over body) w k = rw (same-head start reads (w .stands .0), append-nil)
 
@@ -131,32 +132,32 @@ beside-stand : (rule words : List ℕ) (i mid end : ℕ) (cs ds : Conditions)
     → AreConditions rule words i mid cs
     → AreConditions rule words mid end ds
     → AreConditions rule words i end (beside cs ds)
-unfolding beside sizeOfConditions
+unfolding beside conditionsEntries
 beside-stand rule words i mid end noConditions ds p q =
     let e : mid ≡ i = omega (arith, p .ends) in
     rw (sym e) q
 beside-stand rule words i mid end (condition c others) ds p q =
-    let e : mid ≡ i + sizeOfCondition c + sizeOfConditions others = omega (arith, p .ends) in
-    let t : AreConditions rule words (i + sizeOfCondition c) end (beside others ds) =
-    beside-stand rule words (i + sizeOfCondition c) mid end others ds (record { stand = p .stand .1; ends = e }) q in
+    let e : mid ≡ i + conditionEntries c + conditionsEntries others = omega (arith, p .ends) in
+    let t : AreConditions rule words (i + conditionEntries c) end (beside others ds) =
+    beside-stand rule words (i + conditionEntries c) mid end others ds (record { stand = p .stand .1; ends = e }) q in
     record { stand = (p .stand .0, t .stand); ends = omega (arith, t .ends) }
 
 abbrev literalsAre : Conditions → List Check
 literalsAre cs = map literalCheck (literalsOfConditions cs)
 
 -- what is left of the conditions at word `i`
-pub record LiteralsLeft (rule words : List ℕ) (start i end : ℕ) (a b : Answer) : Type 0 where
+pub record LiteralsLeft (rule words : List ℕ) (start i end : ℕ) (a b : Progress) : Type 0 where
   pub atMost : b .passed ≤ a .passed + (i - start)
   pub rest : (cs : Conditions) → AreConditions rule words start end cs → Conditions
   pub stand : (cs : Conditions) (w : AreConditions rule words start end cs) → AreConditions rule words i end (rest cs w)
-  pub onward : (setting : Setting) (schema : Schema) (cs : Conditions) (w : AreConditions rule words start end cs) (r : Answer)
+  pub onward : (setting : Setting) (schema : Schema) (cs : Conditions) (w : AreConditions rule words start end cs) (r : Progress)
       → GoesOn (outcome setting schema) b (literalsAre (rest cs w)) r
       → GoesOn (outcome setting schema) a (literalsAre cs) r
 
-pub left-begin : {rule words : List ℕ} {start end : ℕ} {a : Answer} → LiteralsLeft rule words start start end a a
+pub left-begin : {rule words : List ℕ} {start end : ℕ} {a : Progress} → LiteralsLeft rule words start start end a a
 left-begin = record { atMost = omega arith; rest = λ cs w. cs; stand = λ cs w. w; onward = λ setting schema cs w r g. g }
 
-module _ {rule words : List ℕ} {i end own at behind next : ℕ} {h : Head} {b d : Answer} (inside : i < end) (ends : Behind words i end own) (start : at ≡ startOf words i) (reads : ReadsTo conditionHead rule at (conditionOf rule h) behind) (first : ChildrenAt words i own next (conditionOf rule h)) (judged : ObservedJudged rule words h (i + 1) next b d) where
+module _ {rule words : List ℕ} {i end own at behind next : ℕ} {h : Head} {b d : Progress} (inside : i < end) (ends : Behind words i end own) (start : at ≡ startOf words i) (reads : ReadsTo conditionHead rule at (conditionOf rule h) behind) (first : ChildrenAt words i own next (conditionOf rule h)) (judged : ObservedJudged rule words h (i + 1) next b d) where
   opened-stand : (cs : Conditions) → AreConditions rule words i end cs → AreConditions rule words next end (opened cs)
   unfolding opened tailOf
   opened-stand noConditions w = absurd (omega (arith, none-ends w, inside))
@@ -165,7 +166,7 @@ module _ {rule words : List ℕ} {i end own at behind next : ℕ} {h : Head} {b 
       (children-stand rule words i own start reads c (first-stands inside ends w) first)
       (tail-stands inside ends (condition c others) w)
 
-  opened-goes : (setting : Setting) (schema : Schema) (cs : Conditions) → AreConditions rule words i end cs → (r : Answer)
+  opened-goes : (setting : Setting) (schema : Schema) (cs : Conditions) → AreConditions rule words i end cs → (r : Progress)
       → GoesOn (outcome setting schema) d (literalsAre (opened cs)) r
       → GoesOn (outcome setting schema) b (literalsAre cs) r
   unfolding opened literalsOfConditions
@@ -175,7 +176,7 @@ module _ {rule words : List ℕ} {i end own at behind next : ℕ} {h : Head} {b 
       let q = rw (beside-literals (childrenOf c) others, map-append literalCheck (literalsOfConditions (childrenOf c)) (literalsOfConditions others)) at g in
       rw (map-append literalCheck (literals c) (literalsOfConditions others), p, append-assoc) (goes-then (judged .goes setting schema) q)
 
-  pub left-next : {from : ℕ} {a : Answer} → from ≤ i → i < next → LiteralsLeft rule words from i end a b → LiteralsLeft rule words from next end a d
+  pub left-next : {from : ℕ} {a : Progress} → from ≤ i → i < next → LiteralsLeft rule words from i end a b → LiteralsLeft rule words from next end a d
   left-next {from} {a} low more l =
       record {
         atMost = omega (arith, l .atMost, judged .atMost);
@@ -184,7 +185,7 @@ module _ {rule words : List ℕ} {i end own at behind next : ℕ} {h : Head} {b 
         onward = λ setting schema cs w r g. l .onward setting schema cs w r (opened-goes setting schema (l .rest cs w) (l .stand cs w) r g);
       }
 
-module _ {rule words : List ℕ} {from i end : ℕ} {a b : Answer} (l : LiteralsLeft rule words from i end a b) where
+module _ {rule words : List ℕ} {from i end : ℕ} {a b : Progress} (l : LiteralsLeft rule words from i end a b) where
   pub left-all : end ≤ i → i - from ≤ end - from → ConditionLiterals rule words from end a b
   unfolding literalsOfConditions
   left-all h m =

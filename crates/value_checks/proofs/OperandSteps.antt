@@ -16,10 +16,11 @@ use Rattle.sheet.specs.declared.part.Part.{Part}
 use Rattle.definition.specs.Tree.{Text, Schema, Value, constant, number, string, array, object}
 use Rattle.reference.specs.Setting.{Setting}
 use Rattle.reference.specs.Reference.{Environment}
-use Rattle.rule.specs.Index.{startOf, endOf, sizeOfValue, ValueAt}
+use Rattle.definition.specs.Within.{valueEntries}
+use Rattle.rule.specs.Index.{startOf, endOf, ValueAt}
 use Rattle.rule.specs.IndexLaws.{value-next}
 use Rattle.validation.specs.Check.{Binder, Question, settled, Check, check, failsIf, isNone, entryOf, isString, isHolder, references, instantText, instantForm, instantOperand, affixOperand, compareSide, operand}
-use Rattle.validation.specs.Judge.{Outcome, outcome, environment, answer, answerIn}
+use Rattle.validation.specs.Judge.{CheckOutcome, outcome, environment, answer, answerIn}
 use Rattle.value_checks.specs.Nodes.{Behind}
 use Rattle.value_checks.specs.Verdicts.{numberOf, detailOf, instantDetail, GoesOn, PassedOn, Failed}
 use Rattle.value_checks.specs.Frames.{Frame, Stands, ReferencesIn, OperandJudged, PairJudged, FormIs, formOf, side}
@@ -32,7 +33,7 @@ use Rattle.value_checks.specs.declared.verdict.InstantFault.the-variants
 use Rattle.value_checks.specs.declared.verdict.Side.{Side}
 use Rattle.value_checks.specs.declared.verdict.Fault.{Fault}
 use Rattle.value_checks.specs.declared.verdict.Fault.the-variants.{Operand, Affix, Instant}
-use Rattle.value_checks.specs.declared.verdict.Answer.{Answer}
+use Rattle.value_checks.specs.declared.verdict.Progress.{Progress}
 use Rattle.value_checks.proofs.Going.{goes-then}
 use Rattle.value_checks.proofs.NodeSteps.{same-head, value-size}
 use Rattle.value_checks.proofs.ReferenceSteps.{references-judged}
@@ -181,7 +182,7 @@ value-entry rule words i (string e t) a = a .isEntry
 value-entry rule words i (array e values) a = a .0 .isEntry
 value-entry rule words i (object e pairs) a = a .0 .isEntry
 
-pub asked-outcome : (setting : Setting) (tree : Schema) (binders : List Binder) (env : Environment) (n p : ℕ) (q : Question) (o : Outcome)
+pub asked-outcome : (setting : Setting) (tree : Schema) (binders : List Binder) (env : Environment) (n p : ℕ) (q : Question) (o : CheckOutcome)
     → environment tree binders ≡ some env
     → q ≡ settled o
     → outcome setting tree (check n p binders q) ≡ o
@@ -189,7 +190,7 @@ unfolding outcome answerIn answer check
 asked-outcome setting tree binders env n p q o e s = rw (e, s)
 
 -- the check that an operand's form passes
-form-passes : {f : Frame} (n : ℕ) {q : Question} {b r : Answer} (setting : Setting) (tree : Schema) (binders : List Binder) (env : Environment) (v : Value)
+form-passes : {f : Frame} (n : ℕ) {q : Question} {b r : Progress} (setting : Setting) (tree : Schema) (binders : List Binder) (env : Environment) (v : Value)
     → Stands f setting tree binders env
     → PassedOn b r
     → q ≡ settled none
@@ -197,7 +198,7 @@ form-passes : {f : Frame} (n : ℕ) {q : Question} {b r : Answer} (setting : Set
 form-passes {f} n {q} setting tree binders env v s p e =
     p .goes (outcome setting tree) _ (asked-outcome setting tree binders env n (entryOf v) q none (s .bound) e)
 
-form-fails : {f : Frame} (n : ℕ) {q : Question} {fault : Fault} {place : ℕ} {b r : Answer} (setting : Setting) (tree : Schema) (binders : List Binder) (env : Environment) (v : Value)
+form-fails : {f : Frame} (n : ℕ) {q : Question} {fault : Fault} {place : ℕ} {b r : Progress} (setting : Setting) (tree : Schema) (binders : List Binder) (env : Environment) (v : Value)
     → Stands f setting tree binders env
     → entryOf v ≡ place
     → Failed b fault place (f .over) r
@@ -211,8 +212,8 @@ form-fails {f} n {q} {fault} setting tree binders env v s w p m e others =
     (record { numbered = m; placed = w; held = s .held })
     (asked-outcome setting tree binders env n (entryOf v) q (some (detailOf fault)) (s .bound) e)
 
-module _ {f : Frame} {start end : ℕ} {a : Answer} where
-  pub instant-passes : {x : InstantRead} {b r : Answer}
+module _ {f : Frame} {start end : ℕ} {a : Progress} where
+  pub instant-passes : {x : InstantRead} {b r : Progress}
       → ReferencesIn f start (end - start) a b
       → ((v : Value) → ValueAt (f .rule) (f .words) start v → instantForm v ≡ formOf x)
       → x ≡ Good
@@ -228,7 +229,7 @@ module _ {f : Frame} {start end : ℕ} {a : Answer} where
             (form-passes 20 setting tree binders env v s p (rw y at (g v (w .stands))));
       }
 
-  pub instant-fails : {x : InstantRead} {fault : InstantFault} {b r : Answer}
+  pub instant-fails : {x : InstantRead} {fault : InstantFault} {b r : Progress}
       → ReferencesIn f start (end - start) a b
       → ((v : Value) → ValueAt (f .rule) (f .words) start v → instantForm v ≡ formOf x)
       → x ≡ Bad fault
@@ -244,7 +245,7 @@ module _ {f : Frame} {start end : ℕ} {a : Answer} where
             (form-fails 20 setting tree binders env v s (value-entry (f .rule) (f .words) start v (w .stands)) p refl (rw y at (g v (w .stands))) []);
       }
 
-  pub affix-passes : {x : Form} {part : Part} {b r : Answer}
+  pub affix-passes : {x : Form} {part : Part} {b r : Progress}
       → ReferencesIn f start (end - start) a b
       → ((v : Value) → ValueAt (f .rule) (f .words) start v → FormIs (f .rule) x v)
       → x ≡ Form.Text part
@@ -261,7 +262,7 @@ module _ {f : Frame} {start end : ℕ} {a : Answer} where
             (form-passes 19 setting tree binders env v s p (rw (text-string v e .0)));
       }
 
-  pub affix-fails : {b r : Answer}
+  pub affix-fails : {b r : Progress}
       → ReferencesIn f start (end - start) a b
       → ((v : Value) → ValueAt (f .rule) (f .words) start v → isString v ≡ false)
       → Failed b Affix (start + 1) (f .over) r
@@ -276,7 +277,7 @@ module _ {f : Frame} {start end : ℕ} {a : Answer} where
             (form-fails 19 setting tree binders env v s (value-entry (f .rule) (f .words) start v (w .stands)) p refl (rw (g v (w .stands))) []);
       }
 
-  pub side-passes : (which : Side) {b r : Answer}
+  pub side-passes : (which : Side) {b r : Progress}
       → ((v : Value) → ValueAt (f .rule) (f .words) start v → isHolder v ≡ false)
       → PassedOn a b
       → ReferencesIn f start (end - start) b r
@@ -291,7 +292,7 @@ module _ {f : Frame} {start end : ℕ} {a : Answer} where
             (references-judged l setting tree binders env v s w);
       }
 
-  pub side-fails : (which : Side) {r : Answer}
+  pub side-fails : (which : Side) {r : Progress}
       → ((v : Value) → ValueAt (f .rule) (f .words) start v → isHolder v ≡ true)
       → Failed a (Operand which) (start + 1) (f .over) r
       → OperandJudged f (side which) start end a r
@@ -302,15 +303,15 @@ module _ {f : Frame} {start end : ℕ} {a : Answer} where
         goes = λ setting tree binders env v s w. form-fails 17 setting tree binders env v s (value-entry (f .rule) (f .words) start v (w .stands)) p refl (rw (g v (w .stands))) (references binders v);
       }
 
-  pub operand-instant : (op : ℕ) {r : Answer} → leb op 7 ≡ true → OperandJudged f instantOperand start end a r → OperandJudged f (operand op) start end a r
+  pub operand-instant : (op : ℕ) {r : Progress} → leb op 7 ≡ true → OperandJudged f instantOperand start end a r → OperandJudged f (operand op) start end a r
   unfolding operand
   operand-instant op e p = record { atMost = p .atMost; goes = λ setting tree binders env v s w. rw e (p .goes setting tree binders env v s w) }
 
-  pub operand-affix : (op : ℕ) {r : Answer} → leb op 7 ≡ false → leb 16 op ≡ true → OperandJudged f affixOperand start end a r → OperandJudged f (operand op) start end a r
+  pub operand-affix : (op : ℕ) {r : Progress} → leb op 7 ≡ false → leb 16 op ≡ true → OperandJudged f affixOperand start end a r → OperandJudged f (operand op) start end a r
   unfolding operand
   operand-affix op e k p = record { atMost = p .atMost; goes = λ setting tree binders env v s w. rw (e, k) (p .goes setting tree binders env v s w) }
 
-  pub operand-other : (op : ℕ) {r : Answer} → leb op 7 ≡ false → leb 16 op ≡ false → ReferencesIn f start (end - start) a r → OperandJudged f (operand op) start end a r
+  pub operand-other : (op : ℕ) {r : Progress} → leb op 7 ≡ false → leb 16 op ≡ false → ReferencesIn f start (end - start) a r → OperandJudged f (operand op) start end a r
   unfolding operand
   operand-other op e k p =
       record {
@@ -318,7 +319,7 @@ module _ {f : Frame} {start end : ℕ} {a : Answer} where
         goes = λ setting tree binders env v s w. rw (e, k) (references-judged p setting tree binders env v s w);
       }
 
-  pub pair-judged : {first second : List Binder → Value → List Check} {mid : ℕ} {b r : Answer}
+  pub pair-judged : {first second : List Binder → Value → List Check} {mid : ℕ} {b r : Progress}
       → start ≤ end
       → Behind (f .words) start end mid
       → OperandJudged f first start mid a b
@@ -329,8 +330,8 @@ module _ {f : Frame} {start end : ℕ} {a : Answer} where
         atMost = omega (arith, p .atMost, q .atMost, k .most, k .least inside);
         goes =
             λ setting tree binders env m left right s w u.
-            let n : endOf (f .words) start ≡ start + sizeOfValue left = value-next (f .rule) (f .words) start left (w .stands) in
-            let z : 1 ≤ sizeOfValue left = value-size left in
+            let n : endOf (f .words) start ≡ start + valueEntries left = value-next (f .rule) (f .words) start left (w .stands) in
+            let z : 1 ≤ valueEntries left = value-size left in
             let e : mid ≡ m = k .exact (omega arith) (omega (arith, w .ends, u .ends)) ∙ n ∙ sym (w .ends) in
             goes-then (p .goes setting tree binders env left s (rw e w)) (q .goes setting tree binders env right s (rw e u));
       }

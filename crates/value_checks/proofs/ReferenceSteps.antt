@@ -14,7 +14,8 @@ use Rattle.definition.specs.Tree.{Text, Schema, Value, constant, number, string
 use Rattle.reference.specs.Setting.{Setting}
 use Rattle.reference.specs.Walk.{Reached, refused, unknown, known}
 use Rattle.reference.specs.Reference.{Environment, reference}
-use Rattle.rule.specs.Index.{startOf, sizeOfValue}
+use Rattle.definition.specs.Within.{valueEntries}
+use Rattle.rule.specs.Index.{startOf}
 use Rattle.walk.specs.Answers.{IsReached, ReadableIs}
 use Rattle.walk.specs.declared.answer.ReferenceFault.{ReferenceFault}
 use Rattle.walk.specs.declared.answer.Readable.{Readable}
@@ -27,7 +28,7 @@ use Rattle.value_checks.specs.Verdicts.{numberOf, detailOf, GoesOn, Pass
 use Rattle.scope.specs.References.{ReferenceReads}
 use Rattle.value_checks.specs.Frames.{Frame, Stands, IsReference, referenceSays, ReferencesIn}
 use Rattle.value_checks.specs.declared.verdict.Fault.the-variants.{Reference}
-use Rattle.value_checks.specs.declared.verdict.Answer.{Answer}
+use Rattle.value_checks.specs.declared.verdict.Progress.{Progress}
 use Rattle.value_checks.proofs.Going.{goes-nothing, goes-then, said-next}
 use Rattle.value_checks.proofs.LiteralSteps.{says-read, says-bad}
 
@@ -95,7 +96,7 @@ unfolding referenceText
 reference-long [] e = let z : _≡_ {A = Option Text} none (some (drop 1 [])) = e in let y : _≡_ {A = ℕ} 0 1 = cc in omega arith
 reference-long (b ∷ t) e = omega arith
 
-module _ {f : Frame} {i at : ℕ} {a : Answer} (start : at ≡ startOf (f .words) i) where
+module _ {f : Frame} {i at : ℕ} {a : Progress} (start : at ≡ startOf (f .words) i) where
   pub reference-bad : valueHead (drop at (f .rule)) ≡ none → ReferencesIn f i 1 a a
   reference-bad r =
       record { atMost = omega arith; goes = λ setting tree binders env s. rw (says-bad (referenceSays binders) (f .rule) (f .words) i start r) goes-nothing }
@@ -115,7 +116,7 @@ module _ {f : Frame} {i at : ℕ} {a : Answer} (start : at ≡ startOf (f .words
     unfolding referenceSays referenceCheck
     reference-none e = reference-silent reads (λ binders. let g : referenceText t ≡ none = rw same at e in rw g)
 
-    pub reference-passes : {x : Readable} {r : Answer}
+    pub reference-passes : {x : Readable} {r : Progress}
         → IsReference text true
         → ReferenceReads (f .schema) (f .rule) (f .words) (f .scope) (take (length text - 1) (drop 1 text)) x
         → x ≡ Yes
@@ -133,7 +134,7 @@ module _ {f : Frame} {i at : ℕ} {a : Answer} (start : at ≡ startOf (f .words
               (readable-outcome setting tree binders env 18 (i + 1) (drop 1 text) (s .bound) ∙ reached-verdict _ m));
         }
 
-    pub reference-fails : {x : Readable} {fault : ReferenceFault} {place : ℕ} {r : Answer}
+    pub reference-fails : {x : Readable} {fault : ReferenceFault} {place : ℕ} {r : Progress}
         → IsReference text true
         → ReferenceReads (f .schema) (f .rule) (f .words) (f .scope) (take (length text - 1) (drop 1 text)) x
         → x ≡ No fault place
@@ -154,8 +155,8 @@ module _ {f : Frame} {i at : ℕ} {a : Answer} (start : at ≡ startOf (f .words
 
 -- Several words.
 
-module _ {f : Frame} {a : Answer} {start i : ℕ} where
-  pub references-next : {b r : Answer}
+module _ {f : Frame} {a : Progress} {start i : ℕ} where
+  pub references-next : {b r : Progress}
       → start ≤ i
       → ReferencesIn f start (i - start) a b
       → ReferencesIn f i 1 b r
@@ -169,14 +170,14 @@ module _ {f : Frame} {a : Answer} {start i : ℕ} where
             (goes-then (p .goes setting tree binders env s) (q .goes setting tree binders env s));
       }
 
-  pub references-all : {end : ℕ} {r : Answer}
+  pub references-all : {end : ℕ} {r : Progress}
       → end ≤ i
       → i - start ≤ end - start
       → ReferencesIn f start (i - start) a r
       → ReferencesIn f start (end - start) a r
   references-all {end} h k p = let e : i - start ≡ end - start = omega arith in rw e at p
 
-pub references-begin : {f : Frame} {a : Answer} {start : ℕ} → ReferencesIn f start (start - start) a a
+pub references-begin : {f : Frame} {a : Progress} {start : ℕ} → ReferencesIn f start (start - start) a a
 unfolding saidIn
 references-begin {f} {a} {start} =
     let e : start - start ≡ 0 = omega arith in
@@ -202,14 +203,14 @@ mutual
   references-of-pairs binders noPairs = refl
   references-of-pairs binders (pair key v others) = ap₂ _++_ (references-said binders v) (references-of-pairs binders others)
 
-pub references-judged : {f : Frame} {start end : ℕ} {a r : Answer}
+pub references-judged : {f : Frame} {start end : ℕ} {a r : Progress}
     → ReferencesIn f start (end - start) a r
     → (setting : Setting) (tree : Schema) (binders : List Binder) (env : Environment) (v : Value)
     → Stands f setting tree binders env
     → IsValue (f .rule) (f .words) start end v
     → GoesOn (outcome setting tree) a (references binders v) r
 references-judged {f} {start} {end} p setting tree binders env v s w =
-    let n : end - start ≡ sizeOfValue v = omega (arith, w .ends) in
+    let n : end - start ≡ valueEntries v = omega (arith, w .ends) in
     let e : saidIn (referenceSays binders) (f .rule) (f .words) (end - start) start ≡ references binders v =
     rw n (said-value (referenceSays binders) (f .rule) (f .words) start v (w .stands) ∙ references-said binders v) in
     rw e at (p .goes setting tree binders env s)

@@ -20,7 +20,7 @@ use Rattle.scope.specs.Scopes.{ScopeAt}
 use Rattle.scope.specs.declared.binder.Scope.{Scope}
 use Rattle.value_checks.specs.declared.verdict.Over.{Over}
 use Rattle.value_checks.specs.declared.verdict.Side.{Side}
-use Rattle.value_checks.specs.declared.verdict.Answer.{Answer}
+use Rattle.value_checks.specs.declared.verdict.Progress.{Progress}
 use Rattle.value_checks.specs.declared.operand.Form.{Form}
 use Rattle.value_checks.specs.declared.operand.Form.the-variants as Form
 use Rattle.value_checks.specs.declared.operand.InstantRead.{InstantRead}
@@ -54,14 +54,14 @@ referenceSays binders e (arrayHead count) = []
 referenceSays binders e (objectHead count) = []
 
 -- the references of `n` words
-pub record ReferencesIn (f : Frame) (i n : ℕ) (a r : Answer) : Type 0 where
+pub record ReferencesIn (f : Frame) (i n : ℕ) (a r : Progress) : Type 0 where
   pub atMost : r .passed ≤ a .passed + n
   pub goes : (setting : Setting) (tree : Schema) (binders : List Binder) (env : Environment)
       → Stands f setting tree binders env
       → GoesOn (outcome setting tree) a (saidIn (referenceSays binders) (f .rule) (f .words) n i) r
 
 -- what a value from word `start` up to word `end` is asked
-pub record OperandJudged (f : Frame) (asked : List Binder → Value → List Check) (start end : ℕ) (a r : Answer) : Type 0 where
+pub record OperandJudged (f : Frame) (asked : List Binder → Value → List Check) (start end : ℕ) (a r : Progress) : Type 0 where
   pub atMost : r .passed ≤ a .passed + (end - start) + 1
   pub goes : (setting : Setting) (tree : Schema) (binders : List Binder) (env : Environment) (v : Value)
       → Stands f setting tree binders env
@@ -69,7 +69,7 @@ pub record OperandJudged (f : Frame) (asked : List Binder → Value → List Che
       → GoesOn (outcome setting tree) a (asked binders v) r
 
 -- the same of two values, one behind the other
-pub record PairJudged (f : Frame) (first second : List Binder → Value → List Check) (start end : ℕ) (a r : Answer) : Type 0 where
+pub record PairJudged (f : Frame) (first second : List Binder → Value → List Check) (start end : ℕ) (a r : Progress) : Type 0 where
   pub atMost : r .passed ≤ a .passed + (end - start) + 2
   pub goes : (setting : Setting) (tree : Schema) (binders : List Binder) (env : Environment) (mid : ℕ) (left right : Value)
       → Stands f setting tree binders env

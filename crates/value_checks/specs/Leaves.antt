@@ -2,7 +2,7 @@
 use Prim.Native.Nat.{ℕ, zero, suc, _+_}
 use mathlib.Core.List.{List, [], _∷_, _++_, append-assoc, append-nil}
 use mathlib.Core.Option.{Option, none, some}
-use mathlib.Core.Path.{_≡_, refl, ap₂, _∙_}
+use mathlib.Core.Path.{_≡_, refl, ap, ap₂, _∙_}
 use native.Mathlib.Omega.{arith}
 use mathlib.Core.Bool.{Bool, true, false}
 use lib.ListN.{drop}
@@ -11,7 +11,8 @@ use borrow.Author.Tests.{eqb-true}
 use Rattle.sheet.specs.Reader.{_>>=_, _>>_, andThen}
 use Rattle.sheet.specs.Entries.{byte, ValueHead, constantHead, numberHead, stringHead, arrayHead, objectHead, valueHead, keyHead}
 use Rattle.definition.specs.Tree.{Text, Value, constant, number, string, array, object, Values, noValues, value, Pairs, noPairs, pair}
-use Rattle.rule.specs.Index.{startOf, sizeOfValue, sizeOfValues, sizeOfPairs, countOfValues, countOfPairs, EntryAt, ValueAt, ValuesAt, PairsAt}
+use Rattle.definition.specs.Within.{pairsEntries, valueEntries, valuesEntries}
+use Rattle.rule.specs.Index.{startOf, countOfValues, countOfPairs, EntryAt, ValueAt, ValuesAt, PairsAt}
 
 -- a key's entry is no value
 begins-otherwise : (b : ℕ) (t : List ℕ) (isValue : Bool) → eqb b 86 ≡ isValue → (key : Text) (rest : List ℕ) → keyHead (b ∷ t) ≡ some (key, rest) → valueHead (b ∷ t) ≡ none
@@ -82,30 +83,32 @@ module _ {A : Type 0} (says : ℕ → ValueHead → List A) where
   said-key sheet words i size e key a = rw (key-no-value (drop (startOf words i) sheet) key (a .rest) (a .reads))
 
   mutual
-    unfolding leaves saidIn sizeOfValue saysAt saysIf
+    unfolding leaves saidIn valueEntries saysAt saysIf
 
-    pub said-value : (sheet words : List ℕ) (i : ℕ) (v : Value) → ValueAt sheet words i v → saidIn sheet words (sizeOfValue v) i ≡ leaves v
+    pub said-value : (sheet words : List ℕ) (i : ℕ) (v : Value) → ValueAt sheet words i v → saidIn sheet words (valueEntries v) i ≡ leaves v
     said-value sheet words i (constant e type) a = said-one sheet words i 1 e (constantHead type) a
     said-value sheet words i (number e digits) a = said-one sheet words i 1 e (numberHead digits) a
     said-value sheet words i (string e t) a = said-one sheet words i 1 e (stringHead t) a
     said-value sheet words i (array e values) a =
-        said-append sheet words 1 (sizeOfValues values) i
+        said-append sheet words 1 (valuesEntries values) i
         ∙ ap₂ _++_ (said-one sheet words i _ e _ (a .0)) (said-values sheet words (i + 1) values (a .1))
     said-value sheet words i (object e pairs) a =
-        said-append sheet words 1 (sizeOfPairs pairs) i
+        said-append sheet words 1 (pairsEntries pairs) i
         ∙ ap₂ _++_ (said-one sheet words i _ e _ (a .0)) (said-pairs sheet words (i + 1) pairs (a .1))
 
-    said-values : (sheet words : List ℕ) (i : ℕ) (vs : Values) → ValuesAt sheet words i vs → saidIn sheet words (sizeOfValues vs) i ≡ leavesOfValues vs
+    said-values : (sheet words : List ℕ) (i : ℕ) (vs : Values) → ValuesAt sheet words i vs → saidIn sheet words (valuesEntries vs) i ≡ leavesOfValues vs
     said-values sheet words i noValues a = refl
     said-values sheet words i (value v others) a =
-        said-append sheet words (sizeOfValue v) (sizeOfValues others) i
-        ∙ ap₂ _++_ (said-value sheet words i v (a .0)) (said-values sheet words (i + sizeOfValue v) others (a .1))
+        said-append sheet words (valueEntries v) (valuesEntries others) i
+        ∙ ap₂ _++_ (said-value sheet words i v (a .0)) (said-values sheet words (i + valueEntries v) others (a .1))
 
-    said-pairs : (sheet words : List ℕ) (i : ℕ) (ps : Pairs) → PairsAt sheet words i ps → saidIn sheet words (sizeOfPairs ps) i ≡ leavesOfPairs ps
+    said-pairs : (sheet words : List ℕ) (i : ℕ) (ps : Pairs) → PairsAt sheet words i ps → saidIn sheet words (pairsEntries ps) i ≡ leavesOfPairs ps
     said-pairs sheet words i noPairs a = refl
     said-pairs sheet words i (pair key v others) a =
-        said-append sheet words (1 + sizeOfValue v) (sizeOfPairs others) i
+        let sizes : 1 + (valueEntries v + pairsEntries others) ≡ 1 + valueEntries v + pairsEntries others = omega arith in
+        ap (λ (n : ℕ). saidIn sheet words n i) sizes
+        ∙ said-append sheet words (1 + valueEntries v) (pairsEntries others) i
         ∙ ap₂ _++_
-        (said-append sheet words 1 (sizeOfValue v) i
+        (said-append sheet words 1 (valueEntries v) i
         ∙ ap₂ _++_ (said-key sheet words i _ _ key (a .0)) (said-value sheet words (i + 1) v (a .1)))
-        (said-pairs sheet words (i + (1 + sizeOfValue v)) others (a .2))
+        (said-pairs sheet words (i + (1 + valueEntries v)) others (a .2))

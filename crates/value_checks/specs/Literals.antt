@@ -6,14 +6,14 @@ use lib.Dec.{leb, eqb}
 use Rattle.definition.specs.Tree.{Schema, Conditions}
 use Rattle.sheet.specs.Entries.{ValueHead, constantHead, numberHead, stringHead, arrayHead, objectHead, ConditionHead, literalHead, manyHead, negationHead, oneHead, twoHead, comparisonHead, quantifierHead}
 use Rattle.sheet.specs.Places.{conditionOf}
-use Rattle.sheet.specs.declared.rule.ConditionHead.{ConditionHead as Head}
+use Rattle.sheet.specs.declared.rule_heads.ConditionHead.{ConditionHead as Head}
 use Rattle.reference.specs.Setting.{Setting}
 use Rattle.validation.specs.Check.{Check, literalCheck, literalsOfConditions}
 use Rattle.validation.specs.Judge.{outcome}
 use Rattle.value_checks.specs.Leaves.{saidIn}
 use Rattle.value_checks.specs.Nodes.{AreConditions}
 use Rattle.value_checks.specs.Verdicts.{GoesOn}
-use Rattle.value_checks.specs.declared.verdict.Answer.{Answer}
+use Rattle.value_checks.specs.declared.verdict.Progress.{Progress}
 
 unfoldable pub literalSays : ℕ → ValueHead → List Check
 literalSays e (constantHead type) = []
@@ -23,7 +23,7 @@ literalSays e (arrayHead count) = []
 literalSays e (objectHead count) = []
 
 -- the `n` words from `i` on are judged, whatever the schema: a literal is finite by itself
-pub record LiteralsJudged (rule words : List ℕ) (i n : ℕ) (a r : Answer) : Type 0 where
+pub record LiteralsJudged (rule words : List ℕ) (i n : ℕ) (a r : Progress) : Type 0 where
   pub atMost : r .passed ≤ a .passed + n
   pub goes : (setting : Setting) (schema : Schema) → GoesOn (outcome setting schema) a (saidIn literalSays rule words n i) r
 
@@ -38,13 +38,13 @@ isObserved (comparisonHead which) = true
 isObserved (quantifierHead op bind) = false
 
 -- the words of a condition's values, where the pass looks into them
-pub record ObservedJudged (rule words : List ℕ) (h : Head) (start end : ℕ) (a r : Answer) : Type 0 where
+pub record ObservedJudged (rule words : List ℕ) (h : Head) (start end : ℕ) (a r : Progress) : Type 0 where
   pub atMost : r .passed ≤ a .passed + (end - start)
   pub goes : (setting : Setting) (schema : Schema)
       → GoesOn (outcome setting schema) a (saidIn literalSays rule words (cond (isObserved (conditionOf rule h)) (end - start) 0) start) r
 
 -- the literals of the conditions that stand there
-pub record ConditionLiterals (rule words : List ℕ) (start end : ℕ) (a r : Answer) : Type 0 where
+pub record ConditionLiterals (rule words : List ℕ) (start end : ℕ) (a r : Progress) : Type 0 where
   pub atMost : r .passed ≤ a .passed + (end - start)
   pub goes : (setting : Setting) (schema : Schema) (cs : Conditions)
       → AreConditions rule words start end cs

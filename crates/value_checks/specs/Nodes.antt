@@ -4,21 +4,22 @@ use mathlib.Core.List.{List}
 use mathlib.Core.Path.{_≡_}
 use Rattle.sheet.specs.Entries.{ConditionHead, literalHead, manyHead, negationHead, oneHead, twoHead, comparisonHead, quantifierHead}
 use Rattle.sheet.specs.Places.{conditionOf}
-use Rattle.sheet.specs.declared.rule.ConditionHead.{ConditionHead as Head}
+use Rattle.sheet.specs.declared.rule_heads.ConditionHead.{ConditionHead as Head}
 use Rattle.definition.specs.Tree.{Value, Condition, literal, many, negation, one, two, comparison, quantifier, Conditions, noConditions, condition}
-use Rattle.rule.specs.Index.{endOf, sizeOfValue, sizeOfCondition, sizeOfConditions, ValueAt, ConditionAt, ConditionsAt}
+use Rattle.definition.specs.Within.{conditionEntries, conditionsEntries, valueEntries}
+use Rattle.rule.specs.Index.{endOf, ValueAt, ConditionAt, ConditionsAt}
 
 pub record IsValue (rule words : List ℕ) (i end : ℕ) (v : Value) : Type 0 where
   pub stands : ValueAt rule words i v
-  pub ends : end ≡ i + sizeOfValue v
+  pub ends : end ≡ i + valueEntries v
 
 pub record IsCondition (rule words : List ℕ) (i end : ℕ) (c : Condition) : Type 0 where
   pub stands : ConditionAt rule words i c
-  pub ends : end ≡ i + sizeOfCondition c
+  pub ends : end ≡ i + conditionEntries c
 
 pub record AreConditions (rule words : List ℕ) (i end : ℕ) (cs : Conditions) : Type 0 where
   pub stand : ConditionsAt rule words i cs
-  pub ends : end ≡ i + sizeOfConditions cs
+  pub ends : end ≡ i + conditionsEntries cs
 
 -- the word behind the subtree of word `i`, and `end` where the index has no such word up to there
 pub record Behind (words : List ℕ) (i end r : ℕ) : Type 0 where

@@ -8,7 +8,7 @@ use lib.Dec.{eqb}
 use Rattle.definition.specs.Tree.{Text, Rule}
 use Rattle.reference.specs.Setting.{Setting}
 use Rattle.validation.specs.Check.{Binder, Check, entryOf}
-use Rattle.validation.specs.Judge.{Outcome, Verdict, allPass, failsAt, decide, judgeFrom}
+use Rattle.validation.specs.Judge.{CheckOutcome, Verdict, allPass, failsAt, decide, judgeFrom}
 use Rattle.validation.specs.Location.{pathOf}
 use Rattle.validation.specs.Result.{Answer, accepted, defect, ownFamily, familyIn, overPlaceIn, answerOf}
 
@@ -68,14 +68,14 @@ unfoldable pub goOn : Shown → (ℕ → Shown) → Shown
 goOn (passes n) k = k n
 goOn (fails n number place over d) k = fails n number place over d
 
-decide-then : (ask : Check → Outcome) (o : Outcome) (n : ℕ) (c : Check) (v w : Verdict) (k : ℕ → Shown)
+decide-then : (ask : Check → CheckOutcome) (o : CheckOutcome) (n : ℕ) (c : Check) (v w : Verdict) (k : ℕ → Shown)
     → shownOf w ≡ goOn (shownOf v) k
     → shownOf (decide o n c w) ≡ goOn (shownOf (decide o n c v)) k
 unfolding decide shownOf goOn
 decide-then ask none n c v w k h = h
 decide-then ask (some d) n c v w k h = refl
 
-pub judge-append : (ask : Check → Outcome) (n : ℕ) (xs ys : List Check)
+pub judge-append : (ask : Check → CheckOutcome) (n : ℕ) (xs ys : List Check)
     → shownOf (judgeFrom ask n (xs ++ ys)) ≡ goOn (shownOf (judgeFrom ask n xs)) (λ m. shownOf (judgeFrom ask m ys))
 unfolding judgeFrom shownOf goOn
 judge-append ask n [] ys = refl

@@ -6,7 +6,7 @@ use mathlib.Core.Option.{Option, none, some}
 use mathlib.Core.Path.{_≡_}
 use Rattle.walk.specs.Answers.{referenceDetail, collectionDetail}
 use Rattle.validation.specs.Check.{Check}
-use Rattle.validation.specs.Judge.{Outcome, judgeFrom}
+use Rattle.validation.specs.Judge.{CheckOutcome, judgeFrom}
 use Rattle.value_checks.specs.Shown.{overOf, Shown, passes, fails, shownOf, goOn}
 use Rattle.value_checks.specs.declared.verdict.Side.{Side}
 use Rattle.value_checks.specs.declared.verdict.Side.the-variants.{Left, Right}
@@ -18,7 +18,7 @@ use Rattle.value_checks.specs.declared.verdict.Over.{Over}
 use Rattle.value_checks.specs.declared.verdict.Over.the-variants.{Outside, In}
 use Rattle.value_checks.specs.declared.verdict.Verdict.{Verdict}
 use Rattle.value_checks.specs.declared.verdict.Verdict.the-variants.{Pass, Defect}
-use Rattle.value_checks.specs.declared.verdict.Answer.{Answer}
+use Rattle.value_checks.specs.declared.verdict.Progress.{Progress}
 
 unfoldable pub numberOf : Fault → ℕ
 numberOf Name = 11
@@ -66,15 +66,15 @@ unfoldable pub shownWith : ℕ → Verdict → Shown
 shownWith n Pass = passes n
 shownWith n (Defect f place over) = fails n (numberOf f) place (overBy over) (detailOf f)
 
-unfoldable pub shownBy : Answer → Shown
+unfoldable pub shownBy : Progress → Shown
 shownBy a = shownWith (a .passed) (a .verdict)
 
 -- `r` goes on from `a`: with the checks, where all passed so far
-pub record GoesOn (ask : Check → Outcome) (a : Answer) (checks : List Check) (r : Answer) : Type 0 where
+pub record GoesOn (ask : Check → CheckOutcome) (a : Progress) (checks : List Check) (r : Progress) : Type 0 where
   pub shows : shownBy r ≡ goOn (shownBy a) (λ n. shownOf (judgeFrom ask n checks))
 
 -- so many checks more cannot make the count too large
-pub record HasRoom (a : Answer) (more : ℕ) : Type 0 where
+pub record HasRoom (a : Progress) (more : ℕ) : Type 0 where
   pub fits : a .passed + more ≤ 65536
 
 -- what fails with that fault, at that place
@@ -84,29 +84,29 @@ pub record FailsWith (c : Check) (fault : Fault) (place : ℕ) (over : Over) : T
   pub held : overOf (c .binders) ≡ overBy over
 
 -- one check more, which passes
-pub record PassedOn (a r : Answer) : Type 0 where
+pub record PassedOn (a r : Progress) : Type 0 where
   pub atMost : r .passed ≤ a .passed + 1
-  pub goes : (ask : Check → Outcome) (c : Check) → ask c ≡ none → GoesOn ask a (c ∷ []) r
+  pub goes : (ask : Check → CheckOutcome) (c : Check) → ask c ≡ none → GoesOn ask a (c ∷ []) r
 
 -- one check more, which fails: nothing is asked behind it
-pub record Failed (a : Answer) (fault : Fault) (place : ℕ) (over : Over) (r : Answer) : Type 0 where
+pub record Failed (a : Progress) (fault : Fault) (place : ℕ) (over : Over) (r : Progress) : Type 0 where
   pub same : r .passed ≡ a .passed
-  pub goes : (ask : Check → Outcome) (c : Check) (checks : List Check)
+  pub goes : (ask : Check → CheckOutcome) (c : Check) (checks : List Check)
       → FailsWith c fault place over
       → ask c ≡ some (detailOf fault)
       → GoesOn ask a (c ∷ checks) r
   -- where a check failed before
-  pub stays : (ask : Check → Outcome) (checks : List Check) {n number at : ℕ} {o : Option ℕ} {detail : ℕ}
+  pub stays : (ask : Check → CheckOutcome) (checks : List Check) {n number at : ℕ} {o : Option ℕ} {detail : ℕ}
       → shownBy a ≡ fails n number at o detail
       → GoesOn ask a checks r
 
-unfoldable pub failed : Bool → ℕ → Outcome
+unfoldable pub failed : Bool → ℕ → CheckOutcome
 failed true detail = some detail
 failed false detail = none
 
-pub record Required (a : Answer) (wrong : Bool) (fault : Fault) (place : ℕ) (over : Over) (r : Answer) : Type 0 where
+pub record Required (a : Progress) (wrong : Bool) (fault : Fault) (place : ℕ) (over : Over) (r : Progress) : Type 0 where
   pub atMost : r .passed ≤ a .passed + 1
-  pub goes : (ask : Check → Outcome) (c : Check)
+  pub goes : (ask : Check → CheckOutcome) (c : Check)
       → FailsWith c fault place over
       → ask c ≡ failed wrong (detailOf fault)
       → GoesOn ask a (c ∷ []) r

@@ -1,18 +1,21 @@
 // The literal pass: whether the numbers that a condition compares are finite.
 use crate::node::behind;
 use crate::node::children_from;
-use crate::verdict::Answer;
 use crate::verdict::Fault;
 use crate::verdict::Over;
+use crate::verdict::Progress;
 use crate::verdict::require;
 use rule::index::start_of;
 use sheet::part::bytes_of;
-use sheet::rule::ConditionHead;
-use sheet::rule::ConditionRead;
-use sheet::rule::ValueHead;
-use sheet::rule::ValueRead;
-use sheet::rule::condition_head;
-use sheet::rule::value_head;
+use sheet::rule_heads::CONTAINS;
+use sheet::rule_heads::ConditionHead;
+use sheet::rule_heads::ConditionRead;
+use sheet::rule_heads::EQ;
+use sheet::rule_heads::TRUTHY;
+use sheet::rule_heads::ValueHead;
+use sheet::rule_heads::ValueRead;
+use sheet::rule_heads::condition_head;
+use sheet::rule_heads::value_head;
 ghost use mathlib.Core.Path.{_≡_};
 ghost use mathlib.Core.List.{List};
 ghost use Prim.Native.Nat.{ℕ, _-_, _<_, _≤_};
@@ -21,7 +24,7 @@ ghost use Rattle.value_checks.specs.Literals.{isObserved, LiteralsJudged
 ghost use Rattle.sheet.specs.Places.{conditionOf};
 
 // The entry of word `i`, if it is a number.
-fn validate_literal(a: Answer, rule: &[u8], words: &[u32], i: usize) -> Answer
+fn validate_literal(a: Progress, rule: &[u8], words: &[u32], i: usize) -> Progress
     requires { ⌜ HasRoom a 1 × (i < 4096) ⌝ }
     ensures { λ r. ⌜ LiteralsJudged (now (rule .entry)) (now (words .entry)) i 1 a r ⌝ }
 {
@@ -41,7 +44,7 @@ fn validate_literal(a: Answer, rule: &[u8], words: &[u32], i: usize) -> Answer
 }
 
 // The numbers from word `start` up to word `end`.
-fn validate_literals(a: Answer, rule: &[u8], words: &[u32], start: usize, end: usize) -> Answer
+fn validate_literals(a: Progress, rule: &[u8], words: &[u32], start: usize, end: usize) -> Progress
     requires { ⌜ HasRoom a (end - start) × (end ≤ 4096) ⌝ }
     ensures { λ r. ⌜ LiteralsJudged (now (rule .entry)) (now (words .entry)) start (end - start) a r ⌝ }
 {
@@ -62,12 +65,12 @@ fn is_observed(head: ConditionHead) -> bool
         ConditionHead::Literal(_) => false,
         ConditionHead::Many(_, _) => false,
         ConditionHead::Negation => false,
-        ConditionHead::One(op) => op == 19,
+        ConditionHead::One(op) => op == TRUTHY,
         ConditionHead::Two(op) => {
-            if op < 8 {
+            if op < EQ {
                 return false;
             }
-            op <= 15
+            op <= CONTAINS
         }
         ConditionHead::Comparison(_) => true,
         ConditionHead::Quantifier(_, _) => false,
@@ -76,13 +79,13 @@ fn is_observed(head: ConditionHead) -> bool
 
 // The numbers from word `start` up to word `end`, where they are the values of a condition that the pass looks into.
 fn validate_observed(
-    a: Answer,
+    a: Progress,
     rule: &[u8],
     words: &[u32],
     head: ConditionHead,
     start: usize,
     end: usize,
-) -> Answer
+) -> Progress
     requires { ⌜ HasRoom a (end - start) × (end ≤ 4096) ⌝ }
     ensures { λ r. ⌜ ObservedJudged (now (rule .entry)) (now (words .entry)) head start end a r ⌝ }
 {
@@ -95,12 +98,12 @@ fn validate_observed(
 // The numbers of the conditions from word `start` up to word `end`, and of all that these hold, in the order of the sheet. The value that a
 // quantifier walks is passed over.
 pub fn unobservable_condition_literals(
-    a: Answer,
+    a: Progress,
     rule: &[u8],
     words: &[u32],
     start: usize,
     end: usize,
-) -> Answer
+) -> Progress
     requires { ⌜ HasRoom a (end - start) × (end ≤ 4096) ⌝ }
     ensures { λ r. ⌜ ConditionLiterals (now (rule .entry)) (now (words .entry)) start end a r ⌝ }
 {

@@ -1,6 +1,6 @@
 // Where the words of an index lead.
 use rule::index::end_of;
-use sheet::rule::ConditionHead;
+use sheet::rule_heads::ConditionHead;
 ghost use Prim.Native.Nat.{_<_, _≤_};
 ghost use Rattle.value_checks.specs.Nodes.{Behind, ChildrenFrom};
 

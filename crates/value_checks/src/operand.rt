@@ -1,10 +1,10 @@
 // Operands: what a value is asked besides its references.
 use crate::node::behind;
 use crate::references::validate_references;
-use crate::verdict::Answer;
 use crate::verdict::Fault;
 use crate::verdict::InstantFault;
 use crate::verdict::Over;
+use crate::verdict::Progress;
 use crate::verdict::Side;
 use crate::verdict::fail;
 use crate::verdict::pass;
@@ -12,9 +12,11 @@ use rule::index::start_of;
 use scope::binder::Scope;
 use sheet::part::Part;
 use sheet::part::bytes_of;
-use sheet::rule::ValueHead;
-use sheet::rule::ValueRead;
-use sheet::rule::value_head;
+use sheet::rule_heads::AFTER;
+use sheet::rule_heads::STARTS_WITH;
+use sheet::rule_heads::ValueHead;
+use sheet::rule_heads::ValueRead;
+use sheet::rule_heads::value_head;
 use timestamp::Parsed;
 ghost use mathlib.Core.Path.{_≡_};
 ghost use Prim.Native.Nat.{_+_, _-_, _<_, _≤_};
@@ -89,7 +91,7 @@ fn instant_form(rule: &[u8], words: &[u32], i: usize) -> InstantRead
 }
 
 fn validate_instant(
-    a: Answer,
+    a: Progress,
     schema: &[u8],
     rule: &[u8],
     words: &[u32],
@@ -97,7 +99,7 @@ fn validate_instant(
     over: Over,
     start: usize,
     end: usize,
-) -> Answer
+) -> Progress
     requires { ⌜ HasRoom a (end - start + 1) × (start < 4096) × (end ≤ 4096) ⌝ }
     ensures { λ r. ⌜ OperandJudged (frame (now (schema .entry)) (now (rule .entry)) (now (words .entry)) scope over) instantOperand start end a r ⌝ }
 {
@@ -110,7 +112,7 @@ fn validate_instant(
 }
 
 fn validate_affix(
-    a: Answer,
+    a: Progress,
     schema: &[u8],
     rule: &[u8],
     words: &[u32],
@@ -118,7 +120,7 @@ fn validate_affix(
     over: Over,
     start: usize,
     end: usize,
-) -> Answer
+) -> Progress
     requires { ⌜ HasRoom a (end - start + 1) × (start < 4096) × (end ≤ 4096) ⌝ }
     ensures { λ r. ⌜ OperandJudged (frame (now (schema .entry)) (now (rule .entry)) (now (words .entry)) scope over) affixOperand start end a r ⌝ }
 {
@@ -132,7 +134,7 @@ fn validate_affix(
 
 // A side of a comparison: no array and no object, and this before its references.
 fn validate_side(
-    a: Answer,
+    a: Progress,
     schema: &[u8],
     rule: &[u8],
     words: &[u32],
@@ -141,7 +143,7 @@ fn validate_side(
     which: Side,
     start: usize,
     end: usize,
-) -> Answer
+) -> Progress
     requires { ⌜ HasRoom a (end - start + 1) × (start < 4096) × (end ≤ 4096) ⌝ }
     ensures { λ r. ⌜ OperandJudged (frame (now (schema .entry)) (now (rule .entry)) (now (words .entry)) scope over) (side which) start end a r ⌝ }
 {
@@ -154,7 +156,7 @@ fn validate_side(
 
 // An operand of a pair, by the operator's number: 6 before and 7 after, 16 starts_with and 17 ends_with, the others.
 fn validate_operand(
-    a: Answer,
+    a: Progress,
     schema: &[u8],
     rule: &[u8],
     words: &[u32],
@@ -163,14 +165,14 @@ fn validate_operand(
     op: usize,
     start: usize,
     end: usize,
-) -> Answer
+) -> Progress
     requires { ⌜ HasRoom a (end - start + 1) × (start < 4096) × (end ≤ 4096) ⌝ }
     ensures { λ r. ⌜ OperandJudged (frame (now (schema .entry)) (now (rule .entry)) (now (words .entry)) scope over) (operand op) start end a r ⌝ }
 {
-    if op <= 7 {
+    if op <= AFTER {
         return validate_instant(a, schema, rule, words, scope, over, start, end);
     }
-    if 16 <= op {
+    if STARTS_WITH <= op {
         return validate_affix(a, schema, rule, words, scope, over, start, end);
     }
     validate_references(a, schema, rule, words, scope, over, start, end)
@@ -178,7 +180,7 @@ fn validate_operand(
 
 // Both operands of a pair.
 pub fn validate_pair(
-    a: Answer,
+    a: Progress,
     schema: &[u8],
     rule: &[u8],
     words: &[u32],
@@ -187,7 +189,7 @@ pub fn validate_pair(
     op: usize,
     start: usize,
     end: usize,
-) -> Answer
+) -> Progress
     requires { ⌜ HasRoom a (end - start + 2) × (start ≤ end) × (end < 4096) ⌝ }
     ensures { λ r. ⌜ PairJudged (frame (now (schema .entry)) (now (rule .entry)) (now (words .entry)) scope over) (operand op) (operand op) start end a r ⌝ }
 {
@@ -198,7 +200,7 @@ pub fn validate_pair(
 
 // Both sides of a comparison.
 pub fn validate_comparison(
-    a: Answer,
+    a: Progress,
     schema: &[u8],
     rule: &[u8],
     words: &[u32],
@@ -206,7 +208,7 @@ pub fn validate_comparison(
     over: Over,
     start: usize,
     end: usize,
-) -> Answer
+) -> Progress
     requires { ⌜ HasRoom a (end - start + 2) × (start ≤ end) × (end < 4096) ⌝ }
     ensures { λ r. ⌜ PairJudged (frame (now (schema .entry)) (now (rule .entry)) (now (words .entry)) scope over) (side Side.Left) (side Side.Right) start end a r ⌝ }
 {

@@ -1,16 +1,16 @@
 // The references of a value: its strings that begin with `$`, but not with `$$`.
-use crate::verdict::Answer;
 use crate::verdict::Fault;
 use crate::verdict::Over;
+use crate::verdict::Progress;
 use crate::verdict::fail;
 use crate::verdict::pass;
 use rule::index::start_of;
 use scope::binder::Scope;
 use scope::references::validate_reference;
 use sheet::part::bytes_of;
-use sheet::rule::ValueHead;
-use sheet::rule::ValueRead;
-use sheet::rule::value_head;
+use sheet::rule_heads::ValueHead;
+use sheet::rule_heads::ValueRead;
+use sheet::rule_heads::value_head;
 use walk::answer::Readable;
 ghost use Prim.Native.Nat.{_-_, _<_, _≤_};
 ghost use Rattle.value_checks.specs.Verdicts.{HasRoom};
@@ -36,14 +36,14 @@ fn is_reference(text: &[u8]) -> bool
 
 // The entry of word `i`, if it is a reference.
 fn validate_value_reference(
-    a: Answer,
+    a: Progress,
     schema: &[u8],
     rule: &[u8],
     words: &[u32],
     scope: Scope,
     over: Over,
     i: usize,
-) -> Answer
+) -> Progress
     requires { ⌜ HasRoom a 1 × (i < 4096) ⌝ }
     ensures { λ r. ⌜ ReferencesIn (frame (now (schema .entry)) (now (rule .entry)) (now (words .entry)) scope over) i 1 a r ⌝ }
 {
@@ -71,7 +71,7 @@ fn validate_value_reference(
 
 // The references from word `start` up to word `end`, in the order of the sheet.
 pub fn validate_references(
-    a: Answer,
+    a: Progress,
     schema: &[u8],
     rule: &[u8],
     words: &[u32],
@@ -79,7 +79,7 @@ pub fn validate_references(
     over: Over,
     start: usize,
     end: usize,
-) -> Answer
+) -> Progress
     requires { ⌜ HasRoom a (end - start) × (end ≤ 4096) ⌝ }
     ensures { λ r. ⌜ ReferencesIn (frame (now (schema .entry)) (now (rule .entry)) (now (words .entry)) scope over) start (end - start) a r ⌝ }
 {

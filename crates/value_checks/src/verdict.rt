@@ -48,14 +48,14 @@ pub enum Verdict {
     Defect(Fault, usize, Over),
 }
 
-pub struct Answer {
+pub struct Progress {
     // The checks that passed, up to the first that does not.
     pub passed: usize,
     pub verdict: Verdict,
 }
 
 // One check more, which passes. A defect stays as it is.
-pub fn pass(a: Answer) -> Answer
+pub fn pass(a: Progress) -> Progress
     requires { ⌜ HasRoom a 1 ⌝ }
     ensures { λ r. ⌜ PassedOn a r ⌝ }
 {
@@ -63,28 +63,28 @@ pub fn pass(a: Answer) -> Answer
     let Verdict::Pass = verdict else {
         return a;
     };
-    Answer {
+    Progress {
         passed: a.passed + 1,
         verdict: Verdict::Pass,
     }
 }
 
 // One check more, which fails: the end. A defect stays as it is.
-pub fn fail(a: Answer, fault: Fault, place: usize, over: Over) -> Answer
+pub fn fail(a: Progress, fault: Fault, place: usize, over: Over) -> Progress
     ensures { λ r. ⌜ Failed a fault place over r ⌝ }
 {
     let verdict = a.verdict;
     let Verdict::Pass = verdict else {
         return a;
     };
-    Answer {
+    Progress {
         passed: a.passed,
         verdict: Verdict::Defect(fault, place, over),
     }
 }
 
 // One check more, which fails with the fault where `wrong` holds.
-pub fn require(a: Answer, wrong: bool, fault: Fault, place: usize, over: Over) -> Answer
+pub fn require(a: Progress, wrong: bool, fault: Fault, place: usize, over: Over) -> Progress
     requires { ⌜ HasRoom a 1 ⌝ }
     ensures { λ r. ⌜ Required a wrong fault place over r ⌝ }
 {

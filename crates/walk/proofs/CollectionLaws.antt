@@ -13,8 +13,8 @@ use Rattle.schema.specs.Slot.{SlotHolds, HolderAt, ElementAt, FieldParts, Parts
 use Rattle.schema.specs.Lookup.{FoundAt, LookedUp}
 use Rattle.walk.specs.Answers.{collectionDetail, FieldStepIs, CollectedIs}
 use Rattle.walk.specs.Steps.{FieldSteps, DeclaredElement, ElementOfField, ElementIs}
-use Rattle.schema.specs.declared.index.Element.{Element}
-use Rattle.schema.specs.declared.index.Element.the-variants as Element
+use Rattle.schema.specs.declared.index.ElementSlot.{ElementSlot}
+use Rattle.schema.specs.declared.index.ElementSlot.the-variants as ElementSlot
 use Rattle.schema.specs.declared.index.IndexedField.{IndexedField}
 use Rattle.schema.specs.declared.lookup.Found.{Found}
 use Rattle.schema.specs.declared.lookup.Found.the-variants as Found
@@ -119,24 +119,24 @@ module _ (sheet words s : List ℕ) (x : IndexedField) where
           (at .f, rw (step-object n k o tag items members s (sym (p .kinded) ∙ q), at .found), at .holds);
     }
 
-  item-known : (slot : ℕ) (items : Items) → ElementAt sheet words (Element.At slot) items → FieldStepIs sheet words (Into slot) (itemStep items)
+  item-known : (slot : ℕ) (items : Items) → ElementAt sheet words (ElementSlot.At slot) items → FieldStepIs sheet words (Into slot) (itemStep items)
   unfolding itemStep
   item-known slot absent h = absurd h
   item-known slot (element f) h = (f, refl, h)
 
-  item-open : (items : Items) → ElementAt sheet words Element.Absent items → itemStep items ≡ free
+  item-open : (items : Items) → ElementAt sheet words ElementSlot.Absent items → itemStep items ≡ free
   unfolding itemStep
   item-open absent h = refl
   item-open (element f) h = absurd h
 
-  pub field-item : (slot : ℕ) (b : Bool) → x .kind ≡ 6 → b ≡ isOrdinal s → b ≡ true → x .element ≡ Element.At slot → FieldSteps sheet words x s (Into slot)
+  pub field-item : (slot : ℕ) (b : Bool) → x .kind ≡ 6 → b ≡ isOrdinal s → b ≡ true → x .element ≡ ElementSlot.At slot → FieldSteps sheet words x s (Into slot)
   unfolding Ways
   field-item slot b q u v e = record {
     leads = each-way (Into slot) λ n k o tag items members p.
         rw (step-item n k o tag items members s (sym (p .kinded) ∙ q) (sym u ∙ v)) (item-known slot items (rw e at (p .elements)));
   }
 
-  pub field-any : (b : Bool) → x .kind ≡ 6 → b ≡ isOrdinal s → b ≡ true → x .element ≡ Element.Absent → FieldSteps sheet words x s Free
+  pub field-any : (b : Bool) → x .kind ≡ 6 → b ≡ isOrdinal s → b ≡ true → x .element ≡ ElementSlot.Absent → FieldSteps sheet words x s Free
   unfolding Ways
   field-any b q u v e = record {
     leads = each-way Free λ n k o tag items members p.
@@ -159,20 +159,20 @@ module _ (sheet words s : List ℕ) (x : IndexedField) where
 
 -- The element
 
-declared-known : (sheet words : List ℕ) (k : ℕ) (items : Items) → ElementAt sheet words (Element.At k) items → CollectedIs sheet words (Known k) (elementOr items)
+declared-known : (sheet words : List ℕ) (k : ℕ) (items : Items) → ElementAt sheet words (ElementSlot.At k) items → CollectedIs sheet words (Known k) (elementOr items)
 unfolding elementOr
 declared-known sheet words k absent h = absurd h
 declared-known sheet words k (element f) h = (f, refl, h)
 
-declared-open : (sheet words : List ℕ) (items : Items) → ElementAt sheet words Element.Absent items → elementOr items ≡ unknown
+declared-open : (sheet words : List ℕ) (items : Items) → ElementAt sheet words ElementSlot.Absent items → elementOr items ≡ unknown
 unfolding elementOr
 declared-open sheet words absent h = refl
 declared-open sheet words (element f) h = absurd h
 
-pub declared-at : (x : Element) (k : ℕ) → x ≡ Element.At k → DeclaredElement x (Known k)
+pub declared-at : (x : ElementSlot) (k : ℕ) → x ≡ ElementSlot.At k → DeclaredElement x (Known k)
 declared-at x k e = rw e (record { leads = λ sheet words items h. declared-known sheet words k items h })
 
-pub declared-none : (x : Element) → x ≡ Element.Absent → DeclaredElement x Unknown
+pub declared-none : (x : ElementSlot) → x ≡ ElementSlot.Absent → DeclaredElement x Unknown
 declared-none x e = rw e (record { leads = λ sheet words items h. declared-open sheet words items h })
 
 module _ (sheet words : List ℕ) (k : ℕ) (x : IndexedField) (held : IndexedIs sheet words k x) where

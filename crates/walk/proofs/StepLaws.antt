@@ -27,8 +27,8 @@ use Rattle.sheet.specs.declared.part.OptionalPart.the-variants as O
 use Rattle.sheet.specs.declared.order.ByteOrder.{ByteOrder}
 use Rattle.sheet.specs.declared.order.ByteOrder.the-variants as ByteOrder
 use Rattle.schema.specs.declared.index.Holder.{Holder}
-use Rattle.schema.specs.declared.index.Element.{Element}
-use Rattle.schema.specs.declared.index.Element.the-variants as Element
+use Rattle.schema.specs.declared.index.ElementSlot.{ElementSlot}
+use Rattle.schema.specs.declared.index.ElementSlot.the-variants as ElementSlot
 use Rattle.schema.specs.declared.index.IndexedField.{IndexedField}
 use Rattle.schema.specs.declared.lookup.Found.{Found}
 use Rattle.schema.specs.declared.lookup.Found.the-variants as Found
@@ -55,32 +55,32 @@ count-spelt r s e = e
 
 -- The element of an array
 
-item-known : (sheet words : List ℕ) (k : ℕ) (items : Items) → ElementAt sheet words (Element.At k) items → StepIs sheet words (Into k) (itemStep items)
+item-known : (sheet words : List ℕ) (k : ℕ) (items : Items) → ElementAt sheet words (ElementSlot.At k) items → StepIs sheet words (Into k) (itemStep items)
 unfolding itemStep
 item-known sheet words k absent h = absurd h
 item-known sheet words k (element f) h = (f, refl, h)
 
-item-open : (sheet words : List ℕ) (items : Items) → ElementAt sheet words Element.Absent items → itemStep items ≡ free
+item-open : (sheet words : List ℕ) (items : Items) → ElementAt sheet words ElementSlot.Absent items → itemStep items ≡ free
 unfolding itemStep
 item-open sheet words absent h = refl
 item-open sheet words (element f) h = absurd h
 
-pub item-into : (x : Element) (k : ℕ) → x ≡ Element.At k → ItemSteps x (Into k)
+pub item-into : (x : ElementSlot) (k : ℕ) → x ≡ ElementSlot.At k → ItemSteps x (Into k)
 item-into x k e = rw e (record { leads = λ sheet words items h. item-known sheet words k items h })
 
-pub item-free : (x : Element) → x ≡ Element.Absent → ItemSteps x Free
+pub item-free : (x : ElementSlot) → x ≡ ElementSlot.Absent → ItemSteps x Free
 item-free x e = rw e (record { leads = λ sheet words items h. item-open sheet words items h })
 
-pub array-count : (x : Element) (s : List ℕ) (b : Bool) → b ≡ isCount s → b ≡ true → ArraySteps x s (Leaf AfterCount)
+pub array-count : (x : ElementSlot) (s : List ℕ) (b : Bool) → b ≡ isCount s → b ≡ true → ArraySteps x s (Leaf AfterCount)
 unfolding arrayStep referenceDetail
 array-count x s b p q = record { leads = λ sheet words items h. rw (sym p ∙ q) }
 
-pub array-item : (x : Element) (s : List ℕ) (r : WalkStep) (b o : Bool) → b ≡ isCount s → b ≡ false → o ≡ isOrdinal s → o ≡ true → ItemSteps x r → ArraySteps x s r
+pub array-item : (x : ElementSlot) (s : List ℕ) (r : WalkStep) (b o : Bool) → b ≡ isCount s → b ≡ false → o ≡ isOrdinal s → o ≡ true → ItemSteps x r → ArraySteps x s r
 unfolding arrayStep
 array-item x s r b o p q u v m =
     record { leads = λ sheet words items h. rw (sym p ∙ q, sym u ∙ v) (m .leads sheet words items h) }
 
-pub array-other : (x : Element) (s : List ℕ) (b o : Bool) → b ≡ isCount s → b ≡ false → o ≡ isOrdinal s → o ≡ false → ArraySteps x s (Refuse ArrayMember)
+pub array-other : (x : ElementSlot) (s : List ℕ) (b o : Bool) → b ≡ isCount s → b ≡ false → o ≡ isOrdinal s → o ≡ false → ArraySteps x s (Refuse ArrayMember)
 unfolding arrayStep referenceDetail
 array-other x s b o p q u v = record { leads = λ sheet words items h. rw (sym p ∙ q, sym u ∙ v) }
 

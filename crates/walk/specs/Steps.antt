@@ -15,7 +15,7 @@ use Rattle.schema.specs.Slot.{SlotHolds, HolderAt, ElementAt, PartsOf}
 use Rattle.walk.specs.Answers.{StepIs, ReadableIs, FieldStepIs, CollectedIs}
 use Rattle.sheet.specs.declared.part.OptionalPart.{OptionalPart}
 use Rattle.schema.specs.declared.index.Holder.{Holder}
-use Rattle.schema.specs.declared.index.Element.{Element}
+use Rattle.schema.specs.declared.index.ElementSlot.{ElementSlot}
 use Rattle.schema.specs.declared.index.IndexedField.{IndexedField}
 use Rattle.walk.specs.declared.answer.WalkStep.{WalkStep}
 use Rattle.walk.specs.declared.answer.Readable.{Readable}
@@ -24,10 +24,10 @@ use Rattle.walk.specs.declared.answer.Collected.{Collected}
 
 -- One segment of a reference
 
-pub record ItemSteps (x : Element) (r : WalkStep) : Type 0 where
+pub record ItemSteps (x : ElementSlot) (r : WalkStep) : Type 0 where
   pub leads : (sheet words : List ℕ) (items : Items) → ElementAt sheet words x items → StepIs sheet words r (itemStep items)
 
-pub record ArraySteps (x : Element) (s : Text) (r : WalkStep) : Type 0 where
+pub record ArraySteps (x : ElementSlot) (s : Text) (r : WalkStep) : Type 0 where
   pub leads : (sheet words : List ℕ) (items : Items) → ElementAt sheet words x items → StepIs sheet words r (arrayStep items s)
 
 pub record MapSteps (s : Text) (r : WalkStep) : Type 0 where
@@ -78,7 +78,7 @@ pub record FieldsAt (sheet words : List ℕ) (k : ℕ) (path : Text) (r : Collec
   pub leads : (f : Field) → SlotHolds sheet words k f
       → CollectedIs sheet words r (travel fieldStep (split path .first ∷ split path .others) f)
 
-pub record DeclaredElement (x : Element) (r : Collected) : Type 0 where
+pub record DeclaredElement (x : ElementSlot) (r : Collected) : Type 0 where
   pub leads : (sheet words : List ℕ) (items : Items) → ElementAt sheet words x items → CollectedIs sheet words r (elementOr items)
 
 pub record ElementOfField (sheet words : List ℕ) (k : ℕ) (r : Collected) : Type 0 where

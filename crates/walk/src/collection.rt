@@ -5,16 +5,16 @@ use crate::answer::FieldStep;
 use crate::path::Dot;
 use crate::path::first_dot;
 use crate::path::is_ordinal;
-use crate::step::ARRAY;
-use crate::step::JSON;
-use crate::step::MAP;
-use crate::step::OBJECT;
-use crate::step::UNION;
-use schema::index::Element;
+use schema::index::ElementSlot;
 use schema::index::IndexedField;
 use schema::index::indexed_field;
 use schema::lookup::Found;
 use schema::lookup::lookup;
+use sheet::schema_heads::ARRAY;
+use sheet::schema_heads::JSON;
+use sheet::schema_heads::MAP;
+use sheet::schema_heads::OBJECT;
+use sheet::schema_heads::UNION;
 ghost use Rattle.walk.specs.Steps.{FieldSteps, LastField, FieldsAt, DeclaredElement, ElementOfField, ElementIs};
 
 fn field_step(schema: &[u8], words: &[u32], field: IndexedField, segment: &[u8]) -> FieldStep
@@ -40,7 +40,7 @@ fn field_step(schema: &[u8], words: &[u32], field: IndexedField, segment: &[u8])
     if kind == ARRAY {
         if is_ordinal(segment) {
             let element = field.element;
-            let Element::At(slot) = element else {
+            let ElementSlot::At(slot) = element else {
                 return FieldStep::Free;
             };
             return FieldStep::Into(slot);
@@ -76,12 +76,12 @@ pub fn field_at(schema: &[u8], words: &[u32], slot: usize, path: &[u8]) -> Colle
     }
 }
 
-fn declared_element(element: Element) -> Collected
+fn declared_element(element: ElementSlot) -> Collected
     ensures { λ r. ⌜ DeclaredElement element r ⌝ }
 {
     match element {
-        Element::At(slot) => Collected::Known(slot),
-        Element::Absent => Collected::Unknown,
+        ElementSlot::At(slot) => Collected::Known(slot),
+        ElementSlot::Absent => Collected::Unknown,
     }
 }
 

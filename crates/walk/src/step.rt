@@ -5,13 +5,19 @@ use crate::answer::WalkStep;
 use crate::path::is_count;
 use crate::path::is_ordinal;
 use crate::path::same_bytes;
-use schema::index::Element;
+use schema::index::ElementSlot;
 use schema::index::Holder;
 use schema::index::IndexedField;
 use schema::lookup::Found;
 use schema::lookup::lookup;
 use sheet::part::OptionalPart;
 use sheet::part::bytes_of;
+use sheet::schema_heads::ARRAY;
+use sheet::schema_heads::JSON;
+use sheet::schema_heads::MAP;
+use sheet::schema_heads::OBJECT;
+use sheet::schema_heads::STRING;
+use sheet::schema_heads::UNION;
 ghost use mathlib.Core.Path.{_≡_};
 ghost use Rattle.reference.specs.Walk.{isTag, contentKey};
 ghost use Rattle.sheet.specs.Order.{sameBytes};
@@ -19,30 +25,17 @@ ghost use Rattle.sheet.specs.Parts.{optionalOf};
 ghost use Rattle.walk.specs.Answers.{readerIs};
 ghost use Rattle.walk.specs.Steps.{ItemSteps, ArraySteps, MapSteps, UnionSteps, MemberSteps, TextSteps, ScalarSteps, ServiceSteps, WalkSteps};
 
-// The kinds of fields that a walk tells apart; docs/FORMAT.md, "The schema sheet".
-pub const STRING: usize = 1;
-
-pub const ARRAY: usize = 6;
-
-pub const OBJECT: usize = 7;
-
-pub const JSON: usize = 8;
-
-pub const MAP: usize = 10;
-
-pub const UNION: usize = 11;
-
 // An element that the schema does not declare may be anything.
-fn item_step(element: Element) -> WalkStep
+fn item_step(element: ElementSlot) -> WalkStep
     ensures { λ r. ⌜ ItemSteps element r ⌝ }
 {
     match element {
-        Element::At(slot) => WalkStep::Into(slot),
-        Element::Absent => WalkStep::Free,
+        ElementSlot::At(slot) => WalkStep::Into(slot),
+        ElementSlot::Absent => WalkStep::Free,
     }
 }
 
-fn array_step(element: Element, segment: &[u8]) -> WalkStep
+fn array_step(element: ElementSlot, segment: &[u8]) -> WalkStep
     ensures { λ r. ⌜ ArraySteps element (now (segment .entry)) r ⌝ }
 {
     if is_count(segment) {

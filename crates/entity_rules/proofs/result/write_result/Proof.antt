@@ -2,7 +2,7 @@
 use Rattle.entity_rules.proofs.Writing.{result-short, result-written, small-numbers}
 use native.Mathlib.Omega.{arith}
 use Rattle.validator.specs.Outcomes.{numbersBy}
-use Rattle.entity_rules.specs.Bytes.{Small}
+use Rattle.entity_rules.specs.Bytes.{InFourBytes}
 use Rattle.entity_rules.specs.Entry.{fieldsOf}
 use borrow.Author.Needs.{needs}
 use Rattle.entity_rules.proofs.result.write_result.Statement.{statement}
@@ -38,7 +38,7 @@ same-length c = search needs
 returns-2 : tie.Need-returns-2
 returns-2 c =
     let good = c .before .before .before .before .before .before .before .before .before .before .before .before .before .before .before .before .before .before .before .before .before .before .before .before .before .before .before .before .before .before .good .0 in
-    let small : Small (fieldsOf (numbersBy (c .before .before .before .before .before .before .before .before .before .before .before .before .before .before .before .before .before .before .before .before .before .before .before .before .before .before .before .before .before .before .args .o))) = search (small-numbers, needs) in
+    let small : InFourBytes (fieldsOf (numbersBy (c .before .before .before .before .before .before .before .before .before .before .before .before .before .before .before .before .before .before .before .before .before .before .before .before .before .before .before .before .before .before .args .o))) = search (small-numbers, needs) in
     let seventh = c .before .before in
     let sixth = seventh .before .before .before .before in
     let fifth = sixth .before .before .before .before in

@@ -31,7 +31,7 @@ use Rattle.value_checks.proofs.verdict.pass.Reads as pass-reads
 use Rattle.value_checks.proofs.verdict.require.Reads as require-reads
 use Rattle.rule.proofs.index.start_of.Reads as start-of-reads
 use Rattle.sheet.proofs.part.bytes_of.Reads as bytes-of-reads
-use Rattle.sheet.proofs.rule.condition_head.Reads as condition-head-reads
+use Rattle.sheet.proofs.rule_heads.condition_head.Reads as condition-head-reads
 use Rattle.judge.proofs.body.+validate_condition_body+validate_conditions+validate_quantifier.{
   statement,
 }

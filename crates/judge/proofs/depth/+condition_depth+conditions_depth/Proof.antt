@@ -15,7 +15,7 @@ use Rattle.judge.proofs.depth.greater.Reads as greater-reads
 use Rattle.value_checks.proofs.node.behind.Reads as behind-reads
 use Rattle.value_checks.proofs.node.children_from.Reads as children-from-reads
 use Rattle.rule.proofs.index.start_of.Reads as start-of-reads
-use Rattle.sheet.proofs.rule.condition_head.Reads as condition-head-reads
+use Rattle.sheet.proofs.rule_heads.condition_head.Reads as condition-head-reads
 use Rattle.judge.proofs.depth.+condition_depth+conditions_depth.{statement}
 use Rattle.judge.proofs.depth.+condition_depth+conditions_depth.Tie.{close}
 

@@ -6,8 +6,8 @@ use denote.Enum.Laws as EL
 use denote.Triple.Spec.{tripleOf}
 use denote.Triple.Table.{entered, cited}
 use Rattle.sheet.specs.Places.{ConditionIs}
-use Rattle.sheet.proofs.rule.ConditionRead as E
-use Rattle.sheet.proofs.rule.ConditionRead.Laws as E′
+use Rattle.sheet.proofs.rule_heads.ConditionRead as E
+use Rattle.sheet.proofs.rule_heads.ConditionRead.Laws as E′
 use Rattle.lines.specs.Ends.{conditionEnd}
 use Rattle.lines.proofs.Passing.{Next}
 use Rattle.lines.proofs.Lending.{New, head-meets}

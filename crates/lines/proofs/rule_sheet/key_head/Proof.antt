@@ -6,8 +6,8 @@ use denote.Enum.Laws as EL
 use denote.Triple.Spec.{tripleOf}
 use denote.Triple.Table.{entered, cited}
 use Rattle.sheet.specs.Places.{KeyIs}
-use Rattle.sheet.proofs.rule.KeyRead as E
-use Rattle.sheet.proofs.rule.KeyRead.Laws as E′
+use Rattle.sheet.proofs.rule_heads.KeyRead as E
+use Rattle.sheet.proofs.rule_heads.KeyRead.Laws as E′
 use Rattle.lines.specs.Ends.{keyEnd}
 use Rattle.lines.proofs.Passing.{Next}
 use Rattle.lines.proofs.Lending.{New, head-meets}

@@ -6,8 +6,8 @@ use denote.Enum.Laws as EL
 use denote.Triple.Spec.{tripleOf}
 use denote.Triple.Table.{entered, cited}
 use Rattle.sheet.specs.Places.{RuleIs}
-use Rattle.sheet.proofs.rule.RuleRead as E
-use Rattle.sheet.proofs.rule.RuleRead.Laws as E′
+use Rattle.sheet.proofs.rule_heads.RuleHeadRead as E
+use Rattle.sheet.proofs.rule_heads.RuleHeadRead.Laws as E′
 use Rattle.lines.specs.Ends.{ruleEnd}
 use Rattle.lines.proofs.Passing.{Next}
 use Rattle.lines.proofs.Lending.{New, head-meets}

@@ -6,8 +6,8 @@ use denote.Enum.Laws as EL
 use denote.Triple.Spec.{tripleOf}
 use denote.Triple.Table.{entered, cited}
 use Rattle.sheet.specs.Places.{ValueIs}
-use Rattle.sheet.proofs.rule.ValueRead as E
-use Rattle.sheet.proofs.rule.ValueRead.Laws as E′
+use Rattle.sheet.proofs.rule_heads.ValueRead as E
+use Rattle.sheet.proofs.rule_heads.ValueRead.Laws as E′
 use Rattle.lines.specs.Ends.{valueEnd}
 use Rattle.lines.proofs.Passing.{Next}
 use Rattle.lines.proofs.Lending.{New, head-meets}

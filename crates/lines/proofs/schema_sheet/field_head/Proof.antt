@@ -6,8 +6,8 @@ use denote.Enum.Laws as EL
 use denote.Triple.Spec.{tripleOf}
 use denote.Triple.Table.{entered, cited}
 use Rattle.sheet.specs.Places.{FieldIs}
-use Rattle.sheet.proofs.schema.FieldRead as E
-use Rattle.sheet.proofs.schema.FieldRead.Laws as E′
+use Rattle.sheet.proofs.schema_heads.FieldRead as E
+use Rattle.sheet.proofs.schema_heads.FieldRead.Laws as E′
 use Rattle.lines.specs.Ends.{fieldEnd}
 use Rattle.lines.proofs.Passing.{Next}
 use Rattle.lines.proofs.Lending.{New, head-meets}

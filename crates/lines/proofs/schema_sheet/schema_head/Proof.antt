@@ -6,8 +6,8 @@ use denote.Enum.Laws as EL
 use denote.Triple.Spec.{tripleOf}
 use denote.Triple.Table.{entered, cited}
 use Rattle.sheet.specs.Places.{SchemaIs}
-use Rattle.sheet.proofs.schema.SchemaRead as E
-use Rattle.sheet.proofs.schema.SchemaRead.Laws as E′
+use Rattle.sheet.proofs.schema_heads.SchemaHeadRead as E
+use Rattle.sheet.proofs.schema_heads.SchemaHeadRead.Laws as E′
 use Rattle.lines.specs.Ends.{schemaEnd}
 use Rattle.lines.proofs.Passing.{Next}
 use Rattle.lines.proofs.Lending.{New, head-meets}

@@ -21,7 +21,7 @@ use Rattle.rule.proofs.condition.+read_condition+read_conditions.Lts-re
 use Rattle.rule.proofs.condition.operands_of.Reads as operands-of-reads
 use Rattle.rule.proofs.cursor.word_of.Reads as word-of-reads
 use Rattle.rule.proofs.value.read_values.Reads as read-values-reads
-use Rattle.sheet.proofs.rule.condition_head.Reads as condition-head-reads
+use Rattle.sheet.proofs.rule_heads.condition_head.Reads as condition-head-reads
 use Rattle.rule.proofs.condition.+read_condition+read_conditions.{statement}
 use Rattle.rule.proofs.condition.+read_condition+read_conditions.Tie.{close}
 

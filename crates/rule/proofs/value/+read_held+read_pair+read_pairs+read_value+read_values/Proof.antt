@@ -38,8 +38,8 @@ use Rattle.rule.proofs.cursor.word_of.Reads as word-of-reads
 use Rattle.rule.proofs.value.cost_of.Reads as cost-of-reads
 use Rattle.rule.proofs.value.held_by.Reads as held-by-reads
 use Rattle.rule.proofs.value.is_next_key.Reads as is-next-key-reads
-use Rattle.sheet.proofs.rule.key_head.Reads as key-head-reads
-use Rattle.sheet.proofs.rule.value_head.Reads as value-head-reads
+use Rattle.sheet.proofs.rule_heads.key_head.Reads as key-head-reads
+use Rattle.sheet.proofs.rule_heads.value_head.Reads as value-head-reads
 use Rattle.rule.proofs.value.+read_held+read_pair+read_pairs+read_value+read_values.{statement}
 use Rattle.rule.proofs.value.+read_held+read_pair+read_pairs+read_value+read_values.Tie.{close}
 

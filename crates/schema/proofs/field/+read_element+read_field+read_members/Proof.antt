@@ -9,7 +9,7 @@ use borrow.Fn.Kinds.{In}
 use borrow.Fn.PlainCycle.{Measures, is, falls, and}
 use Rattle.sheet.specs.Places.{fieldOf}
 use Rattle.sheet.proofs.part.bytes_of.Reads as bytes-of-reads
-use Rattle.sheet.proofs.schema.field_head.Reads as field-head-reads
+use Rattle.sheet.proofs.schema_heads.field_head.Reads as field-head-reads
 use Rattle.definition.specs.Decode.{toCount}
 use Rattle.schema.specs.Fields.{ahead}
 use Rattle.schema.specs.Index.{maxSlots}

@@ -1,0 +1,354 @@
+// The entries of a rule sheet.
+use crate::entry;
+use crate::entry::LengthRead;
+use crate::entry::MAX_COUNT;
+use crate::entry::MAX_TEXT;
+use crate::entry::OptionalRead;
+use crate::numeral::NumeralRead;
+use crate::part;
+use crate::part::OptionalPart;
+use crate::part::Part;
+ghost use mathlib.Core.Path.{_≡_};
+ghost use Rattle.sheet.specs.Entries.{shapeOf};
+ghost use Rattle.sheet.specs.Pieces.{shapeFor, leastOf, mostOf, bindLength, conditionFrom, kindOf, mostOfKind, textLengthOf, isRight, valueFrom};
+ghost use Rattle.sheet.specs.Places.{RuleTextsAre, RuleIs, ConditionIs, ValueIs, KeyIs};
+
+// Operators that the checks tell apart, by their numbers (docs/FORMAT.md, "The rule sheet").
+pub const LITERAL: usize = 1;
+
+pub const NOT: usize = 4;
+
+pub const AFTER: usize = 7;
+
+pub const EQ: usize = 8;
+
+pub const CONTAINS: usize = 15;
+
+pub const STARTS_WITH: usize = 16;
+
+pub const COMPARE: usize = 18;
+
+pub const TRUTHY: usize = 19;
+
+pub enum RuleHead {
+    // The name and the message.
+    Rule(OptionalPart, OptionalPart),
+    Template,
+}
+
+pub enum RuleHeadRead {
+    // The head, and the place behind it.
+    Is(RuleHead, usize),
+    Bad,
+}
+
+// A condition's head by what follows it; the first number is the operator's where there are several.
+pub enum ConditionHead {
+    Literal(bool),
+    // An operator, and how many conditions follow.
+    Many(usize, usize),
+    Negation,
+    One(usize),
+    Two(usize),
+    // Which comparison.
+    Comparison(usize),
+    // An operator, and the bind.
+    Quantifier(usize, Part),
+}
+
+pub enum ConditionRead {
+    // The head, and the place behind it.
+    Is(ConditionHead, usize),
+    Bad,
+}
+
+pub enum ValueHead {
+    // 1 null, 2 false, 3 true.
+    Constant(usize),
+    Number(Part),
+    Text(Part),
+    // How many values follow.
+    Array(usize),
+    // How many keys follow, each with its value.
+    Object(usize),
+}
+
+pub enum ValueRead {
+    // The head, and the place behind it.
+    Is(ValueHead, usize),
+    Bad,
+}
+
+pub enum KeyRead {
+    // The key, and the place behind its entry.
+    Is(Part, usize),
+    Bad,
+}
+
+// What follows an operator (docs/FORMAT.md, "The rule sheet").
+enum Shape {
+    Literal,
+    Many,
+    Negation,
+    One,
+    Two,
+    Comparison,
+    Quantifier,
+}
+
+// What follows a value's type.
+enum ValueKind {
+    Constant,
+    Number,
+    Text,
+    Array,
+    Object,
+}
+
+// A rule's entry behind its letter.
+fn rule_texts(s: &[u8], at: usize) -> RuleHeadRead
+    ensures { λ r. ⌜ RuleTextsAre (now (s .entry)) at r ⌝ }
+{
+    let LengthRead::Is(name_len, a) = entry::text_length(s, at) else {
+        return RuleHeadRead::Bad;
+    };
+    let LengthRead::Is(message_len, b) = entry::text_length(s, a) else {
+        return RuleHeadRead::Bad;
+    };
+    if entry::starts_with(s, b, b',') {
+        let OptionalRead::Is(name, c) = entry::optional_text(s, b + 1, name_len) else {
+            return RuleHeadRead::Bad;
+        };
+        let OptionalRead::Is(message, end) = entry::optional_text(s, c, message_len) else {
+            return RuleHeadRead::Bad;
+        };
+        if entry::starts_with(s, end, b'\n') {
+            return RuleHeadRead::Is(RuleHead::Rule(name, message), end + 1);
+        }
+    }
+    RuleHeadRead::Bad
+}
+
+pub fn rule_head(s: &[u8], at: usize) -> RuleHeadRead
+    ensures { λ r. ⌜ RuleIs (now (s .entry)) at r ⌝ }
+{
+    if entry::starts_with(s, at, b'R') {
+        return rule_texts(s, at + 1);
+    }
+    if entry::starts_with(s, at, b'T') {
+        if entry::starts_with(s, at + 1, b'\n') {
+            return RuleHeadRead::Is(RuleHead::Template, at + 2);
+        }
+    }
+    RuleHeadRead::Bad
+}
+
+// What follows an operator.
+fn shape_of(op: usize) -> Shape
+    ensures { λ r. ⌜ shapeFor r ≡ shapeOf op ⌝ }
+{
+    if op <= 1 {
+        return Shape::Literal;
+    }
+    if op <= 3 {
+        return Shape::Many;
+    }
+    if op <= 4 {
+        return Shape::Negation;
+    }
+    if op <= 5 {
+        return Shape::One;
+    }
+    if op <= 17 {
+        return Shape::Two;
+    }
+    if op <= 18 {
+        return Shape::Comparison;
+    }
+    if op <= 19 {
+        return Shape::One;
+    }
+    Shape::Quantifier
+}
+
+// The least number that may stand behind the operator.
+fn least(shape: Shape) -> u32
+    ensures { λ r. ⌜ r ≡ leastOf (shapeFor shape) ⌝ }
+{
+    match shape {
+        Shape::Literal => 0,
+        Shape::Many => 0,
+        Shape::Negation => 0,
+        Shape::One => 0,
+        Shape::Two => 0,
+        Shape::Comparison => 1,
+        Shape::Quantifier => 0,
+    }
+}
+
+// The greatest number that may stand behind the operator.
+fn most(shape: Shape) -> u32
+    ensures { λ r. ⌜ r ≡ mostOf (shapeFor shape) ⌝ }
+{
+    match shape {
+        Shape::Literal => 1,
+        Shape::Many => MAX_COUNT,
+        Shape::Negation => 0,
+        Shape::One => 0,
+        Shape::Two => 0,
+        Shape::Comparison => 6,
+        Shape::Quantifier => MAX_TEXT,
+    }
+}
+
+// The length of the text behind the number `n`.
+fn bind_len(shape: Shape, n: usize) -> usize
+    ensures { λ r. ⌜ r ≡ bindLength (shapeFor shape) n ⌝ }
+{
+    match shape {
+        Shape::Literal => 0,
+        Shape::Many => 0,
+        Shape::Negation => 0,
+        Shape::One => 0,
+        Shape::Two => 0,
+        Shape::Comparison => 0,
+        Shape::Quantifier => n,
+    }
+}
+
+fn condition_from(shape: Shape, op: usize, n: usize, bind: Part) -> ConditionHead
+    ensures { λ r. ⌜ r ≡ conditionFrom op n bind (shapeFor shape) ⌝ }
+{
+    match shape {
+        Shape::Literal => ConditionHead::Literal(n == 1),
+        Shape::Many => ConditionHead::Many(op, n),
+        Shape::Negation => ConditionHead::Negation,
+        Shape::One => ConditionHead::One(op),
+        Shape::Two => ConditionHead::Two(op),
+        Shape::Comparison => ConditionHead::Comparison(n),
+        Shape::Quantifier => ConditionHead::Quantifier(op, bind),
+    }
+}
+
+pub fn condition_head(s: &[u8], at: usize) -> ConditionRead
+    ensures { λ r. ⌜ ConditionIs (now (s .entry)) at r ⌝ }
+{
+    let NumeralRead::Is(op, behind) = entry::first(s, at, b'C', 1, 21) else {
+        return ConditionRead::Bad;
+    };
+    let shape = shape_of(op);
+    let NumeralRead::Is(n, end) = entry::item(s, behind, least(shape), most(shape)) else {
+        return ConditionRead::Bad;
+    };
+    let len = bind_len(shape, n);
+    if entry::is_last_text(s, end, len) {
+        let start = end + 1;
+        let head = condition_from(shape, op, n, Part { start, len });
+        return ConditionRead::Is(head, start + len + 1);
+    }
+    ConditionRead::Bad
+}
+
+// Which kind of value the type's number says.
+fn kind_of(number: usize) -> ValueKind
+    ensures { λ r. ⌜ r ≡ kindOf number ⌝ }
+{
+    if number <= 3 {
+        return ValueKind::Constant;
+    }
+    if number <= 4 {
+        return ValueKind::Number;
+    }
+    if number <= 5 {
+        return ValueKind::Text;
+    }
+    if number <= 6 {
+        return ValueKind::Array;
+    }
+    ValueKind::Object
+}
+
+// The greatest number that may stand behind the type.
+fn most_of(kind: ValueKind) -> u32
+    ensures { λ r. ⌜ r ≡ mostOfKind kind ⌝ }
+{
+    match kind {
+        ValueKind::Constant => 0,
+        ValueKind::Number => MAX_TEXT,
+        ValueKind::Text => MAX_TEXT,
+        ValueKind::Array => MAX_COUNT,
+        ValueKind::Object => MAX_COUNT,
+    }
+}
+
+// The length of the text behind the number `n`.
+fn text_len(kind: ValueKind, n: usize) -> usize
+    ensures { λ r. ⌜ r ≡ textLengthOf kind n ⌝ }
+{
+    match kind {
+        ValueKind::Constant => 0,
+        ValueKind::Number => n,
+        ValueKind::Text => n,
+        ValueKind::Array => 0,
+        ValueKind::Object => 0,
+    }
+}
+
+// The text of a number is one.
+fn is_right(kind: ValueKind, text: &[u8]) -> bool
+    ensures { λ r. ⌜ r ≡ isRight kind (now (text .entry)) ⌝ }
+{
+    match kind {
+        ValueKind::Constant => true,
+        ValueKind::Number => number::is_number(text),
+        ValueKind::Text => true,
+        ValueKind::Array => true,
+        ValueKind::Object => true,
+    }
+}
+
+fn value_from(kind: ValueKind, number: usize, n: usize, text: Part) -> ValueHead
+    ensures { λ r. ⌜ r ≡ valueFrom kind number n text ⌝ }
+{
+    match kind {
+        ValueKind::Constant => ValueHead::Constant(number),
+        ValueKind::Number => ValueHead::Number(text),
+        ValueKind::Text => ValueHead::Text(text),
+        ValueKind::Array => ValueHead::Array(n),
+        ValueKind::Object => ValueHead::Object(n),
+    }
+}
+
+pub fn value_head(s: &[u8], at: usize) -> ValueRead
+    ensures { λ r. ⌜ ValueIs (now (s .entry)) at r ⌝ }
+{
+    let NumeralRead::Is(number, behind) = entry::first(s, at, b'V', 1, 7) else {
+        return ValueRead::Bad;
+    };
+    let kind = kind_of(number);
+    let NumeralRead::Is(n, end) = entry::item(s, behind, 0, most_of(kind)) else {
+        return ValueRead::Bad;
+    };
+    let len = text_len(kind, n);
+    if entry::is_last_text(s, end, len) {
+        let start = end + 1;
+        let text = Part { start, len };
+        if is_right(kind, part::bytes_of(s, text)) {
+            return ValueRead::Is(value_from(kind, number, n, text), start + len + 1);
+        }
+    }
+    ValueRead::Bad
+}
+
+pub fn key_head(s: &[u8], at: usize) -> KeyRead
+    ensures { λ r. ⌜ KeyIs (now (s .entry)) at r ⌝ }
+{
+    let NumeralRead::Is(len, end) = entry::first(s, at, b'K', 0, MAX_TEXT) else {
+        return KeyRead::Bad;
+    };
+    if entry::is_last_text(s, end, len) {
+        let start = end + 1;
+        return KeyRead::Is(Part { start, len }, start + len + 1);
+    }
+    KeyRead::Bad
+}

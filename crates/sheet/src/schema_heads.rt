@@ -1,0 +1,265 @@
+// The entries of a schema sheet.
+use crate::entry;
+use crate::entry::Length;
+use crate::entry::LengthRead;
+use crate::entry::MAX_COUNT;
+use crate::entry::MAX_TEXT;
+use crate::entry::MarkRead;
+use crate::entry::OptionalRead;
+use crate::numeral::NumeralRead;
+use crate::part::OptionalPart;
+use crate::part::Part;
+ghost use mathlib.Core.Path.{_≡_};
+ghost use Rattle.sheet.specs.Places.{HolderIs, ArgumentsAre, SchemaIs, FieldMarksAre, FieldTextsAre, FieldIs, tagAt, KnownFieldIs};
+
+// The kinds of fields that a walk tells apart; docs/FORMAT.md, "The schema sheet".
+pub const STRING: usize = 1;
+
+pub const ARRAY: usize = 6;
+
+pub const OBJECT: usize = 7;
+
+pub const JSON: usize = 8;
+
+pub const MAP: usize = 10;
+
+pub const UNION: usize = 11;
+
+// The open mark and the field count of the record or of the arguments.
+pub struct HolderHead {
+    pub opened: bool,
+    pub count: usize,
+}
+
+pub enum HolderRead {
+    // The head, and the place behind it.
+    Is(HolderHead, usize),
+    Bad,
+}
+
+pub enum Arguments {
+    Are(HolderHead),
+    Absent,
+}
+
+pub enum ArgumentsRead {
+    // The head, and the place behind it.
+    Is(Arguments, usize),
+    Bad,
+}
+
+pub struct SchemaHead {
+    pub fields: HolderHead,
+    pub arguments: Arguments,
+}
+
+pub enum SchemaHeadRead {
+    // The head, and the place behind it.
+    Is(SchemaHead, usize),
+    Bad,
+}
+
+pub struct FieldMarks {
+    pub kind: usize,
+    pub opened: bool,
+    // Whether an element follows.
+    pub items: bool,
+    // How many fields follow below this one.
+    pub count: usize,
+}
+
+pub enum FieldMarksRead {
+    // The marks, and the place behind them.
+    Are(FieldMarks, usize),
+    Bad,
+}
+
+pub struct FieldTexts {
+    pub name: Part,
+    pub tag: OptionalPart,
+}
+
+pub enum FieldTextsRead {
+    // The texts, and the place behind them.
+    Are(FieldTexts, usize),
+    Bad,
+}
+
+pub struct FieldHead {
+    pub kind: usize,
+    pub opened: bool,
+    // Whether an element follows.
+    pub items: bool,
+    // How many fields follow below this one.
+    pub count: usize,
+    pub name: Part,
+    pub tag: OptionalPart,
+}
+
+pub enum FieldRead {
+    // The head, and the place behind it.
+    Is(FieldHead, usize),
+    Bad,
+}
+
+pub enum KnownField {
+    Is(FieldHead),
+    // The entry is no field's.
+    Bad,
+}
+
+fn holder_head(s: &[u8], at: usize) -> HolderRead
+    ensures { λ r. ⌜ HolderIs (now (s .entry)) at r ⌝ }
+{
+    let MarkRead::Is(opened, behind) = entry::mark(s, at) else {
+        return HolderRead::Bad;
+    };
+    let NumeralRead::Is(count, next) = entry::item(s, behind, 0, MAX_COUNT) else {
+        return HolderRead::Bad;
+    };
+    HolderRead::Is(HolderHead { opened, count }, next)
+}
+
+fn arguments_head(s: &[u8], at: usize) -> ArgumentsRead
+    ensures { λ r. ⌜ ArgumentsAre (now (s .entry)) at r ⌝ }
+{
+    if entry::is_dashed(s, at) {
+        let NumeralRead::Is(_, next) = entry::item(s, at + 2, 0, 0) else {
+            return ArgumentsRead::Bad;
+        };
+        return ArgumentsRead::Is(Arguments::Absent, next);
+    }
+    let HolderRead::Is(head, next) = holder_head(s, at) else {
+        return ArgumentsRead::Bad;
+    };
+    ArgumentsRead::Is(Arguments::Are(head), next)
+}
+
+pub fn schema_head(s: &[u8], at: usize) -> SchemaHeadRead
+    ensures { λ r. ⌜ SchemaIs (now (s .entry)) at r ⌝ }
+{
+    if entry::starts_with(s, at, b'H') {
+        let HolderRead::Is(fields, behind) = holder_head(s, at + 1) else {
+            return SchemaHeadRead::Bad;
+        };
+        let ArgumentsRead::Is(arguments, end) = arguments_head(s, behind) else {
+            return SchemaHeadRead::Bad;
+        };
+        if entry::starts_with(s, end, b'\n') {
+            return SchemaHeadRead::Is(SchemaHead { fields, arguments }, end + 1);
+        }
+    }
+    SchemaHeadRead::Bad
+}
+
+// A field's entry up to its count.
+fn field_marks(s: &[u8], at: usize) -> FieldMarksRead
+    ensures { λ r. ⌜ FieldMarksAre (now (s .entry)) at r ⌝ }
+{
+    let NumeralRead::Is(kind, a) = entry::first(s, at, b'F', 1, 12) else {
+        return FieldMarksRead::Bad;
+    };
+    let MarkRead::Is(opened, b) = entry::mark(s, a) else {
+        return FieldMarksRead::Bad;
+    };
+    let MarkRead::Is(items, c) = entry::mark(s, b) else {
+        return FieldMarksRead::Bad;
+    };
+    let NumeralRead::Is(count, next) = entry::item(s, c, 0, MAX_COUNT) else {
+        return FieldMarksRead::Bad;
+    };
+    FieldMarksRead::Are(
+        FieldMarks {
+            kind,
+            opened,
+            items,
+            count,
+        },
+        next,
+    )
+}
+
+// A field's entry behind its count.
+fn field_texts(s: &[u8], at: usize) -> FieldTextsRead
+    ensures { λ r. ⌜ FieldTextsAre (now (s .entry)) at r ⌝ }
+{
+    let NumeralRead::Is(len, a) = entry::item(s, at, 0, MAX_TEXT) else {
+        return FieldTextsRead::Bad;
+    };
+    let LengthRead::Is(tag_len, b) = entry::text_length(s, a) else {
+        return FieldTextsRead::Bad;
+    };
+    if entry::starts_with(s, b, b',') {
+        let start = b + 1;
+        if entry::is_text(s, start, len) {
+            let OptionalRead::Is(tag, end) = entry::optional_text(s, start + len, tag_len) else {
+                return FieldTextsRead::Bad;
+            };
+            if entry::starts_with(s, end, b'\n') {
+                let name = Part { start, len };
+                return FieldTextsRead::Are(FieldTexts { name, tag }, end + 1);
+            }
+        }
+    }
+    FieldTextsRead::Bad
+}
+
+pub fn field_head(s: &[u8], at: usize) -> FieldRead
+    ensures { λ r. ⌜ FieldIs (now (s .entry)) at r ⌝ }
+{
+    let FieldMarksRead::Are(marks, behind) = field_marks(s, at) else {
+        return FieldRead::Bad;
+    };
+    let FieldTextsRead::Are(texts, next) = field_texts(s, behind) else {
+        return FieldRead::Bad;
+    };
+    let name = texts.name;
+    let tag = texts.tag;
+    FieldRead::Is(
+        FieldHead {
+            kind: marks.kind,
+            opened: marks.opened,
+            items: marks.items,
+            count: marks.count,
+            name,
+            tag,
+        },
+        next,
+    )
+}
+
+// A tag of that length whose first byte is at `at`.
+fn tag_at(at: usize, len: Length) -> OptionalPart
+    ensures { λ r. ⌜ r ≡ tagAt at len ⌝ }
+{
+    match len {
+        Length::Of(n) => OptionalPart::Is(Part { start: at, len: n }),
+        Length::Absent => OptionalPart::Absent,
+    }
+}
+
+// The head of an entry that was read before: its texts are known to be UTF-8 and are not looked at again.
+pub fn known_field(s: &[u8], at: usize) -> KnownField
+    ensures { λ r. ⌜ KnownFieldIs (now (s .entry)) at r ⌝ }
+{
+    let FieldMarksRead::Are(marks, behind) = field_marks(s, at) else {
+        return KnownField::Bad;
+    };
+    let NumeralRead::Is(len, a) = entry::item(s, behind, 0, MAX_TEXT) else {
+        return KnownField::Bad;
+    };
+    let LengthRead::Is(tag_len, b) = entry::text_length(s, a) else {
+        return KnownField::Bad;
+    };
+    let start = b + 1;
+    let name = Part { start, len };
+    let tag = tag_at(start + len, tag_len);
+    KnownField::Is(FieldHead {
+        kind: marks.kind,
+        opened: marks.opened,
+        items: marks.items,
+        count: marks.count,
+        name,
+        tag,
+    })
+}
