@@ -25,7 +25,7 @@ use Rattle.rule.specs.Read as RuleKept
 use Rattle.validation.specs.Check.{isNone, checks}
 use Rattle.validation.specs.Judge.{Verdict, allPass, failsAt, judge}
 use Rattle.validation.specs.Result as Result
-use Rattle.validation.specs.Result.{Call, Answer, maxLabelBytes, pathBytes, scratchWords, isTaken, settingFor, isOfSheets, early, ofSheets, firstRefusal, answerOf, checked, judged, refusedOr, resultOf, keptScratch, ScratchAfter}
+use Rattle.validation.specs.Result.{Call, Answer, maxLabelBytes, pathBytes, scratchWords, isTaken, settingFor, isOfSheets, ofSettings, early, ofSheets, firstRefusal, answerOf, checked, judged, refusedOr, resultOf, keptScratch, ScratchAfter}
 use Rattle.validation.specs.RefusalLaws.{none-due, sheets-first}
 use Rattle.validator.specs.Answers.{Tells}
 use Rattle.validator.specs.Sheets.{takesOf, takenOf, sheetAnswer, FrontOnly, SheetChecked}
@@ -98,7 +98,7 @@ set true e = refl
 set false e = sym e
 
 pub roomy : (c : Call) → firstRefusal (early c) ≡ none → Roomy c
-unfolding early
+unfolding early ofSettings
 roomy c h =
     let due = none-due (early c) h in
     let labelled = set (leb (length (c .asked .label)) maxLabelBytes && isUtf8 (c .asked .label)) (due .1 .0) in
