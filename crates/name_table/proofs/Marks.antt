@@ -1,138 +1,65 @@
--- The laws of a table's entry at a place of the bytes: each way through the code's readers.
+-- The entry of a kind at a place of the bytes: each way through the code's readers, by the laws of one reader behind another.
 use Prim.Native.Nat.{ℕ, _+_}
 use native.Mathlib.Omega.{arith}
-use mathlib.Core.Bool.{Bool}
 use mathlib.Core.List.{List}
-use mathlib.Core.Path.{_≡_, refl}
-use Rattle.sheet.specs.Reader.{Reader, _>>=_, andThen, pure}
-use Rattle.sheet.specs.Entries.{byte, item, mark}
+use mathlib.Core.Path.{_≡_}
+use Rattle.sheet.specs.Reader.{Reader, _>>=_, _>>_, andThen, pure}
+use Rattle.sheet.specs.Entries.{byte, item}
 use Rattle.sheet.specs.Places.{ReadsTo, Refuses}
+use Rattle.sheet.proofs.Chains.{then-refused, then-refuses, then-reads}
 use Rattle.reference.specs.Table as Table
-use Rattle.reference.specs.Table.{rowMarks}
-use Rattle.scope.specs.Names.{rowBy}
-use Rattle.scope.specs.declared.name.Row.{Row}
+use Rattle.reference.specs.Table.{rowMarks, tableEntry}
 
--- One reader behind another, which is told what the first one read.
+-- The second reader is told what the first one read.
 
-module _ {A B : Type 0} (p : Reader (List ℕ) A) (k : A → Reader (List ℕ) B) {s : List ℕ} {at : ℕ} where
-  pub bind-refused : Refuses p s at → Refuses (p >>= k) s at
+module _ {A B : Type 0} (p : Reader (List ℕ) A) (k : A → Reader (List ℕ) B) where
+  pub bind-refused : (s : List ℕ) (at : ℕ) → Refuses p s at → Refuses (p >>= k) s at
   unfolding _>>=_ andThen
-  bind-refused e = rw e
+  bind-refused s at e = rw e
 
-  pub bind-refuses : {a : A} {mid : ℕ} → ReadsTo p s at a mid → Refuses (k a) s mid → Refuses (p >>= k) s at
+  pub bind-refuses : {s : List ℕ} {at mid : ℕ} {a : A} → ReadsTo p s at a mid → Refuses (k a) s mid → Refuses (p >>= k) s at
   unfolding _>>=_ andThen
   bind-refuses e f = rw (e .reads) f
 
-  pub bind-reads : {a : A} {b : B} {mid next : ℕ} → ReadsTo p s at a mid → ReadsTo (k a) s mid b next → ReadsTo (p >>= k) s at b next
+  -- the next one, in front of what is left, refuses
+  pub bind-stops : {C : Type 0} (q : Reader (List ℕ) C) (l : C → Reader (List ℕ) B) {s : List ℕ} {at mid : ℕ} {a : A} → ReadsTo p s at a mid → k a ≡ (q >>= l) → Refuses q s mid → Refuses (p >>= k) s at
+  unfolding _>>=_ andThen
+  bind-stops q l e same f = rw (e .reads, same, f)
+
+  pub bind-reads : {s : List ℕ} {at mid next : ℕ} {a : A} {b : B} → ReadsTo p s at a mid → ReadsTo (k a) s mid b next → ReadsTo (p >>= k) s at b next
   unfolding _>>=_ andThen
   bind-reads e f = record { reads = rw (e .reads) (f .reads); past = omega (arith, e .past, f .past); within = f .within }
 
-pub bind-pure : {A B : Type 0} (p : Reader (List ℕ) A) (f : A → B) {s : List ℕ} {at : ℕ} {a : A} {next : ℕ} → ReadsTo p s at a next → ReadsTo (p >>= λ x. pure (f x)) s at (f a) next
+pub bind-pure : {A B : Type 0} (p : Reader (List ℕ) A) (f : A → B) {s : List ℕ} {at next : ℕ} {a : A} → ReadsTo p s at a next → ReadsTo (p >>= λ x. pure (f x)) s at (f a) next
 unfolding _>>=_ andThen pure
 bind-pure p f e = record { reads = rw (e .reads); past = e .past; within = e .within }
 
--- Nine marks.
+then-pure : {A B : Type 0} (p : Reader (List ℕ) A) (b : B) {s : List ℕ} {at next : ℕ} {a : A} → ReadsTo p s at a next → ReadsTo (p >> pure b) s at b next
+unfolding _>>_ _>>=_ andThen pure
+then-pure p b e = record { reads = rw (e .reads); past = e .past; within = e .within }
 
-pub marks-no-1 : {s : List ℕ} {a0 : ℕ}
-    → Refuses mark s a0
-    → Refuses rowMarks s a0
-unfolding rowMarks
-marks-no-1 e = bind-refused _ _ e
+-- `N`, the kind, the marks, the end of the line
+module _ (kind : ℕ) where
+  pub entry-no-letter : (s : List ℕ) (at : ℕ) → Refuses (byte 78) s at → Refuses (tableEntry kind) s at
+  unfolding tableEntry
+  entry-no-letter s at e = then-refused _ _ s at e
 
-pub marks-no-2 : {s : List ℕ} {a0 a1 : ℕ} {id : Bool}
-    → ReadsTo mark s a0 id a1
-    → Refuses mark s a1
-    → Refuses rowMarks s a0
-unfolding rowMarks
-marks-no-2 m1 e = bind-refuses _ _ m1 (bind-refused _ _ e)
+  module _ {s : List ℕ} {at : ℕ} {u : Unit {0}} (letter : ReadsTo (byte 78) s at u (at + 1)) where
+    pub entry-no-kind : Refuses (item kind kind) s (at + 1) → Refuses (tableEntry kind) s at
+    unfolding tableEntry
+    entry-no-kind e = then-refuses _ _ letter (then-refused _ _ s (at + 1) e)
 
-pub marks-no-3 : {s : List ℕ} {a0 a1 a2 : ℕ} {id entity : Bool}
-    → ReadsTo mark s a0 id a1
-    → ReadsTo mark s a1 entity a2
-    → Refuses mark s a2
-    → Refuses rowMarks s a0
-unfolding rowMarks
-marks-no-3 m1 m2 e = bind-refuses _ _ m1 (bind-refuses _ _ m2 (bind-refused _ _ e))
+    module _ {n behind : ℕ} (number : ReadsTo (item kind kind) s (at + 1) n behind) where
+      pub entry-no-marks : Refuses rowMarks s behind → Refuses (tableEntry kind) s at
+      unfolding tableEntry
+      entry-no-marks e = then-refuses _ _ letter (then-refuses _ _ number (bind-refused _ _ s behind e))
 
-pub marks-no-4 : {s : List ℕ} {a0 a1 a2 a3 : ℕ} {id entity version : Bool}
-    → ReadsTo mark s a0 id a1
-    → ReadsTo mark s a1 entity a2
-    → ReadsTo mark s a2 version a3
-    → Refuses mark s a3
-    → Refuses rowMarks s a0
-unfolding rowMarks
-marks-no-4 m1 m2 m3 e = bind-refuses _ _ m1 (bind-refuses _ _ m2 (bind-refuses _ _ m3 (bind-refused _ _ e)))
+      module _ {row : Table.Row} {end : ℕ} (marks : ReadsTo rowMarks s behind row end) where
+        pub entry-no-end : Refuses (byte 10) s end → Refuses (tableEntry kind) s at
+        unfolding tableEntry
+        entry-no-end e =
+            then-refuses _ _ letter (then-refuses _ _ number (bind-refuses _ _ marks (then-refused _ _ s end e)))
 
-pub marks-no-5 : {s : List ℕ} {a0 a1 a2 a3 a4 : ℕ} {id entity version fields : Bool}
-    → ReadsTo mark s a0 id a1
-    → ReadsTo mark s a1 entity a2
-    → ReadsTo mark s a2 version a3
-    → ReadsTo mark s a3 fields a4
-    → Refuses mark s a4
-    → Refuses rowMarks s a0
-unfolding rowMarks
-marks-no-5 m1 m2 m3 m4 e = bind-refuses _ _ m1 (bind-refuses _ _ m2 (bind-refuses _ _ m3 (bind-refuses _ _ m4 (bind-refused _ _ e))))
-
-pub marks-no-6 : {s : List ℕ} {a0 a1 a2 a3 a4 a5 : ℕ} {id entity version fields state : Bool}
-    → ReadsTo mark s a0 id a1
-    → ReadsTo mark s a1 entity a2
-    → ReadsTo mark s a2 version a3
-    → ReadsTo mark s a3 fields a4
-    → ReadsTo mark s a4 state a5
-    → Refuses mark s a5
-    → Refuses rowMarks s a0
-unfolding rowMarks
-marks-no-6 m1 m2 m3 m4 m5 e = bind-refuses _ _ m1 (bind-refuses _ _ m2 (bind-refuses _ _ m3 (bind-refuses _ _ m4 (bind-refuses _ _ m5 (bind-refused _ _ e)))))
-
-pub marks-no-7 : {s : List ℕ} {a0 a1 a2 a3 a4 a5 a6 : ℕ} {id entity version fields state target : Bool}
-    → ReadsTo mark s a0 id a1
-    → ReadsTo mark s a1 entity a2
-    → ReadsTo mark s a2 version a3
-    → ReadsTo mark s a3 fields a4
-    → ReadsTo mark s a4 state a5
-    → ReadsTo mark s a5 target a6
-    → Refuses mark s a6
-    → Refuses rowMarks s a0
-unfolding rowMarks
-marks-no-7 m1 m2 m3 m4 m5 m6 e = bind-refuses _ _ m1 (bind-refuses _ _ m2 (bind-refuses _ _ m3 (bind-refuses _ _ m4 (bind-refuses _ _ m5 (bind-refuses _ _ m6 (bind-refused _ _ e))))))
-
-pub marks-no-8 : {s : List ℕ} {a0 a1 a2 a3 a4 a5 a6 a7 : ℕ} {id entity version fields state target source : Bool}
-    → ReadsTo mark s a0 id a1
-    → ReadsTo mark s a1 entity a2
-    → ReadsTo mark s a2 version a3
-    → ReadsTo mark s a3 fields a4
-    → ReadsTo mark s a4 state a5
-    → ReadsTo mark s a5 target a6
-    → ReadsTo mark s a6 source a7
-    → Refuses mark s a7
-    → Refuses rowMarks s a0
-unfolding rowMarks
-marks-no-8 m1 m2 m3 m4 m5 m6 m7 e = bind-refuses _ _ m1 (bind-refuses _ _ m2 (bind-refuses _ _ m3 (bind-refuses _ _ m4 (bind-refuses _ _ m5 (bind-refuses _ _ m6 (bind-refuses _ _ m7 (bind-refused _ _ e)))))))
-
-pub marks-no-9 : {s : List ℕ} {a0 a1 a2 a3 a4 a5 a6 a7 a8 : ℕ} {id entity version fields state target source args : Bool}
-    → ReadsTo mark s a0 id a1
-    → ReadsTo mark s a1 entity a2
-    → ReadsTo mark s a2 version a3
-    → ReadsTo mark s a3 fields a4
-    → ReadsTo mark s a4 state a5
-    → ReadsTo mark s a5 target a6
-    → ReadsTo mark s a6 source a7
-    → ReadsTo mark s a7 args a8
-    → Refuses mark s a8
-    → Refuses rowMarks s a0
-unfolding rowMarks
-marks-no-9 m1 m2 m3 m4 m5 m6 m7 m8 e = bind-refuses _ _ m1 (bind-refuses _ _ m2 (bind-refuses _ _ m3 (bind-refuses _ _ m4 (bind-refuses _ _ m5 (bind-refuses _ _ m6 (bind-refuses _ _ m7 (bind-refuses _ _ m8 (bind-refused _ _ e))))))))
-
-pub marks-read : {s : List ℕ} {a0 a1 a2 a3 a4 a5 a6 a7 a8 a9 : ℕ} {id entity version fields state target source args old : Bool}
-    → ReadsTo mark s a0 id a1
-    → ReadsTo mark s a1 entity a2
-    → ReadsTo mark s a2 version a3
-    → ReadsTo mark s a3 fields a4
-    → ReadsTo mark s a4 state a5
-    → ReadsTo mark s a5 target a6
-    → ReadsTo mark s a6 source a7
-    → ReadsTo mark s a7 args a8
-    → ReadsTo mark s a8 old a9
-    → ReadsTo rowMarks s a0 (rowBy (record { id = id; entity = entity; version = version; fields = fields; state = state; target = target; source = source; args = args; old = old })) a9
-unfolding rowMarks rowBy
-marks-read m1 m2 m3 m4 m5 m6 m7 m8 m9 = bind-reads _ _ m1 (bind-reads _ _ m2 (bind-reads _ _ m3 (bind-reads _ _ m4 (bind-reads _ _ m5 (bind-reads _ _ m6 (bind-reads _ _ m7 (bind-reads _ _ m8 (bind-pure _ _ m9))))))))
+        pub entry-reads : {v : Unit {0}} {next : ℕ} → ReadsTo (byte 10) s end v next → ReadsTo (tableEntry kind) s at row next
+        unfolding tableEntry
+        entry-reads e = then-reads _ _ letter (then-reads _ _ number (bind-reads _ _ marks (then-pure _ row e)))

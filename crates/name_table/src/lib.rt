@@ -1,5 +1,5 @@
 // The name table (docs/FORMAT.md, "The name table"): which kinds may read which names, as a caller lends it.
 pub mod read; // read.rt: a table, entry by entry
-mod load; // load.rt: a table copied to a lent buffer
+mod loading; // loading.rt: a table copied to a lent buffer
 
-pub use load::load;
+pub use loading::load;

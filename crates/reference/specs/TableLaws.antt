@@ -1,11 +1,11 @@
--- A name table takes 176 bytes: eight entries of 22.
+-- A name table takes 176 bytes: eight entries of 22. And the stock table sets a call as document 01 does.
 use Prim.Native.Nat.{ℕ, zero, suc, _+_, _*_, _≤_}
 use native.Mathlib.Omega.{arith}
 use mathlib.Core.Bool.{Bool}
-use mathlib.Core.List.{List, [], _∷_, _++_}
+use mathlib.Core.List.{List, [], _∷_}
 use mathlib.Core.Option.{Option, none, some, Option·none-ne-some}
 use mathlib.Core.Path.{_≡_, refl, ap, _∙_}
-use lib.ListN.{length, length-append}
+use lib.ListN.{length, take, length-append}
 use borrow.Author.Tests.{lt-ltb}
 use Rattle.sheet.specs.Ascii.{ascii}
 use Rattle.sheet.specs.Numeral.{decimalIn, decimalOf}
@@ -13,7 +13,8 @@ use Rattle.sheet.specs.Entries.{byte, item, mark}
 use Rattle.sheet.specs.Write.{writeItem}
 use Rattle.sheet.specs.ReaderLaws.{Reads, bind-inv, then-inv, pure-inv}
 use Rattle.sheet.specs.ItemLaws.{byte-sound, item-exact}
-use Rattle.reference.specs.Table.{Row, rowMarks, tableEntry, rows, alone, decodeTable, tableBytes}
+use Rattle.reference.specs.Setting.{Name, id, entity, version, fields, state, toState, fromState, args, oldFields, stock, settingWith, settingOf}
+use Rattle.reference.specs.Table.{Row, mayReadBy, rowMarks, tableEntry, rows, alone, decodeTable, stockRow, stockTable, tableBytes, tableIn, rowOf, settingUnder}
 
 byte-bytes : (b : ℕ) (s : List ℕ) (a : Unit {0}) (t : List ℕ) → Reads (byte b) s a t → length s ≡ 1 + length t
 byte-bytes b s a t e = ap length (byte-sound b s a t e) ∙ omega arith
@@ -81,3 +82,42 @@ alone-inv (some (x, b ∷ s)) table e = absurd (Option·none-ne-some _ e)
 pub table-bytes : (s : List ℕ) (table : List Row) → decodeTable s ≡ some table → length s ≡ tableBytes
 unfolding decodeTable
 table-bytes s table e = rows-bytes 8 1 s table [] (omega arith) (alone-inv (rows 8 1 s) table e)
+
+-- bytes of which some are there: the first 176 are looked at
+pub table-in : (s : List ℕ) → 1 ≤ length s → tableIn s ≡ decodeTable (take tableBytes s)
+unfolding tableIn
+table-in [] h = absurd (omega arith)
+table-in (b ∷ s) h = refl
+
+-- The stock table: each kind has the row that document 01 gives it.
+
+pub stock-row : (kind : ℕ) → rowOf stockTable kind ≡ stockRow kind
+unfolding rowOf stockTable
+stock-row zero = refl
+stock-row (suc zero) = refl
+stock-row (suc (suc zero)) = refl
+stock-row (suc (suc (suc zero))) = refl
+stock-row (suc (suc (suc (suc zero)))) = refl
+stock-row (suc (suc (suc (suc (suc zero))))) = refl
+stock-row (suc (suc (suc (suc (suc (suc zero)))))) = refl
+stock-row (suc (suc (suc (suc (suc (suc (suc zero))))))) = refl
+stock-row (suc (suc (suc (suc (suc (suc (suc (suc zero)))))))) = refl
+stock-row (suc (suc (suc (suc (suc (suc (suc (suc (suc n))))))))) = refl
+
+marks-of-stock : (kind : ℕ) (n : Name) → mayReadBy (stockRow kind) n ≡ stock kind n
+unfolding mayReadBy stockRow
+marks-of-stock kind id = refl
+marks-of-stock kind entity = refl
+marks-of-stock kind version = refl
+marks-of-stock kind fields = refl
+marks-of-stock kind state = refl
+marks-of-stock kind toState = refl
+marks-of-stock kind fromState = refl
+marks-of-stock kind args = refl
+marks-of-stock kind oldFields = refl
+
+pub stock-setting : (kind semantics : ℕ) → settingUnder stockTable kind semantics ≡ settingOf kind semantics
+unfolding settingUnder settingOf
+stock-setting kind semantics =
+    ap (λ (mayRead : Name → Bool). settingWith mayRead kind semantics)
+    (ap mayReadBy (stock-row kind) ∙ (λ i n. marks-of-stock kind n i))

@@ -1,5 +1,5 @@
--- From kernel/1 to service: a rule or template that is accepted under kernel/1 is accepted under service/1, 2 and 3 with the same sheets, kind and
--- label, if each number that the literal pass meets is finite and the second call's buffers meet no refusal. Each of those numbers is one check more.
+-- From kernel/1 to service: a rule or template that is accepted under kernel/1 is accepted under service/1, 2 and 3 with the same sheets, kind,
+-- label and table, if each number that the literal pass meets is finite and the second call's buffers meet no refusal. Each of those numbers is one check more.
 use Prim.Native.Nat.{ℕ, _+_, _≤_}
 use mathlib.Core.Option.{none, some}
 use mathlib.Core.Path.{_≡_, refl, ap, sym, _∙_}

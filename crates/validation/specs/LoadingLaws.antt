@@ -1,8 +1,8 @@
 -- A table that is loaded is the table of every later call that is lent the buffer.
-use Prim.Native.Nat.{ℕ, _≤_}
+use Prim.Native.Nat.{ℕ}
 use native.Mathlib.Omega.{arith}
 use mathlib.Core.Bool.{Bool, true, false, not, cond, _||_}
-use mathlib.Core.List.{List, [], _∷_}
+use mathlib.Core.List.{List}
 use mathlib.Core.Option.{none, some}
 use mathlib.Core.Path.{_≡_, refl, ap, _∙_}
 use lib.ListN.{length, take}
@@ -10,7 +10,7 @@ use lib.Seq.{sets, sets-eq, length-sets, take-at}
 use lib.Dec.{leb}
 use borrow.Author.Tests.{leb-true}
 use Rattle.reference.specs.Table.{tableBytes, decodeTable, tableIn, isSoundTable}
-use Rattle.reference.specs.TableLaws.{table-bytes}
+use Rattle.reference.specs.TableLaws.{table-bytes, table-in}
 use Rattle.validation.specs.Check.{isNone}
 use Rattle.validation.specs.Result.{ofTable, firstRefusal, numberIn}
 use Rattle.validation.specs.RefusalLaws.{first-none, present, is-set}
@@ -25,12 +25,6 @@ neither-due false false e = (refl, refl)
 or-false : (b c : Bool) → (b || c) ≡ false → (b ≡ false) × (c ≡ false)
 or-false true c e = (e, absurd (let z : _≡_ {A = ℕ} 0 1 = cc in omega arith))
 or-false false c e = (refl, e)
-
--- bytes of which some are there, and of which the first 176 are a table
-table-in : (s : List ℕ) → 1 ≤ length s → tableIn s ≡ decodeTable (take tableBytes s)
-unfolding tableIn
-table-in [] h = absurd (omega arith)
-table-in (b ∷ s) h = refl
 
 pub loaded : (table before : List ℕ)
     → loadNumber table (length before) ≡ 0

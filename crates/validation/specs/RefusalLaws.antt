@@ -183,6 +183,11 @@ unfolding refusals
 none-of-either c e =
     neither (firstRefusal (early c)) (firstRefusal (ofSheets c)) (sym (first-append (early c) (ofSheets c)) ∙ e)
 
+pub no-setting-due : (c : Call) → firstRefusal (early c) ≡ none → firstRefusal (ofSettings (c .asked) (c .lent)) ≡ none
+unfolding early
+no-setting-due c e =
+    neither _ _ (sym (first-append (ofSettings (c .asked) (c .lent)) (ofTable (c .table))) ∙ e) .0
+
 -- a refusal of a sheet is due among the sheets'
 pub sheet-refused : (c : Call) (n : ℕ) → isOfSheets n ≡ true → firstRefusal (refusals c) ≡ some n → firstRefusal (ofSheets c) ≡ some n
 unfolding refusals

@@ -2,17 +2,22 @@
 use Prim.Native.Nat.{ℕ, _≤_, _<_}
 use mathlib.Core.Bool.{Bool, true, false, not, _&&_}
 use mathlib.Core.List.{List, [], _∷_}
-use mathlib.Core.Path.{_≡_, sym, ap, _∙_}
+use mathlib.Core.Option.{none, some}
+use mathlib.Core.Path.{_≡_, refl, sym, ap, _∙_}
 use lib.Dec.{leb, eqb}
 use lib.ListN.{length}
 use borrow.Author.Tests.{le-leb, lt-leb}
 use Rattle.text.specs.Utf8.{isUtf8}
-use Rattle.reference.specs.Setting.{oneOf, stock, kernel, settingOf}
+use Rattle.reference.specs.Setting as Reference
+use Rattle.reference.specs.Setting.{oneOf, kernel}
+use Rattle.reference.specs.Table.{tableIn, settingUnder, orStock, isSoundTable}
 use Rattle.scope.specs.Names.{mayReadBy}
 use Rattle.scope.specs.declared.name.Row.{Row}
+use Rattle.validation.specs.Check.{isNone}
 use Rattle.validation.specs.Result.{isWithin, maxLabelBytes, pathBytes, scratchWords, ofTable, ofSettings, firstRefusal}
 use Rattle.validation.specs.RefusalLaws.{number-due, number-later, none-left}
-use Rattle.validator.specs.Settings.{EarlyIs, settingBy}
+use Rattle.name_table.specs.Tables.{HasRow}
+use Rattle.validator.specs.Settings.{EarlyIs, settingBy, settingIn}
 
 pub and-le : {a b : ℕ} {q r : Bool} → a ≤ b → r ≡ q → r ≡ (leb a b && q)
 and-le {a} {b} h e = rw (le-leb a b h) e
