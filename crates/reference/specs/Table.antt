@@ -5,7 +5,7 @@ use mathlib.Core.Bool.{Bool, true, false, not, _&&_, _||_}
 use mathlib.Core.List.{List, [], _∷_, map}
 use mathlib.Core.Option.{Option, none, some}
 use lib.ListN.{take, getD}
-use Rattle.sheet.specs.Reader.{Reader, pure}
+use Rattle.sheet.specs.Reader.{Reader, _>>=_, _>>_, pure}
 use Rattle.sheet.specs.Entries.{letter, lineEnd, item, mark}
 use Rattle.reference.specs.Setting.{Name, id, entity, version, fields, state, toState, fromState, args, oldFields, stock, Setting, settingWith}
 
