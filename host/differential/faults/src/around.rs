@@ -1,8 +1,8 @@
 
 /// The faulty model's answer, in the types of the model that it is a copy of.
 pub fn answer(call: &differential::model::Call) -> differential::model::Answer {
-    let &differential::model::Call { kind, semantics, label, schema, rule, path_len, scratch_len } = call;
-    own(check(&Call { kind, semantics, label, schema, rule, path_len, scratch_len }))
+    let &differential::model::Call { kind, semantics, label, table, schema, rule, path_len, scratch_len } = call;
+    own(check(&Call { kind, semantics, label, table, schema, rule, path_len, scratch_len }))
 }
 
 /// The same for a key.
