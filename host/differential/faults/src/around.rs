@@ -11,6 +11,12 @@ pub fn key_answer(call: &differential::model::KeyCall) -> differential::model::A
     own(check_key(&KeyCall { semantics, reader, path, schema, scratch_len }))
 }
 
+/// The same for a table to load: the number, and what is left of a buffer of zeros.
+pub fn load_answer(table: &[u8], buffer_len: usize) -> (u32, Vec<u8>) {
+    let mut buffer = vec![0; buffer_len];
+    (load_table(table, &mut buffer), buffer)
+}
+
 fn own(answer: Answer) -> differential::model::Answer {
     let Answer { number, family, detail, place, over_place, passed, path } = answer;
     differential::model::Answer { number, family, detail, place, over_place, passed, path }

@@ -50,12 +50,13 @@ pub enum Quoted {
     Side,
 }
 
-/// Kind, semantics and label of a call that none of the refusals 1 to 5 answers.
+/// Kind, semantics, label and table of a call that no refusal answers.
 #[derive(Clone, Copy)]
 pub struct Frame<'a> {
     pub kind: u64,
     pub semantics: u64,
     pub label: &'a str,
+    pub table: &'a [u8],
 }
 
 /// The schemas in the Rust's types, for many rules under one schema.
@@ -75,6 +76,7 @@ pub fn ask(frame: Frame<'_>, schemas: &Schemas, sheet: &Sheet) -> Result<Verdict
         fields: &schemas.0.fields,
         args: schemas.0.args.as_ref(),
         label: frame.label,
+        table: convert::table(frame.table),
     };
     let answer = catch_unwind(AssertUnwindSafe(|| call(sheet, &setting)));
     match answer {
