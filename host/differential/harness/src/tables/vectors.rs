@@ -13,7 +13,7 @@ use differential::model::Answer;
 use std::collections::BTreeSet;
 
 /// No case of the list has larger sheets than this.
-const MAX_SHEETS_BYTES: usize = 200;
+const MAX_SHEETS_BYTES: usize = 260;
 
 /// How many generated cases the lists have besides the edges.
 const GENERATED: usize = 1_000;
@@ -52,8 +52,8 @@ fn head(cases: usize, seed: u64) -> String {
          # replaced by the table where that is not the stock one; number, places and passed count are those of the model beside it. Refusals are\n\
          # the model's alone. The library answers the same through rulecheck_check.\n\
          # A case is a line with thirteen numbers parted by commas: kind, semantics, the byte counts of label, table, schema sheet and rule sheet,\n\
-         # and the seven numbers of the answer. Then come label, table, both sheets and the path, and a line end. Lines that begin with # stand\n\
-         # here only, before the first case.\n"
+         # and the seven numbers of the answer. Then come the label, a line end, table, both sheets and the path, and a line end. Lines that begin\n\
+         # with # stand here only, before the first case.\n"
     )
 }
 
@@ -93,7 +93,7 @@ impl List {
         let counts = [label, table, schema, rule].map(|part| part.len().to_string()).join(",");
         let told = numbers(&answer).map(|number| number.to_string()).join(",");
         let line = format!("{kind},{semantics},{counts},{told}\n");
-        let written = [line.as_bytes(), label, table, schema, rule, &answer.path, b"\n"].concat();
+        let written = [line.as_bytes(), label, b"\n", table, schema, rule, &answer.path, b"\n"].concat();
         if self.seen.insert(written.clone()) {
             self.tally.count(&held);
             self.bytes.extend_from_slice(&written);
