@@ -1,18 +1,9 @@
 //! From the trees of the sheets to the Rust's own types.
 
-use differential::model::table;
 use differential::trees;
-use entity_core::validation::entry::Table;
 use entity_core::{CompareOp, Comparison, Condition, FieldDefinition, FieldKind, ObjectSchema, Quantifier, RuleDefinition};
 use serde_json::{Number, Value};
 use std::collections::BTreeMap;
-
-/// The marks that stand in place of the Rust's name test; none for the stock table, under which the Rust is asked as it is.
-pub fn table(lent: &[u8]) -> Option<Table> {
-    let is_stock = lent.is_empty() || lent.starts_with(&table::Table::stock().write());
-    let mark = |row: usize, mark: usize| lent.get(row * 22 + 4 + 2 * mark) == Some(&b'1');
-    (!is_stock).then(|| [0, 1, 2, 3, 4, 5, 6, 7].map(|row| [0, 1, 2, 3, 4, 5, 6, 7, 8].map(|name| mark(row, name))))
-}
 
 pub struct Schemas {
     pub fields: ObjectSchema,
