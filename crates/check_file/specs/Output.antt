@@ -11,6 +11,7 @@ unfoldable pub callFor : Parts → Call
 callFor p =
     record {
       asked = record { takes = any; kind = p .kind; semantics = p .semantics; label = p .label; rule = p .rule };
+      table = [];
       schema = p .schema;
       lent = record { path = pathBytes; scratch = scratchWords };
     }

@@ -32,19 +32,19 @@ lent-within path result =
     by-test (leb resultBytes result) (λ e. omega (arith, lent-all path result (leb-true resultBytes result e)))
     (λ e. omega (arith, lent-nothing path result (leb-false resultBytes result e)))
 
-module _ (takes : Result.Takes) (kind semantics : ℕ) (label schema rule : List ℕ) where
+module _ (takes : Result.Takes) (kind semantics : ℕ) (label table schema rule : List ℕ) where
   -- what is too large for a setting may be cut down to 9
   cut-down : (pathLength resultLength : ℕ)
-      → entryAnswer takes (min kind 9) (min semantics 9) label schema rule pathLength resultLength
-      ≡ entryAnswer takes kind semantics label schema rule pathLength resultLength
+      → entryAnswer takes (min kind 9) (min semantics 9) label table schema rule pathLength resultLength
+      ≡ entryAnswer takes kind semantics label table schema rule pathLength resultLength
   unfolding entryAnswer entryCall capped
-  cut-down p r = capped-same 9 (entryCall takes kind semantics label schema rule p r) (omega arith)
+  cut-down p r = capped-same 9 (entryCall takes kind semantics label table schema rule p r) (omega arith)
 
   -- the part of the path buffer that was lent comes home
   path-home : (path result : List ℕ) (lent : ℕ) (last : List ℕ)
       → lent ≡ pathLent (length path) (length result)
-      → last ≡ pathAfter (entryAnswer takes kind semantics label schema rule (length path) (length result)) (take (lent - 0) path)
-      → last ++ drop (lent - 0) path ≡ pathAfter (entryAnswer takes kind semantics label schema rule (length path) (length result)) path
+      → last ≡ pathAfter (entryAnswer takes kind semantics label table schema rule (length path) (length result)) (take (lent - 0) path)
+      → last ++ drop (lent - 0) path ≡ pathAfter (entryAnswer takes kind semantics label table schema rule (length path) (length result)) path
   unfolding pathAfter
   path-home path result lent last l w =
       by-test (leb resultBytes (length result))
@@ -56,39 +56,39 @@ module _ (takes : Result.Takes) (kind semantics : ℕ) (label schema rule : List
       let short = leb-false resultBytes (length result) t in
       let none = lent-nothing (length path) (length result) short in
       let nothing : lent - 0 ≡ 0 = omega arith in
-      rw (w, nothing, short-result-refused takes kind semantics label schema rule (length path) (length result) short))
+      rw (w, nothing, short-result-refused takes kind semantics label table schema rule (length path) (length result) short))
 
-module _ (takes : Takes) (kind semantics : ℕ) (label schema rule path result : List ℕ) where
+module _ (takes : Takes) (kind semantics : ℕ) (label table schema rule path result : List ℕ) where
   -- a call with capped settings, a part of the path buffer and a fresh scratch is the entry's call
   made : (k s lent : ℕ) (r : Outcome) (last scratchNow : List ℕ)
       → k ≡ min kind 9
       → s ≡ min semantics 9
       → lent ≡ pathLent (length path) (length result)
-      → resultOf (callOf (runOf takes k s label schema rule (take (lent - 0) path) (replicate scratchWords 0) r last scratchNow))
-      ≡ entryAnswer (takesOf takes) kind semantics label schema rule (length path) (length result)
+      → resultOf (callOf (runOf takes k s label table schema rule (take (lent - 0) path) (replicate scratchWords 0) r last scratchNow))
+      ≡ entryAnswer (takesOf takes) kind semantics label table schema rule (length path) (length result)
   unfolding callOf entryAnswer entryCall
   made k s lent r last scratchNow ek es el =
       let part : length (take (lent - 0) path) ≡ lent =
       simp length-take (omega (arith, lent-within (length path) (length result)))
       in
       rw (length-replicate {A = ℕ} scratchWords 0, part, ek, es, el)
-      (cut-down (takesOf takes) kind semantics label schema rule (length path) (length result))
+      (cut-down (takesOf takes) kind semantics label table schema rule (length path) (length result))
 
   pub answered : {k s lent : ℕ} (r : Outcome) (last scratchNow : List ℕ) {resultNow : List ℕ}
       → k ≡ min kind 9
       → s ≡ min semantics 9
       → lent ≡ pathLent (length path) (length result)
-      → Meets (runOf takes k s label schema rule (take (lent - 0) path) (replicate scratchWords 0) r last scratchNow)
+      → Meets (runOf takes k s label table schema rule (take (lent - 0) path) (replicate scratchWords 0) r last scratchNow)
       → Written r result resultNow
-      → EntryAnswered (entryAnswer (takesOf takes) kind semantics label schema rule (length path) (length result)) path (last ++ drop (lent - 0) path) result resultNow (r .number)
+      → EntryAnswered (entryAnswer (takesOf takes) kind semantics label table schema rule (length path) (length result)) path (last ++ drop (lent - 0) path) result resultNow (r .number)
   answered {k} {s} {lent} r last scratchNow ek es el m w =
       let same = made k s lent r last scratchNow ek es el in
-      let answer = entryAnswer (takesOf takes) kind semantics label schema rule (length path) (length result) in
+      let answer = entryAnswer (takesOf takes) kind semantics label table schema rule (length path) (length result) in
       let numbers : numbersBy r ≡ numbersOf answer = m .result ∙ ap numbersOf same in
       record {
         number = ap (λ (n : Numbers). n .number) numbers;
         path =
-            path-home (takesOf takes) kind semantics label schema rule path result lent last el
+            path-home (takesOf takes) kind semantics label table schema rule path result lent last el
             (m .path ∙ ap (λ (a : Answer). pathAfter a (take (lent - 0) path)) same);
         result = w .stands ∙ ap (λ (n : Numbers). resultAfter n result) numbers;
         small = rw numbers at (w .small);

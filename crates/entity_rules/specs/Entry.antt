@@ -37,17 +37,18 @@ unfoldable pub pathLent : (pathLength resultLength : ℕ) → ℕ
 pathLent pathLength resultLength = cond (leb resultBytes resultLength) pathLength 0
 
 -- the call that a C function makes, with a scratch of its own
-unfoldable pub entryCall : Takes → (kind semantics : ℕ) (label schema rule : List ℕ) (pathLength resultLength : ℕ) → Call
-entryCall takes kind semantics label schema rule pathLength resultLength =
+unfoldable pub entryCall : Takes → (kind semantics : ℕ) (label table schema rule : List ℕ) (pathLength resultLength : ℕ) → Call
+entryCall takes kind semantics label table schema rule pathLength resultLength =
     record {
       asked = record { takes = takes; kind = kind; semantics = semantics; label = label; rule = rule };
+      table = table;
       schema = schema;
       lent = record { path = pathLent pathLength resultLength; scratch = scratchWords };
     }
 
-unfoldable pub entryAnswer : Takes → (kind semantics : ℕ) (label schema rule : List ℕ) (pathLength resultLength : ℕ) → Answer
-entryAnswer takes kind semantics label schema rule pathLength resultLength =
-    resultOf (entryCall takes kind semantics label schema rule pathLength resultLength)
+unfoldable pub entryAnswer : Takes → (kind semantics : ℕ) (label table schema rule : List ℕ) (pathLength resultLength : ℕ) → Answer
+entryAnswer takes kind semantics label table schema rule pathLength resultLength =
+    resultOf (entryCall takes kind semantics label table schema rule pathLength resultLength)
 
 -- what is returned, and both buffers; since the numbers are small, they can be read back (EntryLaws, `field-of-answer`)
 pub record EntryAnswered (answer : Answer) (pathBefore pathNow resultBefore resultNow : List ℕ) (r : ℕ) : Type 0 where
@@ -71,10 +72,11 @@ numbersIn bytes =
 
 -- What a host hands over and what it has after the call, as a run. The scratch is the function's own: nobody sees what it holds, so it
 -- counts as unchanged.
-unfoldable pub entryRun : Takes → (kind semantics : ℕ) (label schema rule pathBefore pathNow resultNow : List ℕ) → Run
-entryRun takes kind semantics label schema rule pathBefore pathNow resultNow =
+unfoldable pub entryRun : Takes → (kind semantics : ℕ) (label table schema rule pathBefore pathNow resultNow : List ℕ) → Run
+entryRun takes kind semantics label table schema rule pathBefore pathNow resultNow =
     record {
       asked = record { takes = takes; kind = kind; semantics = semantics; label = label; rule = rule };
+      table = table;
       schema = schema;
       pathBefore = pathBefore;
       scratchBefore = replicate scratchWords 0;

@@ -11,7 +11,7 @@ use lib.ListN.{length, drop, getD, length-replicate}
 use lib.Seq.{sets-eq, length-sets}
 use borrow.Author.Tests.{le-leb, lt-leb}
 use Rattle.text.specs.Utf8.{isUtf8}
-use Rattle.validation.specs.Result.{Takes, Call, Answer, refused, Numbers, numbersOf, isWithin, maxLabelBytes, scratchWords, resultOf, early, refusals, firstRefusal, refusedOr, pathAfter, callOf, Meets}
+use Rattle.validation.specs.Result.{Takes, Call, Answer, refused, Numbers, numbersOf, isWithin, maxLabelBytes, scratchWords, resultOf, ofSettings, early, refusals, firstRefusal, refusedOr, pathAfter, callOf, Meets}
 use Rattle.validation.specs.RefusalLaws.{kind-refused, semantics-refused}
 use Rattle.entity_rules.specs.Bytes.{littleEndian, bytesOf, InFourBytes, no-more, one-more, numberAt, fieldAt}
 use Rattle.entity_rules.specs.Entry.{resultBytes, fieldsOf, resultAfter, pathLent, entryCall, entryAnswer, EntryAnswered, numbersIn, entryRun}
@@ -96,17 +96,17 @@ numbers-of-answer a room = λ i.
 
 -- A call of a C function with room for its result is a run that gives what the definitions say. So the demands hold of it (crate
 -- `validation`, specs/Demands).
-module _ (takes : Takes) (kind semantics : ℕ) (label schema rule pathBefore pathNow resultBefore resultNow : List ℕ) where
+module _ (takes : Takes) (kind semantics : ℕ) (label table schema rule pathBefore pathNow resultBefore resultNow : List ℕ) where
   pub entry-call : resultBytes ≤ length resultBefore
-      → callOf (entryRun takes kind semantics label schema rule pathBefore pathNow resultNow)
-      ≡ entryCall takes kind semantics label schema rule (length pathBefore) (length resultBefore)
+      → callOf (entryRun takes kind semantics label table schema rule pathBefore pathNow resultNow)
+      ≡ entryCall takes kind semantics label table schema rule (length pathBefore) (length resultBefore)
   unfolding callOf entryRun entryCall pathLent
   entry-call room = rw (le-leb resultBytes (length resultBefore) room, length-replicate {A = ℕ} scratchWords 0)
 
   pub entry-meets : {r : ℕ}
-      → EntryAnswered (entryAnswer takes kind semantics label schema rule (length pathBefore) (length resultBefore)) pathBefore pathNow resultBefore resultNow r
+      → EntryAnswered (entryAnswer takes kind semantics label table schema rule (length pathBefore) (length resultBefore)) pathBefore pathNow resultBefore resultNow r
       → resultBytes ≤ length resultBefore
-      → Meets (entryRun takes kind semantics label schema rule pathBefore pathNow resultNow)
+      → Meets (entryRun takes kind semantics label table schema rule pathBefore pathNow resultNow)
   unfolding entryRun entryAnswer
   entry-meets a room =
       let same = sym (entry-call room) in
@@ -118,9 +118,9 @@ module _ (takes : Takes) (kind semantics : ℕ) (label schema rule pathBefore pa
 
   -- and what is returned is the run's number
   pub entry-returns : {r : ℕ}
-      → EntryAnswered (entryAnswer takes kind semantics label schema rule (length pathBefore) (length resultBefore)) pathBefore pathNow resultBefore resultNow r
+      → EntryAnswered (entryAnswer takes kind semantics label table schema rule (length pathBefore) (length resultBefore)) pathBefore pathNow resultBefore resultNow r
       → resultBytes ≤ length resultBefore
-      → r ≡ entryRun takes kind semantics label schema rule pathBefore pathNow resultNow .result .number
+      → r ≡ entryRun takes kind semantics label table schema rule pathBefore pathNow resultNow .result .number
   unfolding entryRun
   entry-returns a room = a .number ∙ sym (ap (λ (n : Numbers). n .number) (numbers-of-answer a room))
 
@@ -133,26 +133,26 @@ refused-first false b rest = refl
 no-path-refused : (c : Call) → c .lent .path ≡ 0
     → resultOf c
     ≡ refused (cond (isWithin 1 8 (c .asked .kind) && isWithin 1 4 (c .asked .semantics)) (cond (leb (length (c .asked .label)) maxLabelBytes && isUtf8 (c .asked .label)) 3 2) 1)
-unfolding resultOf refusals early firstRefusal
+unfolding resultOf refusals early ofSettings firstRefusal
 no-path-refused c e =
     rw e
     (refused-first (isWithin 1 8 (c .asked .kind) && isWithin 1 4 (c .asked .semantics)) (leb (length (c .asked .label)) maxLabelBytes && isUtf8 (c .asked .label)) _)
 
-module _ (takes : Takes) (kind semantics : ℕ) (label schema rule : List ℕ) (pathLength resultLength : ℕ) where
+module _ (takes : Takes) (kind semantics : ℕ) (label table schema rule : List ℕ) (pathLength resultLength : ℕ) where
   -- a setting is refused for its whole value, and not for its last 32 bits
-  pub large-kind-refused : 8 < kind → entryAnswer takes kind semantics label schema rule pathLength resultLength ≡ refused 1
+  pub large-kind-refused : 8 < kind → entryAnswer takes kind semantics label table schema rule pathLength resultLength ≡ refused 1
   unfolding entryAnswer entryCall
-  large-kind-refused more = kind-refused (entryCall takes kind semantics label schema rule pathLength resultLength) more
+  large-kind-refused more = kind-refused (entryCall takes kind semantics label table schema rule pathLength resultLength) more
 
-  pub large-semantics-refused : 4 < semantics → entryAnswer takes kind semantics label schema rule pathLength resultLength ≡ refused 1
+  pub large-semantics-refused : 4 < semantics → entryAnswer takes kind semantics label table schema rule pathLength resultLength ≡ refused 1
   unfolding entryAnswer entryCall
-  large-semantics-refused more = semantics-refused (entryCall takes kind semantics label schema rule pathLength resultLength) more
+  large-semantics-refused more = semantics-refused (entryCall takes kind semantics label table schema rule pathLength resultLength) more
 
   -- a short result buffer is refused as 3, after 1 and 2 and before the sheets
   pub short-result-refused : resultLength < resultBytes
-      → entryAnswer takes kind semantics label schema rule pathLength resultLength
+      → entryAnswer takes kind semantics label table schema rule pathLength resultLength
       ≡ refused (cond (isWithin 1 8 kind && isWithin 1 4 semantics) (cond (leb (length label) maxLabelBytes && isUtf8 label) 3 2) 1)
   unfolding entryAnswer entryCall pathLent
   short-result-refused short =
-      no-path-refused (entryCall takes kind semantics label schema rule pathLength resultLength)
+      no-path-refused (entryCall takes kind semantics label table schema rule pathLength resultLength)
       (rw (lt-leb resultBytes resultLength short))

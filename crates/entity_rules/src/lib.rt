@@ -6,13 +6,15 @@ use crate::result::read_u32;
 use crate::result::write_result;
 use definition::limits::SCRATCH_WORDS;
 use key_path::validate_path;
+use name_table::load;
 use validator::sheets::Takes;
-use validator::validate_taken;
+use validator::validate_under;
 ghost use mathlib.Core.Path.{_≡_};
 ghost use mathlib.Core.List.{[]};
 ghost use Prim.Native.Nat.{min};
 ghost use lib.ListN.{length};
-ghost use Rattle.validation.specs.Result.{rules, templates};
+ghost use Rattle.validation.specs.Loading.{loadNumber, loadAfter};
+ghost use Rattle.validation.specs.Result.{any, rules, templates};
 ghost use Rattle.validator.specs.Sheets.{takesOf};
 ghost use Rattle.entity_rules.specs.Bytes.{fieldAt};
 ghost use Rattle.entity_rules.specs.Entry.{pathLent, entryAnswer, EntryAnswered};
@@ -38,20 +40,22 @@ fn check(
     kind: u64,
     semantics: u64,
     label: &[u8],
+    table: &[u8],
     schema: &[u8],
     rule: &[u8],
     path: &mut [u8],
     result: &mut [u8],
 ) -> u32
-    ensures { λ r. ⌜ EntryAnswered (entryAnswer (takesOf takes) kind semantics (now (label .entry)) (now (schema .entry)) (now (rule .entry)) (length (now (path .entry))) (length (now (result .entry)))) (now (path .entry)) (now (path .exit)) (now (result .entry)) (now (result .exit)) r ⌝ }
+    ensures { λ r. ⌜ EntryAnswered (entryAnswer (takesOf takes) kind semantics (now (label .entry)) (now (table .entry)) (now (schema .entry)) (now (rule .entry)) (length (now (path .entry))) (length (now (result .entry)))) (now (path .entry)) (now (path .exit)) (now (result .entry)) (now (result .exit)) r ⌝ }
 {
     let mut scratch = [0u32; SCRATCH_WORDS];
     let lent = path_lent(path.len(), result.len());
-    let outcome = validate_taken(
+    let outcome = validate_under(
         takes,
         setting(kind),
         setting(semantics),
         label,
+        table,
         schema,
         rule,
         &mut path[0..lent],
@@ -72,13 +76,14 @@ pub extern "C" fn rulecheck_rule(
     path: &mut [u8],
     result: &mut [u8],
 ) -> u32
-    ensures { λ r. ⌜ EntryAnswered (entryAnswer rules kind semantics (now (label .entry)) (now (schema .entry)) (now (rule .entry)) (length (now (path .entry))) (length (now (result .entry)))) (now (path .entry)) (now (path .exit)) (now (result .entry)) (now (result .exit)) r ⌝ }
+    ensures { λ r. ⌜ EntryAnswered (entryAnswer rules kind semantics (now (label .entry)) [] (now (schema .entry)) (now (rule .entry)) (length (now (path .entry))) (length (now (result .entry)))) (now (path .entry)) (now (path .exit)) (now (result .entry)) (now (result .exit)) r ⌝ }
 {
     check(
         Takes::Rules,
         kind,
         semantics,
         label,
+        b"",
         schema,
         rule,
         path,
@@ -97,18 +102,54 @@ pub extern "C" fn rulecheck_template(
     path: &mut [u8],
     result: &mut [u8],
 ) -> u32
-    ensures { λ r. ⌜ EntryAnswered (entryAnswer templates kind semantics (now (label .entry)) (now (schema .entry)) (now (rule .entry)) (length (now (path .entry))) (length (now (result .entry)))) (now (path .entry)) (now (path .exit)) (now (result .entry)) (now (result .exit)) r ⌝ }
+    ensures { λ r. ⌜ EntryAnswered (entryAnswer templates kind semantics (now (label .entry)) [] (now (schema .entry)) (now (rule .entry)) (length (now (path .entry))) (length (now (result .entry)))) (now (path .entry)) (now (path .exit)) (now (result .entry)) (now (result .exit)) r ⌝ }
 {
     check(
         Takes::Templates,
         kind,
         semantics,
         label,
+        b"",
         schema,
         rule,
         path,
         result,
     )
+}
+
+// Checks a rule or template under a name table; 0 bytes stand for the stock table. Other buffers as for a rule.
+#[no_mangle]
+pub extern "C" fn rulecheck_check(
+    kind: u64,
+    semantics: u64,
+    label: &[u8],
+    table: &[u8],
+    schema: &[u8],
+    rule: &[u8],
+    path: &mut [u8],
+    result: &mut [u8],
+) -> u32
+    ensures { λ r. ⌜ EntryAnswered (entryAnswer any kind semantics (now (label .entry)) (now (table .entry)) (now (schema .entry)) (now (rule .entry)) (length (now (path .entry))) (length (now (result .entry)))) (now (path .entry)) (now (path .exit)) (now (result .entry)) (now (result .exit)) r ⌝ }
+{
+    check(
+        Takes::Any,
+        kind,
+        semantics,
+        label,
+        table,
+        schema,
+        rule,
+        path,
+        result,
+    )
+}
+
+// Copies a name table to the start of a buffer, which later checks are lent: 0, or 37 or 38 with the buffer unchanged.
+#[no_mangle]
+pub extern "C" fn rulecheck_load_table(table: &[u8], buffer: &mut [u8]) -> u32
+    ensures { λ r. ⌜ (r ≡ loadNumber (now (table .entry)) (length (now (buffer .entry)))) × (now (buffer .exit) ≡ loadAfter (now (table .entry)) (now (buffer .entry))) ⌝ }
+{
+    load(table, buffer)
 }
 
 // Checks one path of `$fields`, given without `$fields.`, for reader 1 (Kernel) or 2 (Projection). `result` takes at least 28 bytes; there is no

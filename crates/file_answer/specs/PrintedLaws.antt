@@ -16,7 +16,7 @@ use Rattle.definition.specs.RoundTrip.{rule-round-trip}
 use Rattle.reference.specs.Setting.{Setting}
 use Rattle.validation.specs.Check.{checks}
 use Rattle.validation.specs.Judge.{Verdict, allPass, failsAt, judge}
-use Rattle.validation.specs.Result.{Call, Answer, maxLabelBytes, pathBytes, settingFor, isWithin, early, refusals, firstRefusal, answerOf, checked, judged, refusedOr, resultOf}
+use Rattle.validation.specs.Result.{Call, Answer, maxLabelBytes, pathBytes, settingFor, isWithin, ofSettings, early, refusals, firstRefusal, answerOf, checked, judged, refusedOr, resultOf}
 use Rattle.buffer.specs.WroteLaws.{wrote-front}
 use Rattle.location.specs.LengthLaws.{path-length}
 use Rattle.check_file.specs.Output.{pathIn}
@@ -54,7 +54,7 @@ first-refused true a = omega arith
 first-refused false a = omega arith
 
 pub path-fits : (c : Call) → length (pathIn (resultOf c)) ≤ pathBytes
-unfolding resultOf refusals early firstRefusal
+unfolding resultOf refusals early ofSettings firstRefusal
 path-fits c =
     let verdict = judged (settingFor c) (c .asked .label) (decodeSchema (c .schema)) (decodeRule (c .asked .rule)) in
     by-test (leb (length (c .asked .label)) maxLabelBytes)

@@ -1,4 +1,6 @@
 pub mod Setting
+pub mod Table
+pub mod TableLaws
 pub mod Path
 pub mod Walk
 pub mod Reference

@@ -59,11 +59,15 @@ pub record Setting : Type 0 where
   pub isRuleKind : Bool
   pub isService : Bool
 
-unfoldable pub settingOf : (kind semantics : ℕ) → Setting
-settingOf kind semantics =
+-- of a call, under a table's row
+abbrev pub settingWith : (mayRead : Name → Bool) (kind semantics : ℕ) → Setting
+settingWith mayRead kind semantics =
     record {
-      mayRead = stock kind;
+      mayRead = mayRead;
       reader = kernel;
       isRuleKind = oneOf kind (1 ∷ 2 ∷ 5 ∷ 6 ∷ []);
       isService = not (eqb semantics 1);
     }
+
+unfoldable pub settingOf : (kind semantics : ℕ) → Setting
+settingOf kind semantics = settingWith (stock kind) kind semantics

@@ -4,14 +4,16 @@ use native.Mathlib.Numerals.{add-one}
 use mathlib.Core.Bool.{Bool, true, false, not}
 use mathlib.Core.List.{List, [], _∷_}
 use mathlib.Core.Option.{none, some}
-use mathlib.Core.Path.{_≡_, refl, ap, sym, _∙_}
+use mathlib.Core.Path.{_≡_, refl, sym, _∙_}
 use lib.ListN.{length, drop, getD, drop-of-length-le}
 use lib.Seq.{drop-cons}
 use borrow.Author.Tests.{eq-eqb, ne-eqb}
 use Rattle.sheet.specs.Order.{sameBytes}
 use Rattle.reference.specs.Setting as Setting
 use Rattle.reference.specs.Setting.{spelling, named, oneOf, stock}
-use Rattle.scope.specs.Names.{nameIs, mayReadBy}
+use Rattle.reference.specs.Table as Table
+use Rattle.reference.specs.Table.{stockRow}
+use Rattle.scope.specs.Names.{nameIs, rowBy, mayReadBy}
 use Rattle.scope.specs.declared.name.Row.{Row}
 use Rattle.scope.specs.declared.name.Name.{Name}
 use Rattle.scope.specs.declared.name.Name.the-variants.{Id, Entity, Version, Fields, State, ToState, FromState, Args, OldFields}
@@ -60,54 +62,54 @@ module _ (kind : ℕ) {f s t d a o : Bool}
     abbrev stock-marks : Row
     stock-marks = record { id = true; entity = true; version = true; fields = not f; state = not s; target = not t; source = d; args = a; old = o }
 
-    mark : (n : Setting.Name) → mayReadBy stock-marks n ≡ stock kind n
-    unfolding stock mayReadBy
-    mark Setting.id = refl
-    mark Setting.entity = refl
-    mark Setting.version = refl
-    mark Setting.fields = ap not fields-so
-    mark Setting.state = ap not state-so
-    mark Setting.toState = ap not target-so
-    mark Setting.fromState = source-so
-    mark Setting.args = args-so
-    mark Setting.oldFields = old-so
-
-    pub stock-row-is : mayReadBy stock-marks ≡ stock kind
-    stock-row-is = λ i n. mark n i
+    pub stock-row-is : rowBy stock-marks ≡ stockRow kind
+    unfolding rowBy stockRow stock
+    stock-row-is = λ i.
+        record {
+          id = true;
+          entity = true;
+          version = true;
+          fields = not (fields-so i);
+          state = not (state-so i);
+          toState = not (target-so i);
+          fromState = source-so i;
+          args = args-so i;
+          oldFields = old-so i;
+        }
 
 module _ (row : Row) (name : Name) where
   pub read-id : name ≡ Id → row .id ≡ mayReadBy row (nameIs name)
-  unfolding mayReadBy nameIs
+  unfolding Table.mayReadBy rowBy nameIs
   read-id e = rw e
 
   pub read-entity : name ≡ Entity → row .entity ≡ mayReadBy row (nameIs name)
-  unfolding mayReadBy nameIs
+  unfolding Table.mayReadBy rowBy nameIs
   read-entity e = rw e
 
   pub read-version : name ≡ Version → row .version ≡ mayReadBy row (nameIs name)
-  unfolding mayReadBy nameIs
+  unfolding Table.mayReadBy rowBy nameIs
   read-version e = rw e
 
   pub read-fields : name ≡ Fields → row .fields ≡ mayReadBy row (nameIs name)
-  unfolding mayReadBy nameIs
+  unfolding Table.mayReadBy rowBy nameIs
   read-fields e = rw e
 
   pub read-state : name ≡ State → row .state ≡ mayReadBy row (nameIs name)
-  unfolding mayReadBy nameIs
+  unfolding Table.mayReadBy rowBy nameIs
   read-state e = rw e
 
   pub read-to-state : name ≡ ToState → row .target ≡ mayReadBy row (nameIs name)
-  unfolding mayReadBy nameIs
+  unfolding Table.mayReadBy rowBy nameIs
   read-to-state e = rw e
 
   pub read-from-state : name ≡ FromState → row .source ≡ mayReadBy row (nameIs name)
-  unfolding mayReadBy nameIs
+  unfolding Table.mayReadBy rowBy nameIs
   read-from-state e = rw e
 
   pub read-args : name ≡ Args → row .args ≡ mayReadBy row (nameIs name)
-  unfolding mayReadBy nameIs
+  unfolding Table.mayReadBy rowBy nameIs
   read-args e = rw e
 
   pub read-old-fields : name ≡ OldFields → row .old ≡ mayReadBy row (nameIs name)
-  unfolding mayReadBy nameIs
+  unfolding Table.mayReadBy rowBy nameIs
   read-old-fields e = rw e

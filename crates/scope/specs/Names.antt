@@ -4,6 +4,7 @@ use mathlib.Core.Option.{none, some}
 use mathlib.Core.Path.{_≡_}
 use Rattle.definition.specs.Tree.{Text}
 use Rattle.reference.specs.Setting as Setting
+use Rattle.reference.specs.Table as Table
 use Rattle.reference.specs.Setting.{nameOf}
 use Rattle.scope.specs.declared.name.Name.{Name}
 use Rattle.scope.specs.declared.name.Name.the-variants.{Id, Entity, Version, Fields, State, ToState, FromState, Args, OldFields}
@@ -22,17 +23,23 @@ nameIs FromState = Setting.fromState
 nameIs Args = Setting.args
 nameIs OldFields = Setting.oldFields
 
--- a row of the name table, mark by mark
-unfoldable pub mayReadBy : Row → Setting.Name → Bool
-mayReadBy r Setting.id = r .id
-mayReadBy r Setting.entity = r .entity
-mayReadBy r Setting.version = r .version
-mayReadBy r Setting.fields = r .fields
-mayReadBy r Setting.state = r .state
-mayReadBy r Setting.toState = r .target
-mayReadBy r Setting.fromState = r .source
-mayReadBy r Setting.args = r .args
-mayReadBy r Setting.oldFields = r .old
+-- the code's row of the name table, mark by mark
+unfoldable pub rowBy : Row → Table.Row
+rowBy r =
+    record {
+      id = r .id;
+      entity = r .entity;
+      version = r .version;
+      fields = r .fields;
+      state = r .state;
+      toState = r .target;
+      fromState = r .source;
+      args = r .args;
+      oldFields = r .old;
+    }
+
+abbrev pub mayReadBy : Row → Setting.Name → Bool
+mayReadBy r = Table.mayReadBy (rowBy r)
 
 abbrev pub NamedIs : Text → Named → Type 0
 NamedIs t (Is n) = nameOf t ≡ some (nameIs n)

@@ -1,8 +1,9 @@
 // The nine names, and which kinds of rules and templates may read them.
 use walk::path::same_bytes;
 ghost use mathlib.Core.Path.{_≡_};
-ghost use Rattle.reference.specs.Setting.{oneOf, stock};
-ghost use Rattle.scope.specs.Names.{nameIs, mayReadBy, NamedIs};
+ghost use Rattle.reference.specs.Setting.{oneOf};
+ghost use Rattle.reference.specs.Table.{stockRow};
+ghost use Rattle.scope.specs.Names.{nameIs, rowBy, mayReadBy, NamedIs};
 
 pub enum Name {
     Id,
@@ -86,7 +87,7 @@ pub struct Row {
 
 // The stock table's row for a kind of rule or template.
 pub fn stock_row(kind: usize) -> Row
-    ensures { λ r. ⌜ mayReadBy r ≡ stock kind ⌝ }
+    ensures { λ r. ⌜ rowBy r ≡ stockRow kind ⌝ }
 {
     Row {
         id: true,

@@ -2,7 +2,7 @@
 // bytes and any place in them; past the end there is nothing to read.
 pub mod numeral; // numeral.rt: numerals
 pub mod part; // part.rt: texts as places in a sheet
-mod entry; // entry.rt: what entries are made of
+pub mod entry; // entry.rt: what entries are made of
 pub mod schema_heads; // schema_heads.rt: the entries H and F
 pub mod rule_heads; // rule_heads.rt: the entries R, T, C, V and K
 pub mod order; // order.rt: the order of names

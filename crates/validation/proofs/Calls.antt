@@ -6,11 +6,12 @@ use Rattle.definition.specs.Tree.{Text}
 use Rattle.validation.specs.Result.{Call, any, Answer, refused, accepted, defect, Numbers, numbersOf, resultOf}
 use Rattle.validation.specs.Computing.{computing}
 
--- a call with that label and with buffers of these lengths, which takes rules and templates
+-- a call with that label, with buffers of these lengths and the stock table, which takes rules and templates
 unfoldable pub lending : (label : List ℕ) (path scratch : ℕ) (kind semantics : ℕ) (schema rule : List ℕ) → Call
 lending label path scratch kind semantics schema rule =
     record {
       asked = record { takes = any; kind = kind; semantics = semantics; label = label; rule = rule };
+      table = [];
       schema = schema;
       lent = record { path = path; scratch = scratch };
     }

@@ -10,6 +10,7 @@ unfoldable pub runWith : Numbers → (path : List ℕ) → Call → Run
 runWith result path c =
     record {
       asked = c .asked;
+      table = c .table;
       schema = c .schema;
       pathBefore = replicate (c .lent .path) 0;
       scratchBefore = replicate (c .lent .scratch) 0;
@@ -23,6 +24,7 @@ unfolding callOf runWith
 call-of-run result path c = λ i.
     record {
       asked = c .asked;
+      table = c .table;
       schema = c .schema;
       lent =
           record { path = length-replicate {A = ℕ} (c .lent .path) 0 i; scratch = length-replicate {A = ℕ} (c .lent .scratch) 0 i };

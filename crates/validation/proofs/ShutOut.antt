@@ -101,7 +101,7 @@ constant-passed p n h = go (eqb n 9) refl
 
 unfoldable pub withSchema : Call → List ℕ → Call
 unfolding against
-withSchema c sheet = against c sheet (c .lent)
+withSchema c sheet = against c (c .table) sheet (c .lent)
 
 unfoldable pub withRule : Call → List ℕ → Call
 unfolding asking

@@ -18,8 +18,8 @@ use Rattle.validation.proofs.Runs.{exactRun}
 -- a call, and the same against another schema that is no widening, and to which the demand does not extend
 pub record Slips (c : Call) (schema′ : List ℕ) (passed : ℕ) (second : Numbers × Text) : Type 0 where
   pub before : heard c ≡ accepts passed
-  pub after : heard (against c schema′ (c .lent)) ≡ second
-  pub noDemand : (l : Level) → Demand3 l (exactRun c) (exactRun (against c schema′ (c .lent))) → ⊥
+  pub after : heard (against c (c .table) schema′ (c .lent)) ≡ second
+  pub noDemand : (l : Level) → Demand3 l (exactRun c) (exactRun (against c (c .table) schema′ (c .lent))) → ⊥
   pub noWidening : (l : Level) → Widens l (c .schema) schema′ → ⊥
 
 no-demand : {l : Level} (c c′ : Call) (k : ℕ)

@@ -21,29 +21,29 @@ roomy = record { path = 40000; scratch = 9000 }
 pub record Shows (l : Level) (c : Call) (schema′ : List ℕ) (first second : Numbers × Text) : Type 0 where
   pub widens : Widens l (c .schema) schema′
   pub before : heard c ≡ first
-  pub after : heard (against c schema′ roomy) ≡ second
-  pub demand : Demand3 l (exactRun c) (exactRun (against c schema′ roomy))
+  pub after : heard (against c (c .table) schema′ roomy) ≡ second
+  pub demand : Demand3 l (exactRun c) (exactRun (against c (c .table) schema′ roomy))
 
 shows : {l : Level} {c : Call} {schema′ : List ℕ} {first second : Numbers × Text} (s s′ : Schema)
     → decodeSchema (c .schema) ≡ some s
     → decodeSchema schema′ ≡ some s′
     → WiderSchema l s s′
     → heard c ≡ first
-    → heard (against c schema′ roomy) ≡ second
+    → heard (against c (c .table) schema′ roomy) ≡ second
     → Unrefused c
-    → Unrefused (against c schema′ roomy)
+    → Unrefused (against c (c .table) schema′ roomy)
     → Shows l c schema′ first second
 unfolding exactRun against
 shows {l} {c} {schema′} s s′ e e′ w before after n n′ =
     let widens : Widens l (c .schema) schema′ = record { first = s; second = s′; decodesFirst = e; decodesSecond = e′; isWider = w } in
-    let c′ = against c schema′ roomy in
+    let c′ = against c (c .table) schema′ roomy in
     record {
       widens = widens;
       before = before;
       after = after;
       demand =
           demand-3 (exactRun c) (exactRun c′) (run-meets c) (run-meets c′)
-          (record { asked = refl })
+          (record { asked = refl; table = refl })
           widens
           (run-unrefused c n)
           (run-unrefused c′ n′);

@@ -9,6 +9,7 @@ use Rattle.definition.specs.Tree.{Text, Schema, Rule}
 use Rattle.definition.specs.Decode.{decodeSchema, decodeRule}
 use Rattle.definition.specs.RoundTrip.{schema-round-trip}
 use Rattle.reference.specs.Setting.{Setting, oneOf}
+use Rattle.reference.specs.Table.{tableIn}
 use Rattle.widening.specs.Widening.{Level, marks}
 use Rattle.widening.specs.Distinct.{DistinctSchema}
 use Rattle.widening.specs.DistinctLaws.{schema-distinct}
@@ -84,18 +85,19 @@ sheets-fare setting label g (some n) refusal′ r h h′ = absurd h
 pub distinct-names : (sheet : List ℕ) (s : Schema) → decodeSchema sheet ≡ some s → DistinctSchema s
 distinct-names sheet s e = schema-distinct s (schema-round-trip sheet s .0 e .1 .rises)
 
-calls-fare : {l : Level} (c : Call) (schema′ : List ℕ) (lent′ : Lent)
+calls-fare : {l : Level} (c : Call) (table′ schema′ : List ℕ) (lent′ : Lent)
+    → tableIn (c .table) ≡ tableIn table′
     → Widens l (c .schema) schema′
     → NotRefused (resultOf c)
-    → NotRefused (resultOf (against c schema′ lent′))
-    → Fared l (resultOf c) (resultOf (against c schema′ lent′))
+    → NotRefused (resultOf (against c table′ schema′ lent′))
+    → Fared l (resultOf c) (resultOf (against c table′ schema′ lent′))
 unfolding resultOf against
-calls-fare c schema′ lent′ w =
-    rw (w .decodesFirst, w .decodesSecond)
+calls-fare c table′ schema′ lent′ same w =
+    rw (w .decodesFirst, w .decodesSecond, ← same)
     (sheets-fare (settingFor c) (c .asked .label)
     (record { isWider = w .isWider; isDistinct = distinct-names schema′ (w .second) (w .decodesSecond) })
     (firstRefusal (refusals c))
-    (firstRefusal (refusals (against c schema′ lent′)))
+    (firstRefusal (refusals (against c table′ schema′ lent′)))
     (decodeRule (c .asked .rule)))
 
 accepts-still : {l : Level} {a a′ : Answer} → Fared l a a′ → (n : ℕ) → a ≡ accepted n → a′ ≡ accepted n
@@ -137,17 +139,18 @@ pub record AnswersFare (l : Level) (a a′ : Answer) : Type 0 where
   pub repeats : (d : Defect) → a ≡ defect d → passed a′ ≡ d .passed → (d′ : Defect) × (a′ ≡ defect d′) × SameDefect d d′
   pub explains : l ≡ marks → (d d′ : Defect) → a ≡ defect d → a′ ≡ defect d′ → d′ .passed ≡ d .passed → d′ .detail ≡ d .detail
 
-pub results-fare : {l : Level} (c : Call) (schema′ : List ℕ) (lent′ : Lent)
+pub results-fare : {l : Level} (c : Call) (table′ schema′ : List ℕ) (lent′ : Lent)
+    → tableIn (c .table) ≡ tableIn table′
     → Widens l (c .schema) schema′
     → NotRefused (resultOf c)
-    → NotRefused (resultOf (against c schema′ lent′))
-    → AnswersFare l (resultOf c) (resultOf (against c schema′ lent′))
-results-fare c schema′ lent′ w n n′ =
+    → NotRefused (resultOf (against c table′ schema′ lent′))
+    → AnswersFare l (resultOf c) (resultOf (against c table′ schema′ lent′))
+results-fare c table′ schema′ lent′ same w n n′ =
     record {
-      accepts = accepts-still (calls-fare c schema′ lent′ w n n′);
-      passes = passes-as-many (calls-fare c schema′ lent′ w n n′);
-      repeats = fails-alike (calls-fare c schema′ lent′ w n n′);
-      explains = explains-alike (calls-fare c schema′ lent′ w n n′);
+      accepts = accepts-still (calls-fare c table′ schema′ lent′ same w n n′);
+      passes = passes-as-many (calls-fare c table′ schema′ lent′ same w n n′);
+      repeats = fails-alike (calls-fare c table′ schema′ lent′ same w n n′);
+      explains = explains-alike (calls-fare c table′ schema′ lent′ same w n n′);
     }
 
 -- Whatever is asked, the caller hears one of the answers that it may hear

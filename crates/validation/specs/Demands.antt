@@ -10,9 +10,10 @@ use lib.Dec.{leb}
 use borrow.Author.Tests.{le-leb}
 use Rattle.definition.specs.Tree.{Schema, Rule}
 use Rattle.definition.specs.Decode.{decodeSchema, decodeRule}
+use Rattle.reference.specs.Table.{tableIn}
 use Rattle.widening.specs.Widening.{Level, marks}
 use Rattle.validation.specs.Check.{IsDefect}
-use Rattle.validation.specs.Result.{scratchWords, Defect, Answer, defect, IsRefusal, isOfSheets, Heard, refusal, acceptance, finding, settingFor, early, ofSheets, refusals, Unrefused, checked, resultOf, numbersOf, pathAfter, keptScratch, ScratchAfter, Run, lentOf, callOf, Meets}
+use Rattle.validation.specs.Result.{scratchWords, Defect, Answer, defect, IsRefusal, isOfSheets, Heard, refusal, acceptance, finding, settingFor, ofSettings, early, ofSheets, refusals, Unrefused, checked, resultOf, numbersOf, pathAfter, keptScratch, ScratchAfter, Run, lentOf, callOf, Meets}
 use Rattle.validation.specs.RefusalLaws.{refusal-some, refusal-no-defect}
 use Rattle.validation.specs.Growth.{against, Widens, SameFinding}
 use Rattle.validation.specs.DemandLaws.{heard, unrefused-answer, answers-by-checks, AnswersFare, results-fare, number-accepted, number-defect, passed-number, Gives, meets-gives, same-acceptance, same-finding, same-passed}
@@ -29,6 +30,7 @@ pub record Demand1 (r : Run) : Type 0 where
 -- two runs that differ in the scratch alone: in how long it is, in what it held before, and in what it holds after
 pub record SameButScratch (r r′ : Run) : Type 0 where
   pub asked : r .asked ≡ r′ .asked
+  pub table : r .table ≡ r′ .table
   pub schema : r .schema ≡ r′ .schema
   pub pathBefore : r .pathBefore ≡ r′ .pathBefore
 
@@ -66,8 +68,8 @@ demand-1 r m =
     }
 
 same-answer : (r r′ : Run) → SameButScratch r r′ → hasRoom r ≡ hasRoom r′ → resultOf (callOf r) ≡ resultOf (callOf r′)
-unfolding callOf lentOf resultOf refusals early ofSheets
-same-answer r r′ s room = rw (s .asked, s .schema, s .pathBefore, room) refl
+unfolding callOf lentOf resultOf refusals early ofSettings ofSheets
+same-answer r r′ s room = rw (s .asked, s .table, s .schema, s .pathBefore, room) refl
 
 pub demand-1-scratch : (r r′ : Run) → SameButScratch r r′ → hasRoom r ≡ hasRoom r′ → Meets r → Meets r′ → Demand1Scratch r r′
 demand-1-scratch r r′ s room m m′ =
@@ -110,9 +112,10 @@ demand-2 r s t m e e′ n =
 -- Demand 3: one rule or template under the same settings, checked against two schemas of which the second is a widening of the first, with
 -- whatever buffers, neither call refused. `marks` stands for schemas that differ at most in open marks gone from 0 to 1, with arguments in both or in neither.
 
--- two runs that differ at most in the schema, and in what the buffers hold and how long they are
+-- two runs under tables of one meaning that differ at most in the schema, and in what the buffers hold and how long they are
 pub record SameButSchema (r r′ : Run) : Type 0 where
   pub asked : r .asked ≡ r′ .asked
+  pub table : tableIn (r .table) ≡ tableIn (r′ .table)
 
 pub record Demand3 (l : Level) (r r′ : Run) : Type 0 where
   -- if the first call accepts, so does the second, with the same passed count
@@ -154,9 +157,9 @@ runs-fare {l} {a} {a′} r r′ g g′ f = record { accepts = accepts; passes = 
         let (d′, same′, alike) = f .repeats d same q in
         rw (g .result, g′ .result, same, same′) (f .explains m d d′ same same′ (rw same′ at q))
 
-second-call : {r r′ : Run} → SameButSchema r r′ → callOf r′ ≡ against (callOf r) (r′ .schema) (lentOf r′)
+second-call : {r r′ : Run} → SameButSchema r r′ → callOf r′ ≡ against (callOf r) (r′ .table) (r′ .schema) (lentOf r′)
 unfolding callOf against
-second-call {r′ = r′} s = λ i. record { asked = sym (s .asked) i; schema = r′ .schema; lent = lentOf r′ }
+second-call {r′ = r′} s = λ i. record { asked = sym (s .asked) i; table = r′ .table; schema = r′ .schema; lent = lentOf r′ }
 
 pub demand-3 : {l : Level} (r r′ : Run)
     → Meets r
@@ -169,6 +172,6 @@ pub demand-3 : {l : Level} (r r′ : Run)
 unfolding callOf
 demand-3 r r′ m m′ s w n n′ =
     runs-fare r r′ (meets-gives r m) (rw (second-call s) at (meets-gives r′ m′))
-    (results-fare (callOf r) (r′ .schema) (lentOf r′) w
+    (results-fare (callOf r) (r′ .table) (r′ .schema) (lentOf r′) (s .table) w
     (unrefused-answer (callOf r) n)
     (rw (second-call s) at (unrefused-answer (callOf r′) n′)))

@@ -10,9 +10,9 @@ use Rattle.definition.specs.Decode.{decodeSchema}
 use Rattle.widening.specs.Widening.{Level, WiderSchema}
 use Rattle.validation.specs.Result.{Lent, Call, Run}
 
--- the same rule or template under the same settings, against another schema and with other buffers
-unfoldable pub against : Call → (schema : List ℕ) → Lent → Call
-against c schema lent = record { asked = c .asked; schema = schema; lent = lent }
+-- the same rule or template under the same settings, against another schema, with another table and other buffers
+unfoldable pub against : Call → (table schema : List ℕ) → Lent → Call
+against c table schema lent = record { asked = c .asked; table = table; schema = schema; lent = lent }
 
 -- the schema of the second sheet is a widening of the first one's
 pub record Widens (l : Level) (sheet sheet′ : List ℕ) : Type 0 where

@@ -6,7 +6,8 @@ use mathlib.Core.Option.{Option, none, some}
 use mathlib.Core.Path.{_≡_, refl}
 use Rattle.definition.specs.Tree.{Text, Schema, Rule}
 use Rattle.definition.specs.Decode.{decodeSchema, decodeRule}
-use Rattle.reference.specs.Setting.{kernel, Setting, settingOf}
+use Rattle.reference.specs.Setting.{kernel, Setting}
+use Rattle.reference.specs.Table.{settingUnder}
 use Rattle.reference.specs.Walk as Walk
 use Rattle.reference.specs.Walk.{Reached, unknown, known}
 use Rattle.reference.specs.Reference.{Environment, reference}
@@ -91,7 +92,7 @@ numbers-by (accepted n) h e = omega arith
 numbers-by (defect d) h e = h e
 
 pub kernel-calls : (c : Call) → numbersOf (resultOf c) .number ≡ 18 → numbersOf (resultOf c) .detail ≤ 12
-unfolding resultOf settingOf
+unfolding resultOf settingUnder
 kernel-calls c =
     numbers-by (resultOf c)
     (or-by (firstRefusal (refusals c)) _

@@ -3,6 +3,8 @@ pub mod Judge
 pub mod Location
 pub mod Result
 pub mod RefusalLaws
+pub mod Loading
+pub mod LoadingLaws
 pub mod CheckLaws
 pub mod WideningLaws
 pub mod CountLaws

@@ -6,12 +6,23 @@ use mathlib.Core.List.{List, [], _∷_, _++_}
 use mathlib.Core.Option.{Option, none, some, orElse, Option·some-injective, Option·none-ne-some, Option·some-ne-none}
 use mathlib.Core.Path.{_≡_, refl, ap, sym, _∙_}
 use lib.Dec.{leb, eqb}
-use borrow.Author.Tests.{eqb-true, leb-true, leb-false, lt-leb}
+use borrow.Author.Tests.{eqb-true, eqb-false, leb-true, leb-false, lt-leb}
 use Rattle.text.proofs.Bools.{and-true-0, and-true-1, or-true-cases}
 use Rattle.sheet.specs.ReaderLaws.{by-test}
 use Rattle.reference.specs.Setting.{oneOf}
-use Rattle.validation.specs.Check.{IsDefect}
-use Rattle.validation.specs.Result.{Asked, Call, refused, refusalNumbers, IsRefusal, isOfSheets, isWithin, Refusal, early, ofSheets, refusals, firstRefusal, numberIn, refusedOr, resultOf}
+use Rattle.validation.specs.Check.{isNone, IsDefect}
+use Rattle.validation.specs.Result.{Asked, Lent, Call, refused, refusalNumbers, IsRefusal, isOfSheets, isWithin, Refusal, ofTable, ofSettings, early, ofSheets, refusals, firstRefusal, numberIn, refusedOr, resultOf}
+
+-- What a test says.
+
+pub present : {A : Type 0} (o : Option A) → isNone o ≡ false → (x : A) × (o ≡ some x)
+unfolding isNone
+present none e = absurd (false≢true (sym e))
+present (some x) e = (x, refl)
+
+pub is-set : (b : Bool) → not b ≡ false → b ≡ true
+is-set true e = refl
+is-set false e = sym e
 
 -- A list of refusals: those in front are tried first.
 
@@ -96,7 +107,7 @@ of-first p n (r ∷ rs) e f =
 
 -- every refusal of a call is one of those listed
 pub refusal-listed : (c : Call) (n : ℕ) → firstRefusal (refusals c) ≡ some n → IsRefusal n
-unfolding refusals early ofSheets refusalNumbers oneOf every
+unfolding refusals early ofSettings ofSheets refusalNumbers oneOf every
 refusal-listed c n e = record { listed = of-first (λ m. oneOf m refusalNumbers) n (refusals c) refl e }
 
 unset : (b : Bool) → not b ≡ true → b ≡ false
@@ -105,7 +116,7 @@ unset false e = refl
 
 -- and none of the sheets' comes before the sheets
 early-no-sheet : (c : Call) (n : ℕ) → firstRefusal (early c) ≡ some n → isOfSheets n ≡ false
-unfolding early isOfSheets every
+unfolding early ofSettings isOfSheets every
 early-no-sheet c n e = unset (isOfSheets n) (of-first (λ m. not (isOfSheets m)) n (early c) refl e)
 
 -- not 0, and on neither side near the numbers of defects
@@ -132,17 +143,25 @@ refusal-no-defect n r d =
 
 -- A call, by what is due before a sheet is read.
 
-early-first : (c : Call) (n : ℕ) → firstRefusal (early c) ≡ some n → firstRefusal (refusals c) ≡ some n
-unfolding refusals orElse
-early-first c n e = rw (first-append (early c) (ofSheets c), e)
+pub early-refused : (c : Call) (n : ℕ) → firstRefusal (early c) ≡ some n → resultOf c ≡ refused n
+unfolding resultOf refusals refusedOr orElse
+early-refused c n e = rw (first-append (early c) (ofSheets c), e)
 
-pub early-refused : (c : Call) (n : ℕ) → n ≡ numberIn (firstRefusal (early c)) → (n ≡ 0 → ⊥) → resultOf c ≡ refused n
-unfolding resultOf refusedOr
-early-refused c n e h = rw (early-first c n (number-some n (firstRefusal (early c)) e h))
+pub settings-refused : (c : Call) (n : ℕ) → n ≡ numberIn (firstRefusal (ofSettings (c .asked) (c .lent))) → (n ≡ 0 → ⊥) → resultOf c ≡ refused n
+unfolding early orElse
+settings-refused c n e h =
+    early-refused c n (rw (first-append (ofSettings (c .asked) (c .lent)) (ofTable (c .table)), number-some n _ e h))
 
-pub early-none : (c : Call) → 0 ≡ numberIn (firstRefusal (early c)) → firstRefusal (early c) ≡ none
-early-none c e =
-    number-none (firstRefusal (early c)) (λ n due. refusal-some n (refusal-listed c n (early-first c n due))) e
+some-number : (a : Asked) (l : Lent) (n : ℕ) → firstRefusal (ofSettings a l) ≡ some n → n ≡ 0 → ⊥
+unfolding ofSettings every
+some-number a l n e z = eqb-false n 0 (unset (eqb n 0) (of-first (λ m. not (eqb m 0)) n (ofSettings a l) refl e)) z
+
+pub settings-none : (a : Asked) (l : Lent) → 0 ≡ numberIn (firstRefusal (ofSettings a l)) → firstRefusal (ofSettings a l) ≡ none
+settings-none a l = number-none (firstRefusal (ofSettings a l)) (some-number a l)
+
+pub table-decides : (c : Call) → firstRefusal (ofSettings (c .asked) (c .lent)) ≡ none → firstRefusal (early c) ≡ firstRefusal (ofTable (c .table))
+unfolding early orElse
+table-decides c e = rw (first-append (ofSettings (c .asked) (c .lent)) (ofTable (c .table)), e)
 
 -- then the sheets decide
 pub sheets-first : (c : Call) → firstRefusal (early c) ≡ none → firstRefusal (refusals c) ≡ firstRefusal (ofSheets c)
@@ -164,6 +183,11 @@ unfolding refusals
 none-of-either c e =
     neither (firstRefusal (early c)) (firstRefusal (ofSheets c)) (sym (first-append (early c) (ofSheets c)) ∙ e)
 
+pub no-setting-due : (c : Call) → firstRefusal (early c) ≡ none → firstRefusal (ofSettings (c .asked) (c .lent)) ≡ none
+unfolding early
+no-setting-due c e =
+    neither _ _ (sym (first-append (ofSettings (c .asked) (c .lent)) (ofTable (c .table))) ∙ e) .0
+
 -- a refusal of a sheet is due among the sheets'
 pub sheet-refused : (c : Call) (n : ℕ) → isOfSheets n ≡ true → firstRefusal (refusals c) ≡ some n → firstRefusal (ofSheets c) ≡ some n
 unfolding refusals
@@ -177,19 +201,19 @@ pub outside : (high n : ℕ) → high < n → isWithin 1 high n ≡ false
 unfolding isWithin
 outside high n more = rw (lt-leb n high more, and-false)
 
-settings-refused : (c : Call) → (isWithin 1 8 (c .asked .kind) && isWithin 1 4 (c .asked .semantics)) ≡ false → resultOf c ≡ refused 1
-unfolding resultOf refusals early firstRefusal refusedOr
-settings-refused c e = rw e
+outside-refused : (c : Call) → (isWithin 1 8 (c .asked .kind) && isWithin 1 4 (c .asked .semantics)) ≡ false → resultOf c ≡ refused 1
+unfolding resultOf refusals early ofSettings firstRefusal refusedOr
+outside-refused c e = rw e
 
 pub kind-refused : (c : Call) → 8 < c .asked .kind → resultOf c ≡ refused 1
-kind-refused c more = settings-refused c (rw (outside 8 (c .asked .kind) more))
+kind-refused c more = outside-refused c (rw (outside 8 (c .asked .kind) more))
 
 pub semantics-refused : (c : Call) → 4 < c .asked .semantics → resultOf c ≡ refused 1
-semantics-refused c more = settings-refused c (rw (outside 4 (c .asked .semantics) more, and-false))
+semantics-refused c more = outside-refused c (rw (outside 4 (c .asked .semantics) more, and-false))
 
 -- the same call, where that is asked
 unfoldable pub asking : Call → Asked → Call
-asking c asked = record { asked = asked; schema = c .schema; lent = c .lent }
+asking c asked = record { asked = asked; table = c .table; schema = c .schema; lent = c .lent }
 
 -- the call with settings that are at most `most`
 unfoldable pub capped : (most : ℕ) → Call → Call

@@ -10,7 +10,8 @@ use mathlib.Core.Path.{_≡_}
 use Rattle.text.specs.Utf8.{isUtf8}
 use Rattle.definition.specs.Tree.{Text, Schema, Rule, rule, template}
 use Rattle.definition.specs.Decode.{decodeSchema, decodeRule}
-use Rattle.reference.specs.Setting.{Setting, settingOf, oneOf}
+use Rattle.reference.specs.Setting.{Setting, oneOf}
+use Rattle.reference.specs.Table.{tableIn, settingUnder, orStock, isSoundTable}
 use Rattle.validation.specs.Check.{isNone, Binder, IsDefect, checks, entryOf}
 use Rattle.validation.specs.Judge.{Verdict, allPass, failsAt, judge}
 use Rattle.validation.specs.Location.{pathOf}
@@ -34,6 +35,8 @@ pub record Lent : Type 0 where
 
 pub record Call : Type 0 where
   pub asked : Asked
+  -- the name table's bytes, or none
+  pub table : List ℕ
   pub schema : List ℕ
   pub lent : Lent
 
@@ -53,7 +56,7 @@ pub data Answer : Type 0 where
 
 -- the refusals that stand for a verdict
 unfoldable pub refusalNumbers : List ℕ
-refusalNumbers = 1 ∷ 2 ∷ 3 ∷ 4 ∷ 5 ∷ []
+refusalNumbers = 1 ∷ 2 ∷ 3 ∷ 4 ∷ 5 ∷ 37 ∷ 38 ∷ []
 
 pub record IsRefusal (n : ℕ) : Type 0 where
   pub listed : oneOf n refusalNumbers ≡ true
@@ -125,7 +128,7 @@ isTaken templates (some (rule name message assert)) = false
 isTaken templates (some (template v)) = true
 
 abbrev pub settingFor : Call → Setting
-settingFor c = settingOf (c .asked .kind) (c .asked .semantics)
+settingFor c = settingUnder (orStock (tableIn (c .table))) (c .asked .kind) (c .asked .semantics)
 
 -- a refusal's number, and whether it is due
 pub record Refusal : Type 0 where
@@ -136,12 +139,23 @@ pub record Refusal : Type 0 where
 abbrev pub ofBuffers : Lent → List Refusal
 ofBuffers l = record { number = 3; isDue = not (leb pathBytes (l .path) && leb scratchWords (l .scratch)) } ∷ []
 
+-- of the name table
+abbrev pub ofTable : List ℕ → List Refusal
+ofTable table =
+    record { number = 37; isDue = isNone (tableIn table) }
+    ∷ record { number = 38; isDue = not (isSoundTable (tableIn table)) }
+    ∷ []
+
+-- of settings, label and widths
+unfoldable pub ofSettings : Asked → Lent → List Refusal
+ofSettings a l =
+    record { number = 1; isDue = not (isWithin 1 8 (a .kind) && isWithin 1 4 (a .semantics)) }
+    ∷ record { number = 2; isDue = not (leb (length (a .label)) maxLabelBytes && isUtf8 (a .label)) }
+    ∷ ofBuffers l
+
 -- tried before a sheet is read
 unfoldable pub early : Call → List Refusal
-early c =
-    record { number = 1; isDue = not (isWithin 1 8 (c .asked .kind) && isWithin 1 4 (c .asked .semantics)) }
-    ∷ record { number = 2; isDue = not (leb (length (c .asked .label)) maxLabelBytes && isUtf8 (c .asked .label)) }
-    ∷ ofBuffers (c .lent)
+early c = ofSettings (c .asked) (c .lent) ++ ofTable (c .table)
 
 unfoldable pub ofSheets : Call → List Refusal
 ofSheets c =
@@ -231,6 +245,7 @@ pub record ScratchAfter (a : Answer) (before after : List ℕ) : Type 0 where
 -- what a caller hands over, and what it has after the call
 pub record Run : Type 0 where
   pub asked : Asked
+  pub table : List ℕ
   pub schema : List ℕ
   pub pathBefore : List ℕ
   pub scratchBefore : List ℕ
@@ -243,7 +258,7 @@ lentOf r = record { path = length (r .pathBefore); scratch = length (r .scratchB
 
 unfoldable pub callOf : Run → Call
 unfolding lentOf
-callOf r = record { asked = r .asked; schema = r .schema; lent = lentOf r }
+callOf r = record { asked = r .asked; table = r .table; schema = r .schema; lent = lentOf r }
 
 -- what a whole call promises of its run
 pub record Meets (r : Run) : Type 0 where

@@ -5,6 +5,7 @@ use mathlib.Core.List.{List, [], _∷_}
 use mathlib.Core.Path.{_≡_}
 use Rattle.number.specs.Finite.{isFinite}
 use Rattle.definition.specs.Tree.{Rule, rule, template}
+use Rattle.reference.specs.Table.{tableIn}
 use Rattle.validation.specs.Check.{Literal, literals}
 use Rattle.validation.specs.Result.{Lent, Call, Run}
 
@@ -17,9 +18,9 @@ abbrev pub AllFinite : List Literal → Type 0
 AllFinite [] = Unit {0}
 AllFinite (l ∷ ls) = (isFinite (l .digits) ≡ true) × AllFinite ls
 
--- the same rule or template under another semantics, and with other buffers
-unfoldable pub under : Call → (semantics : ℕ) → Lent → Call
-under c semantics lent =
+-- the same rule or template under another semantics, with another table and other buffers
+unfoldable pub under : Call → (semantics : ℕ) (table : List ℕ) → Lent → Call
+under c semantics table lent =
     record {
       asked =
           record {
@@ -29,14 +30,16 @@ under c semantics lent =
             label = c .asked .label;
             rule = c .asked .rule;
           };
+      table = table;
       schema = c .schema;
       lent = lent;
     }
 
--- two runs that differ at most in the semantics, and in what the buffers hold and how long they are
+-- two runs under tables of one meaning that differ at most in the semantics, and in what the buffers hold and how long they are
 pub record SameButSemantics (r r′ : Run) : Type 0 where
   pub takes : r .asked .takes ≡ r′ .asked .takes
   pub kind : r .asked .kind ≡ r′ .asked .kind
   pub label : r .asked .label ≡ r′ .asked .label
   pub rule : r .asked .rule ≡ r′ .asked .rule
   pub schema : r .schema ≡ r′ .schema
+  pub table : tableIn (r .table) ≡ tableIn (r′ .table)

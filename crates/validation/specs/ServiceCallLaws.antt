@@ -1,8 +1,8 @@
 -- A call that is accepted under kernel/1, asked again under a service semantics: no refusal is due, and every check passes.
 use Prim.Native.Nat.{ℕ, _+_, _≤_}
 use native.Mathlib.Omega.{arith}
-use mathlib.Core.Bool.{Bool, true, false, not, _&&_, false≢true}
-use mathlib.Core.List.{[], _∷_}
+use mathlib.Core.Bool.{true, not, _&&_}
+use mathlib.Core.List.{List, [], _∷_}
 use mathlib.Core.Option.{Option, none, some, orElse}
 use mathlib.Core.Path.{_≡_, refl, ap, sym, subst, _∙_}
 use lib.ListN.{length}
@@ -10,11 +10,12 @@ use borrow.Author.Tests.{le-leb, ne-eqb}
 use Rattle.text.proofs.Bools.{and-true-0}
 use Rattle.definition.specs.Tree.{Text, Rule}
 use Rattle.definition.specs.Decode.{decodeSchema, decodeRule}
-use Rattle.reference.specs.Setting.{Setting, settingOf, stock, oneOf, kernel as kernelReader}
-use Rattle.validation.specs.Check.{isNone, checks}
+use Rattle.reference.specs.Setting.{Setting, oneOf, kernel as kernelReader}
+use Rattle.reference.specs.Table.{mayReadBy, rowOf, tableIn, settingUnder, orStock}
+use Rattle.validation.specs.Check.{checks}
 use Rattle.validation.specs.Judge.{Verdict, allPass, failsAt, judge}
-use Rattle.validation.specs.Result.{Lent, Call, Answer, accepted, isWithin, answerOf, settingFor, ofBuffers, early, ofSheets, refusals, firstRefusal, Unrefused, refusedOr, checked, resultOf}
-use Rattle.validation.specs.RefusalLaws.{none-due, first-none, first-append, none-of-either}
+use Rattle.validation.specs.Result.{Lent, Call, Answer, accepted, isWithin, answerOf, settingFor, ofBuffers, ofSettings, early, ofSheets, refusals, firstRefusal, Unrefused, refusedOr, checked, resultOf}
+use Rattle.validation.specs.RefusalLaws.{is-set, present, none-due, first-none, first-append, none-of-either}
 use Rattle.validation.specs.DemandLaws.{answers-by-checks}
 use Rattle.validation.specs.Service.{literalsIn, AllFinite, under}
 use Rattle.validation.specs.ServiceLaws.{service-accepts}
@@ -28,53 +29,45 @@ accepted-unrefused : (c : Call) (n : ℕ) → resultOf c ≡ accepted n → Unre
 unfolding resultOf
 accepted-unrefused c n e = or-accepted (firstRefusal (refusals c)) _ n e
 
-present : {A : Type 0} (o : Option A) → isNone o ≡ false → (x : A) × (o ≡ some x)
-unfolding isNone
-present none e = absurd (false≢true (sym e))
-present (some x) e = (x, refl)
-
 all-pass : (setting : Setting) (label : Text) (r : Rule) (v : Verdict) (n : ℕ) → answerOf setting label r v ≡ accepted n → v ≡ allPass n
 unfolding answerOf
 all-pass setting label r (allPass m) n e = cc
 all-pass setting label r (failsAt m c d) n e = let z : _≡_ {A = ℕ} 0 1 = cc in absurd (omega arith)
-
-is-set : (b : Bool) → not b ≡ false → b ≡ true
-is-set true e = refl
-is-set false e = sym e
 
 service-semantics : (n : ℕ) → 2 ≤ n → n ≤ 4 → isWithin 1 4 n ≡ true
 unfolding isWithin
 service-semantics n low high = rw (le-leb 1 n (omega arith), le-leb n 4 high)
 
 -- with the buffers of the second call long enough, none of its refusals is due
-unrefused-moved : (c : Call) (semantics : ℕ) (lent : Lent) → 2 ≤ semantics → semantics ≤ 4 → Unrefused c → firstRefusal (ofBuffers lent) ≡ none → Unrefused (under c semantics lent)
-unfolding under refusals early ofSheets orElse
-unrefused-moved c semantics lent low high n room =
+unrefused-moved : (c : Call) (semantics : ℕ) (table : List ℕ) (lent : Lent) → 2 ≤ semantics → semantics ≤ 4 → Unrefused c → tableIn (c .table) ≡ tableIn table → firstRefusal (ofBuffers lent) ≡ none → Unrefused (under c semantics table lent)
+unfolding under refusals early ofSettings ofSheets orElse
+unrefused-moved c semantics table lent low high n same room =
     let (before, after) = none-of-either c n in
     let settings = none-due (early c) before in
     let kind = and-true-0 (isWithin 1 8 (c .asked .kind)) (isWithin 1 4 (c .asked .semantics)) (is-set _ (settings .0)) in
     let both : (isWithin 1 8 (c .asked .kind) && isWithin 1 4 semantics) ≡ true = rw (kind, service-semantics semantics low high) in
-    let now = first-none (early (under c semantics lent)) (ap not both, (settings .1 .0, none-due (ofBuffers lent) room)) in
-    first-append (early (under c semantics lent)) (ofSheets c) ∙ rw now after
+    let now = first-none (early (under c semantics table lent)) (ap not both, (settings .1 .0, (none-due (ofBuffers lent) room .0, rw same at (settings .1 .1 .1)))) in
+    first-append (early (under c semantics table lent)) (ofSheets c) ∙ rw now after
 
-pub service-call : (c : Call) (semantics : ℕ) (lent : Lent) (t : Rule) (n : ℕ)
+pub service-call : (c : Call) (semantics : ℕ) (table : List ℕ) (lent : Lent) (t : Rule) (n : ℕ)
     → c .asked .semantics ≡ 1
     → 2 ≤ semantics
     → semantics ≤ 4
     → decodeRule (c .asked .rule) ≡ some t
     → AllFinite (literalsIn t)
+    → tableIn (c .table) ≡ tableIn table
     → firstRefusal (ofBuffers lent) ≡ none
     → resultOf c ≡ accepted n
-    → resultOf (under c semantics lent) ≡ accepted (n + length (literalsIn t))
-unfolding under settingOf checked answerOf ofSheets
-service-call c semantics lent t n kernel low high decodes finite room e =
+    → resultOf (under c semantics table lent) ≡ accepted (n + length (literalsIn t))
+unfolding under settingUnder checked answerOf ofSheets
+service-call c semantics table lent t n kernel low high decodes finite same room e =
     let unrefused = accepted-unrefused c n e in
     let sheets = none-due (ofSheets c) (none-of-either c unrefused .1) in
     let (s, reads) = present (decodeSchema (c .schema)) (sheets .0) in
     let first = sym (answers-by-checks c s t reads decodes unrefused) ∙ e in
     let passes = all-pass (settingFor c) (c .asked .label) t (judge (settingFor c) s (checks (settingFor c) t)) n first in
     let passed =
-    subst (λ (x : Setting). judge x s (checks x t) ≡ allPass n) (ap (λ (m : ℕ). settingOf (c .asked .kind) m) kernel) passes in
-    let moved = service-accepts (stock (c .asked .kind)) kernelReader (oneOf (c .asked .kind) (1 ∷ 2 ∷ 5 ∷ 6 ∷ [])) s t n passed finite in
-    answers-by-checks (under c semantics lent) s t reads decodes (unrefused-moved c semantics lent low high unrefused room)
-    ∙ rw (ne-eqb semantics 1 (λ x. omega arith), moved) refl
+    subst (λ (x : Setting). judge x s (checks x t) ≡ allPass n) (ap (λ (m : ℕ). settingUnder (orStock (tableIn (c .table))) (c .asked .kind) m) kernel) passes in
+    let moved = service-accepts (mayReadBy (rowOf (orStock (tableIn (c .table))) (c .asked .kind))) kernelReader (oneOf (c .asked .kind) (1 ∷ 2 ∷ 5 ∷ 6 ∷ [])) s t n passed finite in
+    answers-by-checks (under c semantics table lent) s t reads decodes (unrefused-moved c semantics table lent low high unrefused same room)
+    ∙ rw (ne-eqb semantics 1 (λ x. omega arith), ← same, moved) refl

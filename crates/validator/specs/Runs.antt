@@ -7,10 +7,11 @@ use Rattle.validator.specs.declared.outcome.Outcome.{Outcome}
 use Rattle.validator.specs.Outcomes.{numbersBy}
 use Rattle.validator.specs.Sheets.{takesOf}
 
-abbrev pub runOf : (takes : Takes) (kind semantics : ℕ) (label schema rule pathBefore scratchBefore : List ℕ) (r : Outcome) (path scratch : List ℕ) → Run
-runOf takes kind semantics label schema rule pathBefore scratchBefore r path scratch =
+abbrev pub runOf : (takes : Takes) (kind semantics : ℕ) (label table schema rule pathBefore scratchBefore : List ℕ) (r : Outcome) (path scratch : List ℕ) → Run
+runOf takes kind semantics label table schema rule pathBefore scratchBefore r path scratch =
     record {
       asked = record { takes = takesOf takes; kind = kind; semantics = semantics; label = label; rule = rule };
+      table = table;
       schema = schema;
       pathBefore = pathBefore;
       scratchBefore = scratchBefore;

@@ -25,8 +25,8 @@ use Rattle.rule.specs.Read as RuleKept
 use Rattle.validation.specs.Check.{isNone, checks}
 use Rattle.validation.specs.Judge.{Verdict, allPass, failsAt, judge}
 use Rattle.validation.specs.Result as Result
-use Rattle.validation.specs.Result.{Call, Answer, maxLabelBytes, pathBytes, scratchWords, isTaken, settingFor, isOfSheets, early, ofSheets, firstRefusal, answerOf, checked, judged, refusedOr, resultOf, keptScratch, ScratchAfter}
-use Rattle.validation.specs.RefusalLaws.{none-due, sheets-first}
+use Rattle.validation.specs.Result.{Asked, Lent, Call, Answer, maxLabelBytes, pathBytes, scratchWords, isTaken, settingFor, isOfSheets, ofSettings, early, ofSheets, firstRefusal, answerOf, checked, judged, refusedOr, resultOf, keptScratch, ScratchAfter}
+use Rattle.validation.specs.RefusalLaws.{is-set, none-due, no-setting-due, sheets-first}
 use Rattle.validator.specs.Answers.{Tells}
 use Rattle.validator.specs.Sheets.{takesOf, takenOf, sheetAnswer, FrontOnly, SheetChecked}
 use Rattle.validator.specs.declared.sheets.Takes.{Takes}
@@ -88,25 +88,21 @@ sheet-scratch takes setting label schema sheet f =
 
 -- The whole call: where nothing is refused before the sheets are read, there is room, and the sheets decide.
 
-pub record Roomy (c : Call) : Type 0 where
-  pub small : length (c .asked .label) ≤ maxLabelBytes
-  pub room : pathBytes ≤ c .lent .path
-  pub words : scratchWords ≤ c .lent .scratch
+pub record Roomy (a : Asked) (l : Lent) : Type 0 where
+  pub small : length (a .label) ≤ maxLabelBytes
+  pub room : pathBytes ≤ l .path
+  pub words : scratchWords ≤ l .scratch
 
-set : (x : Bool) → not x ≡ false → x ≡ true
-set true e = refl
-set false e = sym e
-
-pub roomy : (c : Call) → firstRefusal (early c) ≡ none → Roomy c
-unfolding early
-roomy c h =
-    let due = none-due (early c) h in
-    let labelled = set (leb (length (c .asked .label)) maxLabelBytes && isUtf8 (c .asked .label)) (due .1 .0) in
-    let lent = set (leb pathBytes (c .lent .path) && leb scratchWords (c .lent .scratch)) (due .1 .1 .0) in
+pub roomy : (a : Asked) (l : Lent) → firstRefusal (ofSettings a l) ≡ none → Roomy a l
+unfolding ofSettings
+roomy a l h =
+    let due = none-due (ofSettings a l) h in
+    let labelled = is-set (leb (length (a .label)) maxLabelBytes && isUtf8 (a .label)) (due .1 .0) in
+    let lent = is-set (leb pathBytes (l .path) && leb scratchWords (l .scratch)) (due .1 .1 .0) in
     record {
-      small = leb-true (length (c .asked .label)) maxLabelBytes (and-true-0 (leb (length (c .asked .label)) maxLabelBytes) (isUtf8 (c .asked .label)) labelled);
-      room = leb-true pathBytes (c .lent .path) (and-true-0 (leb pathBytes (c .lent .path)) (leb scratchWords (c .lent .scratch)) lent);
-      words = leb-true scratchWords (c .lent .scratch) (and-true-1 (leb pathBytes (c .lent .path)) (leb scratchWords (c .lent .scratch)) lent);
+      small = leb-true (length (a .label)) maxLabelBytes (and-true-0 (leb (length (a .label)) maxLabelBytes) (isUtf8 (a .label)) labelled);
+      room = leb-true pathBytes (l .path) (and-true-0 (leb pathBytes (l .path)) (leb scratchWords (l .scratch)) lent);
+      words = leb-true scratchWords (l .scratch) (and-true-1 (leb pathBytes (l .path)) (leb scratchWords (l .scratch)) lent);
     }
 
 by-sheets : (takes : Result.Takes) (setting : Setting) (label : List ℕ) (t : Option Tree.Schema) (x : Option Rule)
@@ -138,5 +134,5 @@ pub single-told : {takes : Takes} {pathBefore path before after : List ℕ} {rea
     → SheetChecked takes (settingFor c) (c .asked .label) (c .schema) read (c .asked .rule) pathBefore path before after r
     → Tells (resultOf c) pathBefore path r
 single-told c h takes-so lent is s =
-    let room = roomy c h in
+    let room = roomy (c .asked) (c .lent) (no-setting-due c h) in
     rw (sheets-decide c h, takes-so) (s .tells is (room .small) (rw lent at (room .room)))

@@ -2,18 +2,19 @@
 use definition::limits::MAX_LABEL_BYTES;
 use definition::limits::PATH_BYTES;
 use definition::limits::SCRATCH_WORDS;
+use name_table::read::TableRead;
+use name_table::read::lent_table;
 use scope::name::Row;
 use scope::name::one_of;
-use scope::name::stock_row;
 ghost use mathlib.Core.Bool.{_&&_};
 ghost use mathlib.Core.List.{[], _∷_};
 ghost use mathlib.Core.Path.{_≡_};
 ghost use lib.Dec.{leb};
 ghost use lib.ListN.{length};
 ghost use Rattle.text.specs.Utf8.{isUtf8};
-ghost use Rattle.reference.specs.Setting.{oneOf, settingOf};
+ghost use Rattle.reference.specs.Setting.{oneOf};
 ghost use Rattle.validation.specs.Result.{isWithin, maxLabelBytes, pathBytes, scratchWords};
-ghost use Rattle.validator.specs.Settings.{settingBy, EarlyIs};
+ghost use Rattle.validator.specs.Settings.{settingBy, settingIn, EarlyIs, SettledIs};
 
 pub fn is_within(high: u32, n: u32) -> bool
     ensures { λ r. ⌜ r ≡ isWithin 1 high n ⌝ }
@@ -39,7 +40,7 @@ fn is_room(path: usize, scratch: usize) -> bool
     PATH_BYTES <= path && SCRATCH_WORDS <= scratch
 }
 
-// The refusal that is due before a sheet is read, or 0. `path` and `scratch` are how many elements the lent buffers have.
+// The refusal of settings, label or widths that is due, or 0. `path` and `scratch` are how many elements the lent buffers have.
 pub fn refused_settings(kind: u32, semantics: u32, label: &[u8], path: usize, scratch: usize) -> u32
     ensures { λ r. ⌜ EarlyIs kind semantics (now (label .entry)) path scratch r ⌝ }
 {
@@ -66,13 +67,30 @@ fn is_rule_kind(kind: usize) -> bool
     one_of(kind, &[1, 2, 5, 6])
 }
 
-pub fn setting_of(kind: u32, semantics: u32) -> Setting
-    ensures { λ r. ⌜ settingBy r ≡ settingOf kind semantics ⌝ }
+fn setting_of(row: Row, kind: u32, semantics: u32) -> Setting
+    ensures { λ r. ⌜ settingBy r ≡ settingIn row kind semantics ⌝ }
 {
-    let kind = kind as usize;
     Setting {
-        row: stock_row(kind),
-        rule_kind: is_rule_kind(kind),
+        row,
+        rule_kind: is_rule_kind(kind as usize),
         service: semantics != 1,
     }
+}
+
+pub enum Settled {
+    Set(Setting),
+    Refused(u32),
+}
+
+// What the name table sets a check to: 37 if it is not of its form, 38 if a mark breaks one of its two conditions.
+pub fn settle(kind: u32, semantics: u32, table: &[u8]) -> Settled
+    ensures { λ r. ⌜ SettledIs kind semantics (now (table .entry)) r ⌝ }
+{
+    let TableRead::Is(row, sound) = lent_table(table, kind) else {
+        return Settled::Refused(37);
+    };
+    if sound {
+        return Settled::Set(setting_of(row, kind, semantics));
+    }
+    Settled::Refused(38)
 }

@@ -13,20 +13,20 @@ setting-requires c κs = search needs
 setting-requires-2 : tie.Need-setting-requires-2
 setting-requires-2 c κs = search needs
 
-sub-validate-taken : tie.Need-sub-validate-taken
-sub-validate-taken c = search needs
+sub-validate-under : tie.Need-sub-validate-under
+sub-validate-under c = search needs
 
-part-validate-taken-start : tie.Need-part-validate-taken-start
-part-validate-taken-start c = search needs
+part-validate-under-start : tie.Need-part-validate-under-start
+part-validate-under-start c = search needs
 
-part-validate-taken-end : tie.Need-part-validate-taken-end
-part-validate-taken-end c = rw (c .before .before .path-lent .ensures) (lent-within _ _)
+part-validate-under-end : tie.Need-part-validate-under-end
+part-validate-under-end c = rw (c .before .before .path-lent .ensures) (lent-within _ _)
 
-slice-aggregate-validate-taken : tie.Need-slice-aggregate-validate-taken
-slice-aggregate-validate-taken c = search needs
+slice-aggregate-validate-under : tie.Need-slice-aggregate-validate-under
+slice-aggregate-validate-under c = search needs
 
-validate-taken-requires : tie.Need-validate-taken-requires
-validate-taken-requires c κs = search needs
+validate-under-requires : tie.Need-validate-under-requires
+validate-under-requires c κs = search needs
 
 write-result-requires : tie.Need-write-result-requires
 write-result-requires c κs = search needs
@@ -44,11 +44,11 @@ returns c =
     let second = called .before .before .before in
     let first = second .before in
     let lent = first .before in
-    let a = lent .before .before .before .before .before .before .args in
-    let last = called .validate-taken .last .1 .1 .1 .1 .1 .1 in
-    answered (a .takes) (a .kind) (a .semantics) (a .label .now) (a .schema .now) (a .rule .now) (a .path .now) (a .result .now)
-    (called .validate-taken .result) (last .0) (last .1 .0)
-    (first .setting .ensures) (second .setting2 .ensures) (lent .path-lent .ensures) (called .validate-taken .ensures) (wrote .write-result .ensures)
+    let a = lent .before .before .before .before .before .before .before .args in
+    let last = called .validate-under .last .1 .1 .1 .1 .1 .1 .1 in
+    answered (a .takes) (a .kind) (a .semantics) (a .label .now) (a .table .now) (a .schema .now) (a .rule .now) (a .path .now) (a .result .now)
+    (called .validate-under .result) (last .0) (last .1 .0)
+    (first .setting .ensures) (second .setting2 .ensures) (lent .path-lent .ensures) (called .validate-under .ensures) (wrote .write-result .ensures)
 
 pub check-spec : {M : Type 1} → statement M
 check-spec =
@@ -57,11 +57,11 @@ check-spec =
     path-lent-requires
     setting-requires
     setting-requires-2
-    sub-validate-taken
-    part-validate-taken-start
-    part-validate-taken-end
-    slice-aggregate-validate-taken
-    validate-taken-requires
+    sub-validate-under
+    part-validate-under-start
+    part-validate-under-end
+    slice-aggregate-validate-under
+    validate-under-requires
     write-result-requires
     same-length
     same-length-2

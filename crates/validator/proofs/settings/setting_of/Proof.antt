@@ -3,9 +3,6 @@ use Rattle.validator.proofs.SettingSteps.{setting-is}
 use Rattle.validator.proofs.settings.setting_of.Statement.{statement}
 use Rattle.validator.proofs.settings.setting_of.Tie as tie
 
-stock-row-requires : tie.Need-stock-row-requires
-stock-row-requires c κs = search needs
-
 is-rule-kind-requires : tie.Need-is-rule-kind-requires
 is-rule-kind-requires c κs = search needs
 
@@ -13,4 +10,4 @@ returns : tie.Need-returns
 returns c = search (setting-is, needs)
 
 pub setting-of-spec : {M : Type 1} → statement M
-setting-of-spec = tie.close (tie.spec stock-row-requires is-rule-kind-requires returns)
+setting-of-spec = tie.close (tie.spec is-rule-kind-requires returns)

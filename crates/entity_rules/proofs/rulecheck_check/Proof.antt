@@ -1,0 +1,21 @@
+-- `entity_rules::rulecheck_check` meets its contract.
+use Rattle.validator.specs.Sheets.{takesOf}
+use borrow.Author.Needs.{needs}
+use Rattle.entity_rules.proofs.rulecheck_check.Statement.{statement}
+use Rattle.entity_rules.proofs.rulecheck_check.Tie as tie
+
+check-requires : tie.Need-check-requires
+check-requires c κs = search needs
+
+same-length : tie.Need-same-length
+same-length c = search needs
+
+same-length-2 : tie.Need-same-length-2
+same-length-2 c = search needs
+
+returns : tie.Need-returns
+unfolding takesOf
+returns c = c .before .before .before .before .check .ensures
+
+pub rulecheck-check-spec : {M : Type 1} → statement M
+rulecheck-check-spec = tie.close (tie.spec check-requires same-length same-length-2 returns)
