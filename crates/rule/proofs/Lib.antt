@@ -5,6 +5,7 @@ mod KeptLaws
 mod KeyLaws
 mod ReaderLaws
 mod RuleLaws
+mod SearchLaws
 mod SiblingKinds
 mod SiblingLaws
 mod ValueAnswers
