@@ -8,5 +8,6 @@ mod RuleLaws
 mod SearchLaws
 mod SiblingKinds
 mod SiblingLaws
+mod TableLaws
 mod ValueAnswers
 mod ValueLaws

@@ -3,7 +3,7 @@ use Prim.Native.Nat.{ℕ, _+_, _-_, _≤_, _<_}
 use mathlib.Core.Bool.{Bool, true, false, false≢true}
 use mathlib.Core.List.{List, _++_}
 use mathlib.Core.Option.{none, some, Option·none-ne-some}
-use mathlib.Core.Path.{_≡_, refl, sym, ap, _∙_, subst₂}
+use mathlib.Core.Path.{_≡_, refl, sym, ap, _∙_, subst}
 use native.Mathlib.Omega.{arith}
 use lib.ListN.{length, take, drop, take-append-drop, length-append, length-drop}
 use lib.Seq.{take-append-seam}
@@ -100,6 +100,12 @@ module _ (s words : List ℕ) (entry : Part) (i n : ℕ) where
         next key (pair k v others) here at f =
             rw (this-entry here (at .0 .reads), q) (further .told key others here (rw (at .0 .ends) (at .2)) (omega arith))
 
+-- an entry by its length
+pub reads-entry : {s : List ℕ} {start behind : ℕ} {key : Text} → ReadsTo keyHead s start key behind → ReadsTo keyHead s start key (start + (behind - start))
+reads-entry {s} {start} {behind} {key} reads =
+    let to : behind ≡ start + (behind - start) = omega (arith, reads .past) in
+    subst (λ (to : ℕ). ReadsTo keyHead s start key to) to reads
+
 -- Whether none of those stands twice: none is left, this one stands again, or it does not.
 module _ (s words : List ℕ) (i n : ℕ) where
   pub twice-none : n ≡ 0 → NoneTwice s words i n true
@@ -123,9 +129,8 @@ module _ (s words : List ℕ) (i n : ℕ) where
     module _ {behind j : ℕ} {k : Text} (reads : ReadsTo keyHead s start k behind) (ends : j ≡ endOf words i) where
       this-key : {key : Text} {rest : List ℕ} → keyHead (drop (startOf words i) s) ≡ some (key, rest) → ReadsTo keyHead s start key (start + (behind - start))
       this-key {key} e =
-          let to : behind ≡ start + (behind - start) = omega (arith, reads .past) in
           let same : k ≡ key = some-both (sym (reads .reads) ∙ ap (λ (start : ℕ). keyHead (drop start s)) starts ∙ e) .0 in
-          subst₂ (λ (key : Text) (to : ℕ). ReadsTo keyHead s start key to) same to reads
+          subst (λ (key : Text). ReadsTo keyHead s start key (start + (behind - start))) same (reads-entry reads)
 
       again : (r : Bool) → StandsAmong s words (record { start = start; len = behind - start }) j (n - 1) r
           → (key : Text) (v : Value) (others : Pairs) → PairsAt s words i (pair key v others) → countOfPairs (pair key v others) ≡ n → isAmong key (keysOf others) ≡ r

@@ -3,3 +3,4 @@ pub mod IndexLaws
 pub mod Read
 pub mod Rule
 pub mod Keys
+pub mod Table

@@ -265,7 +265,7 @@ read-pairs-returns-2 : (t : ℕ) → read-pairs-lts.Need-returns-2 (cs-read-pair
 read-pairs-returns-2 t c = object-rises (c .before .before .before .before .before .args .depth) (c .before .before .loop .previous) (c .before .before .loop .inv) (omega (arith, c .before .loop-test .left)) (c .if1 .taken)
 
 read-pairs-none-twice-requires : (t : ℕ) → read-pairs-lts.Need-none-twice-requires (cs-read-pairs t) (read-pairs-at t) read-pairs.Post read-pairs-Inv-loop read-pairs-μ-loop
-read-pairs-none-twice-requires t c κs = search needs
+read-pairs-none-twice-requires t c κs = omega (arith, c .before .before .before .before .before .before .pre .1 .budget)
 
 read-pairs-same-length-3 : (t : ℕ) → read-pairs-lts.Need-same-length-3 (cs-read-pairs t) (read-pairs-at t) read-pairs.Post read-pairs-Inv-loop read-pairs-μ-loop
 read-pairs-same-length-3 t c = c .before .before .before .before .before .loop .inv .kept .len

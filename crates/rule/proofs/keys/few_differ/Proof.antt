@@ -1,8 +1,8 @@
--- `rule::keys::none_twice` meets its contract: the loop's invariant is that what is right for the keys left is right for all.
+-- `rule::keys::few_differ` meets its contract: the loop's invariant is that what is right for the keys left is right for all.
 use native.Mathlib.Omega.{arith}
 use borrow.Author.Needs.{needs}
-use Rattle.rule.proofs.keys.none_twice.Statement.{statement}
-use Rattle.rule.proofs.keys.none_twice.Tie as tie
+use Rattle.rule.proofs.keys.few_differ.Statement.{statement}
+use Rattle.rule.proofs.keys.few_differ.Tie as tie
 use mathlib.Core.Bool.{Bool, true, false}
 use denote.Ref.{now}
 use Rattle.rule.specs.Keys.{NoneTwice}
@@ -62,8 +62,8 @@ loop-again c =
 returns-3 : tie.Need-returns-3 Inv-loop μ-loop
 returns-3 c = let a = c .before .before .before .before .args in c .before .loop .inv true (twice-none (now (a .s)) (now (a .words)) (c .before .loop .i) (c .before .loop .n) (omega (arith, c .loop-test .left)))
 
-pub none-twice-spec : {M : Type 1} → statement M
-none-twice-spec =
+pub few-differ-spec : {M : Type 1} → statement M
+few-differ-spec =
     tie.close
     (tie.spec
     Inv-loop
