@@ -179,8 +179,8 @@ read-pair-enum-told t c = search needs
 read-pair-returns : (t : ℕ) → read-pair-lts.Need-returns (cs-read-pair t) (read-pair-at t) read-pair.Post
 read-pair-returns t c = (pair-keyless (valueIn (c .before .before .before .before .before .args .depth)) (aheadOf (now (c .before .before .before .before .before .args .s)) (c .before .before .before .before .before .args .c)) (rw (c .enum-told .given .1) at (c .before .before .key-head .ensures)), kept-all)
 
-read-pair-add-scratch : (t : ℕ) → read-pair-lts.Need-add-scratch (cs-read-pair t) (read-pair-at t) read-pair.Post
-read-pair-add-scratch t c = omega (arith, c .before .before .before .before .before .before .pre .1 .budget)
+read-pair-add-words : (t : ℕ) → read-pair-lts.Need-add-words (cs-read-pair t) (read-pair-at t) read-pair.Post
+read-pair-add-words t c = omega (arith, c .before .before .before .before .before .before .pre .1 .budget)
 
 read-pair-read-value-requires : (t : ℕ) → read-pair-lts.Need-read-value-requires (cs-read-pair t) (read-pair-at t) read-pair.Post
 read-pair-read-value-requires t c κs = let head = rw (c .before .before .key .given .1) at (c .before .before .before .before .key-head .ensures) in (omega (arith, c .before .before .before .before .before .before .before .pre .0), ready-inside (c .before .before .before .before .before .before .before .pre .1) (head .within) (omega arith))
@@ -204,11 +204,11 @@ read-pair-returns-2 t c =
 read-pair-word-of-requires : (t : ℕ) → read-pair-lts.Need-word-of-requires (cs-read-pair t) (read-pair-at t) read-pair.Post
 read-pair-word-of-requires t c κs = let inner = rw (c .before .next .given .1) at (c .before .before .before .before .before .read-value .ensures) in (omega (arith, c .before .before .before .before .before .before .before .before .before .before .before .before .before .pre .1 .inside, c .before .before .before .before .before .before .before .before .before .before .before .before .before .pre .1 .small), omega (arith, inner .budget, c .before .before .before .before .before .before .before .before .before .before .before .before .before .pre .1 .budget))
 
-read-pair-mul-scratch : (t : ℕ) → read-pair-lts.Need-mul-scratch (cs-read-pair t) (read-pair-at t) read-pair.Post
-read-pair-mul-scratch t c = omega (arith, c .before .before .before .before .before .before .before .before .before .before .before .before .before .before .pre .1 .budget)
+read-pair-mul-words : (t : ℕ) → read-pair-lts.Need-mul-words (cs-read-pair t) (read-pair-at t) read-pair.Post
+read-pair-mul-words t c = omega (arith, c .before .before .before .before .before .before .before .before .before .before .before .before .before .before .pre .1 .budget)
 
-read-pair-slice-write-scratch : (t : ℕ) → read-pair-lts.Need-slice-write-scratch (cs-read-pair t) (read-pair-at t) read-pair.Post
-read-pair-slice-write-scratch t c = omega (arith, c .before .before .before .before .before .before .read-value .kept .1 .0, c .before .before .before .before .before .before .before .before .before .before .before .before .before .before .pre .1 .room, c .before .before .before .before .before .before .before .before .before .before .before .before .before .before .pre .1 .budget)
+read-pair-slice-write-words : (t : ℕ) → read-pair-lts.Need-slice-write-words (cs-read-pair t) (read-pair-at t) read-pair.Post
+read-pair-slice-write-words t c = omega (arith, c .before .before .before .before .before .before .read-value .kept .1 .0, c .before .before .before .before .before .before .before .before .before .before .before .before .before .before .pre .1 .room, c .before .before .before .before .before .before .before .before .before .before .before .before .before .before .pre .1 .budget)
 
 read-pair-same-length-2 : (t : ℕ) → read-pair-lts.Need-same-length-2 (cs-read-pair t) (read-pair-at t) read-pair.Post
 read-pair-same-length-2 t c = length-set (c .before .before .before .before .before .before .read-value .last .1 .0) (c .before .before .before .before .before .before .before .before .before .before .before .before .before .before .args .c .word) (c .word-of .result) ∙ c .before .before .before .before .before .before .read-value .kept .1 .0
@@ -218,14 +218,14 @@ read-pair-returns-3 t c =
     let s = now (c .before .before .before .before .before .before .before .before .before .before .before .before .before .before .args .s) in
     let head = rw (c .before .before .before .before .before .before .before .before .before .key .given .1) at (c .before .before .before .before .before .before .before .before .before .before .before .key-head .ensures) in
     let inner = rw (c .before .before .next .given .1) at (c .before .before .before .before .before .before .read-value .ensures) in
-    pair-closed s (now (c .before .before .before .before .before .before .before .before .before .before .before .before .before .before .args .scratch)) (c .before .before .before .before .before .before .read-value .last .1 .0) (c .before .before .before .before .before .before .before .before .before .before .before .before .before .before .args .c) (c .before .before .next .given .0 .0) (c .before .before .before .before .before .before .before .before .before .before .before .before .before .before .args .depth) (c .before .before .before .before .before .before .before .before .before .key .given .0 .1 .0) (c .word-of .result) (partOf s (c .before .before .before .before .before .before .before .before .before .key .given .0 .0)) (c .before .before .before .before .before .before .before .before .before .before .before .before .before .before .pre .1) (head .reads) (c .word-of .ensures) inner
+    pair-closed s (now (c .before .before .before .before .before .before .before .before .before .before .before .before .before .before .args .words)) (c .before .before .before .before .before .before .read-value .last .1 .0) (c .before .before .before .before .before .before .before .before .before .before .before .before .before .before .args .c) (c .before .before .next .given .0 .0) (c .before .before .before .before .before .before .before .before .before .before .before .before .before .before .args .depth) (c .before .before .before .before .before .before .before .before .before .key .given .0 .1 .0) (c .word-of .result) (partOf s (c .before .before .before .before .before .before .before .before .before .key .given .0 .0)) (c .before .before .before .before .before .before .before .before .before .before .before .before .before .before .pre .1) (head .reads) (c .word-of .ensures) inner
 
 abbrev read-pairs-Inv-loop : read-pairs-lts.InvT-loop
-read-pairs-Inv-loop s scratch₀ depth count c here₀ rise₀ previous₀ n₀ scratch here rise previous n =
-    Passing (pairs-kind s depth) s scratch₀ scratch (true, none) (sofar s rise previous) count (2 * count) n (2 * n) c here
+read-pairs-Inv-loop s words₀ depth count c here₀ rise₀ previous₀ n₀ words here rise previous n =
+    Passing (pairs-kind s depth) s words₀ words (true, none) (sofar s rise previous) count (2 * count) n (2 * n) c here
 
 abbrev read-pairs-μ-loop : read-pairs-lts.MeasureT-loop
-read-pairs-μ-loop s scratch₀ depth count c here₀ rise₀ previous₀ n₀ scratch here rise previous n = n
+read-pairs-μ-loop s words₀ depth count c here₀ rise₀ previous₀ n₀ words here rise previous n = n
 
 read-pairs-loop-holds : (t : ℕ) → read-pairs-lts.Need-loop-holds (cs-read-pairs t) (read-pairs-at t) read-pairs.Post read-pairs-Inv-loop read-pairs-μ-loop
 unfolding optionalOf
@@ -280,7 +280,7 @@ read-pairs-returns-4 : (t : ℕ) → read-pairs-lts.Need-returns-4 (cs-read-pair
 read-pairs-returns-4 t c = object-repeats (c .before .before .before .before .before .before .before .before .args .depth) (c .before .before .before .before .before .loop .previous) (c .before .before .before .before .before .loop .inv) (omega (arith, c .before .before .before .before .loop-test .left)) (c .before .none-twice .ensures) (c .if2 .left)
 
 read-value-returns : (t : ℕ) → read-value-lts.Need-returns (cs-read-value t) (read-value-at t) read-value.Post
-read-value-returns t c = value-deep-answer (now (c .before .before .before .args .s)) (now (c .before .before .before .args .scratch)) (c .before .before .before .args .depth) (c .before .before .before .args .c) (c .if1 .taken)
+read-value-returns t c = value-deep-answer (now (c .before .before .before .args .s)) (now (c .before .before .before .args .words)) (c .before .before .before .args .depth) (c .before .before .before .args .c) (c .if1 .taken)
 
 read-value-value-head-requires : (t : ℕ) → read-value-lts.Need-value-head-requires (cs-read-value t) (read-value-at t) read-value.Post
 read-value-value-head-requires t c κs = search needs
@@ -292,7 +292,7 @@ read-value-enum-told : (t : ℕ) → read-value-lts.Need-enum-told (cs-read-valu
 read-value-enum-told t c = search needs
 
 read-value-returns-2 : (t : ℕ) → read-value-lts.Need-returns-2 (cs-read-value t) (read-value-at t) read-value.Post
-read-value-returns-2 t c = value-headless-answer (now (c .before .before .before .before .before .before .args .s)) (now (c .before .before .before .before .before .before .args .scratch)) (c .before .before .before .before .before .before .args .depth) (c .before .before .before .before .before .before .args .c) (c .before .before .before .if1 .left) (rw (c .enum-told .given .1) at (c .before .before .value-head .ensures))
+read-value-returns-2 t c = value-headless-answer (now (c .before .before .before .before .before .before .args .s)) (now (c .before .before .before .before .before .before .args .words)) (c .before .before .before .before .before .before .args .depth) (c .before .before .before .before .before .before .args .c) (c .before .before .before .if1 .left) (rw (c .enum-told .given .1) at (c .before .before .value-head .ensures))
 
 read-value-held-by-requires : (t : ℕ) → read-value-lts.Need-held-by-requires (cs-read-value t) (read-value-at t) read-value.Post
 read-value-held-by-requires t c κs = search needs
@@ -303,7 +303,7 @@ read-value-cost-of-requires t c κs = let head = rw (c .before .before .head .gi
 read-value-returns-3 : (t : ℕ) → read-value-lts.Need-returns-3 (cs-read-value t) (read-value-at t) read-value.Post
 read-value-returns-3 t c =
     let head = rw (c .before .before .before .before .head .given .1) at (c .before .before .before .before .before .before .value-head .ensures) in
-    held-unpaid-answer (now (c .before .before .before .before .before .before .before .before .before .before .args .s)) (now (c .before .before .before .before .before .before .before .before .before .before .args .scratch)) (c .before .before .before .before .before .before .before .before .before .before .args .depth) (c .before .before .before .before .head .given .0 .1 .0) (c .before .before .before .before .before .before .before .before .before .before .args .c) (c .before .before .before .before .head .given .0 .0) (c .before .before .before .before .before .before .before .if1 .left) (head .0) (c .before .cost-of .result) (c .before .before .held-by .result) (c .before .before .held-by .ensures) (c .before .cost-of .ensures) (c .if2 .taken)
+    held-unpaid-answer (now (c .before .before .before .before .before .before .before .before .before .before .args .s)) (now (c .before .before .before .before .before .before .before .before .before .before .args .words)) (c .before .before .before .before .before .before .before .before .before .before .args .depth) (c .before .before .before .before .head .given .0 .1 .0) (c .before .before .before .before .before .before .before .before .before .before .args .c) (c .before .before .before .before .head .given .0 .0) (c .before .before .before .before .before .before .before .if1 .left) (head .0) (c .before .cost-of .result) (c .before .before .held-by .result) (c .before .before .held-by .ensures) (c .before .cost-of .ensures) (c .if2 .taken)
 
 read-value-add-read-held : (t : ℕ) → read-value-lts.Need-add-read-held (cs-read-value t) (read-value-at t) read-value.Post
 read-value-add-read-held t c = omega (arith, c .before .before .before .before .before .before .before .before .before .before .pre .1 .budget)
@@ -326,20 +326,20 @@ read-value-same-length t c = c .before .before .before .before .read-held .kept 
 read-value-returns-4 : (t : ℕ) → read-value-lts.Need-returns-4 (cs-read-value t) (read-value-at t) read-value.Post
 read-value-returns-4 t c =
     let head = rw (c .before .before .before .before .before .before .before .before .before .before .head .given .1) at (c .before .before .before .before .before .before .before .before .before .before .before .before .value-head .ensures) in
-    held-bad-answer (now (c .before .before .before .before .before .before .before .before .before .before .before .before .before .before .before .before .args .s)) (now (c .before .before .before .before .before .before .before .before .before .before .before .before .before .before .before .before .args .scratch)) (c .before .before .before .before .before .before .before .before .before .before .before .before .before .before .before .before .args .depth) (c .before .before .before .before .before .before .before .before .before .before .head .given .0 .1 .0) (c .before .before .before .before .before .before .before .before .before .before .before .before .before .before .before .before .args .c) (c .before .before .before .before .before .before .before .before .before .before .head .given .0 .0) (c .before .before .before .before .before .before .before .before .before .before .before .before .before .if1 .left) (head .0) (c .before .before .before .before .read-held .last .1 .0) (c .before .before .before .before .before .before .before .cost-of .result) (c .before .before .before .before .before .before .if2 .left) (c .before .before .before .before .before .before .before .before .held-by .result) (c .before .before .before .before .before .before .before .before .held-by .ensures) (c .before .before .before .before .before .before .before .cost-of .ensures) (rw (c .enum-told2 .given .1) at (c .before .before .before .before .read-held .ensures))
+    held-bad-answer (now (c .before .before .before .before .before .before .before .before .before .before .before .before .before .before .before .before .args .s)) (now (c .before .before .before .before .before .before .before .before .before .before .before .before .before .before .before .before .args .words)) (c .before .before .before .before .before .before .before .before .before .before .before .before .before .before .before .before .args .depth) (c .before .before .before .before .before .before .before .before .before .before .head .given .0 .1 .0) (c .before .before .before .before .before .before .before .before .before .before .before .before .before .before .before .before .args .c) (c .before .before .before .before .before .before .before .before .before .before .head .given .0 .0) (c .before .before .before .before .before .before .before .before .before .before .before .before .before .if1 .left) (head .0) (c .before .before .before .before .read-held .last .1 .0) (c .before .before .before .before .before .before .before .cost-of .result) (c .before .before .before .before .before .before .if2 .left) (c .before .before .before .before .before .before .before .before .held-by .result) (c .before .before .before .before .before .before .before .before .held-by .ensures) (c .before .before .before .before .before .before .before .cost-of .ensures) (rw (c .enum-told2 .given .1) at (c .before .before .before .before .read-held .ensures))
 
 read-value-word-of-requires : (t : ℕ) → read-value-lts.Need-word-of-requires (cs-read-value t) (read-value-at t) read-value.Post
 read-value-word-of-requires t c κs = (
   omega (arith, c .before .before .before .before .before .before .before .before .before .before .before .before .before .before .before .before .before .pre .1 .inside, c .before .before .before .before .before .before .before .before .before .before .before .before .before .before .before .before .before .pre .1 .small),
   let head = rw (c .before .before .before .before .before .before .before .before .before .before .before .head .given .1) at (c .before .before .before .before .before .before .before .before .before .before .before .before .before .value-head .ensures) in
-      held-limit (now (c .before .before .before .before .before .before .before .before .before .before .before .before .before .before .before .before .before .args .s)) (now (c .before .before .before .before .before .before .before .before .before .before .before .before .before .before .before .before .before .args .scratch)) (c .before .before .before .before .before .before .before .before .before .before .before .before .before .before .before .before .before .args .depth) (c .before .before .before .before .before .before .before .before .before .before .before .head .given .0 .1 .0) (c .before .before .before .before .before .before .before .before .before .before .before .before .before .before .before .before .before .args .c) (c .before .before .before .before .before .before .before .before .before .before .before .head .given .0 .0) (c .before .before .before .before .before .before .before .before .before .before .before .before .before .before .if1 .left) (head .0) (c .before .before .before .before .before .read-held .last .1 .0) (c .before .before .before .before .before .before .before .before .cost-of .result) (c .before .before .before .before .before .before .before .if2 .left) (c .before .next .given .0 .0) (c .before .before .before .before .before .before .before .before .before .held-by .result) (c .before .before .before .before .before .before .before .before .before .before .before .before .before .before .before .before .before .pre .1) (c .before .before .before .before .before .before .before .before .cost-of .ensures) (rw (c .before .next .given .1) at (c .before .before .before .before .before .read-held .ensures)),
+      held-limit (now (c .before .before .before .before .before .before .before .before .before .before .before .before .before .before .before .before .before .args .s)) (now (c .before .before .before .before .before .before .before .before .before .before .before .before .before .before .before .before .before .args .words)) (c .before .before .before .before .before .before .before .before .before .before .before .before .before .before .before .before .before .args .depth) (c .before .before .before .before .before .before .before .before .before .before .before .head .given .0 .1 .0) (c .before .before .before .before .before .before .before .before .before .before .before .before .before .before .before .before .before .args .c) (c .before .before .before .before .before .before .before .before .before .before .before .head .given .0 .0) (c .before .before .before .before .before .before .before .before .before .before .before .before .before .before .if1 .left) (head .0) (c .before .before .before .before .before .read-held .last .1 .0) (c .before .before .before .before .before .before .before .before .cost-of .result) (c .before .before .before .before .before .before .before .if2 .left) (c .before .next .given .0 .0) (c .before .before .before .before .before .before .before .before .before .held-by .result) (c .before .before .before .before .before .before .before .before .before .before .before .before .before .before .before .before .before .pre .1) (c .before .before .before .before .before .before .before .before .cost-of .ensures) (rw (c .before .next .given .1) at (c .before .before .before .before .before .read-held .ensures)),
 )
 
-read-value-mul-scratch : (t : ℕ) → read-value-lts.Need-mul-scratch (cs-read-value t) (read-value-at t) read-value.Post
-read-value-mul-scratch t c = omega (arith, c .before .before .before .before .before .before .before .before .before .before .before .before .before .before .before .before .before .before .pre .1 .budget)
+read-value-mul-words : (t : ℕ) → read-value-lts.Need-mul-words (cs-read-value t) (read-value-at t) read-value.Post
+read-value-mul-words t c = omega (arith, c .before .before .before .before .before .before .before .before .before .before .before .before .before .before .before .before .before .before .pre .1 .budget)
 
-read-value-slice-write-scratch : (t : ℕ) → read-value-lts.Need-slice-write-scratch (cs-read-value t) (read-value-at t) read-value.Post
-read-value-slice-write-scratch t c = omega (arith, c .before .before .before .before .before .before .read-held .kept .1 .0, c .before .before .before .before .before .before .before .before .before .before .before .before .before .before .before .before .before .before .pre .1 .room, c .before .before .before .before .before .before .before .before .before .before .before .before .before .before .before .before .before .before .pre .1 .budget)
+read-value-slice-write-words : (t : ℕ) → read-value-lts.Need-slice-write-words (cs-read-value t) (read-value-at t) read-value.Post
+read-value-slice-write-words t c = omega (arith, c .before .before .before .before .before .before .read-held .kept .1 .0, c .before .before .before .before .before .before .before .before .before .before .before .before .before .before .before .before .before .before .pre .1 .room, c .before .before .before .before .before .before .before .before .before .before .before .before .before .before .before .before .before .before .pre .1 .budget)
 
 read-value-same-length-2 : (t : ℕ) → read-value-lts.Need-same-length-2 (cs-read-value t) (read-value-at t) read-value.Post
 read-value-same-length-2 t c = length-set (c .before .before .before .before .before .before .read-held .last .1 .0) (c .before .before .before .before .before .before .before .before .before .before .before .before .before .before .before .before .before .before .args .c .word) (c .word-of .result) ∙ c .before .before .before .before .before .before .read-held .kept .1 .0
@@ -347,13 +347,13 @@ read-value-same-length-2 t c = length-set (c .before .before .before .before .be
 read-value-returns-5 : (t : ℕ) → read-value-lts.Need-returns-5 (cs-read-value t) (read-value-at t) read-value.Post
 read-value-returns-5 t c =
     let head = rw (c .before .before .before .before .before .before .before .before .before .before .before .before .head .given .1) at (c .before .before .before .before .before .before .before .before .before .before .before .before .before .before .value-head .ensures) in
-    held-answer (now (c .before .before .before .before .before .before .before .before .before .before .before .before .before .before .before .before .before .before .args .s)) (now (c .before .before .before .before .before .before .before .before .before .before .before .before .before .before .before .before .before .before .args .scratch)) (c .before .before .before .before .before .before .before .before .before .before .before .before .before .before .before .before .before .before .args .depth) (c .before .before .before .before .before .before .before .before .before .before .before .before .head .given .0 .1 .0) (c .before .before .before .before .before .before .before .before .before .before .before .before .before .before .before .before .before .before .args .c) (c .before .before .before .before .before .before .before .before .before .before .before .before .head .given .0 .0) (c .before .before .before .before .before .before .before .before .before .before .before .before .before .before .before .if1 .left) (head .0) (c .before .before .before .before .before .before .read-held .last .1 .0) (c .before .before .before .before .before .before .before .before .before .cost-of .result) (c .before .before .before .before .before .before .before .before .if2 .left) (c .before .before .next .given .0 .0) (c .before .before .before .before .before .before .before .before .before .before .held-by .result) (c .before .before .before .before .before .before .before .before .before .before .held-by .ensures) (c .before .before .before .before .before .before .before .before .before .cost-of .ensures) (c .before .before .before .before .before .before .before .before .before .before .before .before .before .before .before .before .before .before .pre .1) (c .word-of .ensures) (rw (c .before .before .next .given .1) at (c .before .before .before .before .before .before .read-held .ensures))
+    held-answer (now (c .before .before .before .before .before .before .before .before .before .before .before .before .before .before .before .before .before .before .args .s)) (now (c .before .before .before .before .before .before .before .before .before .before .before .before .before .before .before .before .before .before .args .words)) (c .before .before .before .before .before .before .before .before .before .before .before .before .before .before .before .before .before .before .args .depth) (c .before .before .before .before .before .before .before .before .before .before .before .before .head .given .0 .1 .0) (c .before .before .before .before .before .before .before .before .before .before .before .before .before .before .before .before .before .before .args .c) (c .before .before .before .before .before .before .before .before .before .before .before .before .head .given .0 .0) (c .before .before .before .before .before .before .before .before .before .before .before .before .before .before .before .if1 .left) (head .0) (c .before .before .before .before .before .before .read-held .last .1 .0) (c .before .before .before .before .before .before .before .before .before .cost-of .result) (c .before .before .before .before .before .before .before .before .if2 .left) (c .before .before .next .given .0 .0) (c .before .before .before .before .before .before .before .before .before .before .held-by .result) (c .before .before .before .before .before .before .before .before .before .before .held-by .ensures) (c .before .before .before .before .before .before .before .before .before .cost-of .ensures) (c .before .before .before .before .before .before .before .before .before .before .before .before .before .before .before .before .before .before .pre .1) (c .word-of .ensures) (rw (c .before .before .next .given .1) at (c .before .before .before .before .before .before .read-held .ensures))
 
 abbrev read-values-Inv-loop : read-values-lts.InvT-loop
-read-values-Inv-loop s scratch₀ depth count here₀ n₀ scratch here n = Passing (values-kind s depth) s scratch₀ scratch tt tt count count n n here₀ here
+read-values-Inv-loop s words₀ depth count here₀ n₀ words here n = Passing (values-kind s depth) s words₀ words tt tt count count n n here₀ here
 
 abbrev read-values-μ-loop : read-values-lts.MeasureT-loop
-read-values-μ-loop s scratch₀ depth count here₀ n₀ scratch here n = n
+read-values-μ-loop s words₀ depth count here₀ n₀ words here n = n
 
 read-values-loop-holds : (t : ℕ) → read-values-lts.Need-loop-holds (cs-read-values t) (read-values-at t) read-values.Post read-values-Inv-loop read-values-μ-loop
 read-values-loop-holds t c = siblings-begin (values-kind (now (c .before .before .args .s)) (c .before .before .args .depth)) tt (c .before .before .args .count) (c .before .before .pre .1)
@@ -422,15 +422,15 @@ pub +read-held+read-pair+read-pairs+read-value+read-values-spec : {M : Type 1} �
     (read-pair-enum-known-key t)
     (read-pair-enum-told t)
     (read-pair-returns t)
-    (read-pair-add-scratch t)
+    (read-pair-add-words t)
     (read-pair-read-value-requires t)
     (read-pair-enum-known-next t)
     (read-pair-enum-told-2 t)
     (read-pair-same-length t)
     (read-pair-returns-2 t)
     (read-pair-word-of-requires t)
-    (read-pair-mul-scratch t)
-    (read-pair-slice-write-scratch t)
+    (read-pair-mul-words t)
+    (read-pair-slice-write-words t)
     (read-pair-same-length-2 t)
     (read-pair-returns-3 t))
     (λ t. read-pairs-lts.spec (cs-read-pairs t)
@@ -474,8 +474,8 @@ pub +read-held+read-pair+read-pairs+read-value+read-values-spec : {M : Type 1} �
     (read-value-same-length t)
     (read-value-returns-4 t)
     (read-value-word-of-requires t)
-    (read-value-mul-scratch t)
-    (read-value-slice-write-scratch t)
+    (read-value-mul-words t)
+    (read-value-slice-write-words t)
     (read-value-same-length-2 t)
     (read-value-returns-5 t))
     λ t. read-values-lts.spec
