@@ -90,7 +90,7 @@ fn for_each_case(mut look: impl FnMut(&Case)) {
         });
         count += 1;
     }
-    assert_eq!(count, 1_417);
+    assert_eq!(count, 1_420);
 }
 
 /// Calls the function on every load of the list: table, length of the buffer, answer.
