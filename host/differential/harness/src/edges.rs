@@ -11,7 +11,7 @@ use crate::generate::names::STOCK;
 use crate::generate::Setting;
 use crate::refusals::{MAX_RULE_ENTRIES, MAX_SCHEMA_ENTRIES, MAX_SHEET_BYTES};
 use differential::model::{write_rule, write_schema};
-use differential::trees::{Condition, Data, Field, Operator, Rule, Schema, Sheet, Value};
+use differential::trees::{Condition, Data, Field, Holder, Operator, Rule, Schema, Sheet, Value};
 
 const ACCEPTED: (u32, u32) = (0, 0);
 
@@ -32,7 +32,29 @@ pub fn edges() -> Vec<Case> {
     });
     let setting = Setting { kind: 2, semantics: 2, label: "r", names: &STOCK };
     let full = [MAX_SHEET_BYTES, MAX_SHEET_BYTES + 1].map(|bytes| schema_bytes(&setting, bytes));
-    cases.chain(without_arguments()).chain([example()]).chain(schema_entries()).chain([most_entries()]).chain(full).collect()
+    let sheets = [names(), without_arguments(), vec![example()], schema_entries(), vec![most_entries()], full.to_vec()];
+    cases.chain(sheets.into_iter().flatten()).collect()
+}
+
+/// Siblings whose names rise, fall or are the same, in the record, in the arguments and below a field.
+fn names() -> Vec<Case> {
+    let mut cases = Vec::new();
+    for (first, second, rises) in
+        [("a", "b", true), ("", "a", true), ("a", "aa", true), ("a", "a", false), ("", "", false), ("b", "a", false)]
+    {
+        let two = || vec![field(first, STRING), field(second, STRING)];
+        let open = || Holder { open: true, fields: Vec::new() };
+        let below = Field { properties: two(), ..field("o", OBJECT) };
+        for schema in [
+            schema(Holder { open: true, fields: two() }, None),
+            schema(open(), Some(Holder { open: false, fields: two() })),
+            schema(Holder { open: false, fields: vec![below] }, None),
+        ] {
+            let expect = Expect::Number(if rises { 0 } else { 4 });
+            cases.push(Case::new(2, 2, b"r", write_schema(&schema), write_rule(&Sheet::Template(text("$id")))).expecting(expect));
+        }
+    }
+    cases
 }
 
 /// Schemas of one entry less than there may be, as many, and one more. The rule reads the field behind all others.
