@@ -56,7 +56,7 @@ impl<'a> Check<'a> {
     ///
     /// let check = Check::new(Kind::Invariant, Semantics::Kernel1, "always").table(b"N,1\n");
     /// let refused = check.run(b"H,0,0,-,0\n", b"R,-,-,\nC,1,1,\n");
-    /// assert_eq!(refused, Err(Refusal::Table));
+    /// assert_eq!(refused, Err(Refusal::TableForm));
     /// ```
     #[must_use]
     pub const fn table(self, table: &'a [u8]) -> Self {

@@ -281,7 +281,7 @@ impl TableError {
     #[must_use]
     pub const fn refusal(&self) -> Refusal {
         match self {
-            Self::Malformed(_) | Self::ShortBuffer { .. } => Refusal::Table,
+            Self::Malformed(_) | Self::ShortBuffer { .. } => Refusal::TableForm,
             Self::Mark { .. } => Refusal::TableMark,
             Self::Unknown(number) => Refusal::Unknown([*number, 0, 0, 0, 0, 0, 0]),
         }

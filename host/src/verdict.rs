@@ -489,8 +489,8 @@ pub enum Refusal {
     SchemaSheet,
     /// 5: the rule sheet is not well formed, or is not of the sort that the function takes.
     RuleSheet,
-    /// 37: the name table is not well formed. [`Table::read`](crate::Table::read) says where.
-    Table,
+    /// 37: the name table is not of its form. [`Table::read`](crate::Table::read) says where.
+    TableForm,
     /// 38: a mark of the name table breaks one of its two conditions. [`Table::read`](crate::Table::read) says which.
     TableMark,
     /// The library that is linked gave these seven numbers, which this crate does not know: they are of different versions.
@@ -511,7 +511,7 @@ impl Refusal {
             Self::Width => 3,
             Self::SchemaSheet => 4,
             Self::RuleSheet => 5,
-            Self::Table => 37,
+            Self::TableForm => 37,
             Self::TableMark => 38,
             Self::Unknown([number, ..]) => number,
         }
@@ -531,7 +531,7 @@ impl Refusal {
             Self::Width => "width",
             Self::SchemaSheet => "schema sheet",
             Self::RuleSheet => "rule sheet",
-            Self::Table => "table",
+            Self::TableForm => "table form",
             Self::TableMark => "table mark",
             Self::Unknown(_) => "unknown",
         }
@@ -544,7 +544,7 @@ impl Refusal {
             3 => Some(Self::Width),
             4 => Some(Self::SchemaSheet),
             5 => Some(Self::RuleSheet),
-            37 => Some(Self::Table),
+            37 => Some(Self::TableForm),
             38 => Some(Self::TableMark),
             _ => None,
         }
@@ -564,7 +564,7 @@ impl fmt::Display for Refusal {
             Self::RuleSheet => {
                 f.pad("the rule sheet is not well formed, or not of the sort asked for")
             }
-            Self::Table => f.pad("the name table is not well formed"),
+            Self::TableForm => f.pad("the name table is not of its form"),
             Self::TableMark => f.pad(
                 "a mark of the name table hides a name that every kind reads, or shows $old_fields where $fields is hidden",
             ),

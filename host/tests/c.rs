@@ -116,7 +116,7 @@ fn the_header_has_the_numbers_of_the_crate() {
         ("WIDTH", Refusal::Width),
         ("SCHEMA_SHEET", Refusal::SchemaSheet),
         ("RULE_SHEET", Refusal::RuleSheet),
-        ("TABLE", Refusal::Table),
+        ("TABLE_FORM", Refusal::TableForm),
         ("TABLE_MARK", Refusal::TableMark),
     ];
     let refusals = refusals.map(|(name, one)| (format!("REFUSED_{name}"), one.number()));

@@ -90,7 +90,7 @@ fn for_each_case(mut look: impl FnMut(&Case)) {
         });
         count += 1;
     }
-    assert_eq!(count, 1_417);
+    assert_eq!(count, 1_420);
 }
 
 /// Calls the function on every load of the list: table, length of the buffer, answer.
@@ -334,7 +334,7 @@ fn faults_are_told_by_row_and_mark() {
             let fault = error.fault().expect("the table's fault");
             assert_eq!((fault.entry, fault.byte), (row + 1, byte));
             assert_eq!(fault.expected, expected);
-            assert_eq!(error.refusal(), Refusal::Table);
+            assert_eq!(error.refusal(), Refusal::TableForm);
         }
         let mut table = stock.clone();
         table[row * 22 + 4] = b'0';
@@ -397,11 +397,11 @@ fn the_order_of_refusals() {
     };
     let good = b"H,0,0,-,0\n";
     assert_eq!(run(b"\xFF", b"N", b""), Err(Refusal::Label));
-    assert_eq!(run(b"", b"N", b""), Err(Refusal::Table));
+    assert_eq!(run(b"", b"N", b""), Err(Refusal::TableForm));
     assert_eq!(run(b"", &unsound, b""), Err(Refusal::TableMark));
     assert_eq!(run(b"", &[], b""), Err(Refusal::SchemaSheet));
     assert_eq!(run(b"", &[], good), Err(Refusal::RuleSheet));
-    assert_eq!(run(b"", &unsound[..175], good), Err(Refusal::Table));
+    assert_eq!(run(b"", &unsound[..175], good), Err(Refusal::TableForm));
 }
 
 /// The short functions answer as the full one that is lent nothing.

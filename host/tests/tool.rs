@@ -588,15 +588,15 @@ fn a_refused_table_is_told_by_row_and_mark() {
     for (table, told) in [
         (
             "cut",
-            "cut:5: refused 37 (table): entry 5, byte 100: expected the mark of $state for outcome_selector, 0 or 1\n",
+            "cut:5: refused 37 (table form): entry 5, byte 100: expected the mark of $state for outcome_selector, 0 or 1\n",
         ),
         (
             "long",
-            "long:9: refused 37 (table): entry 9, byte 176: expected the end of the sheet\n",
+            "long:9: refused 37 (table form): entry 9, byte 176: expected the end of the sheet\n",
         ),
         (
             "mark",
-            "mark:2: refused 37 (table): entry 2, byte 28: expected the mark of $entity for precondition, 0 or 1\n",
+            "mark:2: refused 37 (table form): entry 2, byte 28: expected the mark of $entity for precondition, 0 or 1\n",
         ),
         (
             "entity",
@@ -608,7 +608,7 @@ fn a_refused_table_is_told_by_row_and_mark() {
         ),
         (
             "s",
-            "s:1: refused 37 (table): entry 1, byte 0: expected `N`, which begins the row of invariant\n",
+            "s:1: refused 37 (table form): entry 1, byte 0: expected `N`, which begins the row of invariant\n",
         ),
     ] {
         let (status, out, err) = run_check(&folder, &format!("s r --table {table}"));

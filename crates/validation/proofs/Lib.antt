@@ -9,3 +9,4 @@ pub mod Slips
 pub mod ShutOut
 pub mod Moves
 pub mod TableEdges
+mod MemberOrder

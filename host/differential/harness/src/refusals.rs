@@ -74,7 +74,7 @@ pub fn is_number(text: &str) -> bool {
     is_bare && serde_json::from_str::<serde_json::Value>(text).is_ok_and(|value| value.is_number())
 }
 
-/// What has to come next. Siblings share a group, which remembers the last name.
+/// What has to come next. Siblings share a group, which remembers their names.
 #[derive(Clone, Copy)]
 enum Due {
     Field { nesting: usize, group: usize },
@@ -89,7 +89,7 @@ struct Reading<'a> {
     entries: usize,
     /// The next one is last.
     due: Vec<Due>,
-    groups: Vec<Option<Vec<u8>>>,
+    groups: Vec<Vec<&'a str>>,
 }
 
 /// Whether a sheet that begins with one of the letters, and has so many entries at most, is well formed.
@@ -147,15 +147,23 @@ impl<'a> Reading<'a> {
         // More than the bytes that are left can never come.
         (count <= self.rest.len()).then_some(())?;
         let group = self.groups.len();
-        self.groups.push(None);
+        self.groups.push(Vec::new());
         self.due.extend((0..count).map(|_| due(group)));
         Some(())
     }
 
     /// Whether the name comes after the last one of its group, which it then is.
-    fn rises(&mut self, group: usize, name: &str) -> Option<()> {
-        let last = self.groups[group].replace(name.as_bytes().to_vec());
-        last.is_none_or(|last| last.as_slice() < name.as_bytes()).then_some(())
+    fn rises(&mut self, group: usize, name: &'a str) -> Option<()> {
+        let last = self.groups[group].last().copied();
+        self.groups[group].push(name);
+        last.is_none_or(|last| last.as_bytes() < name.as_bytes()).then_some(())
+    }
+
+    /// Whether the name is none of its group's, of which it then is one.
+    fn is_new(&mut self, group: usize, name: &'a str) -> Option<()> {
+        let met = self.groups[group].contains(&name);
+        self.groups[group].push(name);
+        (!met).then_some(())
     }
 
     fn schema_head(&mut self) -> Option<()> {
@@ -249,7 +257,7 @@ impl<'a> Reading<'a> {
         let key = self.text(numeral(length)?)?;
         self.end()?;
         self.due.push(Due::Value { nesting });
-        self.rises(group, key)
+        self.is_new(group, key)
     }
 }
 

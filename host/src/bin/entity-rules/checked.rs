@@ -112,7 +112,7 @@ impl Outcome {
         match self {
             Self::Refused { refusal, .. } => matches!(
                 refusal,
-                Refusal::SchemaSheet | Refusal::Table | Refusal::TableMark
+                Refusal::SchemaSheet | Refusal::TableForm | Refusal::TableMark
             ),
             Self::Unreadable(unreadable) => unreadable.sheet != Sheet::Rule,
             _ => false,

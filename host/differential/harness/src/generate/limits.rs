@@ -212,7 +212,11 @@ pub fn wide(random: &mut Random, names: &Names) -> Case {
     let scope = setting.scope(&schema, slip);
     let count = random.between(20, 200);
     let sheet = if random.chance(30) {
-        let members = (0..count).map(|index| (format!("k{index}"), scope.value(random, 3))).collect();
+        let mut members: Vec<_> = (0..count).map(|index| (format!("k{index}"), scope.value(random, 3))).collect();
+        members.sort_by(|(one, _), (other, _)| one.cmp(other));
+        if random.chance(50) {
+            random.shuffle(&mut members);
+        }
         Sheet::Template(nested(random, object(members)))
     } else {
         let children = (0..count).map(|_| scope.condition(random, 3)).collect();

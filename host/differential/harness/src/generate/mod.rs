@@ -4,6 +4,7 @@ pub mod build;
 pub mod damage;
 pub mod deep;
 pub mod limits;
+pub mod members;
 pub mod names;
 pub mod planted;
 pub mod rules;
@@ -26,11 +27,12 @@ const LABELS: [&str; 8] = ["r", "", "invariants[0]", "a.b", "é", "x,y", "l\nl",
 type Profile = (&'static str, usize, fn(&mut Random, &Names) -> Case);
 
 /// The kinds of cases.
-pub const PROFILES: [Profile; 9] = [
+pub const PROFILES: [Profile; 10] = [
     ("right", 200, right),
-    ("slips", 330, slips),
+    ("slips", 300, slips),
     ("planted", 250, planted::case),
     ("damaged", 110, damage::case),
+    ("members", 30, members::case),
     ("widened", 60, widen::case),
     ("settings", 20, limits::settings),
     ("deep", 15, deep::case),

@@ -229,12 +229,18 @@ impl Plant<'_> {
         }
     }
 
-    /// A value inside arrays and objects, with right values before it.
+    /// A value inside arrays and objects, with right values before it; a member behind it may be a defect of its own, whatever their keys.
     fn nested(&self, random: &mut Random, inner: Value) -> Value {
-        match random.below(4) {
-            0 => array(vec![self.scope.scalar(random), inner, self.scope.scalar(random)]),
-            1 => object(vec![("a".to_owned(), self.scope.scalar(random)), ("k".to_owned(), inner)]),
-            2 => array(vec![object(vec![("$id".to_owned(), inner)])]),
+        let members = |members: [(&str, Value); 2]| object(members.map(|(key, value)| (key.to_owned(), value)).to_vec());
+        match random.below(8) {
+            0 | 1 => array(vec![self.scope.scalar(random), inner, self.scope.scalar(random)]),
+            2 => members([("a", self.scope.scalar(random)), ("k", inner)]),
+            3 => members([("k", self.scope.scalar(random)), ("a", inner)]),
+            4 => {
+                let behind = if self.target.0 == 14 { number("2e309") } else { text("$none") };
+                members([(random.pick(&["a", "k"]), inner), ("b", behind)])
+            }
+            5 => array(vec![object(vec![("$id".to_owned(), inner)])]),
             _ => inner,
         }
     }
