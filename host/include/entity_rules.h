@@ -92,6 +92,32 @@ enum entity_rules_field {
 /* The detail of a defect 18 that only a key path can have: a projection cannot read the length of a text. */
 #define ENTITY_RULES_TEXT_COUNT 13
 
+/* The numbers of a result of rulecheck_widens, by their index; the first is ENTITY_RULES_NUMBER. */
+enum entity_rules_widens_field {
+  ENTITY_RULES_WIDENS_ANSWER = 1,
+  ENTITY_RULES_WIDENS_REASON = 2,
+  ENTITY_RULES_WIDENS_FIRST_ENTRY = 3,
+  ENTITY_RULES_WIDENS_SECOND_ENTRY = 4
+};
+
+/* The answer of rulecheck_widens where its number is 0. */
+enum entity_rules_widens_answer {
+  ENTITY_RULES_WIDENS_MARKS = 1,
+  ENTITY_RULES_WIDENS_ANYTHING = 2,
+  ENTITY_RULES_WIDENS_NO = 3
+};
+
+/* Why a schema is no widening of another. */
+enum entity_rules_widens_reason {
+  ENTITY_RULES_FIELD_MISSING = 1,
+  ENTITY_RULES_KIND_DIFFERS = 2,
+  ENTITY_RULES_ITEMS_DIFFER = 3,
+  ENTITY_RULES_TAG_DIFFERS = 4,
+  ENTITY_RULES_MARK_CLOSES = 5,
+  ENTITY_RULES_FIELD_ADDED = 6,
+  ENTITY_RULES_ARGUMENTS_GO = 7
+};
+
 /* What a key path may hold at most. */
 #define ENTITY_RULES_KEY_BYTES 512
 
@@ -143,6 +169,14 @@ uint32_t rulecheck_path(uint64_t semantics, uint64_t reader,
                         const uint8_t *path, size_t path_length,
                         const uint8_t *schema, size_t schema_length,
                         uint8_t *result, size_t result_length);
+
+/* Whether the second schema is a widening of the first: then a rule that was accepted under the first is accepted under the second. Returns 0
+ * whatever the answer, which is the number at index 1 (enum entity_rules_widens_answer), with its reason and the entries that it is about, 0 where
+ * there is none, behind it; or a refusal: 3 for a result under 28 bytes, 4 for a sheet that is not well formed, the number at index 1
+ * being 1 for the first sheet and 2 for the second. All other numbers of result are 0, and it keeps its other bytes. */
+uint32_t rulecheck_widens(const uint8_t *first, size_t first_length,
+                          const uint8_t *second, size_t second_length,
+                          uint8_t *result, size_t result_length);
 
 /* One of the numbers of a result, by an index of enum entity_rules_field; 0 where it does not lie in the result. */
 uint32_t rulecheck_field(const uint8_t *result, size_t result_length, uint32_t index);

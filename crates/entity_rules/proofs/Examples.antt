@@ -5,13 +5,20 @@ use mathlib.Core.List.{List, [], _∷_, _++_}
 use mathlib.Core.Path.{_≡_, refl}
 use lib.ListN.{replicate}
 use Rattle.validation.specs.Result.{refused, numbersOf}
+use Rattle.widening.specs.Decision.{markCloses, refuted}
+use Rattle.widening.specs.SheetDecision as SheetDecision
 use Rattle.entity_rules.specs.Bytes.{littleEndian, bytesOf, numberAt, fieldAt}
 use Rattle.entity_rules.specs.Entry.{fieldsOf, resultAfter}
 use Rattle.entity_rules.specs.NumberTest.{packed}
+use Rattle.entity_rules.specs.WidensEntry.{inPlaces}
 
 unfoldable result : List ℕ → List ℕ
 unfolding littleEndian bytesOf fieldsOf resultAfter numbersOf numberAt fieldAt
 result before = resultAfter (numbersOf (refused 3)) before
+
+unfoldable compared : List ℕ → List ℕ
+unfolding littleEndian bytesOf fieldsOf resultAfter inPlaces SheetDecision.numbersOf SheetDecision.reasonNumber
+compared before = resultAfter (inPlaces (SheetDecision.numbersOf (SheetDecision.decision (refuted markCloses 2 3)))) before
 
 least-first : littleEndian 0x12345678 ≡ 0x78 ∷ 0x56 ∷ 0x34 ∷ 0x12 ∷ []
 unfolding littleEndian
@@ -25,6 +32,11 @@ refusal-written = refl
 short-kept : result (replicate 27 7) ≡ replicate 27 7
 unfolding result
 short-kept = refl
+
+-- a schema whose field at entry 2 was open and is closed at entry 3 of the second: no widening, for reason 5
+widens-written : compared (replicate 30 7) ≡ replicate 4 0 ++ 3 ∷ replicate 3 0 ++ 5 ∷ replicate 3 0 ++ 2 ∷ replicate 3 0 ++ 3 ∷ replicate 11 0 ++ 7 ∷ 7 ∷ []
+unfolding compared
+widens-written = refl
 
 field-within : fieldAt 6 (replicate 28 1) ≡ 0x01010101
 unfolding fieldAt numberAt

@@ -1,6 +1,8 @@
 // The checker as C functions for a host. Each call brings a scratch of its own.
 mod result; // result.rt: the seven numbers as bytes
+mod change; // change.rt: what is answered about two schema sheets
 
+use crate::change::told;
 use crate::result::RESULT_BYTES;
 use crate::result::read_u32;
 use crate::result::write_result;
@@ -20,6 +22,7 @@ ghost use Rattle.entity_rules.specs.Bytes.{fieldAt};
 ghost use Rattle.entity_rules.specs.Entry.{pathLent, entryAnswer, EntryAnswered};
 ghost use Rattle.entity_rules.specs.KeyEntry.{keyEntryAnswer};
 ghost use Rattle.entity_rules.specs.NumberTest.{finiteNumber};
+ghost use Rattle.entity_rules.specs.WidensEntry.{WidensAnswered};
 
 // Kinds end at 8 and semantics at 4, so 9 stands for all that is too large for either.
 fn setting(n: u64) -> u32
@@ -175,6 +178,19 @@ pub extern "C" fn rulecheck_path(
     );
     write_result(key, result);
     key.number
+}
+
+// Whether the second of two schema sheets is a widening of the first. `result` takes at least 28 bytes.
+#[no_mangle]
+pub extern "C" fn rulecheck_widens(first: &[u8], second: &[u8], result: &mut [u8]) -> u32
+    ensures { λ r. ⌜ WidensAnswered (now (first .entry)) (now (second .entry)) (now (result .entry)) (now (result .exit)) r ⌝ }
+{
+    if result.len() < RESULT_BYTES {
+        return 3;
+    }
+    let answer = told(schema_change::widens(first, second));
+    write_result(answer, result);
+    answer.number
 }
 
 // A number of a result by its index, or 0 where there is none.

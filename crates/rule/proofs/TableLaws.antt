@@ -1,5 +1,5 @@
 -- The table of keys: what is found in a chain, and one key more.
-use Prim.Native.Nat.{ℕ, zero, suc, _+_, _*_, _-_, _%_, _≤_, _<_}
+use Prim.Native.Nat.{ℕ, zero, suc, _+_, _*_, _-_, _/_, _%_, _≤_, _<_}
 use mathlib.Core.Bool.{Bool, true, false, not, _&&_, _||_, false≢true}
 use mathlib.Core.List.{List, [], _∷_}
 use mathlib.Core.Option.{none, some, Option·none-ne-some}
@@ -17,11 +17,12 @@ use Rattle.sheet.specs.Entries.{keyHead}
 use Rattle.sheet.specs.Places.{ReadsTo}
 use Rattle.sheet.specs.Parts.{partOf}
 use Rattle.sheet.specs.declared.part.Part.{Part}
+use Rattle.definition.specs.Limits.{maxRuleEntries}
 use Rattle.definition.specs.Tree.{Text, Value, Pairs, noPairs, pair}
 use Rattle.definition.specs.Decode.{keysOf}
 use Rattle.rule.specs.Index.{startOf, endOf, countOfPairs, PairsAt}
 use Rattle.rule.specs.Keys.{NoneTwice}
-use Rattle.rule.specs.Table.{tableKeys, stirred, slotOf, latest, Linked, Chained, Falls, IsChained}
+use Rattle.rule.specs.Table.{slots, stirred, slotOf, Placed, textsOf, latest, Linked, Chained, Falls, IsChained}
 use Rattle.rule.proofs.ReaderLaws.{some-both}
 use Rattle.rule.proofs.SearchLaws.{same-entry, reads-entry}
 
@@ -44,93 +45,90 @@ slots-differ key k q =
     (λ t. absurd (false≢true (sym q ∙ eq-eqb (slotOf k) (slotOf key) (ap slotOf (sym (sameBytes-equal key k t))))))
     (λ t. t)
 
-latest-within : (slot : ℕ) (seen : List Text) → latest slot seen ≤ length seen
-unfolding latest
-latest-within slot [] = omega arith
-latest-within slot (key ∷ earlier) =
-    by-test (eqb (slotOf key) slot) (λ q. rw q (omega arith)) (λ q. rw q (omega (arith, latest-within slot earlier)))
-
-none-latest : (key : Text) (seen : List Text) → latest (slotOf key) seen ≡ 0 → isAmong key seen ≡ false
-unfolding latest isAmong
+none-latest : (key : Text) (seen : List Placed) → latest (slotOf key) seen ≡ 0 → isAmong key (textsOf seen) ≡ false
+unfolding latest isAmong textsOf
 none-latest key [] e = refl
-none-latest key (k ∷ earlier) e =
-    by-test (eqb (slotOf k) (slotOf key))
-    (λ q. let z : length earlier + 1 ≡ 0 = rw q at e in absurd (omega arith))
-    (λ q. rw (slots-differ key k q) (none-latest key earlier (rw q at e)))
+none-latest key (p ∷ earlier) e =
+    by-test (eqb (slotOf (p .1)) (slotOf key))
+    (λ q. let z : p .0 + 1 ≡ 0 = rw q at e in absurd (omega arith))
+    (λ q. rw (slots-differ key (p .1) q) (none-latest key earlier (rw q at e)))
 
 -- The latest key with a slot: it is the key asked for, or that is one of those before it.
-record Found (s starts links : List ℕ) (key : Text) (seen : List Text) (x : ℕ) : Type 0 where
+record Found (s words links : List ℕ) (key : Text) (seen : List Placed) (x : ℕ) : Type 0 where
+  pub word : ℕ
   pub other : Text
-  pub earlier : List Text
-  pub place : x ≡ length earlier + 1
-  pub linked : Linked s starts links other earlier
-  pub chained : Chained s starts links earlier
+  pub earlier : List Placed
+  pub place : x ≡ word + 1
+  pub linked : Linked s words links (word, other) earlier
+  pub chained : Chained s words links earlier
   pub slot : slotOf other ≡ slotOf key
-  pub among : isAmong key seen ≡ (sameBytes key other || isAmong key earlier)
+  pub among : isAmong key (textsOf seen) ≡ (sameBytes key other || isAmong key (textsOf earlier))
 
-found : (s starts links : List ℕ) (key : Text) (seen : List Text) (x : ℕ) → Chained s starts links seen → x ≡ latest (slotOf key) seen → 0 < x → Found s starts links key seen x
-unfolding latest isAmong
-found s starts links key [] x chained e h = absurd (omega arith)
-found s starts links key (k ∷ earlier) x chained e h =
-    by-test (eqb (slotOf k) (slotOf key))
+found : (s words links : List ℕ) (key : Text) (seen : List Placed) (x : ℕ) → Chained s words links seen → x ≡ latest (slotOf key) seen → 0 < x → Found s words links key seen x
+unfolding latest isAmong textsOf
+found s words links key [] x chained e h = absurd (omega arith)
+found s words links key (p ∷ earlier) x chained e h =
+    by-test (eqb (slotOf (p .1)) (slotOf key))
     (λ q.
     record {
-      other = k;
+      word = p .0;
+      other = p .1;
       earlier = earlier;
       place = rw q at e;
       linked = chained .0;
       chained = chained .1;
-      slot = eqb-true (slotOf k) (slotOf key) q;
+      slot = eqb-true (slotOf (p .1)) (slotOf key) q;
       among = refl;
     })
     (λ q.
-    let f = found s starts links key earlier x (chained .1) (rw q at e) h in
+    let f = found s words links key earlier x (chained .1) (rw q at e) h in
     record {
+      word = f .word;
       other = f .other;
       earlier = f .earlier;
       place = f .place;
       linked = f .linked;
       chained = f .chained;
       slot = f .slot;
-      among = rw (slots-differ key k q) (f .among);
+      among = rw (slots-differ key (p .1) q) (f .among);
     })
 
 -- A chain, a step at a time.
-module _ (s starts links : List ℕ) (entry : Part) (x : ℕ) where
-  pub chain-none : x ≡ 0 → IsChained s starts links entry x false
+module _ (s words links : List ℕ) (entry : Part) (x : ℕ) where
+  pub chain-none : x ≡ 0 → IsChained s words links entry x false
   chain-none z = record { told = λ key seen here chained e. sym (none-latest key seen (sym e ∙ z)) }
 
-  pub falls-next : 0 < x → Falls starts links x → Falls starts links (getD links (x - 1) 0)
-  falls-next h f =
-      let less = f .falls (x - 1) in
-      record { starts-room = omega (arith, f .starts-room); links-room = omega (arith, f .links-room); falls = f .falls }
+  pub falls-next : {y : ℕ} → 0 < x → Falls links x → y ≡ getD links ((x - 1) / 2) 0 → Falls links y
+  falls-next h f e = record { room = omega (arith, f .room, f .falls ((x - 1) / 2)); falls = f .falls }
 
-  module _ (h : 0 < x) {same : Bool} (e : same ≡ sameBytes (partOf s entry) (partOf s (record { start = getD starts (x - 1) 0; len = entry .len }))) where
-    this-entry : {key : Text} {seen : List Text} (f : Found s starts links key seen x) → ReadsTo keyHead s (entry .start) key (entry .start + entry .len) → sameBytes key (f .other) ≡ same
-    this-entry f here =
-        let place : x - 1 ≡ length (f .earlier) = omega (arith, f .place) in
-        sym (rw place at e ∙ same-entry s entry (getD starts (length (f .earlier)) 0) here (f .linked .reads))
+  module _ (h : 0 < x) {start : ℕ} {same : Bool} (starts : start ≡ startOf words (x - 1))
+      (e : same ≡ sameBytes (partOf s entry) (partOf s (record { start = start; len = entry .len })))
+    where
+      this-entry : {key : Text} {seen : List Placed} (f : Found s words links key seen x) → ReadsTo keyHead s (entry .start) key (entry .start + entry .len) → sameBytes key (f .other) ≡ same
+      this-entry f here =
+          let place : x - 1 ≡ f .word = omega (arith, f .place) in
+          sym (rw (starts, place) at e ∙ same-entry s entry (startOf words (f .word)) here (f .linked .reads))
 
-    pub chain-found : same ≡ true → IsChained s starts links entry x true
-    chain-found q =
-        record {
-          told =
-              λ key seen here chained e.
-              let f = found s starts links key seen x chained e h in
-              sym (f .among ∙ ap (λ (b : Bool). b || isAmong key (f .earlier)) (this-entry f here ∙ q));
-        }
+      pub chain-found : same ≡ true → IsChained s words links entry x true
+      chain-found q =
+          record {
+            told =
+                λ key seen here chained e.
+                let f = found s words links key seen x chained e h in
+                sym (f .among ∙ ap (λ (b : Bool). b || isAmong key (textsOf (f .earlier))) (this-entry f here ∙ q));
+          }
 
-    pub chain-next : {r : Bool} → same ≡ false → IsChained s starts links entry (getD links (x - 1) 0) r → IsChained s starts links entry x r
-    chain-next {r} q further =
-        record {
-          told =
-              λ key seen here chained e.
-              let f = found s starts links key seen x chained e h in
-              let place : x - 1 ≡ length (f .earlier) = omega (arith, f .place) in
-              let link : getD links (x - 1) 0 ≡ latest (slotOf key) (f .earlier) = ap (λ (i : ℕ). getD links i 0) place ∙ f .linked .link ∙ ap (λ (slot : ℕ). latest slot (f .earlier)) (f .slot) in
-              further .told key (f .earlier) here (f .chained) link
-              ∙ sym (f .among ∙ ap (λ (b : Bool). b || isAmong key (f .earlier)) (this-entry f here ∙ q));
-        }
+      pub chain-next : {y : ℕ} {r : Bool} → same ≡ false → y ≡ getD links ((x - 1) / 2) 0 → IsChained s words links entry y r → IsChained s words links entry x r
+      chain-next {y} {r} q g further =
+          record {
+            told =
+                λ key seen here chained e.
+                let f = found s words links key seen x chained e h in
+                let place : x - 1 ≡ f .word = omega (arith, f .place) in
+                let link : y ≡ latest (slotOf key) (f .earlier) = g ∙ ap (λ (i : ℕ). getD links (i / 2) 0) place ∙ f .linked .link ∙ ap (λ (slot : ℕ). latest slot (f .earlier)) (f .slot) in
+                further .told key (f .earlier) here (f .chained) link
+                ∙ sym (f .among ∙ ap (λ (b : Bool). b || isAmong key (textsOf (f .earlier))) (this-entry f here ∙ q));
+          }
 
 -- Keys looked up one after the other, each among those before it.
 
@@ -177,173 +175,178 @@ none-seen : (keys : List Text) → allNew [] keys ≡ noneTwice keys
 none-seen keys = all-new [] keys ∙ rw (apart-none keys)
 
 -- whether `n` keys, whose words begin at `i`, are none of those seen, and none of them stands twice
-pub record NewBehind (s words : List ℕ) (seen : List Text) (i n : ℕ) (r : Bool) : Type 0 where
-  pub told : (ps : Pairs) → PairsAt s words i ps → countOfPairs ps ≡ n → r ≡ allNew seen (keysOf ps)
+pub record NewBehind (s words : List ℕ) (seen : List Placed) (i n : ℕ) (r : Bool) : Type 0 where
+  pub told : (ps : Pairs) → PairsAt s words i ps → countOfPairs ps ≡ n → r ≡ allNew (textsOf seen) (keysOf ps)
 
-pub record Table (s starts links heads : List ℕ) (seen : List Text) : Type 0 where
-  pub starts-length : length starts ≡ tableKeys
-  pub links-length : length links ≡ tableKeys
-  pub heads-length : length heads ≡ tableKeys
-  pub headed : (slot : ℕ) → slot < tableKeys → getD heads slot 0 ≡ latest slot seen
-  pub chained : Chained s starts links seen
-  pub falls : (i : ℕ) → getD links i 0 ≤ i
+-- each key has its word so far before `i` that no other has the same half
+abbrev pub Before : ℕ → List Placed → Type 0
+Before i [] = Unit {0}
+Before i (p ∷ earlier) = (p .0 + 2 ≤ i) × Before i earlier
 
-chained-frame : (s starts links starts′ links′ : List ℕ) (seen : List Text)
-    → ((j : ℕ) → j < length seen → getD starts′ j 0 ≡ getD starts j 0)
-    → ((j : ℕ) → j < length seen → getD links′ j 0 ≡ getD links j 0)
-    → Chained s starts links seen
-    → Chained s starts′ links′ seen
-chained-frame s starts links starts′ links′ [] p q chained = tt
-chained-frame s starts links starts′ links′ (key ∷ earlier) p q chained =
-    let l = chained .0 in (
-      record {
-        rest = l .rest;
-        reads = ap (λ (at : ℕ). keyHead (drop at s)) (p (length earlier) (omega arith)) ∙ l .reads;
-        link = q (length earlier) (omega arith) ∙ l .link;
-      },
-      chained-frame s starts links starts′ links′ earlier (λ j h. p j (omega arith)) (λ j h. q j (omega arith)) (chained .1),
+before-more : (i j : ℕ) (seen : List Placed) → i ≤ j → Before i seen → Before j seen
+before-more i j [] h before = tt
+before-more i j (p ∷ earlier) h before = (omega (arith, before .0), before-more i j earlier h (before .1))
+
+latest-before : (slot i : ℕ) (seen : List Placed) → Before i seen → latest slot seen ≤ i - 1
+unfolding latest
+latest-before slot i [] before = omega arith
+latest-before slot i (p ∷ earlier) before =
+    by-test (eqb (slotOf (p .1)) slot) (λ q. rw q (omega (arith, before .0))) (λ q. rw q (latest-before slot i earlier (before .1)))
+
+pub record Table (s words links heads : List ℕ) (seen : List Placed) : Type 0 where
+  pub links-length : length links ≡ 1024
+  pub heads-length : length heads ≡ slots
+  pub headed : (slot : ℕ) → slot < slots → getD heads slot 0 ≡ latest slot seen
+  pub chained : Chained s words links seen
+  pub falls : (i : ℕ) → getD links i 0 ≤ 2 * i
+
+-- a link more, for a word that stands behind
+chained-frame : (s words links : List ℕ) (i x : ℕ) (seen : List Placed) → Before i seen → Chained s words links seen → Chained s words (set links (i / 2) x) seen
+chained-frame s words links i x [] before chained = tt
+chained-frame s words links i x (p ∷ earlier) before chained =
+    let l = chained .0 in
+    let other : p .0 / 2 ≡ i / 2 → ⊥ = λ e. omega (arith, before .0) in (
+      record { rest = l .rest; reads = l .reads; link = getD-set-other links (i / 2) (p .0 / 2) x 0 other ∙ l .link },
+      chained-frame s words links i x earlier (before .1) (chained .1),
     )
 
 -- one key more
-table-more : {s starts links heads : List ℕ} {seen : List Text} (table : Table s starts links heads seen) (key : Text) {rest : List ℕ} (start n slot : ℕ)
-    → length seen ≡ n
-    → n < tableKeys
+table-more : {s words links heads : List ℕ} {seen : List Placed} (table : Table s words links heads seen) (key : Text) {rest : List ℕ} (i slot : ℕ) {x : ℕ}
+    → Before i seen
+    → i < 2048
     → slot ≡ slotOf key
-    → slot < tableKeys
-    → keyHead (drop start s) ≡ some (key, rest)
-    → Table s (set starts n start) (set links n (getD heads slot 0)) (set heads slot (n + 1)) (key ∷ seen)
+    → slot < slots
+    → keyHead (drop (startOf words i) s) ≡ some (key, rest)
+    → x ≡ i + 1
+    → Table s words (set links (i / 2) (getD heads slot 0)) (set heads slot x) ((i, key) ∷ seen)
 unfolding latest
-table-more {s} {starts} {links} {heads} {seen} table key {rest} start n slot number room is-slot within reads =
-    let stored : getD (set starts n start) (length seen) 0 ≡ start = rw number (getD-set-same starts n start 0 (omega (arith, table .starts-length))) in
+table-more {s} {words} {links} {heads} {seen} table key {rest} i slot {x} before small is-slot within reads e =
+    let head = getD heads slot 0 in
+    let half : i / 2 < length links = omega (arith, table .links-length) in
+    let is-head : head ≡ latest slot seen = table .headed slot within in
     record {
-      starts-length = length-set starts n start ∙ table .starts-length;
-      links-length = length-set links n (getD heads slot 0) ∙ table .links-length;
-      heads-length = length-set heads slot (n + 1) ∙ table .heads-length;
+      links-length = length-set links (i / 2) head ∙ table .links-length;
+      heads-length = length-set heads slot x ∙ table .heads-length;
       headed =
           λ g h.
           by-test (eqb (slotOf key) g)
           (λ q.
           let same : slot ≡ g = is-slot ∙ eqb-true (slotOf key) g q in
-          rw (q, ← same, number) (getD-set-same heads slot (n + 1) 0 (omega (arith, table .heads-length))))
+          rw (q, ← same) (getD-set-same heads slot x 0 (omega (arith, table .heads-length)) ∙ e))
           (λ q.
-          let other : slot ≡ g → ⊥ = λ e. false≢true (sym q ∙ eq-eqb (slotOf key) g (sym is-slot ∙ e)) in
-          rw q (getD-set-other heads slot g (n + 1) 0 (omega arith) ∙ table .headed g h));
+          let other : g ≡ slot → ⊥ = λ e. false≢true (sym q ∙ eq-eqb (slotOf key) g (sym is-slot ∙ sym e)) in
+          rw q (getD-set-other heads slot g x 0 other ∙ table .headed g h));
       chained = (
         record {
           rest = rest;
-          reads = ap (λ (at : ℕ). keyHead (drop at s)) stored ∙ reads;
-          link = rw (number, ← is-slot) (getD-set-same links n (getD heads slot 0) 0 (omega (arith, table .links-length)) ∙ table .headed slot within);
+          reads = reads;
+          link = getD-set-same links (i / 2) head 0 half ∙ is-head ∙ ap (λ (slot : ℕ). latest slot seen) is-slot;
         },
-        chained-frame s starts links (set starts n start) (set links n (getD heads slot 0)) seen
-            (λ j h. getD-set-other starts n j start 0 (omega arith))
-            (λ j h. getD-set-other links n j (getD heads slot 0) 0 (omega arith))
-            (table .chained),
+        chained-frame s words links i head seen before (table .chained),
       );
       falls =
-          λ i.
-          by-test (eqb n i)
+          λ j.
+          by-test (eqb (i / 2) j)
           (λ q.
-          let same : n ≡ i = eqb-true n i q in
-          rw (← same, getD-set-same links n (getD heads slot 0) 0 (omega (arith, table .links-length)), table .headed slot within)
-          (omega (arith, latest-within slot seen)))
+          let same : i / 2 ≡ j = eqb-true (i / 2) j q in
+          let stored : getD (set links (i / 2) head) j 0 ≡ latest slot seen = rw (← same) (getD-set-same links (i / 2) head 0 half ∙ is-head) in
+          omega (arith, stored, same, latest-before slot i seen before))
           (λ q.
-          let other : n ≡ i → ⊥ = λ e. false≢true (sym q ∙ eq-eqb n i e) in
-          rw (getD-set-other links n i (getD heads slot 0) 0 (omega arith)) (table .falls i));
+          let other : j ≡ i / 2 → ⊥ = λ e. false≢true (sym q ∙ eq-eqb (i / 2) j (sym e)) in
+          let kept = getD-set-other links (i / 2) j head 0 other in
+          omega (arith, kept, table .falls j));
     }
 
--- `n` keys have been looked up, and what is right for those left is right for all
-pub record Sofar (s words starts links heads : List ℕ) (first count i n : ℕ) : Type 0 where
-  pub seen : List Text
-  pub number : length seen ≡ n
-  pub table : Table s starts links heads seen
-  pub onward : (r : Bool) → NewBehind s words seen i (count - n) r → NoneTwice s words first count r
+-- the keys before `i` have been looked up, and what is right for the `n` left is right for all
+pub record Sofar (s words links heads : List ℕ) (first count i n : ℕ) : Type 0 where
+  pub seen : List Placed
+  pub within : i ≤ maxRuleEntries
+  pub before : Before i seen
+  pub table : Table s words links heads seen
+  pub onward : (r : Bool) → NewBehind s words seen i n r → NoneTwice s words first count r
 
 zeros : (n i : ℕ) → _≡_ {A = ℕ} (getD (replicate n 0) i 0) 0
 zeros zero i = refl
 zeros (suc n) zero = refl
 zeros (suc n) (suc i) = zeros n i
 
-pub sofar-begin : (s words : List ℕ) (first count : ℕ)
-    → Sofar s words (replicate tableKeys 0) (replicate tableKeys 0) (replicate tableKeys 0) first count first 0
-unfolding latest
-sofar-begin s words first count =
-    let long = length-replicate {A = ℕ} tableKeys 0 in
+pub sofar-begin : (s words : List ℕ) (first count : ℕ) → first ≤ maxRuleEntries → Sofar s words (replicate 1024 0) (replicate slots 0) first count first count
+unfolding latest textsOf
+sofar-begin s words first count within =
     record {
       seen = [];
-      number = refl;
+      within = within;
+      before = tt;
       table =
           record {
-            starts-length = long;
-            links-length = long;
-            heads-length = long;
-            headed = λ slot h. zeros tableKeys slot;
+            links-length = length-replicate {A = ℕ} 1024 0;
+            heads-length = length-replicate {A = ℕ} slots 0;
+            headed = λ slot h. zeros slots slot;
             chained = tt;
-            falls = λ i. omega (arith, zeros tableKeys i);
+            falls = λ i. omega (arith, zeros 1024 i);
           };
-      onward = λ r new. record { told = λ ps at f. new .told ps at (omega arith) ∙ none-seen (keysOf ps) };
+      onward = λ r new. record { told = λ ps at f. new .told ps at f ∙ none-seen (keysOf ps) };
     }
 
-module _ {s words starts links heads : List ℕ} {first count i n : ℕ} (sofar : Sofar s words starts links heads first count i n) where
-  pub sofar-end : count ≤ n → NoneTwice s words first count true
+module _ {s words links heads : List ℕ} {first count i n : ℕ} (sofar : Sofar s words links heads first count i n) where
+  pub sofar-end : n ≡ 0 → NoneTwice s words first count true
   unfolding allNew keysOf countOfPairs
   sofar-end h = sofar .onward true (record { told = none-left })
     where
-      none-left : (ps : Pairs) → PairsAt s words i ps → countOfPairs ps ≡ count - n → true ≡ allNew (sofar .seen) (keysOf ps)
+      none-left : (ps : Pairs) → PairsAt s words i ps → countOfPairs ps ≡ n → true ≡ allNew (textsOf (sofar .seen)) (keysOf ps)
       none-left noPairs at f = refl
       none-left (pair key v others) at f = absurd (omega arith)
 
   -- the slot's chain, from its latest key on
-  pub sofar-falls : (slot : ℕ) → slot < tableKeys → n ≤ tableKeys → Falls starts links (getD heads slot 0)
-  sofar-falls slot within room =
+  pub sofar-falls : (slot : ℕ) {x : ℕ} → slot < slots → x ≡ getD heads slot 0 → Falls links x
+  sofar-falls slot within e =
       let t = sofar .table in
       let head = t .headed slot within in
-      record {
-        starts-room = omega (arith, head, latest-within slot (sofar .seen), sofar .number, t .starts-length);
-        links-room = omega (arith, head, latest-within slot (sofar .seen), sofar .number, t .links-length);
-        falls = t .falls;
-      }
+      record { room = omega (arith, head, latest-before slot i (sofar .seen) (sofar .before), sofar .within, t .links-length); falls = t .falls }
 
-  module _ (h : n < count) {start : ℕ} (starts-at : start ≡ startOf words i) where
+  module _ (h : 0 < n) {start : ℕ} (starts : start ≡ startOf words i) where
     pub sofar-unread : keyHead (drop start s) ≡ none → NoneTwice s words first count false
     unfolding countOfPairs
     sofar-unread e = sofar .onward false (record { told = unread })
       where
-        unread : (ps : Pairs) → PairsAt s words i ps → countOfPairs ps ≡ count - n → false ≡ allNew (sofar .seen) (keysOf ps)
+        unread : (ps : Pairs) → PairsAt s words i ps → countOfPairs ps ≡ n → false ≡ allNew (textsOf (sofar .seen)) (keysOf ps)
         unread noPairs at f = absurd (omega arith)
-        unread (pair k v others) at f = absurd (Option·none-ne-some _ (sym (rw starts-at at e) ∙ at .0 .reads))
+        unread (pair k v others) at f = absurd (Option·none-ne-some _ (sym (rw starts at e) ∙ at .0 .reads))
 
-    module _ {key : Text} {behind slot : ℕ} (reads : ReadsTo keyHead s start key behind) (is-slot : slot ≡ slotOf key) (within : slot < tableKeys) where
+    module _ {key : Text} {behind slot x : ℕ} (reads : ReadsTo keyHead s start key behind) (is-slot : slot ≡ slotOf key) (within : slot < slots) (is-head : x ≡ getD heads slot 0) where
       this-key : {k : Text} {rest : List ℕ} → keyHead (drop (startOf words i) s) ≡ some (k, rest) → key ≡ k
-      this-key e = some-both (sym (reads .reads) ∙ ap (λ (start : ℕ). keyHead (drop start s)) starts-at ∙ e) .0
+      this-key e = some-both (sym (reads .reads) ∙ ap (λ (start : ℕ). keyHead (drop start s)) starts ∙ e) .0
 
-      looked-up : {r : Bool} → IsChained s starts links (record { start = start; len = behind - start }) (getD heads slot 0) r → isAmong key (sofar .seen) ≡ r
+      looked-up : {r : Bool} → IsChained s words links (record { start = start; len = behind - start }) x r → isAmong key (textsOf (sofar .seen)) ≡ r
       looked-up chained =
           let t = sofar .table in
-          sym (chained .told key (sofar .seen) (reads-entry reads) (t .chained) (t .headed slot within ∙ ap (λ (slot : ℕ). latest slot (sofar .seen)) is-slot))
+          sym (chained .told key (sofar .seen) (reads-entry reads) (t .chained) (is-head ∙ t .headed slot within ∙ ap (λ (slot : ℕ). latest slot (sofar .seen)) is-slot))
 
-      pub sofar-found : IsChained s starts links (record { start = start; len = behind - start }) (getD heads slot 0) true → NoneTwice s words first count false
+      pub sofar-found : IsChained s words links (record { start = start; len = behind - start }) x true → NoneTwice s words first count false
       unfolding allNew keysOf countOfPairs
       sofar-found chained = sofar .onward false (record { told = stands })
         where
-          stands : (ps : Pairs) → PairsAt s words i ps → countOfPairs ps ≡ count - n → false ≡ allNew (sofar .seen) (keysOf ps)
+          stands : (ps : Pairs) → PairsAt s words i ps → countOfPairs ps ≡ n → false ≡ allNew (textsOf (sofar .seen)) (keysOf ps)
           stands noPairs at f = absurd (omega arith)
           stands (pair k v others) at f = rw (← this-key (at .0 .reads), looked-up chained)
 
-      pub sofar-next : {j : ℕ}
-          → n < tableKeys
+      pub sofar-next : {j y : ℕ}
           → j ≡ endOf words i
-          → IsChained s starts links (record { start = start; len = behind - start }) (getD heads slot 0) false
-          → Sofar s words (set starts n start) (set links n (getD heads slot 0)) (set heads slot (n + 1)) first count j (n + 1)
-      unfolding allNew keysOf countOfPairs
-      sofar-next {j} room ends chained =
+          → (i + 2 ≤ j) × (j ≤ maxRuleEntries)
+          → y ≡ i + 1
+          → IsChained s words links (record { start = start; len = behind - start }) x false
+          → Sofar s words (set links (i / 2) (getD heads slot 0)) (set heads slot y) first count j (n - 1)
+      unfolding allNew keysOf countOfPairs textsOf
+      sofar-next {j} ends further e chained =
           record {
-            seen = key ∷ sofar .seen;
-            number = omega (arith, sofar .number);
-            table = table-more (sofar .table) key start n slot (sofar .number) room is-slot within (reads .reads);
+            seen = (i, key) ∷ sofar .seen;
+            within = further .1;
+            before = (further .0, before-more i j (sofar .seen) (omega (arith, further .0)) (sofar .before));
+            table = table-more (sofar .table) key i slot (sofar .before) (omega (arith, further .0, further .1)) is-slot within (ap (λ (start : ℕ). keyHead (drop start s)) (sym starts) ∙ reads .reads) e;
             onward = λ r new. sofar .onward r (record { told = next r new });
           }
         where
-          next : (r : Bool) → NewBehind s words (key ∷ sofar .seen) j (count - (n + 1)) r → (ps : Pairs) → PairsAt s words i ps → countOfPairs ps ≡ count - n → r ≡ allNew (sofar .seen) (keysOf ps)
+          next : (r : Bool) → NewBehind s words ((i, key) ∷ sofar .seen) j (n - 1) r → (ps : Pairs) → PairsAt s words i ps → countOfPairs ps ≡ n → r ≡ allNew (textsOf (sofar .seen)) (keysOf ps)
           next r new noPairs at f = absurd (omega arith)
           next r new (pair k v others) at f =
               rw (← this-key (at .0 .reads), looked-up chained) (new .told others (rw (ends, at .0 .ends) (at .2)) (omega arith))

@@ -1,5 +1,5 @@
 -- The table in which the keys of a wide object are looked up: keys with the same slot make a chain, the latest first.
-use Prim.Native.Nat.{ℕ, _+_, _*_, _/_, _%_, _≤_, _<_}
+use Prim.Native.Nat.{ℕ, _+_, _*_, _-_, _/_, _%_, _≤_, _<_}
 use mathlib.Core.Bool.{Bool, cond}
 use mathlib.Core.List.{List, [], _∷_}
 use mathlib.Core.Option.{some}
@@ -11,43 +11,51 @@ use Rattle.sheet.specs.Entries.{keyHead}
 use Rattle.sheet.specs.Places.{ReadsTo}
 use Rattle.sheet.specs.declared.part.Part.{Part}
 use Rattle.definition.specs.Tree.{Text}
+use Rattle.rule.specs.Index.{startOf}
 
-abbrev pub tableKeys : ℕ
-tableKeys = 1024
+abbrev pub slots : ℕ
+slots = 256
 
--- a key's bytes, stirred to 32 bits; the upper 10 of them are its slot
+-- a key's bytes, stirred to 32 bits; the upper 8 of them are its slot
 unfoldable pub stirred : ℕ → Text → ℕ
 stirred h [] = h
 stirred h (b ∷ key) = stirred ((h + b) * 2654435761 % 4294967296) key
 
 unfoldable pub slotOf : Text → ℕ
-slotOf key = stirred 0 key / 4194304
+slotOf key = stirred 0 key / 16777216
 
--- of keys, the latest first: the number, from 1, of the latest with that slot, or 0
-unfoldable pub latest : ℕ → List Text → ℕ
+-- a key, with its word in the index
+abbrev pub Placed : Type 0
+Placed = ℕ × Text
+
+unfoldable pub textsOf : List Placed → List Text
+textsOf [] = []
+textsOf (p ∷ earlier) = p .1 ∷ textsOf earlier
+
+-- of keys, the latest first: the word of the latest with that slot, from 1, or 0
+unfoldable pub latest : ℕ → List Placed → ℕ
 latest slot [] = 0
-latest slot (key ∷ earlier) = cond (eqb (slotOf key) slot) (length earlier + 1) (latest slot earlier)
+latest slot (p ∷ earlier) = cond (eqb (slotOf (p .1)) slot) (p .0 + 1) (latest slot earlier)
 
--- key n + 1 starts at `starts` n in the sheet, and `links` n is the latest before it with its slot
-pub record Linked (s starts links : List ℕ) (key : Text) (earlier : List Text) : Type 0 where
+-- A key's link is the latest before it with its slot. Its place is half its word, since the keys of an object never stand side by side.
+pub record Linked (s words links : List ℕ) (p : Placed) (earlier : List Placed) : Type 0 where
   pub rest : List ℕ
-  pub reads : keyHead (drop (getD starts (length earlier) 0) s) ≡ some (key, rest)
-  pub link : getD links (length earlier) 0 ≡ latest (slotOf key) earlier
+  pub reads : keyHead (drop (startOf words (p .0)) s) ≡ some (p .1, rest)
+  pub link : getD links (p .0 / 2) 0 ≡ latest (slotOf (p .1)) earlier
 
-abbrev pub Chained : (s starts links : List ℕ) → List Text → Type 0
-Chained s starts links [] = Unit {0}
-Chained s starts links (key ∷ earlier) = Linked s starts links key earlier × Chained s starts links earlier
+abbrev pub Chained : (s words links : List ℕ) → List Placed → Type 0
+Chained s words links [] = Unit {0}
+Chained s words links (p ∷ earlier) = Linked s words links p earlier × Chained s words links earlier
 
--- a chain from key x on comes to an end, and stays inside the table
-pub record Falls (starts links : List ℕ) (x : ℕ) : Type 0 where
-  pub starts-room : x ≤ length starts
-  pub links-room : x ≤ length links
-  pub falls : (i : ℕ) → getD links i 0 ≤ i
+-- a chain from x on comes to an end, and stays inside the table
+pub record Falls (links : List ℕ) (x : ℕ) : Type 0 where
+  pub room : x ≤ 2 * length links
+  pub falls : (i : ℕ) → getD links i 0 ≤ 2 * i
 
--- whether the key of that entry is one of the chain from key x on
-pub record IsChained (s starts links : List ℕ) (entry : Part) (x : ℕ) (r : Bool) : Type 0 where
-  pub told : (key : Text) (seen : List Text)
+-- whether the key of that entry is one of the chain from x on
+pub record IsChained (s words links : List ℕ) (entry : Part) (x : ℕ) (r : Bool) : Type 0 where
+  pub told : (key : Text) (seen : List Placed)
       → ReadsTo keyHead s (entry .start) key (entry .start + entry .len)
-      → Chained s starts links seen
+      → Chained s words links seen
       → x ≡ latest (slotOf key) seen
-      → r ≡ isAmong key seen
+      → r ≡ isAmong key (textsOf seen)

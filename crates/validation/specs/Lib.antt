@@ -11,6 +11,7 @@ pub mod CountLaws
 pub mod Growth
 pub mod DemandLaws
 pub mod Demands
+pub mod Upgrade
 pub mod KernelLaws
 pub mod KeyPath
 pub mod KeyLaws

@@ -3,3 +3,7 @@ pub mod Distinct
 pub mod WalkLaws
 pub mod ReferenceLaws
 pub mod DistinctLaws
+pub mod Decision
+pub mod DecisionLaws
+pub mod DecisionOrderLaws
+pub mod SheetDecision

@@ -3,35 +3,33 @@ use native.Mathlib.Omega.{arith}
 use borrow.Author.Needs.{needs}
 use Rattle.rule.proofs.keys.is_chained.Statement.{statement}
 use Rattle.rule.proofs.keys.is_chained.Tie as tie
-use Prim.Native.Nat.{_-_}
+use Prim.Native.Nat.{_-_, _/_}
 use mathlib.Core.Bool.{Bool, true, false}
+use mathlib.Core.Path.{refl}
 use denote.Ref.{now}
 use Rattle.rule.specs.Table.{Falls, IsChained}
 use Rattle.rule.proofs.TableLaws.{chain-none, chain-found, chain-next, falls-next}
 
 abbrev Inv-loop : tie.InvT-loop
-Inv-loop s starts links entry from x₀ x = Falls starts links x × ((r : Bool) → IsChained s starts links entry x r → IsChained s starts links entry from r)
+Inv-loop s words links entry from x₀ x = Falls links x × ((r : Bool) → IsChained s words links entry x r → IsChained s words links entry from r)
 
 abbrev μ-loop : tie.MeasureT-loop
-μ-loop s starts links entry from x₀ x = x
+μ-loop s words links entry from x₀ x = x
 
 loop-holds : tie.Need-loop-holds Inv-loop μ-loop
 loop-holds c = (c .before .before .before .pre, λ r chained. chained)
 
-sub-stands-at : tie.Need-sub-stands-at Inv-loop μ-loop
-sub-stands-at c = search needs
+sub-start-of : tie.Need-sub-start-of Inv-loop μ-loop
+sub-start-of c = search needs
 
-mul-stands-at : tie.Need-mul-stands-at Inv-loop μ-loop
-mul-stands-at c = search needs
-
-shared-slice-read-stands-at : tie.Need-shared-slice-read-stands-at Inv-loop μ-loop
-shared-slice-read-stands-at c = omega (arith, c .before .loop-test .taken, c .before .before .loop .inv .0 .starts-room)
+start-of-requires : tie.Need-start-of-requires Inv-loop μ-loop
+start-of-requires c κs = search needs
 
 stands-at-requires : tie.Need-stands-at-requires Inv-loop μ-loop
 stands-at-requires c κs = search needs
 
 returns : tie.Need-returns Inv-loop μ-loop
-returns c = let a = c .before .before .before .before .before .before .before .before .args in c .before .before .before .before .loop .inv .1 true (chain-found (now (a .s)) (now (a .starts)) (now (a .links)) (a .entry) (c .before .before .before .before .loop .x) (c .before .before .before .loop-test .taken) (c .before .stands-at .ensures) (c .if1 .taken))
+returns c = let a = c .before .before .before .before .before .before .before .before .args in c .before .before .before .before .loop .inv .1 true (chain-found (now (a .s)) (now (a .words)) (now (a .links)) (a .entry) (c .before .before .before .before .loop .x) (c .before .before .before .loop-test .taken) (c .before .before .start-of .ensures) (c .before .stands-at .ensures) (c .if1 .taken))
 
 sub-x : tie.Need-sub-x Inv-loop μ-loop
 sub-x c = search needs
@@ -40,18 +38,21 @@ mul-x : tie.Need-mul-x Inv-loop μ-loop
 mul-x c = search needs
 
 shared-slice-read-x : tie.Need-shared-slice-read-x Inv-loop μ-loop
-shared-slice-read-x c = omega (arith, c .before .before .before .before .loop-test .taken, c .before .before .before .before .before .loop .inv .0 .links-room)
+shared-slice-read-x c = omega (arith, c .before .before .before .before .loop-test .taken, c .before .before .before .before .before .loop .inv .0 .room)
+
+cast-x : tie.Need-cast-x Inv-loop μ-loop
+cast-x c = omega (arith, c .shared-slice-known4 .given ((c .before .before .before .before .before .loop .x - 1) / 2))
 
 loop-less : tie.Need-loop-less Inv-loop μ-loop
-loop-less c = omega (arith, c .before .before .before .before .loop-test .taken, c .before .before .before .before .before .loop .inv .0 .falls (c .before .before .before .before .before .loop .x - 1))
+loop-less c = omega (arith, c .before .before .before .before .loop-test .taken, c .before .before .before .before .before .loop .inv .0 .falls ((c .before .before .before .before .before .loop .x - 1) / 2))
 
 loop-again : tie.Need-loop-again Inv-loop μ-loop
 loop-again c =
     let a = c .before .before .before .before .before .before .before .before .before .args in
-    (falls-next (now (a .s)) (now (a .starts)) (now (a .links)) (a .entry) (c .before .before .before .before .before .loop .x) (c .before .before .before .before .loop-test .taken) (c .before .before .before .before .before .loop .inv .0), λ r chained. c .before .before .before .before .before .loop .inv .1 r (chain-next (now (a .s)) (now (a .starts)) (now (a .links)) (a .entry) (c .before .before .before .before .before .loop .x) (c .before .before .before .before .loop-test .taken) (c .before .before .stands-at .ensures) (c .before .if1 .left) chained))
+    (falls-next (now (a .s)) (now (a .words)) (now (a .links)) (a .entry) (c .before .before .before .before .before .loop .x) (c .before .before .before .before .loop-test .taken) (c .before .before .before .before .before .loop .inv .0) refl, λ r chained. c .before .before .before .before .before .loop .inv .1 r (chain-next (now (a .s)) (now (a .words)) (now (a .links)) (a .entry) (c .before .before .before .before .before .loop .x) (c .before .before .before .before .loop-test .taken) (c .before .before .before .start-of .ensures) (c .before .before .stands-at .ensures) (c .before .if1 .left) refl chained))
 
 returns-2 : tie.Need-returns-2 Inv-loop μ-loop
-returns-2 c = let a = c .before .before .before .before .before .args in c .before .loop .inv .1 false (chain-none (now (a .s)) (now (a .starts)) (now (a .links)) (a .entry) (c .before .loop .x) (omega (arith, c .loop-test .left)))
+returns-2 c = let a = c .before .before .before .before .before .args in c .before .loop .inv .1 false (chain-none (now (a .s)) (now (a .words)) (now (a .links)) (a .entry) (c .before .loop .x) (omega (arith, c .loop-test .left)))
 
 pub is-chained-spec : {M : Type 1} → statement M
 is-chained-spec =
@@ -60,14 +61,14 @@ is-chained-spec =
     Inv-loop
     μ-loop
     loop-holds
-    sub-stands-at
-    mul-stands-at
-    shared-slice-read-stands-at
+    sub-start-of
+    start-of-requires
     stands-at-requires
     returns
     sub-x
     mul-x
     shared-slice-read-x
+    cast-x
     loop-less
     loop-again
     returns-2)

@@ -3,18 +3,18 @@ use native.Mathlib.Omega.{arith}
 use borrow.Author.Needs.{needs}
 use Rattle.rule.proofs.keys.many_differ.Statement.{statement}
 use Rattle.rule.proofs.keys.many_differ.Tie as tie
-use Prim.Native.Nat.{_-_}
+use mathlib.Core.Path.{refl}
 use denote.Ref.{now}
 use Rattle.rule.proofs.TableLaws.{Sofar, sofar-begin, sofar-end, sofar-unread, sofar-falls, sofar-found, sofar-next}
 
 abbrev Inv-loop : tie.InvT-loop
-Inv-loop s words first count starts₀ links₀ heads₀ i₀ n₀ starts links heads i n = Sofar s words starts links heads first count i n
+Inv-loop s words first count heads₀ links₀ i₀ n₀ heads links i n = Sofar s words links heads first count i n
 
 abbrev μ-loop : tie.MeasureT-loop
-μ-loop s words first count starts₀ links₀ heads₀ i₀ n₀ starts links heads i n = count - n
+μ-loop s words first count heads₀ links₀ i₀ n₀ heads links i n = n
 
 loop-holds : tie.Need-loop-holds Inv-loop μ-loop
-loop-holds c = let a = c .before .before .args in sofar-begin (now (a .s)) (now (a .words)) (a .first) (a .count)
+loop-holds c = let a = c .before .before .args in sofar-begin (now (a .s)) (now (a .words)) (a .first) (a .count) (c .before .before .pre)
 
 start-of-requires : tie.Need-start-of-requires Inv-loop μ-loop
 start-of-requires c κs = search needs
@@ -31,8 +31,14 @@ enum-told c = search needs
 returns : tie.Need-returns Inv-loop μ-loop
 returns c = sofar-unread (c .before .before .before .before .before .loop .inv) (c .before .before .before .before .loop-test .taken) (c .before .before .before .start-of .ensures) (rw (c .enum-told .given .1) at (c .before .before .key-head .ensures))
 
+end-of-requires : tie.Need-end-of-requires Inv-loop μ-loop
+end-of-requires c κs = search needs
+
+is-further-requires : tie.Need-is-further-requires Inv-loop μ-loop
+is-further-requires c κs = c .before .before .before .before .before .before .before .loop .inv .within
+
 sub-is-chained : tie.Need-sub-is-chained Inv-loop μ-loop
-sub-is-chained c = let head = rw (c .before .key .given .1) at (c .before .before .before .key-head .ensures) in omega (arith, head .past)
+sub-is-chained c = let head = rw (c .before .before .before .before .key .given .1) at (c .before .before .before .before .before .before .key-head .ensures) in omega (arith, head .past)
 
 bytes-of-requires : tie.Need-bytes-of-requires Inv-loop μ-loop
 bytes-of-requires c κs = search needs
@@ -43,65 +49,68 @@ slot-of-requires c κs = search needs
 slice-aggregate-is-chained : tie.Need-slice-aggregate-is-chained Inv-loop μ-loop
 slice-aggregate-is-chained c = search needs
 
-slice-aggregate-is-chained-2 : tie.Need-slice-aggregate-is-chained-2 Inv-loop μ-loop
-slice-aggregate-is-chained-2 c = search needs
-
 mul-is-chained : tie.Need-mul-is-chained Inv-loop μ-loop
 mul-is-chained c = search needs
 
 array-read-is-chained : tie.Need-array-read-is-chained Inv-loop μ-loop
-array-read-is-chained c = omega (arith, c .before .before .slot-of .ensures .1)
+array-read-is-chained c = omega (arith, c .before .slot-of .ensures .1)
+
+cast-is-chained : tie.Need-cast-is-chained Inv-loop μ-loop
+cast-is-chained c = let t = c .before .before .before .before .before .before .before .before .before .before .before .before .loop .inv in omega (arith, sofar-falls t (c .before .slot-of .result) (c .before .slot-of .ensures .1) refl .room, t .table .links-length)
 
 is-chained-requires : tie.Need-is-chained-requires Inv-loop μ-loop
-is-chained-requires c κs = sofar-falls (c .before .before .before .before .before .before .before .before .before .before .loop .inv) (c .before .before .slot-of .result) (c .before .before .slot-of .ensures .1) (omega (arith, c .before .before .before .before .before .before .before .before .before .loop-test .taken, c .before .before .before .before .before .before .before .before .before .before .before .before .before .pre))
+is-chained-requires c κs = sofar-falls (c .before .before .before .before .before .before .before .before .before .before .before .before .loop .inv) (c .before .slot-of .result) (c .before .slot-of .ensures .1) refl
 
 returns-2 : tie.Need-returns-2 Inv-loop μ-loop
 returns-2 c =
-    let head = rw (c .before .before .before .before .before .before .before .key .given .1) at (c .before .before .before .before .before .before .before .before .before .key-head .ensures) in
-    let slot = rw (c .before .before .before .before .before .bytes-of .ensures) at (c .before .before .before .before .slot-of .ensures .0) in
-    sofar-found (c .before .before .before .before .before .before .before .before .before .before .before .before .loop .inv) (c .before .before .before .before .before .before .before .before .before .before .before .loop-test .taken) (c .before .before .before .before .before .before .before .before .before .before .start-of .ensures) head slot (c .before .before .before .before .slot-of .ensures .1) (rw (c .if1 .taken) at (c .before .is-chained .ensures))
-
-mul-starts : tie.Need-mul-starts Inv-loop μ-loop
-mul-starts c = search needs
-
-array-write-starts : tie.Need-array-write-starts Inv-loop μ-loop
-array-write-starts c = omega (arith, c .before .before .before .before .before .before .before .before .before .before .before .loop-test .taken, c .before .before .before .before .before .before .before .before .before .before .before .before .before .before .before .pre)
+    let head = rw (c .before .before .before .before .before .before .before .before .before .key .given .1) at (c .before .before .before .before .before .before .before .before .before .before .before .key-head .ensures) in
+    let slot = rw (c .before .before .before .before .bytes-of .ensures) at (c .before .before .before .slot-of .ensures .0) in
+    sofar-found (c .before .before .before .before .before .before .before .before .before .before .before .before .before .before .loop .inv) (c .before .before .before .before .before .before .before .before .before .before .before .before .before .loop-test .taken) (c .before .before .before .before .before .before .before .before .before .before .before .before .start-of .ensures) head slot (c .before .before .before .slot-of .ensures .1) refl (rw (c .if2 .taken) at (c .before .is-chained .ensures))
 
 mul-links : tie.Need-mul-links Inv-loop μ-loop
 mul-links c = search needs
 
 array-read-links : tie.Need-array-read-links Inv-loop μ-loop
-array-read-links c = omega (arith, c .before .before .before .before .slot-of .ensures .1)
+array-read-links c = omega (arith, c .before .before .before .slot-of .ensures .1)
 
 mul-links-2 : tie.Need-mul-links-2 Inv-loop μ-loop
 mul-links-2 c = search needs
 
 array-write-links : tie.Need-array-write-links Inv-loop μ-loop
-array-write-links c = omega (arith, c .before .before .before .before .before .before .before .before .before .before .before .loop-test .taken, c .before .before .before .before .before .before .before .before .before .before .before .before .before .before .before .pre)
+array-write-links c = let further = c .before .before .before .before .before .before .is-further .ensures (c .before .before .before .before .before .if1 .taken) in omega (arith, further .0, further .1)
 
-add-n : tie.Need-add-n Inv-loop μ-loop
-add-n c = omega (arith, c .before .before .before .before .before .before .before .before .before .before .before .loop-test .taken, c .before .before .before .before .before .before .before .before .before .before .before .before .before .before .before .pre)
+add-heads : tie.Need-add-heads Inv-loop μ-loop
+add-heads c = let further = c .before .before .before .before .before .before .is-further .ensures (c .before .before .before .before .before .if1 .taken) in omega (arith, further .0, further .1)
+
+cast-heads : tie.Need-cast-heads Inv-loop μ-loop
+cast-heads c = let further = c .before .before .before .before .before .before .is-further .ensures (c .before .before .before .before .before .if1 .taken) in omega (arith, further .0, further .1)
 
 mul-heads : tie.Need-mul-heads Inv-loop μ-loop
 mul-heads c = search needs
 
 array-write-heads : tie.Need-array-write-heads Inv-loop μ-loop
-array-write-heads c = omega (arith, c .before .before .before .before .slot-of .ensures .1)
+array-write-heads c = omega (arith, c .before .before .before .slot-of .ensures .1)
 
-end-of-requires : tie.Need-end-of-requires Inv-loop μ-loop
-end-of-requires c κs = search needs
+sub-n : tie.Need-sub-n Inv-loop μ-loop
+sub-n c = search needs
 
 loop-less : tie.Need-loop-less Inv-loop μ-loop
-loop-less c = omega (arith, c .before .before .before .before .before .before .before .before .before .before .before .before .loop-test .taken)
+loop-less c = search needs
 
 loop-again : tie.Need-loop-again Inv-loop μ-loop
 loop-again c =
-    let head = rw (c .before .before .before .before .before .before .before .before .key .given .1) at (c .before .before .before .before .before .before .before .before .before .before .key-head .ensures) in
-    let slot = rw (c .before .before .before .before .before .before .bytes-of .ensures) at (c .before .before .before .before .before .slot-of .ensures .0) in
-    sofar-next (c .before .before .before .before .before .before .before .before .before .before .before .before .before .loop .inv) (c .before .before .before .before .before .before .before .before .before .before .before .before .loop-test .taken) (c .before .before .before .before .before .before .before .before .before .before .before .start-of .ensures) head slot (c .before .before .before .before .before .slot-of .ensures .1) (omega (arith, c .before .before .before .before .before .before .before .before .before .before .before .before .loop-test .taken, c .before .before .before .before .before .before .before .before .before .before .before .before .before .before .before .before .pre)) (c .end-of .ensures) (rw (c .before .if1 .left) at (c .before .before .is-chained .ensures))
+    let head = rw (c .before .before .before .before .before .before .before .before .before .key .given .1) at (c .before .before .before .before .before .before .before .before .before .before .before .key-head .ensures) in
+    let slot = rw (c .before .before .before .before .bytes-of .ensures) at (c .before .before .before .slot-of .ensures .0) in
+    sofar-next (c .before .before .before .before .before .before .before .before .before .before .before .before .before .before .loop .inv) (c .before .before .before .before .before .before .before .before .before .before .before .before .before .loop-test .taken) (c .before .before .before .before .before .before .before .before .before .before .before .before .start-of .ensures) head slot (c .before .before .before .slot-of .ensures .1) refl (c .before .before .before .before .before .before .before .end-of .ensures) (c .before .before .before .before .before .before .is-further .ensures (c .before .before .before .before .before .if1 .taken)) refl (rw (c .if2 .left) at (c .before .is-chained .ensures))
+
+few-differ-requires : tie.Need-few-differ-requires Inv-loop μ-loop
+few-differ-requires c κs = search needs
 
 returns-3 : tie.Need-returns-3 Inv-loop μ-loop
-returns-3 c = sofar-end (c .before .loop .inv) (omega (arith, c .loop-test .left))
+returns-3 c = search needs
+
+returns-4 : tie.Need-returns-4 Inv-loop μ-loop
+returns-4 c = sofar-end (c .before .loop .inv) (omega (arith, c .loop-test .left))
 
 pub many-differ-spec : {M : Type 1} → statement M
 many-differ-spec =
@@ -115,25 +124,28 @@ many-differ-spec =
     enum-known-key
     enum-told
     returns
+    end-of-requires
+    is-further-requires
     sub-is-chained
     bytes-of-requires
     slot-of-requires
     slice-aggregate-is-chained
-    slice-aggregate-is-chained-2
     mul-is-chained
     array-read-is-chained
+    cast-is-chained
     is-chained-requires
     returns-2
-    mul-starts
-    array-write-starts
     mul-links
     array-read-links
     mul-links-2
     array-write-links
-    add-n
+    add-heads
+    cast-heads
     mul-heads
     array-write-heads
-    end-of-requires
+    sub-n
     loop-less
     loop-again
-    returns-3)
+    few-differ-requires
+    returns-3
+    returns-4)

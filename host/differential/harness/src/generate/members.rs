@@ -64,7 +64,7 @@ fn keys(random: &mut Random, count: usize) -> Vec<String> {
 /// How many keys of one slot are at hand.
 const ONE_SLOT: usize = 400;
 
-/// Keys that all fall into one of the 1,024 slots of the library's table.
+/// Keys that all fall into one slot of the library's table, which goes by the eight highest of these ten bits.
 fn one_slot() -> &'static [String] {
     static KEYS: OnceLock<Vec<String>> = OnceLock::new();
     KEYS.get_or_init(|| (0..).map(|index| format!("{index:x}")).filter(|key| slot(key) == 7).take(ONE_SLOT).collect())

@@ -1,0 +1,60 @@
+// What is answered about two schema sheets, as the numbers of a result.
+use schema_change::answer::Answer;
+use schema_change::answer::Change;
+use schema_change::answer::Reason;
+use validator::outcome::Outcome;
+ghost use mathlib.Core.Path.{_≡_};
+ghost use Rattle.schema_change.specs.Answers.{reasonOf, decisionOf, answerOf};
+ghost use Rattle.validator.specs.Outcomes.{numbersBy};
+ghost use Rattle.widening.specs.SheetDecision.{decision, reasonNumber, numbersOf};
+ghost use Rattle.entity_rules.specs.WidensEntry.{inPlaces};
+
+fn reason_number(reason: Reason) -> u32
+    ensures { λ r. ⌜ r ≡ reasonNumber (reasonOf reason) ⌝ }
+{
+    match reason {
+        Reason::FieldMissing => 1,
+        Reason::KindDiffers => 2,
+        Reason::ItemsDiffer => 3,
+        Reason::TagDiffers => 4,
+        Reason::MarkCloses => 5,
+        Reason::FieldAdded => 6,
+        Reason::ArgumentsGo => 7,
+    }
+}
+
+// Five numbers in the places of a result's first five.
+fn in_places(number: u32, answer: u32, reason: u32, first: u32, second: u32) -> Outcome
+    ensures { λ r. ⌜ numbersBy r ≡ inPlaces (record { number = number; answer = answer; reason = reason; first = first; second = second }) ⌝ }
+{
+    Outcome {
+        number,
+        family: answer,
+        detail: reason,
+        place: first,
+        over_place: second,
+        passed: 0,
+        path_length: 0,
+    }
+}
+
+fn told_change(change: Change) -> Outcome
+    ensures { λ r. ⌜ numbersBy r ≡ inPlaces (numbersOf (decision (decisionOf change))) ⌝ }
+{
+    match change {
+        Change::Marks => in_places(0, 1, 0, 0, 0),
+        Change::Anything => in_places(0, 2, 0, 0, 0),
+        Change::Refuted(reason, first, second) => {
+            in_places(0, 3, reason_number(reason), first, second)
+        }
+    }
+}
+
+pub fn told(answer: Answer) -> Outcome
+    ensures { λ r. ⌜ numbersBy r ≡ inPlaces (numbersOf (answerOf answer)) ⌝ }
+{
+    match answer {
+        Answer::Malformed(which) => in_places(4, which, 0, 0, 0),
+        Answer::Is(change) => told_change(change),
+    }
+}

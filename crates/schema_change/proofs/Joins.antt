@@ -1,0 +1,109 @@
+-- What is found in two lists one behind the other, and what each function that hands it on finds.
+use Prim.Native.Nat.{ℕ}
+use mathlib.Core.Bool.{Bool, true, false}
+use mathlib.Core.List.{List, [], _∷_, _++_}
+use mathlib.Core.Path.{_≡_, refl, ap, sym, _∙_}
+use native.Mathlib.Omega.{arith}
+use Rattle.widening.specs.Widening.{marks, anything}
+use Rattle.widening.specs.Decision.{Difference, growth, breach, breachIf, Decision, widening, refuted, withGrowth, decided}
+use Rattle.widening.specs.Decision as Decision
+use Rattle.schema_change.specs.declared.answer.Reason.{Reason}
+use Rattle.schema_change.specs.declared.answer.Change.{Change}
+use Rattle.schema_change.specs.declared.answer.Change.the-variants.{Marks, Anything, Refuted}
+use Rattle.schema_change.specs.Answers.{reasonOf, decisionOf, joined, Goes, isOpenYet}
+
+growth-twice : (d : Decision) → withGrowth (withGrowth d) ≡ withGrowth d
+unfolding withGrowth
+growth-twice (widening l) = refl
+growth-twice (refuted why e e′) = refl
+
+joined-grown : (a b : Decision) → joined (withGrowth a) b ≡ withGrowth (joined a b)
+unfolding joined withGrowth
+joined-grown (widening marks) b = refl
+joined-grown (widening anything) b = sym (growth-twice b)
+joined-grown (refuted why e e′) b = refl
+
+decided-append : (xs ys : List Difference) → decided (xs ++ ys) ≡ joined (decided xs) (decided ys)
+unfolding decided joined
+decided-append [] ys = refl
+decided-append (growth ∷ xs) ys = rw (decided-append xs ys) (sym (joined-grown (decided xs) (decided ys)))
+decided-append (breach why e e′ ∷ xs) ys = refl
+
+joined-assoc : (a b c : Decision) → joined (joined a b) c ≡ joined a (joined b c)
+unfolding joined
+joined-assoc (widening marks) b c = refl
+joined-assoc (widening anything) b c = joined-grown b c
+joined-assoc (refuted why e e′) b c = refl
+
+pub goes-both : {a b c : Change} {xs ys : List Difference} → Goes a xs b → Goes b ys c → Goes a (xs ++ ys) c
+goes-both {a} {b} {c} {xs} {ys} f g =
+    record {
+      is =
+          g .is
+          ∙ ap (λ (d : Decision). joined d (decided ys)) (f .is)
+          ∙ joined-assoc (decisionOf a) (decided xs) (decided ys)
+          ∙ ap (λ (d : Decision). joined (decisionOf a) d) (sym (decided-append xs ys));
+    }
+
+-- nothing differs
+joined-nothing : (d : Decision) → d ≡ joined d (widening marks)
+unfolding joined withGrowth
+joined-nothing (widening marks) = refl
+joined-nothing (widening anything) = refl
+joined-nothing (refuted why e e′) = refl
+
+pub goes-nothing : {a : Change} → Goes a [] a
+unfolding decided
+goes-nothing {a} = record { is = joined-nothing (decisionOf a) }
+
+-- a breach stays, whatever comes behind it
+pub goes-closed : (a : Change) (ds : List Difference) → isOpenYet a ≡ false → Goes a ds a
+unfolding isOpenYet joined
+goes-closed Marks ds h = let z : _≡_ {A = ℕ} 0 1 = cc in absurd (omega arith)
+goes-closed Anything ds h = let z : _≡_ {A = ℕ} 0 1 = cc in absurd (omega arith)
+goes-closed (Refuted why e e′) ds h = record { is = refl }
+
+-- behind a breach nothing counts
+pub goes-breach : {a b : Change} {why : Decision.Reason} {e e′ : ℕ} {ds : List Difference} → Goes a (breach why e e′ ∷ []) b → Goes a (breach why e e′ ∷ ds) b
+unfolding decided
+goes-breach g = record { is = g .is }
+
+pub refute-marks : {a : Change} {why : Reason} {e e′ : ℕ} → a ≡ Marks → Goes a (breach (reasonOf why) e e′ ∷ []) (Refuted why e e′)
+unfolding decided joined
+refute-marks h = record { is = rw h }
+
+pub refute-anything : {a : Change} {why : Reason} {e e′ : ℕ} → a ≡ Anything → Goes a (breach (reasonOf why) e e′ ∷ []) (Refuted why e e′)
+unfolding decided joined withGrowth
+refute-anything h = record { is = rw h }
+
+pub refuted-stays : {a : Change} {why : Reason} {e e′ : ℕ} (ds : List Difference) → a ≡ Refuted why e e′ → Goes a ds (Refuted why e e′)
+unfolding joined
+refuted-stays ds h = record { is = rw h }
+
+pub grow-marks : {a : Change} → a ≡ Marks → Goes a (growth ∷ []) Anything
+unfolding decided joined withGrowth
+grow-marks h = record { is = rw h }
+
+pub grow-anything : {a : Change} → a ≡ Anything → Goes a (growth ∷ []) Anything
+unfolding decided joined withGrowth
+grow-anything h = record { is = rw h }
+
+pub refute-if-so : {a r : Change} {b : Bool} (why : Reason) (e e′ : ℕ) → b ≡ true → Goes a (breach (reasonOf why) e e′ ∷ []) r → Goes a (breachIf b (reasonOf why) e e′) r
+unfolding breachIf
+refute-if-so why e e′ h g = rw h g
+
+pub refute-if-not : {a : Change} {b : Bool} (why : Reason) (e e′ : ℕ) → b ≡ false → Goes a (breachIf b (reasonOf why) e e′) a
+unfolding breachIf
+refute-if-not why e e′ h = rw h goes-nothing
+
+pub open-marks : {a : Change} → a ≡ Marks → true ≡ isOpenYet a
+unfolding isOpenYet
+open-marks h = rw h
+
+pub open-anything : {a : Change} → a ≡ Anything → true ≡ isOpenYet a
+unfolding isOpenYet
+open-anything h = rw h
+
+pub shut-refuted : {a : Change} {why : Reason} {e e′ : ℕ} → a ≡ Refuted why e e′ → false ≡ isOpenYet a
+unfolding isOpenYet
+shut-refuted h = rw h

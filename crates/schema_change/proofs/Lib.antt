@@ -1,0 +1,5 @@
+mod Joins
+mod EntryLaws
+mod PairLaws
+mod FieldLaws
+mod SchemaLaws

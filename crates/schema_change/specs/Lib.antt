@@ -1,0 +1,5 @@
+pub mod Answers
+pub mod Entries
+pub mod Pairs
+pub mod Fields
+pub mod Schemas

@@ -1,0 +1,32 @@
+// Whether the second of two schema sheets is a widening of the first (docs/FORMAT.md, "Is it a widening?"). Each sheet is read once, which
+// says whether it is well formed and leaves an index; then both are gone through side by side.
+pub mod answer; // answer.rt: what is answered, and what was found so far
+mod entry; // entry.rt: what the entries of two fields say
+mod pairing; // pairing.rt: which of two members comes first
+mod field; // field.rt: fields, with what lies below them
+mod schema_sheets; // schema_sheets.rt: two schemas as a whole
+
+use crate::answer::Answer;
+use crate::schema_sheets::compare_schemas;
+use definition::limits::SCRATCH_WORDS;
+use schema::read::SchemaRead;
+use schema::read::read_schema;
+ghost use mathlib.Core.Path.{_≡_};
+ghost use Rattle.widening.specs.SheetDecision.{widensSheets};
+ghost use Rattle.schema_change.specs.Answers.{answerOf};
+
+// Brings a scratch for the index of each sheet.
+pub fn widens(first: &[u8], second: &[u8]) -> Answer
+    ensures { λ r. ⌜ answerOf r ≡ widensSheets (now (first .entry)) (now (second .entry)) ⌝ }
+{
+    let mut words = [0u32; SCRATCH_WORDS];
+    let mut others = [0u32; SCRATCH_WORDS];
+    let SchemaRead::Good(x) = read_schema(first, &mut words) else {
+        return Answer::Malformed(1);
+    };
+    let SchemaRead::Good(y) = read_schema(second, &mut others) else {
+        return Answer::Malformed(2);
+    };
+    let change = compare_schemas(first, &words, x, second, &others, y);
+    Answer::Is(change)
+}
