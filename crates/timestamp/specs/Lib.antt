@@ -1,2 +1,4 @@
 pub mod Instant
 pub mod Parses
+pub mod Order
+pub mod OrderLaws
