@@ -5,7 +5,7 @@ ghost use Prim.Native.Nat.{_+_, _≤_, _<_};
 ghost use lib.ListN.{length};
 ghost use Rattle.sheet.specs.Numeral.{decimalOf};
 ghost use Rattle.buffer.specs.Wrote.{Wrote};
-ghost use Rattle.buffer.specs.Bytes.{littleEndian, numberAt};
+ghost use Rattle.buffer.specs.Bytes.{littleEndian, bytesOf, numberAt};
 
 // Writes one byte; the place behind it is returned, as by each function here.
 pub fn push(out: &mut [u8], at: usize, byte: u8) -> usize
@@ -49,6 +49,18 @@ pub fn put_u32(out: &mut [u8], at: usize, n: u32) -> usize
     let third = push(out, second, (n / 256 % 256) as u8);
     let fourth = push(out, third, (n / 65536 % 256) as u8);
     push(out, fourth, (n / 16777216 % 256) as u8)
+}
+
+pub fn put_numbers(out: &mut [u8], at: usize, numbers: &[u32]) -> usize
+    ensures { λ r. ⌜ Wrote (now (out .entry)) (now (out .exit)) at (bytesOf (now (numbers .entry))) r ⌝ }
+{
+    let mut next = at;
+    let mut i = 0;
+    while i < numbers.len() {
+        next = put_u32(out, next, numbers[i]);
+        i += 1;
+    }
+    next
 }
 
 fn wide(byte: u8) -> u32
