@@ -1,4 +1,3 @@
-pub mod Bytes
 pub mod Entry
 pub mod EntryLaws
 pub mod NumberTest

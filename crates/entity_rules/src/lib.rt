@@ -2,8 +2,8 @@
 mod result; // result.rt: the seven numbers as bytes
 
 use crate::result::RESULT_BYTES;
-use crate::result::read_u32;
 use crate::result::write_result;
+use buffer::read_u32;
 use definition::limits::SCRATCH_WORDS;
 use key_path::validate_path;
 use validator::sheets::Takes;
@@ -12,9 +12,9 @@ ghost use mathlib.Core.Path.{_≡_};
 ghost use mathlib.Core.List.{[]};
 ghost use Prim.Native.Nat.{min};
 ghost use lib.ListN.{length};
+ghost use Rattle.buffer.specs.Bytes.{fieldAt};
 ghost use Rattle.validation.specs.Result.{rules, templates};
 ghost use Rattle.validator.specs.Sheets.{takesOf};
-ghost use Rattle.entity_rules.specs.Bytes.{fieldAt};
 ghost use Rattle.entity_rules.specs.Entry.{pathLent, entryAnswer, EntryAnswered};
 ghost use Rattle.entity_rules.specs.KeyEntry.{keyEntryAnswer};
 ghost use Rattle.entity_rules.specs.NumberTest.{finiteNumber};
