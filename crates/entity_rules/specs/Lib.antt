@@ -3,3 +3,4 @@ pub mod EntryLaws
 pub mod NumberTest
 pub mod KeyEntry
 pub mod KeyEntryLaws
+pub mod InstantEntry
