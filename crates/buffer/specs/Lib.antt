@@ -1,2 +1,4 @@
 pub mod Wrote
 pub mod WroteLaws
+pub mod Bytes
+pub mod BytesLaws

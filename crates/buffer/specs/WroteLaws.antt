@@ -36,7 +36,7 @@ sets-behind bytes l i n =
     let full = leb-false (i + n) (length l) e in
     sets-past bytes l (i + min n (length l - i)) (omega arith) ∙ sym (sets-past bytes l (i + n) (omega arith)))
 
-sets-append : (xs ys l : List ℕ) (i : ℕ) → sets (sets l i xs) (i + length xs) ys ≡ sets l i (xs ++ ys)
+pub sets-append : (xs ys l : List ℕ) (i : ℕ) → sets (sets l i xs) (i + length xs) ys ≡ sets l i (xs ++ ys)
 sets-append [] ys l i = ap (λ (k : ℕ). sets l k ys) (add-zero i)
 sets-append (a ∷ xs) ys l i =
     ap (λ (k : ℕ). sets (sets (set l i a) (suc i) xs) k ys) (add-suc i (length xs) ∙ sym (suc-add i (length xs)))

@@ -1,7 +1,11 @@
 // Bytes written behind one another into a lent buffer; what does not fit is left out.
 ghost use mathlib.Core.List.{[], _∷_};
+ghost use mathlib.Core.Path.{_≡_};
+ghost use Prim.Native.Nat.{_+_, _≤_, _<_};
+ghost use lib.ListN.{length};
 ghost use Rattle.sheet.specs.Numeral.{decimalOf};
 ghost use Rattle.buffer.specs.Wrote.{Wrote};
+ghost use Rattle.buffer.specs.Bytes.{littleEndian, bytesOf, numberAt};
 
 // Writes one byte; the place behind it is returned, as by each function here.
 pub fn push(out: &mut [u8], at: usize, byte: u8) -> usize
@@ -35,4 +39,43 @@ pub fn put_decimal(out: &mut [u8], at: usize, n: usize) -> usize
     }
     let next = put_decimal(out, at, n / 10);
     push(out, next, 48 + (n % 10) as u8)
+}
+
+// Writes a number as four bytes, least significant first.
+pub fn put_u32(out: &mut [u8], at: usize, n: u32) -> usize
+    ensures { λ r. ⌜ Wrote (now (out .entry)) (now (out .exit)) at (littleEndian n) r ⌝ }
+{
+    let second = push(out, at, (n % 256) as u8);
+    let third = push(out, second, (n / 256 % 256) as u8);
+    let fourth = push(out, third, (n / 65536 % 256) as u8);
+    push(out, fourth, (n / 16777216 % 256) as u8)
+}
+
+pub fn put_numbers(out: &mut [u8], at: usize, numbers: &[u32]) -> usize
+    ensures { λ r. ⌜ Wrote (now (out .entry)) (now (out .exit)) at (bytesOf (now (numbers .entry))) r ⌝ }
+{
+    let mut next = at;
+    let mut i = 0;
+    while i < numbers.len() {
+        next = put_u32(out, next, numbers[i]);
+        i += 1;
+    }
+    next
+}
+
+fn wide(byte: u8) -> u32
+    ensures { λ r. ⌜ (r ≡ byte) × (r < 256) ⌝ }
+{
+    byte as u32
+}
+
+// The number that four bytes stand for.
+pub fn read_u32(bytes: &[u8], at: usize) -> u32
+    requires { ⌜ at + 4 ≤ length (now bytes) ⌝ }
+    ensures { λ r. ⌜ r ≡ numberAt at (now (bytes .entry)) ⌝ }
+{
+    wide(bytes[at])
+        + wide(bytes[at + 1]) * 256
+        + wide(bytes[at + 2]) * 65536
+        + wide(bytes[at + 3]) * 16777216
 }

@@ -4,10 +4,10 @@ use mathlib.Core.Bool.{true, false}
 use mathlib.Core.List.{List, [], _∷_, _++_}
 use mathlib.Core.Path.{_≡_, refl}
 use lib.ListN.{replicate}
+use Rattle.buffer.specs.Bytes.{littleEndian, bytesOf, numberAt, fieldAt}
 use Rattle.validation.specs.Result.{refused, numbersOf}
 use Rattle.widening.specs.Decision.{markCloses, refuted}
 use Rattle.widening.specs.SheetDecision as SheetDecision
-use Rattle.entity_rules.specs.Bytes.{littleEndian, bytesOf, numberAt, fieldAt}
 use Rattle.entity_rules.specs.Entry.{fieldsOf, resultAfter}
 use Rattle.entity_rules.specs.NumberTest.{packed}
 use Rattle.entity_rules.specs.WidensEntry.{inPlaces}

@@ -4,3 +4,4 @@ pub mod KeyEntries
 pub mod WidensEntries
 pub mod Examples
 pub mod NumberTests
+pub mod Instants

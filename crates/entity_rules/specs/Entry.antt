@@ -6,10 +6,10 @@ use mathlib.Core.Path.{_≡_}
 use lib.Dec.{leb}
 use lib.ListN.{length, replicate}
 use lib.Seq.{sets}
+use Rattle.buffer.specs.Bytes.{bytesOf, InFourBytes, fieldAt}
 use Rattle.validation.specs.Result.{Takes, Call, Answer, Numbers, resultOf, numbersOf, pathAfter, scratchWords, Run}
 use Rattle.validator.specs.declared.outcome.Outcome.{Outcome}
 use Rattle.validator.specs.Outcomes.{numbersBy}
-use Rattle.entity_rules.specs.Bytes.{bytesOf, InFourBytes, fieldAt}
 
 -- seven numbers of four bytes
 abbrev pub resultBytes : ℕ

@@ -1,9 +1,9 @@
 -- What a host may rely on: a result's numbers are read back as they were written, the demands hold of each call, and settings and buffers
 -- of any size are refused by number.
-use Prim.Native.Nat.{ℕ, zero, suc, _+_, _*_, _/_, _%_, _^_, _≤_, _<_}
+use Prim.Native.Nat.{ℕ, _+_, _*_, _≤_, _<_}
 use native.Mathlib.Omega.{arith}
 use mathlib.Core.Bool.{Bool, true, false, cond, _&&_, not}
-use mathlib.Core.List.{List, [], _∷_, _++_, append-assoc}
+use mathlib.Core.List.{List}
 use mathlib.Core.Option.{some}
 use mathlib.Core.Path.{_≡_, refl, ap, sym, _∙_}
 use lib.Dec.{leb}
@@ -11,46 +11,11 @@ use lib.ListN.{length, drop, getD, length-replicate}
 use lib.Seq.{sets-eq, length-sets}
 use borrow.Author.Tests.{le-leb, lt-leb}
 use Rattle.text.specs.Utf8.{isUtf8}
+use Rattle.buffer.specs.Bytes.{littleEndian, bytesOf, InFourBytes, fieldAt}
+use Rattle.buffer.specs.BytesLaws.{number-of-bytes}
 use Rattle.validation.specs.Result.{Takes, Call, Answer, refused, Numbers, numbersOf, isWithin, maxLabelBytes, scratchWords, resultOf, ofSettings, early, refusals, firstRefusal, refusedOr, pathAfter, callOf, Meets}
 use Rattle.validation.specs.RefusalLaws.{kind-refused, semantics-refused}
-use Rattle.entity_rules.specs.Bytes.{littleEndian, bytesOf, InFourBytes, no-more, one-more, numberAt, fieldAt}
 use Rattle.entity_rules.specs.Entry.{resultBytes, fieldsOf, resultAfter, pathLent, entryCall, entryAnswer, EntryAnswered, numbersIn, entryRun}
-
-whole : (n : ℕ) → n ≡ n / 256 * 256 + n % 256
-whole n = omega arith
-
-put-together : (n a b c w x y z : ℕ)
-    → n ≡ a * 256 + w
-    → a ≡ b * 256 + x
-    → b ≡ c * 256 + y
-    → c ≡ z
-    → w + x * 256 + y * 65536 + z * 16777216 ≡ n
-put-together n a b c w x y z e f g h = omega arith
-
-number-first : (n : ℕ) (rest : List ℕ) → n < 2 ^ 32 → numberAt 0 (littleEndian n ++ rest) ≡ n
-unfolding numberAt littleEndian
-number-first n rest small =
-    let second : n / 65536 ≡ n / 256 / 256 = omega arith in
-    let third : n / 16777216 ≡ n / 256 / 256 / 256 = omega arith in
-    let top : n / 256 / 256 / 256 ≡ n / 256 / 256 / 256 % 256 = omega arith in
-    rw (second, third)
-    (put-together n (n / 256) (n / 256 / 256) (n / 256 / 256 / 256) _ _ _ _ (whole n) (whole (n / 256)) (whole (n / 256 / 256)) top)
-
-number-later : (n i : ℕ) (rest : List ℕ) → numberAt (4 * suc i) (littleEndian n ++ rest) ≡ numberAt (4 * i) rest
-unfolding numberAt littleEndian
-number-later n i rest =
-    let zeroth : 4 * suc i ≡ suc (suc (suc (suc (4 * i)))) = omega arith in
-    let first : 4 * suc i + 1 ≡ suc (suc (suc (suc (4 * i + 1)))) = omega arith in
-    let second : 4 * suc i + 2 ≡ suc (suc (suc (suc (4 * i + 2)))) = omega arith in
-    let third : 4 * suc i + 3 ≡ suc (suc (suc (suc (4 * i + 3)))) = omega arith in
-    rw (first, second, third, zeroth)
-
-number-of-bytes : (ns : List ℕ) (i : ℕ) (rest : List ℕ) → i < length ns → InFourBytes ns → numberAt (4 * i) (bytesOf ns ++ rest) ≡ getD ns i 0
-unfolding bytesOf
-number-of-bytes [] i rest less no-more = absurd (omega arith)
-number-of-bytes (n ∷ ns) zero rest less (one-more h hs) = rw append-assoc (number-first n (bytesOf ns ++ rest) h)
-number-of-bytes (n ∷ ns) (suc i) rest less (one-more h hs) =
-    rw append-assoc (number-later n i (bytesOf ns ++ rest) ∙ number-of-bytes ns i rest (omega arith) hs)
 
 -- the field at index i of a written result is the i-th of its seven numbers
 pub field-of-result : (i : ℕ) (n : Numbers) (before : List ℕ)

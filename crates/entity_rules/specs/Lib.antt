@@ -1,4 +1,3 @@
-pub mod Bytes
 pub mod Entry
 pub mod EntryLaws
 pub mod NumberTest
@@ -6,3 +5,4 @@ pub mod KeyEntry
 pub mod KeyEntryLaws
 pub mod WidensEntry
 pub mod WidensEntryLaws
+pub mod InstantEntry

@@ -8,7 +8,7 @@ use lib.ListN.{length}
 use Rattle.validation.specs.Result.{Numbers}
 use Rattle.widening.specs.SheetDecision as SheetDecision
 use Rattle.widening.specs.SheetDecision.{widensSheets, numbersOf}
-use Rattle.entity_rules.specs.Bytes.{InFourBytes}
+use Rattle.buffer.specs.Bytes.{InFourBytes}
 use Rattle.entity_rules.specs.Entry.{resultBytes, fieldsOf, resultAfter}
 
 -- the five numbers stand in the places of a result's first five, and the last two are 0

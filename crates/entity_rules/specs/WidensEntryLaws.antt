@@ -13,7 +13,7 @@ use Rattle.widening.specs.SheetDecision.{Answer, malformed, decision, widensShe
 use Rattle.validation.specs.Result.{early, firstRefusal, Unrefused, Run, callOf, Meets}
 use Rattle.validation.specs.Demands.{SameButSchema, Demand3}
 use Rattle.validation.specs.Upgrade.{upgrade}
-use Rattle.entity_rules.specs.Bytes.{fieldAt}
+use Rattle.buffer.specs.Bytes.{fieldAt}
 use Rattle.entity_rules.specs.Entry.{resultBytes, fieldsOf}
 use Rattle.entity_rules.specs.EntryLaws.{field-of-result}
 use Rattle.entity_rules.specs.WidensEntry.{inPlaces, widensNumbers, WidensAnswered}

@@ -4,25 +4,28 @@ mod change; // change.rt: what is answered about two schema sheets
 
 use crate::change::told;
 use crate::result::RESULT_BYTES;
-use crate::result::read_u32;
 use crate::result::write_result;
+use buffer::put_numbers;
+use buffer::read_u32;
 use definition::limits::SCRATCH_WORDS;
 use key_path::validate_path;
 use name_table::load;
+use timestamp::Parsed;
 use validator::sheets::Takes;
 use validator::validate_under;
 ghost use mathlib.Core.Path.{_≡_};
 ghost use mathlib.Core.List.{[]};
 ghost use Prim.Native.Nat.{min};
 ghost use lib.ListN.{length};
+ghost use Rattle.buffer.specs.Bytes.{fieldAt};
 ghost use Rattle.validation.specs.Loading.{loadNumber, loadAfter};
 ghost use Rattle.validation.specs.Result.{any, rules, templates};
 ghost use Rattle.validator.specs.Sheets.{takesOf};
-ghost use Rattle.entity_rules.specs.Bytes.{fieldAt};
 ghost use Rattle.entity_rules.specs.Entry.{pathLent, entryAnswer, EntryAnswered};
 ghost use Rattle.entity_rules.specs.KeyEntry.{keyEntryAnswer};
 ghost use Rattle.entity_rules.specs.NumberTest.{finiteNumber};
 ghost use Rattle.entity_rules.specs.WidensEntry.{WidensAnswered};
+ghost use Rattle.entity_rules.specs.InstantEntry.{InstantAnswered};
 
 // Kinds end at 8 and semantics at 4, so 9 stands for all that is too large for either.
 fn setting(n: u64) -> u32
@@ -213,4 +216,29 @@ pub extern "C" fn rulecheck_finite(text: &[u8]) -> u32
     let tested = number::test(text);
     let twice = 2 * tested.compared as u32;
     if tested.finite { twice + 1 } else { twice }
+}
+
+// The fields of the instant that `text` is: year, month, day, hour, minute, second, nanoseconds. `fields` takes at least 28 bytes, as a result does,
+// and keeps them where the answer is not 0: 3 for too few, 20 for no instant.
+#[no_mangle]
+pub extern "C" fn rulecheck_instant(text: &[u8], fields: &mut [u8]) -> u32
+    ensures { λ r. ⌜ InstantAnswered (now (text .entry)) (now (fields .entry)) (now (fields .exit)) r ⌝ }
+{
+    if fields.len() < RESULT_BYTES {
+        return 3;
+    }
+    let Parsed::Instant(found) = timestamp::parse(text) else {
+        return 20;
+    };
+    let numbers = [
+        found.year,
+        found.month,
+        found.day,
+        found.hour,
+        found.minute,
+        found.second,
+        found.nanoseconds,
+    ];
+    put_numbers(fields, 0, &numbers);
+    0
 }

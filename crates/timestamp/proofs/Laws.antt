@@ -1,14 +1,14 @@
 -- The tests on characters and months, at each arm of the code.
 use Prim.Native.Nat.{ℕ, suc, _+_, _-_, _≤_, _<_}
-use mathlib.Core.Path.{_≡_, sym, ap, _∙_}
+use mathlib.Core.Path.{_≡_, refl, sym, ap, _∙_}
 use mathlib.Core.Bool.{Bool, true, false, cond, _&&_}
 use mathlib.Core.List.{List}
 use mathlib.Core.Option.{none, some}
 use mathlib.Core.Logic.{_⊎_, inl, inr}
 use native.Mathlib.Omega.{arith}
-use lib.Dec.{leb}
+use lib.Dec.{leb, ltb, eqb}
 use lib.ListN.{getD}
-use borrow.Author.Tests.{ne-eqb, leb-true}
+use borrow.Author.Tests.{eqb-true, le-ltb, ne-eqb, leb-true}
 use Rattle.text.specs.Utf8.{between}
 use Rattle.text.specs.Blank.{trim}
 use Rattle.text.proofs.Bools.{and-true-0, and-true-1}
@@ -116,3 +116,11 @@ module _ (s t : List ℕ) (f : Fields) {r : Bool} (e : t ≡ trim s) (g : f ≡ 
   instant-none h =
       let i : isInstant (trim s) (fieldsOf (trim s)) ≡ false = cc in
       rw i
+
+-- where all fields but the last are the same, that one decides
+pub last-decides : (a b : ℕ) → ltb a b ≡ cond (eqb a b) false (ltb a b)
+last-decides a b = by (eqb a b) refl
+  where
+    by : (same : Bool) → eqb a b ≡ same → ltb a b ≡ cond same false (ltb a b)
+    by true q = let e : a ≡ b = eqb-true a b q in le-ltb a b (omega arith)
+    by false q = refl

@@ -8,6 +8,7 @@ use Rattle.text.specs.Utf8.{between, isTail, utf8-1, isUtf8-2, utf8-2, isSecond
 use Rattle.text.specs.WhiteSpace.{isWhiteSpace}
 use Rattle.text.specs.Blank.{allWhiteSpace, blankPoints, isBlank, startFrom, trimStartIn, trimStart, trimEnd, trim}
 use Rattle.timestamp.specs.Instant.{isDigit, digitValue, isTwo, two, three, isMarkedTwo, fieldsOf, isLeap, daysIn, isDate, isDay, isSeparator, isTime, isClock, isZone, isEnd, skipDigits, isFraction, isTimeEnd, isTimed, isInstant, instantIn, instant}
+use Rattle.timestamp.specs.Order.{listOf, isBelow, isEarlier}
 use Rattle.timestamp.specs.declared.Fields.{Fields}
 
 -- the definition, with all that it rests on
@@ -136,3 +137,31 @@ no-seconds = refl
 nothing : good [] ≡ false
 unfolding good
 nothing = refl
+
+-- The order
+
+unfoldable at : (month day second nanoseconds : ℕ) → Fields
+at month day second nanoseconds =
+    record { year = 2024; month = month; day = day; hour = 0; minute = 0; second = second; nanoseconds = nanoseconds }
+
+-- 31 January lies before 1 February
+month-first : isEarlier (at 1 31 0 0) (at 2 1 0 0) ≡ true
+unfolding isEarlier isBelow listOf at
+month-first = refl
+
+not-after : isEarlier (at 2 1 0 0) (at 1 31 0 0) ≡ false
+unfolding isEarlier isBelow listOf at
+not-after = refl
+
+-- the 61st second lies before the next minute's first, and behind a nanosecond earlier
+second-60 : isEarlier (at 1 1 60 0) (record { year = 2024; month = 1; day = 1; hour = 0; minute = 1; second = 0; nanoseconds = 0 }) ≡ true
+unfolding isEarlier isBelow listOf at
+second-60 = refl
+
+one-nanosecond : isEarlier (at 1 1 59 999999999) (at 1 1 60 0) ≡ true
+unfolding isEarlier isBelow listOf at
+one-nanosecond = refl
+
+equal-neither : isEarlier (at 1 1 0 1) (at 1 1 0 1) ≡ false
+unfolding isEarlier isBelow listOf at
+equal-neither = refl

@@ -1,2 +1,5 @@
 pub mod Instant
 pub mod Parses
+pub mod Order
+pub mod OrderLaws
+pub mod InstantLaws

@@ -6,6 +6,7 @@ ghost use Rattle.text.specs.Utf8.{between};
 ghost use Rattle.timestamp.specs.Instant.{isDigit, digitValue, isTwo, two, three, isMarkedTwo, fieldsOf};
 ghost use Rattle.timestamp.specs.Instant.{isLeap, daysIn, isDate, isDay, isSeparator, isTime, isClock, isZone, isEnd, skipDigits, isFraction, isTimeEnd, isTimed, isInstant};
 ghost use Rattle.timestamp.specs.Parses.{Parses};
+ghost use Rattle.timestamp.specs.Order.{isEarlier};
 
 // What an instant says; what its text leaves out is 0.
 pub struct Fields {
@@ -259,4 +260,29 @@ pub fn parse(s: &[u8]) -> Parsed
     } else {
         Parsed::Unreadable
     }
+}
+
+// Whether an instant lies before another: the first field that differs decides.
+pub fn is_earlier(a: Fields, b: Fields) -> bool
+    ensures { λ r. ⌜ r ≡ isEarlier a b ⌝ }
+{
+    if a.year != b.year {
+        return a.year < b.year;
+    }
+    if a.month != b.month {
+        return a.month < b.month;
+    }
+    if a.day != b.day {
+        return a.day < b.day;
+    }
+    if a.hour != b.hour {
+        return a.hour < b.hour;
+    }
+    if a.minute != b.minute {
+        return a.minute < b.minute;
+    }
+    if a.second != b.second {
+        return a.second < b.second;
+    }
+    a.nanoseconds < b.nanoseconds
 }

@@ -10,3 +10,4 @@ pub mod ShutOut
 pub mod Moves
 pub mod TableEdges
 mod MemberOrder
+pub mod ConstantEdges

@@ -21,3 +21,6 @@ pub mod ServiceLaws
 pub mod ServiceCallLaws
 pub mod KernelToService
 pub mod Computing
+pub mod Constant
+pub mod Marked
+pub mod ConstantLaws

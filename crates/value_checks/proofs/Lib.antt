@@ -1,5 +1,6 @@
 pub mod Going
 pub mod NodeSteps
+pub mod Opening
 pub mod LiteralSteps
 pub mod ObservedSteps
 pub mod ReferenceSteps

@@ -12,7 +12,7 @@ use Rattle.sheet.specs.Places.{ReadsTo, conditionOf}
 use Rattle.sheet.specs.declared.rule_heads.ConditionHead.{ConditionHead as Head}
 use Rattle.definition.specs.Tree.{Schema, Value, constant, number, string, array, object, Values, noValues, value, Pairs, noPairs, pair, Condition, literal, many, negation, one, two, comparison, quantifier, Conditions, noConditions, condition}
 use Rattle.reference.specs.Setting.{Setting}
-use Rattle.definition.specs.Within.{conditionEntries, conditionsEntries, valueEntries}
+use Rattle.definition.specs.Within.{conditionEntries, valueEntries}
 use Rattle.rule.specs.Index.{startOf, ValueAt}
 use Rattle.validation.specs.Check.{Check, Literal, literalCheck, numbers, numbersOfValues, numbersOfPairs, literals, literalsOfConditions}
 use Rattle.validation.specs.Judge.{outcome}
@@ -22,7 +22,8 @@ use Rattle.value_checks.specs.Verdicts.{GoesOn}
 use Rattle.value_checks.specs.Literals.{literalSays, LiteralsJudged, isObserved, ObservedJudged, ConditionLiterals}
 use Rattle.value_checks.specs.declared.verdict.Progress.{Progress}
 use Rattle.value_checks.proofs.Going.{goes-nothing, goes-then}
-use Rattle.value_checks.proofs.NodeSteps.{same-head, condition-unread, children-stand, tailOf, first-stands, tail-stands, none-left, none-ends}
+use Rattle.value_checks.proofs.NodeSteps.{same-head, first-stands, none-left, none-ends}
+use Rattle.value_checks.proofs.Opening.{beside, opened, opened-stand, conditions-unread}
 
 pub observed-yes : {rule words : List ℕ} {h : Head} {start end : ℕ} {a r : Progress} {flag : Bool}
     → flag ≡ true
@@ -113,34 +114,10 @@ module _ (rule words : List ℕ) where
         (both-said (i + 1) left right (w .stands .1) (w .stands .2)))
     literals-parts (quantifier e op bind over body) w k = rw (same-head start reads (w .stands .0), append-nil)
 
--- Conditions in the place of their holder.
-
-unfoldable beside : Conditions → Conditions → Conditions
-beside noConditions ds = ds
-beside (condition c others) ds = condition c (beside others ds)
-
-unfoldable opened : Conditions → Conditions
-opened noConditions = noConditions
-opened (condition c others) = beside (childrenOf c) others
-
 beside-literals : (cs ds : Conditions) → literalsOfConditions (beside cs ds) ≡ literalsOfConditions cs ++ literalsOfConditions ds
 unfolding beside literalsOfConditions
 beside-literals noConditions ds = refl
 beside-literals (condition c others) ds = rw (beside-literals others ds, append-assoc)
-
-beside-stand : (rule words : List ℕ) (i mid end : ℕ) (cs ds : Conditions)
-    → AreConditions rule words i mid cs
-    → AreConditions rule words mid end ds
-    → AreConditions rule words i end (beside cs ds)
-unfolding beside conditionsEntries
-beside-stand rule words i mid end noConditions ds p q =
-    let e : mid ≡ i = omega (arith, p .ends) in
-    rw (sym e) q
-beside-stand rule words i mid end (condition c others) ds p q =
-    let e : mid ≡ i + conditionEntries c + conditionsEntries others = omega (arith, p .ends) in
-    let t : AreConditions rule words (i + conditionEntries c) end (beside others ds) =
-    beside-stand rule words (i + conditionEntries c) mid end others ds (record { stand = p .stand .1; ends = e }) q in
-    record { stand = (p .stand .0, t .stand); ends = omega (arith, t .ends) }
 
 abbrev literalsAre : Conditions → List Check
 literalsAre cs = map literalCheck (literalsOfConditions cs)
@@ -158,14 +135,6 @@ pub left-begin : {rule words : List ℕ} {start end : ℕ} {a : Progress} → Li
 left-begin = record { atMost = omega arith; rest = λ cs w. cs; stand = λ cs w. w; onward = λ setting schema cs w r g. g }
 
 module _ {rule words : List ℕ} {i end own at behind next : ℕ} {h : Head} {b d : Progress} (inside : i < end) (ends : Behind words i end own) (start : at ≡ startOf words i) (reads : ReadsTo conditionHead rule at (conditionOf rule h) behind) (first : ChildrenAt words i own next (conditionOf rule h)) (judged : ObservedJudged rule words h (i + 1) next b d) where
-  opened-stand : (cs : Conditions) → AreConditions rule words i end cs → AreConditions rule words next end (opened cs)
-  unfolding opened tailOf
-  opened-stand noConditions w = absurd (omega (arith, none-ends w, inside))
-  opened-stand (condition c others) w =
-      beside-stand rule words next own end (childrenOf c) others
-      (children-stand rule words i own start reads c (first-stands inside ends w) first)
-      (tail-stands inside ends (condition c others) w)
-
   opened-goes : (setting : Setting) (schema : Schema) (cs : Conditions) → AreConditions rule words i end cs → (r : Progress)
       → GoesOn (outcome setting schema) d (literalsAre (opened cs)) r
       → GoesOn (outcome setting schema) b (literalsAre cs) r
@@ -181,7 +150,7 @@ module _ {rule words : List ℕ} {i end own at behind next : ℕ} {h : Head} {b 
       record {
         atMost = omega (arith, l .atMost, judged .atMost);
         rest = λ cs w. opened (l .rest cs w);
-        stand = λ cs w. opened-stand (l .rest cs w) (l .stand cs w);
+        stand = λ cs w. opened-stand inside start ends reads first (l .rest cs w) (l .stand cs w);
         onward = λ setting schema cs w r g. l .onward setting schema cs w r (opened-goes setting schema (l .rest cs w) (l .stand cs w) r g);
       }
 
@@ -199,9 +168,8 @@ module _ {rule words : List ℕ} {from i end : ℕ} {a b : Progress} (l : Litera
 
   -- where no entry is read, no condition stands
   pub left-bad : {at : ℕ} → i < end → i - from ≤ end - from → at ≡ startOf words i → conditionHead (drop at rule) ≡ none → ConditionLiterals rule words from end a b
-  left-bad {at} inside m start r =
-      record { atMost = omega (arith, l .atMost); goes = λ setting schema cs w. absurd (none-stands (l .rest cs w) (l .stand cs w)) }
-    where
-      none-stands : (cs : Conditions) → AreConditions rule words i end cs → ⊥
-      none-stands noConditions w = omega (arith, none-ends w, inside)
-      none-stands (condition c others) w = condition-unread rule words i c (w .stand .0) start r
+  left-bad inside m start r =
+      record {
+        atMost = omega (arith, l .atMost);
+        goes = λ setting schema cs w. absurd (conditions-unread inside start r (l .rest cs w) (l .stand cs w));
+      }

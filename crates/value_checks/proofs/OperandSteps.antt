@@ -1,14 +1,16 @@
 -- Operands, step by step.
 use Prim.Native.Nat.{ℕ, _+_, _-_, _≤_}
 use native.Mathlib.Omega.{arith}
-use mathlib.Core.Bool.{true, false}
+use mathlib.Core.Bool.{true, false, false≢true}
 use mathlib.Core.List.{List, [], _∷_}
-use mathlib.Core.Option.{none, some}
+use mathlib.Core.Option.{none, some, Option·none-ne-some}
 use mathlib.Core.Path.{_≡_, refl, sym, ap, _∙_}
 use lib.ListN.{length, getD, drop}
 use lib.Dec.{leb}
 use borrow.Author.Tests.{eq-eqb, ne-eqb}
 use Rattle.timestamp.specs.Instant.{instant}
+use Rattle.timestamp.specs.InstantLaws.{short-instant}
+use Rattle.timestamp.specs.declared.Fields.{Fields}
 use Rattle.sheet.specs.Entries.{ValueHead, constantHead, numberHead, stringHead, arrayHead, objectHead, valueHead}
 use Rattle.sheet.specs.Places.{ReadsTo}
 use Rattle.sheet.specs.Parts.{partOf}
@@ -20,14 +22,16 @@ use Rattle.definition.specs.Within.{valueEntries}
 use Rattle.rule.specs.Index.{startOf, endOf, ValueAt}
 use Rattle.rule.specs.IndexLaws.{value-next}
 use Rattle.validation.specs.Check.{Binder, Question, settled, Check, check, failsIf, isNone, entryOf, isString, isHolder, references, instantText, instantForm, instantOperand, affixOperand, compareSide, operand}
+use Rattle.validation.specs.Constant.{literalText, literalInstant}
 use Rattle.validation.specs.Judge.{CheckOutcome, outcome, environment, answer, answerIn}
 use Rattle.value_checks.specs.Nodes.{Behind}
 use Rattle.value_checks.specs.Verdicts.{numberOf, detailOf, instantDetail, GoesOn, PassedOn, Failed}
-use Rattle.value_checks.specs.Frames.{Frame, Stands, ReferencesIn, OperandJudged, PairJudged, FormIs, formOf, side}
+use Rattle.value_checks.specs.Frames.{Frame, Stands, ReferencesIn, OperandJudged, PairJudged, FormIs, formOf, literalBy, ReadAs, side}
 use Rattle.value_checks.specs.declared.operand.Form.{Form}
 use Rattle.value_checks.specs.declared.operand.Form.the-variants as Form
 use Rattle.value_checks.specs.declared.operand.InstantRead.{InstantRead}
-use Rattle.value_checks.specs.declared.operand.InstantRead.the-variants.{Good, Bad}
+use Rattle.value_checks.specs.declared.operand.InstantRead.the-variants as InstantRead
+use Rattle.value_checks.specs.declared.operand.InstantRead.the-variants.{Bad}
 use Rattle.value_checks.specs.declared.verdict.InstantFault.{InstantFault}
 use Rattle.value_checks.specs.declared.verdict.InstantFault.the-variants.{Dollars, Other}
 use Rattle.value_checks.specs.declared.verdict.Side.{Side}
@@ -112,65 +116,63 @@ text-side v g = text-string v g .1
 
 -- Instants.
 
-pub instant-empty : (t : Text) → length t ≡ 0 → instantText t ≡ formOf (Bad Other)
-unfolding instantText formOf instantDetail
-instant-empty [] h = refl
+abbrev TextReadAs : Text → InstantRead → Type 0
+TextReadAs t r = ReadAs (instantText t) (literalText t) r
+
+pub instant-empty : (t : Text) → length t ≡ 0 → TextReadAs t (Bad Other)
+unfolding instantText literalText formOf literalBy instantDetail
+instant-empty [] h = record { form = refl; fields = refl }
 instant-empty (b ∷ t) h = absurd (omega arith)
 
-pub instant-dollar : (t : Text) → getD t 0 0 ≡ 36 → length t ≡ 1 → instantText t ≡ formOf Good
-unfolding instantText formOf failsIf
+pub instant-dollar : (t : Text) → getD t 0 0 ≡ 36 → length t ≡ 1 → TextReadAs t InstantRead.Reference
+unfolding instantText literalText formOf literalBy failsIf
 instant-dollar [] e h = absurd (omega arith)
-instant-dollar (a ∷ []) e h = rw (eq-eqb a 36 e)
+instant-dollar (a ∷ []) e h = record { form = rw (eq-eqb a 36 e); fields = rw (eq-eqb a 36 e) }
 instant-dollar (a ∷ b ∷ t) e h = absurd (omega arith)
 
-pub instant-dollars : (t : Text) → getD t 0 0 ≡ 36 → (length t ≡ 0 → ⊥) → (length t ≡ 1 → ⊥) → getD t 1 0 ≡ 36 → instantText t ≡ formOf (Bad Dollars)
-unfolding instantText formOf instantDetail failsIf
-instant-dollars [] e h k f = absurd (h refl)
-instant-dollars (a ∷ []) e h k f = absurd (k refl)
-instant-dollars (a ∷ b ∷ t) e h k f = rw (eq-eqb a 36 e, eq-eqb b 36 f)
-
-pub instant-reference : (t : Text) → getD t 0 0 ≡ 36 → (length t ≡ 0 → ⊥) → (length t ≡ 1 → ⊥) → (getD t 1 0 ≡ 36 → ⊥) → instantText t ≡ formOf Good
-unfolding instantText formOf failsIf
-instant-reference [] e h k f = absurd (h refl)
-instant-reference (a ∷ []) e h k f = absurd (k refl)
-instant-reference (a ∷ b ∷ t) e h k f = rw (eq-eqb a 36 e, ne-eqb b 36 f)
-
-pub instant-short : (t : Text) → (getD t 0 0 ≡ 36 → ⊥) → length t ≡ 1 → instantText t ≡ formOf (Bad Other)
-unfolding instantText formOf instantDetail failsIf
-instant-short [] e h = absurd (omega arith)
-instant-short (a ∷ []) e h = rw (ne-eqb a 36 e)
-instant-short (a ∷ b ∷ t) e h = absurd (omega arith)
-
-module _ (t : Text) (other : getD t 0 0 ≡ 36 → ⊥) (some-text : length t ≡ 0 → ⊥) (long : length t ≡ 1 → ⊥) where
-  pub instant-unread : instant t ≡ none → instantText t ≡ formOf (Bad Other)
-  unfolding instantText formOf instantDetail failsIf isNone
-  instant-unread r = by t other some-text long r
+module _ (t : Text) (dollar : getD t 0 0 ≡ 36) (some-text : length t ≡ 0 → ⊥) (long : length t ≡ 1 → ⊥) where
+  pub instant-dollars : getD t 1 0 ≡ 36 → TextReadAs t (Bad Dollars)
+  unfolding instantText literalText formOf literalBy instantDetail failsIf
+  instant-dollars f = by t dollar some-text long f
     where
-      by : (t : Text) → (getD t 0 0 ≡ 36 → ⊥) → (length t ≡ 0 → ⊥) → (length t ≡ 1 → ⊥) → instant t ≡ none → instantText t ≡ formOf (Bad Other)
-      by [] e h k r = absurd (h refl)
-      by (a ∷ []) e h k r = absurd (k refl)
-      by (a ∷ b ∷ t) e h k r = rw (ne-eqb a 36 e, r)
+      by : (t : Text) → getD t 0 0 ≡ 36 → (length t ≡ 0 → ⊥) → (length t ≡ 1 → ⊥) → getD t 1 0 ≡ 36 → TextReadAs t (Bad Dollars)
+      by [] e h k f = absurd (h refl)
+      by (a ∷ []) e h k f = absurd (k refl)
+      by (a ∷ b ∷ t) e h k f = record { form = rw (eq-eqb a 36 e, eq-eqb b 36 f); fields = rw (eq-eqb a 36 e) }
 
-  pub instant-read : isNone (instant t) ≡ false → instantText t ≡ formOf Good
-  unfolding instantText formOf failsIf
-  instant-read r = by t other some-text long r
+  pub instant-reference : (getD t 1 0 ≡ 36 → ⊥) → TextReadAs t InstantRead.Reference
+  unfolding instantText literalText formOf literalBy failsIf
+  instant-reference f = by t dollar some-text long f
     where
-      by : (t : Text) → (getD t 0 0 ≡ 36 → ⊥) → (length t ≡ 0 → ⊥) → (length t ≡ 1 → ⊥) → isNone (instant t) ≡ false → instantText t ≡ formOf Good
-      by [] e h k r = absurd (h refl)
-      by (a ∷ []) e h k r = absurd (k refl)
-      by (a ∷ b ∷ t) e h k r = rw (ne-eqb a 36 e, r)
+      by : (t : Text) → getD t 0 0 ≡ 36 → (length t ≡ 0 → ⊥) → (length t ≡ 1 → ⊥) → (getD t 1 0 ≡ 36 → ⊥) → TextReadAs t InstantRead.Reference
+      by [] e h k f = absurd (h refl)
+      by (a ∷ []) e h k f = absurd (k refl)
+      by (a ∷ b ∷ t) e h k f = record { form = rw (eq-eqb a 36 e, ne-eqb b 36 f); fields = rw (eq-eqb a 36 e) }
 
-pub form-instant : {e : ℕ} {t text : Text} {q : Question} (v : Value) → v ≡ string e t → text ≡ t → instantText text ≡ q → instantForm v ≡ q
-unfolding instantForm
-form-instant v g s p = rw (g, sym s) p
+pub instant-unread : (t : Text) → (getD t 0 0 ≡ 36 → ⊥) → (length t ≡ 0 → ⊥) → instant t ≡ none → TextReadAs t (Bad Other)
+unfolding instantText literalText formOf literalBy instantDetail failsIf isNone
+instant-unread [] e h r = absurd (h refl)
+instant-unread (a ∷ []) e h r = record { form = rw (ne-eqb a 36 e); fields = rw (ne-eqb a 36 e, r) }
+instant-unread (a ∷ b ∷ t) e h r = record { form = rw (ne-eqb a 36 e, r); fields = rw (ne-eqb a 36 e, r) }
 
-pub holder-instant : (v : Value) → isString v ≡ false → instantForm v ≡ formOf (Bad Other)
-unfolding instantForm formOf instantDetail isString
-holder-instant (constant e type) s = refl
-holder-instant (number e digits) s = refl
-holder-instant (string e t) s = let z : true ≡ false = s in let y : _≡_ {A = ℕ} 0 1 = cc in absurd (omega arith)
-holder-instant (array e values) s = refl
-holder-instant (object e pairs) s = refl
+pub instant-read : (t : Text) {f : Fields} → (getD t 0 0 ≡ 36 → ⊥) → (length t ≡ 0 → ⊥) → instant t ≡ some f → TextReadAs t (InstantRead.Literal f)
+unfolding instantText literalText formOf literalBy failsIf isNone
+instant-read [] e h r = absurd (h refl)
+instant-read (a ∷ []) {f} e h r = absurd (Option·none-ne-some f (sym (short-instant (a ∷ []) (omega arith)) ∙ r))
+instant-read (a ∷ b ∷ t) e h r = record { form = rw (ne-eqb a 36 e, r); fields = rw (ne-eqb a 36 e, r) }
+
+pub form-instant : {e : ℕ} {t text : Text} {r : InstantRead} (v : Value) → v ≡ string e t → text ≡ t → TextReadAs text r
+    → ReadAs (instantForm v) (literalInstant v) r
+unfolding instantForm literalInstant
+form-instant v g s p = record { form = rw (g, sym s) (p .form); fields = rw (g, sym s) (p .fields) }
+
+pub holder-instant : (v : Value) → isString v ≡ false → ReadAs (instantForm v) (literalInstant v) (Bad Other)
+unfolding instantForm literalInstant formOf literalBy instantDetail isString
+holder-instant (constant e type) s = record { form = refl; fields = refl }
+holder-instant (number e digits) s = record { form = refl; fields = refl }
+holder-instant (string e t) s = absurd (false≢true (sym s))
+holder-instant (array e values) s = record { form = refl; fields = refl }
+holder-instant (object e pairs) s = record { form = refl; fields = refl }
 
 -- Checks of an operand.
 
@@ -215,23 +217,23 @@ form-fails {f} n {q} {fault} setting tree binders env v s w p m e others =
 module _ {f : Frame} {start end : ℕ} {a : Progress} where
   pub instant-passes : {x : InstantRead} {b r : Progress}
       → ReferencesIn f start (end - start) a b
-      → ((v : Value) → ValueAt (f .rule) (f .words) start v → instantForm v ≡ formOf x)
-      → x ≡ Good
+      → ((v : Value) → ValueAt (f .rule) (f .words) start v → ReadAs (instantForm v) (literalInstant v) x)
+      → formOf x ≡ settled none
       → PassedOn b r
       → OperandJudged f instantOperand start end a r
-  unfolding instantOperand formOf
+  unfolding instantOperand
   instant-passes l g y p =
       record {
         atMost = omega (arith, l .atMost, p .atMost);
         goes =
             λ setting tree binders env v s w.
             goes-then (references-judged l setting tree binders env v s w)
-            (form-passes 20 setting tree binders env v s p (rw y at (g v (w .stands))));
+            (form-passes 20 setting tree binders env v s p (g v (w .stands) .form ∙ y));
       }
 
   pub instant-fails : {x : InstantRead} {fault : InstantFault} {b r : Progress}
       → ReferencesIn f start (end - start) a b
-      → ((v : Value) → ValueAt (f .rule) (f .words) start v → instantForm v ≡ formOf x)
+      → ((v : Value) → ValueAt (f .rule) (f .words) start v → ReadAs (instantForm v) (literalInstant v) x)
       → x ≡ Bad fault
       → Failed b (Instant fault) (start + 1) (f .over) r
       → OperandJudged f instantOperand start end a r
@@ -242,7 +244,7 @@ module _ {f : Frame} {start end : ℕ} {a : Progress} where
         goes =
             λ setting tree binders env v s w.
             goes-then (references-judged l setting tree binders env v s w)
-            (form-fails 20 setting tree binders env v s (value-entry (f .rule) (f .words) start v (w .stands)) p refl (rw y at (g v (w .stands))) []);
+            (form-fails 20 setting tree binders env v s (value-entry (f .rule) (f .words) start v (w .stands)) p refl (rw y at (g v (w .stands) .form)) []);
       }
 
   pub affix-passes : {x : Form} {part : Part} {b r : Progress}

@@ -2,9 +2,10 @@
 use Prim.Native.Nat.{ℕ, _+_, _-_, _≤_}
 use mathlib.Core.Bool.{Bool, true, false}
 use mathlib.Core.List.{List, [], _++_}
-use mathlib.Core.Option.{none, some}
+use mathlib.Core.Option.{Option, none, some}
 use mathlib.Core.Path.{_≡_}
 use lib.ListN.{drop}
+use Rattle.timestamp.specs.declared.Fields.{Fields}
 use Rattle.sheet.specs.Entries.{ValueHead, constantHead, numberHead, stringHead, arrayHead, objectHead}
 use Rattle.sheet.specs.Parts.{partOf}
 use Rattle.definition.specs.Tree.{Text, Schema, Value, string}
@@ -84,8 +85,19 @@ FormIs rule Form.Holder v = (isHolder v ≡ true) × (isString v ≡ false)
 FormIs rule Form.Other v = (isHolder v ≡ false) × (isString v ≡ false)
 
 unfoldable pub formOf : InstantRead → Question
-formOf InstantRead.Good = settled none
+formOf InstantRead.Reference = settled none
+formOf (InstantRead.Literal fields) = settled none
 formOf (InstantRead.Bad fault) = settled (some (instantDetail fault))
+
+unfoldable pub literalBy : InstantRead → Option Fields
+literalBy InstantRead.Reference = none
+literalBy (InstantRead.Literal fields) = some fields
+literalBy (InstantRead.Bad fault) = none
+
+-- what `before` and `after` ask of an operand, and the instant that it is by itself
+pub record ReadAs (asked : Question) (literal : Option Fields) (r : InstantRead) : Type 0 where
+  pub form : asked ≡ formOf r
+  pub fields : literal ≡ literalBy r
 
 abbrev pub side : Side → List Binder → Value → List Check
 side which binders v = compareSide binders (sideDetail which) v

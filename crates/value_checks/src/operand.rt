@@ -17,14 +17,16 @@ use sheet::rule_heads::STARTS_WITH;
 use sheet::rule_heads::ValueHead;
 use sheet::rule_heads::ValueRead;
 use sheet::rule_heads::value_head;
+use timestamp::Fields;
 use timestamp::Parsed;
 ghost use mathlib.Core.Path.{_≡_};
 ghost use Prim.Native.Nat.{_+_, _-_, _<_, _≤_};
 ghost use Rattle.definition.specs.Tree.{Value};
 ghost use Rattle.rule.specs.Index.{ValueAt};
 ghost use Rattle.validation.specs.Check.{instantText, instantForm, instantOperand, affixOperand, operand};
+ghost use Rattle.validation.specs.Constant.{literalText, literalInstant};
 ghost use Rattle.value_checks.specs.Verdicts.{HasRoom};
-ghost use Rattle.value_checks.specs.Frames.{frame, FormIs, formOf, OperandJudged, PairJudged, side};
+ghost use Rattle.value_checks.specs.Frames.{frame, FormIs, ReadAs, OperandJudged, PairJudged, side};
 
 pub enum Form {
     Text(Part),
@@ -33,9 +35,10 @@ pub enum Form {
     Other,
 }
 
-// Whether an operand of `before` or `after` can be read.
+// What an operand of `before` or `after` is.
 pub enum InstantRead {
-    Good,
+    Reference,
+    Literal(Fields),
     Bad(InstantFault),
 }
 
@@ -57,31 +60,29 @@ pub fn form_of(rule: &[u8], words: &[u32], i: usize) -> Form
 
 // A reference may be an instant; text that begins with `$$` is none.
 fn instant_text(text: &[u8]) -> InstantRead
-    ensures { λ r. ⌜ instantText (now (text .entry)) ≡ formOf r ⌝ }
+    ensures { λ r. ⌜ ReadAs (instantText (now (text .entry))) (literalText (now (text .entry))) r ⌝ }
 {
     if text.len() == 0 {
         return InstantRead::Bad(InstantFault::Other);
     }
     if text[0] == b'$' {
         if text.len() == 1 {
-            return InstantRead::Good;
+            return InstantRead::Reference;
         }
         if text[1] == b'$' {
             return InstantRead::Bad(InstantFault::Dollars);
         }
-        return InstantRead::Good;
+        return InstantRead::Reference;
     }
-    if text.len() == 1 {
-        return InstantRead::Bad(InstantFault::Other);
-    }
-    let Parsed::Instant(_) = timestamp::parse(text) else {
+    let Parsed::Instant(fields) = timestamp::parse(text) else {
         return InstantRead::Bad(InstantFault::Other);
     };
-    InstantRead::Good
+    InstantRead::Literal(fields)
 }
 
-fn instant_form(rule: &[u8], words: &[u32], i: usize) -> InstantRead
-    ensures { λ r. ⌜ ((v : Value) → ValueAt (now (rule .entry)) (now (words .entry)) i v → instantForm v ≡ formOf r) ⌝ }
+// The value of word `i`, as an operand of `before` or `after`.
+pub fn instant_form(rule: &[u8], words: &[u32], i: usize) -> InstantRead
+    ensures { λ r. ⌜ ((v : Value) → ValueAt (now (rule .entry)) (now (words .entry)) i v → ReadAs (instantForm v) (literalInstant v) r) ⌝ }
 {
     match form_of(rule, words, i) {
         Form::Text(part) => instant_text(bytes_of(rule, part)),
@@ -104,11 +105,11 @@ fn validate_instant(
     ensures { λ r. ⌜ OperandJudged (frame (now (schema .entry)) (now (rule .entry)) (now (words .entry)) scope over) instantOperand start end a r ⌝ }
 {
     let b = validate_references(a, schema, rule, words, scope, over, start, end);
-    let form = instant_form(rule, words, start);
-    let InstantRead::Bad(fault) = form else {
-        return pass(b);
-    };
-    fail(b, Fault::Instant(fault), start + 1, over)
+    match instant_form(rule, words, start) {
+        InstantRead::Reference => pass(b),
+        InstantRead::Literal(_) => pass(b),
+        InstantRead::Bad(fault) => fail(b, Fault::Instant(fault), start + 1, over),
+    }
 }
 
 fn validate_affix(

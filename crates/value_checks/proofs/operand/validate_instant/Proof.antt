@@ -1,6 +1,7 @@
 -- `value_checks::operand::validate_instant` meets its contract: the references, then the form.
 use borrow.Author.Needs.{needs}
 use native.Mathlib.Omega.{arith}
+use Rattle.value_checks.specs.Frames.{formOf}
 use Rattle.value_checks.proofs.OperandSteps.{instant-passes, instant-fails}
 use Rattle.value_checks.proofs.operand.validate_instant.Statement.{statement}
 use Rattle.value_checks.proofs.operand.validate_instant.Tie as tie
@@ -11,17 +12,20 @@ validate-references-requires c κs = (record { fits = omega (arith, c .before .b
 instant-form-requires : tie.Need-instant-form-requires
 instant-form-requires c κs = search needs
 
-enum-known-form : tie.Need-enum-known-form
-enum-known-form c = search needs
-
 enum-told : tie.Need-enum-told
 enum-told c = search needs
 
 pass-requires : tie.Need-pass-requires
 pass-requires c κs = record { fits = omega (arith, c .before .before .before .before .before .before .before .pre .0 .fits, c .before .before .before .validate-references .ensures .atMost) }
 
-returns : tie.Need-returns
-returns c = instant-passes (c .before .before .before .before .validate-references .ensures) (c .before .before .before .instant-form .ensures) (c .before .enum-told .given .1) (c .pass .ensures)
+enum-told-2 : tie.Need-enum-told-2
+enum-told-2 c = search needs
+
+pass-requires-2 : tie.Need-pass-requires-2
+pass-requires-2 c κs = record { fits = omega (arith, c .before .before .before .before .before .before .before .pre .0 .fits, c .before .before .before .validate-references .ensures .atMost) }
+
+enum-known-fault : tie.Need-enum-known-fault
+enum-known-fault c = search needs
 
 add-fail : tie.Need-add-fail
 add-fail c = search needs
@@ -29,8 +33,16 @@ add-fail c = search needs
 fail-requires : tie.Need-fail-requires
 fail-requires c κs = search needs
 
+returns : tie.Need-returns
+unfolding formOf
+returns c = instant-passes (c .before .before .before .before .validate-references .ensures) (c .before .before .before .instant-form .ensures) (rw (c .before .enum-told .given .1)) (c .pass .ensures)
+
 returns-2 : tie.Need-returns-2
-returns-2 c = instant-fails (c .before .before .before .before .before .validate-references .ensures) (c .before .before .before .before .instant-form .ensures) (c .before .before .form .given .1) (c .fail .ensures)
+unfolding formOf
+returns-2 c = instant-passes (c .before .before .before .before .validate-references .ensures) (c .before .before .before .instant-form .ensures) (rw (c .before .enum-told2 .given .1)) (c .pass2 .ensures)
+
+returns-3 : tie.Need-returns-3
+returns-3 c = instant-fails (c .before .before .before .before .before .validate-references .ensures) (c .before .before .before .before .instant-form .ensures) (c .before .before .fault .given .1) (c .fail .ensures)
 
 pub validate-instant-spec : {M : Type 1} → statement M
-validate-instant-spec = tie.close (tie.spec validate-references-requires instant-form-requires enum-known-form enum-told pass-requires returns add-fail fail-requires returns-2)
+validate-instant-spec = tie.close (tie.spec validate-references-requires instant-form-requires enum-told pass-requires enum-told-2 pass-requires-2 enum-known-fault add-fail fail-requires returns returns-2 returns-3)

@@ -1,8 +1,8 @@
--- `entity_rules::result::read_u32` meets its contract: four bytes stay below 2 ^ 32.
-use Rattle.entity_rules.specs.Bytes.{numberAt}
+-- `buffer::read_u32` meets its contract: four bytes stay below 2 ^ 32.
+use Rattle.buffer.specs.Bytes.{numberAt}
 use borrow.Author.Needs.{needs}
-use Rattle.entity_rules.proofs.result.read_u32.Statement.{statement}
-use Rattle.entity_rules.proofs.result.read_u32.Tie as tie
+use Rattle.buffer.proofs.read_u32.Statement.{statement}
+use Rattle.buffer.proofs.read_u32.Tie as tie
 
 shared-slice-read-wide : tie.Need-shared-slice-read-wide
 shared-slice-read-wide c = search needs

@@ -1,0 +1,2 @@
+pub mod ConstantSteps
+pub mod MarkSteps

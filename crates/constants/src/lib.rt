@@ -1,0 +1,139 @@
+// The mark pass: which conditions of a rule are constant, and whether they hold (docs/FORMAT.md, "Constant marks").
+use buffer::put_u32;
+use rule::index::end_of;
+use rule::index::start_of;
+use sheet::rule_heads::AFTER;
+use sheet::rule_heads::ConditionHead;
+use sheet::rule_heads::ConditionRead;
+use sheet::rule_heads::RuleHead;
+use sheet::rule_heads::RuleHeadRead;
+use sheet::rule_heads::condition_head;
+use sheet::rule_heads::rule_head;
+use timestamp::Fields;
+use timestamp::is_earlier;
+use value_checks::node::behind;
+use value_checks::node::children_from;
+use value_checks::operand::InstantRead;
+use value_checks::operand::instant_form;
+ghost use mathlib.Core.Path.{_≡_};
+ghost use Prim.Native.Nat.{_+_, _<_, _≤_};
+ghost use Rattle.validation.specs.Constant.{truthOf, markOf};
+ghost use Rattle.constants.specs.Marks.{truthBy, LiteralAt, PairIs, ConstantAt, MarkedOn, ConditionsMarked, RuleMarked};
+
+// The operator's number, as AFTER is.
+const BEFORE: usize = 6;
+
+// The instant that a value is by itself.
+pub enum Literal {
+    Is(Fields),
+    No,
+}
+
+// Whether a condition is constant, and then its truth.
+pub enum Constant {
+    Is(bool),
+    No,
+}
+
+fn literal_at(rule: &[u8], words: &[u32], i: usize) -> Literal
+    ensures { λ r. ⌜ LiteralAt (now (rule .entry)) (now (words .entry)) i r ⌝ }
+{
+    match instant_form(rule, words, i) {
+        InstantRead::Reference => Literal::No,
+        InstantRead::Literal(fields) => Literal::Is(fields),
+        InstantRead::Bad(_) => Literal::No,
+    }
+}
+
+fn truth_of(op: usize, left: Fields, right: Fields) -> Constant
+    ensures { λ r. ⌜ truthOf op left right ≡ truthBy r ⌝ }
+{
+    if op == BEFORE {
+        return Constant::Is(is_earlier(left, right));
+    }
+    if op == AFTER {
+        return Constant::Is(is_earlier(right, left));
+    }
+    Constant::No
+}
+
+// A condition with two operands, the first at word `start`. A literal instant is one entry.
+fn constant_pair(rule: &[u8], words: &[u32], op: usize, start: usize) -> Constant
+    requires { ⌜ start < 4096 ⌝ }
+    ensures { λ r. ⌜ PairIs (now (rule .entry)) (now (words .entry)) op start r ⌝ }
+{
+    let Literal::Is(left) = literal_at(rule, words, start) else {
+        return Constant::No;
+    };
+    let Literal::Is(right) = literal_at(rule, words, start + 1) else {
+        return Constant::No;
+    };
+    truth_of(op, left, right)
+}
+
+// The condition of word `i`, by its head.
+fn constant_at(rule: &[u8], words: &[u32], head: ConditionHead, i: usize) -> Constant
+    requires { ⌜ i + 1 < 4096 ⌝ }
+    ensures { λ r. ⌜ ConstantAt (now (rule .entry)) (now (words .entry)) head i r ⌝ }
+{
+    match head {
+        ConditionHead::Literal(_) => Constant::No,
+        ConditionHead::Many(_, _) => Constant::No,
+        ConditionHead::Negation => Constant::No,
+        ConditionHead::One(_) => Constant::No,
+        ConditionHead::Two(op) => constant_pair(rule, words, op, i + 1),
+        ConditionHead::Comparison(_) => Constant::No,
+        ConditionHead::Quantifier(_, _) => Constant::No,
+    }
+}
+
+fn mark_of(entry: usize, truth: bool) -> u32
+    requires { ⌜ entry ≤ 4096 ⌝ }
+    ensures { λ r. ⌜ r ≡ markOf entry truth ⌝ }
+{
+    let twice = 2 * entry as u32;
+    if truth { twice + 1 } else { twice }
+}
+
+// Behind `count` marks that of an entry, if its condition is constant; how many there are then.
+fn mark(count: usize, entry: usize, constant: Constant, marks: &mut [u8]) -> usize
+    requires { ⌜ (count ≤ 4096) × (entry ≤ 4096) ⌝ }
+    ensures { λ r. ⌜ MarkedOn count entry constant (now (marks .entry)) (now (marks .exit)) r ⌝ }
+{
+    let Constant::Is(truth) = constant else {
+        return count;
+    };
+    put_u32(marks, 4 * count, mark_of(entry, truth));
+    count + 1
+}
+
+// The conditions from word `start` up to word `end`, and all that these hold, in the order of the sheet.
+fn mark_conditions(rule: &[u8], words: &[u32], start: usize, end: usize, marks: &mut [u8]) -> usize
+    requires { ⌜ end < 4096 ⌝ }
+    ensures { λ r. ⌜ ConditionsMarked (now (rule .entry)) (now (words .entry)) start end (now (marks .entry)) (now (marks .exit)) r ⌝ }
+{
+    let mut count = 0;
+    let mut i = start;
+    while i < end {
+        let ConditionRead::Is(head, _) = condition_head(rule, start_of(words, i)) else {
+            return count;
+        };
+        count = mark(count, i + 1, constant_at(rule, words, head, i), marks);
+        i = children_from(words, head, i, behind(words, i, end));
+    }
+    count
+}
+
+// Writes the marks of a rule, by its index, to the start of `marks`, four bytes for each, least significant first; how many there are. A template
+// has none.
+pub fn mark_constants(rule: &[u8], words: &[u32], marks: &mut [u8]) -> usize
+    ensures { λ r. ⌜ RuleMarked (now (rule .entry)) (now (words .entry)) (now (marks .entry)) (now (marks .exit)) r ⌝ }
+{
+    let RuleHeadRead::Is(head, _) = rule_head(rule, start_of(words, 0)) else {
+        return 0;
+    };
+    let RuleHead::Rule(_, _) = head else {
+        return 0;
+    };
+    mark_conditions(rule, words, 1, end_of(words, 0), marks)
+}
