@@ -63,21 +63,18 @@ fn value(random: &mut Random, depth: usize) -> (Value, Contents) {
 }
 
 fn object(random: &mut Random, depth: usize) -> (Value, Contents) {
-    let members: Vec<_> = (0..random.below(4))
-        .map(|_| (text(random), value(random, depth + 1)))
-        .collect();
-    let members: BTreeMap<_, _> = members.into_iter().collect();
-    let mut contents = vec![Content::Object(members.len())];
-    for (key, (_, inner)) in &members {
-        contents.push(Content::Key(key));
-        contents.extend(inner);
+    let mut members: Vec<(&str, Value)> = Vec::new();
+    let mut contents = Vec::new();
+    for _ in 0..random.below(4) {
+        let (key, (value, inner)) = (text(random), value(random, depth + 1));
+        if members.iter().all(|(other, _)| *other != key) {
+            members.push((key, value));
+            contents.push(Content::Key(key));
+            contents.extend(inner);
+        }
     }
-    // The builder sorts: hand the members over the other way round.
-    let reversed = members
-        .into_iter()
-        .rev()
-        .map(|(key, (value, _))| (key, value));
-    (Value::object(reversed), contents)
+    contents.insert(0, Content::Object(members.len()));
+    (Value::object(members), contents)
 }
 
 type Pair = fn(Value, Value) -> Condition;

@@ -24,7 +24,7 @@ fn rule(sheet: &str, is_good: bool) {
 }
 
 #[test]
-fn names_and_keys_rise() {
+fn names_rise_and_keys_differ() {
     let fields = |first: &str, second: &str| {
         format!(
             "F,1,0,0,0,{},-,{first}\nF,1,0,0,0,{},-,{second}\n",
@@ -55,7 +55,36 @@ fn names_and_keys_rise() {
         schema(&format!("H,0,0,0,2\n{two}"), rises);
         schema(&format!("H,0,1,-,0\nF,7,0,0,2,1,-,o\n{two}"), rises);
         schema(&format!("H,0,1,0,1\n{two}"), true);
-        rule(&members(first, second), rises);
+        rule(&members(first, second), first != second);
+    }
+}
+
+/// A template of one object with these keys.
+fn object(keys: &[String]) -> String {
+    let member = |key: &String| format!("K,{},{key}\nV,1,0,\n", key.len());
+    format!(
+        "T\nV,7,{},\n{}",
+        keys.len(),
+        keys.iter().map(member).collect::<String>()
+    )
+}
+
+#[test]
+fn no_key_stands_twice_at_any_distance() {
+    for count in [3, 12, 13, 1_022] {
+        let falling: Vec<String> = (0..count).rev().map(|n| format!("key{n:04}")).collect();
+        // 11 has no factor in common with the counts.
+        let strewn: Vec<String> = (0..count)
+            .map(|n| format!("key{:04}", n * 11 % count))
+            .collect();
+        for keys in [falling, strewn] {
+            rule(&object(&keys), true);
+            for (from, to) in [(0, 1), (0, count - 1), (count / 2, count - 1)] {
+                let mut twice = keys.clone();
+                twice[to].clone_from(&keys[from]);
+                rule(&object(&twice), false);
+            }
+        }
     }
 }
 

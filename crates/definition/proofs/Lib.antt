@@ -1,3 +1,4 @@
 pub mod Places
 pub mod Examples
 mod Entries
+mod Keys

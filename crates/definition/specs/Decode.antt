@@ -7,7 +7,7 @@ use mathlib.Core.Option.{Option, none, some, Option·map}
 use lib.ListN.{length}
 use lib.Dec.{leb, eqb}
 use Rattle.sheet.specs.Reader.{Reader, _>>=_, _>>_, ensure, pure, refuse}
-use Rattle.sheet.specs.Order.{follows}
+use Rattle.sheet.specs.Order.{follows, noneTwice}
 use Rattle.sheet.specs.Entries.{HolderHead, schemaHead, fieldHead, RuleHead, ruleHead, ConditionHead, literalHead, manyHead, negationHead, oneHead, twoHead, comparisonHead, quantifierHead, conditionHead, ValueHead, constantHead, numberHead, stringHead, arrayHead, objectHead, valueHead, keyHead}
 use Rattle.sheet.specs.Entries as Entries
 use Rattle.definition.specs.Tree.{Text, Field, field, Items, absent, element, Members, noMembers, member, Holder, Schema, Value, constant, number, string, array, object, Values, noValues, value, Pairs, noPairs, pair, Condition, literal, many, negation, one, two, comparison, quantifier, Conditions, noConditions, condition, Rule, rule, template}
@@ -107,15 +107,24 @@ valuesOf (suc n) p = do
   others ← valuesOf n p
   pure (value v others)
 
--- keys rise, none twice
-unfoldable pub pairsOf : ℕ → Option Text → Reader Ahead Value → Reader Ahead Pairs
-pairsOf zero before p = pure noPairs
-pairsOf (suc n) before p = do
+unfoldable pub pairsOf : ℕ → Reader Ahead Value → Reader Ahead Pairs
+pairsOf zero p = pure noPairs
+pairsOf (suc n) p = do
   k ← entry keyHead
-  ensure (follows before (k .1))
   v ← p
-  others ← pairsOf n (some (k .1)) p
+  others ← pairsOf n p
   pure (pair (k .1) v others)
+
+unfoldable pub keysOf : Pairs → List Text
+keysOf noPairs = []
+keysOf (pair key v others) = key ∷ keysOf others
+
+-- an object's keys stand in the order given, none twice
+unfoldable pub objectOf : ℕ → Reader Ahead Value → Reader Ahead Pairs
+objectOf n p = do
+  pairs ← pairsOf n p
+  ensure (noneTwice (keysOf pairs))
+  pure pairs
 
 unfoldable pub valueOf : ℕ → ValueHead → Reader Ahead Value → Reader Ahead Value
 valueOf e (constantHead type) p = pure (constant e type)
@@ -127,7 +136,7 @@ valueOf e (arrayHead n) p = do
   pure (array e values)
 valueOf e (objectHead n) p = do
   announce (2 * n)
-  pairs ← pairsOf n none p
+  pairs ← objectOf n p
   pure (object e pairs)
 
 unfoldable pub valueIn : ℕ → Reader Ahead Value

@@ -4,6 +4,7 @@ pub mod Decode
 pub mod Write
 pub mod Within
 pub mod RoundTrip
+pub mod KeyLaws
 pub mod RisingLaws
 pub mod TreeLaws
 pub mod ValueLaws

@@ -1,7 +1,6 @@
 -- A value is read back as it was written, and what is read as a value is one as it is written.
 use Prim.Native.Nat.{ℕ, zero, suc, _+_, _*_, _≤_}
 use mathlib.Core.List.{_++_, append-assoc}
-use mathlib.Core.Option.{Option, none, some}
 use mathlib.Core.Path.{_≡_, refl, ap}
 use native.Mathlib.Omega.{arith}
 use Rattle.sheet.specs.Reader.{Reader, _>>=_, pure}
@@ -9,11 +8,11 @@ use Rattle.sheet.specs.ReaderLaws.{Reads, bind-inv, then-inv, bind-reads, then-
 use Rattle.sheet.specs.Entries.{maxCount, ValueHead, constantHead, numberHead, stringHead, arrayHead, objectHead, valueHead}
 use Rattle.sheet.specs.Write.{writeValueHead}
 use Rattle.sheet.specs.RuleHeadLaws.{ValueHeadFits, valueHead-exact, keyHead-exact}
-use Rattle.definition.specs.Tree.{Text, Value, constant, number, string, array, object, Values, noValues, value, Pairs, noPairs, pair}
-use Rattle.definition.specs.Decode.{Ahead, entry, valuesOf, pairsOf, valueOf, valueIn}
+use Rattle.definition.specs.Tree.{Value, constant, number, string, array, object, Values, noValues, value, Pairs, noPairs, pair}
+use Rattle.definition.specs.Decode.{Ahead, entry, valuesOf, pairsOf, objectOf, valueOf, valueIn}
 use Rattle.definition.specs.Write.{valueCount, pairCount, writeValue, writeValues, writePairs}
-use Rattle.definition.specs.Within.{valueEntries, valuesEntries, pairsEntries, valueNesting, valuesNesting, pairsNesting, ValueFits, ValuesFit, PairsFit, ValueFrom, ValuesFrom, PairsFrom}
-use Rattle.definition.specs.RisingLaws.{follows-behind, behind-follows}
+use Rattle.definition.specs.Within.{valueEntries, valuesEntries, pairsEntries, valueNesting, valuesNesting, pairsNesting, KeysDiffer, ValueFits, ValuesFit, PairsFit, ValueFrom, ValuesFrom, PairsFrom}
+use Rattle.definition.specs.KeyLaws.{none-twice-differ, differ-none-twice}
 use Rattle.definition.specs.TreeLaws.{Moves, TreeLaw, moves-none, moves-split, Enters, entering, entry-reads, announced-inv, announced-reads, enters-alone, enters-moves, enters-first}
 
 pub record ValueGood (depth next : ℕ) (v : Value) : Type 0 where
@@ -27,11 +26,15 @@ pub record ValuesGood (depth n next : ℕ) (vs : Values) : Type 0 where
   pub fits : ValuesFit vs
   pub numbers : ValuesFrom next vs
 
-pub record PairsGood (depth n : ℕ) (before : Option Text) (next : ℕ) (ps : Pairs) : Type 0 where
+pub record PairsGood (depth n next : ℕ) (ps : Pairs) : Type 0 where
   pub count : pairCount ps ≡ n
   pub nesting : pairsNesting ps ≤ depth
-  pub fits : PairsFit before ps
+  pub fits : PairsFit ps
   pub numbers : PairsFrom next ps
+
+pub record ObjectGood (depth n next : ℕ) (ps : Pairs) : Type 0 where
+  pub pairs : PairsGood depth n next ps
+  pub differ : KeysDiffer ps
 
 abbrev pub ValueLaw : ℕ → Reader Ahead Value → Type 0
 ValueLaw depth p = TreeLaw p writeValue valueEntries (λ v. 1) (ValueGood depth)
@@ -89,53 +92,68 @@ module _ (depth : ℕ) (p : Reader Ahead Value) (law : ValueLaw depth p) where
   pub values-law : (n : ℕ) → TreeLaw (valuesOf n p) writeValues valuesEntries valueCount (ValuesGood depth n)
   values-law n = record { sound = values-sound n; complete = values-complete n; announced-first = values-take }
 
-  pairs-sound : (n : ℕ) (before : Option Text) (a : Ahead) (ps : Pairs) (b : Ahead) → Reads (pairsOf n before p) a ps b
-      → Moves (writePairs ps) (pairsEntries ps) (2 * pairCount ps) a b × PairsGood depth n before (a .next) ps
+  pairs-sound : (n : ℕ) (a : Ahead) (ps : Pairs) (b : Ahead) → Reads (pairsOf n p) a ps b
+      → Moves (writePairs ps) (pairsEntries ps) (2 * pairCount ps) a b × PairsGood depth n (a .next) ps
   unfolding pairsOf writePairs pairsEntries pairCount pairsNesting
-  pairs-sound zero before a ps b e =
+  pairs-sound zero a ps b e =
       let q = pure-inv _ _ e in
       rw (← (q .0), ← (q .1)) (record { rest = refl; next = omega arith; left = omega arith }, record { count = refl; nesting = omega arith; fits = tt; numbers = tt })
-  pairs-sound (suc n) before a ps b e =
+  pairs-sound (suc n) a ps b e =
       entering keyHead-exact _ _ e λ key a₁ m₁ e.
-      then-inv _ _ _ e λ _ a₂ e₂ e.
-      bind-inv _ _ _ e λ v a₃ e₃ e.
-      bind-inv _ _ _ e λ others a₄ e₄ e.
-      let h = ensure-inv _ _ e₂ in
+      bind-inv _ _ _ e λ v a₂ e₂ e.
+      bind-inv _ _ _ e λ others a₃ e₃ e.
       let q = pure-inv _ _ e in
-      let m₃ = law .sound a₁ v a₃ (rw (h .1) e₃) in
-      let m₄ = pairs-sound n (some key) a₃ others a₄ e₄ in
+      let m₂ = law .sound a₁ v a₂ e₂ in
+      let m₃ = pairs-sound n a₂ others a₃ e₃ in
       rw (← (q .0), ← (q .1)) (
-        record { rest = rw (m₁ .rest, m₃ .0 .rest, m₄ .0 .rest) (simp append-assoc); next = omega arith; left = omega arith },
+        record { rest = rw (m₁ .rest, m₂ .0 .rest, m₃ .0 .rest) (simp append-assoc); next = omega arith; left = omega arith },
         record {
           count = omega arith;
           nesting = omega arith;
-          fits = (m₁ .fits, follows-behind before key (h .0), m₃ .1 .fits, m₄ .1 .fits);
-          numbers = (rw (m₁ .next) at (m₃ .1 .numbers), rw (m₃ .0 .next, m₁ .next) at (m₄ .1 .numbers));
+          fits = (m₁ .fits, m₂ .1 .fits, m₃ .1 .fits);
+          numbers = (rw (m₁ .next) at (m₂ .1 .numbers), rw (m₂ .0 .next, m₁ .next) at (m₃ .1 .numbers));
         },
       )
 
-  pairs-complete : (n : ℕ) (before : Option Text) (a : Ahead) (ps : Pairs) (b : Ahead) → a .left ≤ maxCount
-      → Moves (writePairs ps) (pairsEntries ps) (2 * pairCount ps) a b → PairsGood depth n before (a .next) ps → Reads (pairsOf n before p) a ps b
+  pairs-complete : (n : ℕ) (a : Ahead) (ps : Pairs) (b : Ahead) → a .left ≤ maxCount
+      → Moves (writePairs ps) (pairsEntries ps) (2 * pairCount ps) a b → PairsGood depth n (a .next) ps → Reads (pairsOf n p) a ps b
   unfolding pairsOf writePairs pairsEntries pairCount pairsNesting pure
-  pairs-complete zero before a noPairs b l m g = rw (moves-none a b m)
-  pairs-complete zero before a (pair key v others) b l m g = absurd (omega arith)
-  pairs-complete (suc n) before a noPairs b l m g = absurd (omega arith)
-  pairs-complete (suc n) before a (pair key v others) b l m g =
+  pairs-complete zero a noPairs b l m g = rw (moves-none a b m)
+  pairs-complete zero a (pair key v others) b l m g = absurd (omega arith)
+  pairs-complete (suc n) a noPairs b l m g = absurd (omega arith)
+  pairs-complete (suc n) a (pair key v others) b l m g =
       let f = g .fits in
       enters-first key (f .0) (writeValue v ++ writePairs others) _ (1 + 2 * pairCount others) a b
       (record { rest = m .rest; next = m .next; left = omega arith }) λ a₁ m₁ m₂.
       moves-split (writeValue v) (writePairs others) _ _ _ _ a₁ b m₂ (pairs-take others) λ a₂ m₃ m₄.
       bind-reads _ _ (entry-reads keyHead-exact a key a₁ m₁)
-      (then-reads _ _ (ensure-reads _ _ (behind-follows before key (f .1)))
       (bind-reads _ _
-      (law .complete a₁ v a₂ (omega arith) m₃ (record { nesting = omega arith; fits = f .2; numbers = rw (m₁ .next) (g .numbers .0) }))
+      (law .complete a₁ v a₂ (omega arith) m₃ (record { nesting = omega arith; fits = f .1; numbers = rw (m₁ .next) (g .numbers .0) }))
       (bind-reads _ _
-      (pairs-complete n (some key) a₂ others b (omega (arith, value-takes v)) m₄
-      (record { count = omega arith; nesting = omega arith; fits = f .3; numbers = rw (m₃ .next, m₁ .next) (g .numbers .1) }))
-      refl)))
+      (pairs-complete n a₂ others b (omega (arith, value-takes v)) m₄
+      (record { count = omega arith; nesting = omega arith; fits = f .2; numbers = rw (m₃ .next, m₁ .next) (g .numbers .1) }))
+      refl))
 
-  pub pairs-law : (n : ℕ) (before : Option Text) → TreeLaw (pairsOf n before p) writePairs pairsEntries (λ ps. 2 * pairCount ps) (PairsGood depth n before)
-  pairs-law n before = record { sound = pairs-sound n before; complete = pairs-complete n before; announced-first = pairs-take }
+  object-sound : (n : ℕ) (a : Ahead) (ps : Pairs) (b : Ahead) → Reads (objectOf n p) a ps b
+      → Moves (writePairs ps) (pairsEntries ps) (2 * pairCount ps) a b × ObjectGood depth n (a .next) ps
+  unfolding objectOf
+  object-sound n a ps b e =
+      bind-inv _ _ _ e λ pairs a₁ e₁ e.
+      then-inv _ _ _ e λ _ a₂ e₂ e.
+      let h = ensure-inv _ _ e₂ in
+      let q = pure-inv _ _ e in
+      let m = pairs-sound n a pairs a₁ e₁ in
+      rw (← (q .0), ← (q .1), ← (h .1)) (m .0, record { pairs = m .1; differ = none-twice-differ pairs (h .0) })
+
+  object-complete : (n : ℕ) (a : Ahead) (ps : Pairs) (b : Ahead) → a .left ≤ maxCount
+      → Moves (writePairs ps) (pairsEntries ps) (2 * pairCount ps) a b → ObjectGood depth n (a .next) ps → Reads (objectOf n p) a ps b
+  unfolding objectOf pure
+  object-complete n a ps b l m g =
+      bind-reads _ _ (pairs-complete n a ps b l m (g .pairs))
+      (then-reads _ _ (ensure-reads _ _ (differ-none-twice ps (g .differ))) refl)
+
+  pub object-law : (n : ℕ) → TreeLaw (objectOf n p) writePairs pairsEntries (λ ps. 2 * pairCount ps) (ObjectGood depth n)
+  object-law n = record { sound = object-sound n; complete = object-complete n; announced-first = pairs-take }
 
   -- a value of each kind, whose parts are read by `p`
   valueOf-sound : (h : ValueHead) (a a₁ : Ahead) (v : Value) (b : Ahead) → Enters writeValueHead ValueHeadFits a h a₁ → Reads (valueOf (a .next) h p) a₁ v b
@@ -156,10 +174,11 @@ module _ (depth : ℕ) (p : Reader Ahead Value) (law : ValueLaw depth p) where
       rw (← (q .0), ← (q .1), g .count)
       (enters-moves m m₂, record { nesting = omega arith; fits = g .fits; numbers = (refl, rw (m .next) at (g .numbers)) })
   valueOf-sound (objectHead n) a a₁ v b m e =
-      announced-inv (pairs-law n none) _ (λ next x g. ap (λ (k : ℕ). 2 * k) (g .count)) _ _ e λ pairs a₂ m₂ g e.
+      announced-inv (object-law n) _ (λ next x g. ap (λ (k : ℕ). 2 * k) (g .pairs .count)) _ _ e λ pairs a₂ m₂ g e.
       let q = pure-inv _ _ e in
-      rw (← (q .0), ← (q .1), g .count)
-      (enters-moves m m₂, record { nesting = omega arith; fits = g .fits; numbers = (refl, rw (m .next) at (g .numbers)) })
+      let each = g .pairs in
+      rw (← (q .0), ← (q .1), each .count)
+      (enters-moves m m₂, record { nesting = omega arith; fits = (g .differ, each .fits); numbers = (refl, rw (m .next) at (each .numbers)) })
 
   valueOf-complete : (a : Ahead) (v : Value) (b : Ahead) → a .left ≤ maxCount → Moves (writeValue v) (valueEntries v) 1 a b → ValueGood (suc depth) (a .next) v
       → Reads (entry valueHead >>= λ h. valueOf (h .0) (h .1) p) a v b
@@ -181,8 +200,11 @@ module _ (depth : ℕ) (p : Reader Ahead Value) (law : ValueLaw depth p) where
       let k = pairs-take pairs in
       enters-first (objectHead (pairCount pairs)) (omega arith) (writePairs pairs) _ 0 a b m λ a₁ m₁ m₂.
       bind-reads _ _ (entry-reads valueHead-exact a (objectHead (pairCount pairs)) a₁ m₁)
-      (announced-reads (pairs-law (pairCount pairs) none) _ pairs a₁ b (omega arith) m₂
-      (record { count = refl; nesting = omega arith; fits = g .fits; numbers = rw (m₁ .next) (g .numbers .1) })
+      (announced-reads (object-law (pairCount pairs)) _ pairs a₁ b (omega arith) m₂
+      (record {
+        pairs = record { count = refl; nesting = omega arith; fits = g .fits .1; numbers = rw (m₁ .next) (g .numbers .1) };
+        differ = g .fits .0;
+      })
       (rw (g .numbers .0)))
 
 value-nests : (v : Value) → 1 ≤ valueNesting v

@@ -163,22 +163,31 @@ abbrev pub ArgumentsFit : Option Holder → Type 0
 ArgumentsFit none = Unit {0}
 ArgumentsFit (some h) = MembersFit (h .members)
 
--- keys rise as names do
+-- No key of an object stands twice: each differs from all behind it.
+
+abbrev pub NoneKeyed : Text → Pairs → Type 0
+NoneKeyed key noPairs = Unit {0}
+NoneKeyed key (pair k v others) = (key ≡ k → ⊥) × NoneKeyed key others
+
+abbrev pub KeysDiffer : Pairs → Type 0
+KeysDiffer noPairs = Unit {0}
+KeysDiffer (pair key v others) = NoneKeyed key others × KeysDiffer others
+
 abbrev mutual
   pub ValueFits : Value → Type 0
   ValueFits (constant e type) = (1 ≤ type) × (type ≤ 3)
   ValueFits (number e digits) = TextWithin digits × (isNumber digits ≡ true)
   ValueFits (string e text) = TextWithin text
   ValueFits (array e values) = ValuesFit values
-  ValueFits (object e pairs) = PairsFit none pairs
+  ValueFits (object e pairs) = KeysDiffer pairs × PairsFit pairs
 
   pub ValuesFit : Values → Type 0
   ValuesFit noValues = Unit {0}
   ValuesFit (value v others) = ValueFits v × ValuesFit others
 
-  pub PairsFit : Option Text → Pairs → Type 0
-  PairsFit before noPairs = Unit {0}
-  PairsFit before (pair key v others) = TextWithin key × Behind before key × ValueFits v × PairsFit (some key) others
+  pub PairsFit : Pairs → Type 0
+  PairsFit noPairs = Unit {0}
+  PairsFit (pair key v others) = TextWithin key × ValueFits v × PairsFit others
 
 -- an operand, an `in` value or a template
 pub record OperandFits (v : Value) : Type 0 where

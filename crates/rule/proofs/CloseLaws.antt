@@ -1,13 +1,11 @@
 -- An entry's word is written when its subtree has been read.
 use Prim.Native.Nat.{ℕ, suc, _+_, _*_, _-_, _≤_, _<_}
-use mathlib.Core.Bool.{true}
 use mathlib.Core.List.{List}
-use mathlib.Core.Option.{Option, some}
+use mathlib.Core.Option.{some}
 use mathlib.Core.Path.{_≡_, refl, ap, _∙_}
 use native.Mathlib.Omega.{arith}
 use lib.ListN.{length, drop, set}
 use Rattle.sheet.specs.Reader.{Reader}
-use Rattle.sheet.specs.Order.{follows}
 use Rattle.sheet.specs.Entries.{ValueHead, valueHead, keyHead}
 use Rattle.definition.specs.Limits.{maxRuleEntries}
 use Rattle.definition.specs.Tree.{Text}
@@ -67,25 +65,24 @@ module _ {T : Type 0} (reader : Reader Ahead T) (At : List ℕ → ℕ → T →
         }
 
 -- A key's word, when its value has been read.
-module _ (s before mid : List ℕ) (c next : Cursor) (depth behind x : ℕ) (previous : Option Text) (key : Text) where
+module _ (s before mid : List ℕ) (c next : Cursor) (depth behind x : ℕ) (key : Text) where
   abbrev value-ahead : Cursor
   value-ahead = record { at = behind; word = c .word + 1; left = c .left }
 
   pub pair-closed : Ready s before 2 c
       → keyHead (drop (c .at) s) ≡ some (key, drop behind s)
-      → follows previous key ≡ true
       → x ≡ c .at * 4096 + next .word
       → (inner : Indexed (valueIn depth) (ValueAt s) valueEntries s before mid 1 value-ahead next)
-      → (i : Indexed (pairIn previous (valueIn depth)) (PairAt s) sizeOfPair s before (set mid (c .word) x) 2 c next) × (i .tree .0 ≡ key)
+      → (i : Indexed (pairIn (valueIn depth)) (PairAt s) sizeOfPair s before (set mid (c .word) x) 2 c next) × (i .tree .0 ≡ key)
   unfolding sizeOfPair
-  pair-closed ready head rises word inner =
+  pair-closed ready head word inner =
       let v = inner .tree in
       let end : next .word ≡ c .word + (1 + valueEntries v) = omega (arith, inner .size) in
       let limit : next .word ≤ maxRuleEntries = omega (arith, inner .budget, ready .budget) in
       let inside : c .word < length mid = omega (arith, inner .kept .len, ready .room, ready .budget) in (
         record {
           tree = (key, v);
-          reads = pair-read previous (valueIn depth) (aheadOf s c) (aheadOf s next) key (drop behind s) v head rises (inner .reads);
+          reads = pair-read (valueIn depth) (aheadOf s c) (aheadOf s next) key (drop behind s) v head (inner .reads);
           indexed =
               (entry-closed mid (c .at) (c .word) word head inside end (omega arith), value-frame s mid (set mid (c .word) x) v (c .word + 1) (inner .indexed) (agree-closed mid (c .word) x));
           size = end;

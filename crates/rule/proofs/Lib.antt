@@ -5,7 +5,9 @@ mod KeptLaws
 mod KeyLaws
 mod ReaderLaws
 mod RuleLaws
+mod SearchLaws
 mod SiblingKinds
 mod SiblingLaws
+mod TableLaws
 mod ValueAnswers
 mod ValueLaws

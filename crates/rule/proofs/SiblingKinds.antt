@@ -1,22 +1,30 @@
 -- The kinds of siblings: values, conditions, keys with their values.
 use Prim.Native.Nat.{ℕ, suc, _+_, _*_, _-_, _<_}
 use mathlib.Core.List.{List}
-use mathlib.Core.Option.{Option, none, some}
-use mathlib.Core.Path.{_≡_, refl}
+use mathlib.Core.Bool.{Bool, true, false, _&&_}
+use mathlib.Core.Option.{none, some}
+use mathlib.Core.Path.{_≡_, refl, sym, ap, _∙_}
 use native.Mathlib.Omega.{arith}
 use Rattle.sheet.specs.Reader.{Reader, pure, andThen, _>>=_}
+use Rattle.sheet.specs.Order.{follows, noneTwice}
 use Rattle.sheet.specs.Parts.{partOf, optionalOf}
 use Rattle.sheet.specs.declared.part.Part.{Part}
+use Rattle.sheet.specs.declared.part.OptionalPart.{OptionalPart}
 use Rattle.sheet.specs.declared.part.OptionalPart.the-variants.{Is}
+use Rattle.definition.specs.Limits.{maxRuleEntries}
 use Rattle.definition.specs.Tree.{Text, Value, Values, noValues, value, Pairs, noPairs, pair, Condition, Conditions, noConditions, condition}
-use Rattle.definition.specs.Decode.{Ahead, valueIn, valuesOf, pairsOf, conditionIn, conditionsOf}
+use Rattle.definition.specs.Decode.{Ahead, valueIn, valuesOf, pairsOf, keysOf, conditionIn, conditionsOf}
 use Rattle.definition.specs.Within.{conditionEntries, conditionsEntries, pairsEntries, valueEntries, valuesEntries}
 use Rattle.rule.specs.declared.cursor.Cursor.{Cursor}
-use Rattle.rule.specs.Index.{ValueAt, ValuesAt, PairsAt, ConditionAt, ConditionsAt}
+use Rattle.rule.specs.declared.cursor.TreeRead.the-variants as tree
+use Rattle.rule.specs.Index.{countOfPairs, ValueAt, ValuesAt, PairsAt, ConditionAt, ConditionsAt}
 use Rattle.rule.specs.IndexLaws.{Agree, agree-within, entry-frame, value-frame, condition-frame}
-use Rattle.rule.specs.Read.{pairIn, PairAt, sizeOfPair, Indexed}
-use Rattle.rule.proofs.SiblingLaws.{Siblings, Passing, siblings-next}
-use Rattle.rule.proofs.ValueLaws.{pairs-first}
+use Rattle.rule.specs.Read.{aheadOf, pairIn, PairAt, sizeOfPair, Kept, Indexed, PairsAnswer}
+use Rattle.rule.specs.Keys.{NoneTwice}
+use Rattle.rule.proofs.SiblingLaws.{Siblings, Passing, siblings-next, siblings-bad, siblings-ended}
+use Rattle.rule.proofs.KeptLaws.{kept-wider}
+use Rattle.rule.proofs.KeyLaws.{Risen, risenBy, risen, risen-none, risen-pair, risen-differ}
+use Rattle.rule.proofs.ValueLaws.{pairs-first, pairs-count, object-unread, object-read, object-twice}
 
 module _ (p : Reader Ahead Value) where
   pub values-zero : (a : Ahead) → valuesOf 0 p a ≡ some (noValues, a)
@@ -27,9 +35,9 @@ module _ (p : Reader Ahead Value) where
   unfolding valuesOf _>>=_
   values-suc n a = refl
 
-  pub pairs-zero : (previous : Option Text) (a : Ahead) → pairsOf 0 previous p a ≡ some (noPairs, a)
+  pub pairs-zero : (a : Ahead) → pairsOf 0 p a ≡ some (noPairs, a)
   unfolding pairsOf pure
-  pairs-zero previous a = refl
+  pairs-zero a = refl
 
 module _ (p : Reader Ahead Condition) where
   pub conditions-zero : (a : Ahead) → conditionsOf 0 p a ≡ some (noConditions, a)
@@ -78,17 +86,20 @@ module _ (s : List ℕ) where
   abbrev pub values-kind : ℕ → Siblings (Unit {0}) Value Values
   values-kind depth =
       record {
-        item = λ k. valueIn depth;
-        all = λ k n. valuesOf n (valueIn depth);
-        told = λ v. tt;
+        item = valueIn depth;
+        all = λ n. valuesOf n (valueIn depth);
+        told = λ k v. tt;
+        ending = λ k vs. tt;
         none-of = noValues;
         cons = value;
         ItemAt = ValueAt s;
         AllAt = ValuesAt s;
         itemSize = valueEntries;
         allSize = valuesEntries;
-        all-zero = λ k. values-zero (valueIn depth);
-        all-suc = λ k. values-suc (valueIn depth);
+        all-zero = values-zero (valueIn depth);
+        all-suc = values-suc (valueIn depth);
+        none-ending = λ k. refl;
+        cons-ending = λ k v vs. refl;
         none-at = λ words i. tt;
         cons-at = λ words i v vs at others. (at, others);
         none-size = no-values-size;
@@ -100,17 +111,20 @@ module _ (s : List ℕ) where
   abbrev pub conditions-kind : ℕ → Siblings (Unit {0}) Condition Conditions
   conditions-kind depth =
       record {
-        item = λ k. conditionIn depth;
-        all = λ k n. conditionsOf n (conditionIn depth);
-        told = λ c. tt;
+        item = conditionIn depth;
+        all = λ n. conditionsOf n (conditionIn depth);
+        told = λ k c. tt;
+        ending = λ k cs. tt;
         none-of = noConditions;
         cons = condition;
         ItemAt = ConditionAt s;
         AllAt = ConditionsAt s;
         itemSize = conditionEntries;
         allSize = conditionsEntries;
-        all-zero = λ k. conditions-zero (conditionIn depth);
-        all-suc = λ k. conditions-suc (conditionIn depth);
+        all-zero = conditions-zero (conditionIn depth);
+        all-suc = conditions-suc (conditionIn depth);
+        none-ending = λ k. refl;
+        cons-ending = λ k c cs. refl;
         none-at = λ words i. tt;
         cons-at = λ words i c cs at others. (at, others);
         none-size = no-conditions-size;
@@ -118,13 +132,14 @@ module _ (s : List ℕ) where
         item-frame = λ words later i c at agree. condition-frame s words later c i at agree;
       }
 
-  -- the keys and values of an object: each key is told the key before it
-  abbrev pub pairs-kind : ℕ → Siblings (Option Text) (Text × Value) Pairs
+  -- the keys and values of an object: whether the keys rise is carried along, and the key before
+  abbrev pub pairs-kind : ℕ → Siblings Risen (Text × Value) Pairs
   pairs-kind depth =
       record {
-        item = λ previous. pairIn previous (valueIn depth);
-        all = λ previous n. pairsOf n previous (valueIn depth);
-        told = λ kv. some (kv .0);
+        item = pairIn (valueIn depth);
+        all = λ n. pairsOf n (valueIn depth);
+        told = λ k kv. risenBy k (kv .0);
+        ending = risen;
         none-of = noPairs;
         cons = λ kv. pair (kv .0) (kv .1);
         ItemAt = PairAt s;
@@ -132,7 +147,9 @@ module _ (s : List ℕ) where
         itemSize = sizeOfPair;
         allSize = pairsEntries;
         all-zero = pairs-zero (valueIn depth);
-        all-suc = λ previous n a. pairs-first n (valueIn depth) previous a;
+        all-suc = λ n a. pairs-first n (valueIn depth) a;
+        none-ending = risen-none;
+        cons-ending = λ k kv ps. risen-pair k (kv .0) (kv .1) ps;
         none-at = λ words i. tt;
         cons-at = pairs-more;
         none-size = no-pairs-size;
@@ -140,11 +157,60 @@ module _ (s : List ℕ) where
         item-frame = pair-frame;
       }
 
--- the next key is told this one
-pub pairs-next : {s before words later : List ℕ} (depth : ℕ) {count cost n : ℕ} {previous : Option Text} {c here next : Cursor} (key : Part)
-    → Passing (pairs-kind s depth) s before words none previous count cost n (2 * n) c here
+-- whether the keys rise up to `previous`
+abbrev pub sofar : List ℕ → Bool → OptionalPart → Risen
+sofar s rise previous = (rise, optionalOf s previous)
+
+-- one key more
+pub pairs-next : {s before words later : List ℕ} (depth : ℕ) {count cost n : ℕ} {first : Risen} (rise : Bool) (previous : OptionalPart) {still : Bool} {c here next : Cursor} (key : Part)
+    → Passing (pairs-kind s depth) s before words first (sofar s rise previous) count cost n (2 * n) c here
     → 0 < n
-    → (item : Indexed (pairIn previous (valueIn depth)) (PairAt s) sizeOfPair s words later 2 here next) × (item .tree .0 ≡ partOf s key)
-    → Passing (pairs-kind s depth) s before later none (optionalOf s (Is key)) count cost (n - 1) (2 * (n - 1)) c next
-unfolding optionalOf
-pairs-next depth {n} key passing h item = rw (← item .1) (siblings-next passing (2 * (n - 1)) h (omega arith) (item .0))
+    → (item : Indexed (pairIn (valueIn depth)) (PairAt s) sizeOfPair s words later 2 here next) × (item .tree .0 ≡ partOf s key)
+    → still ≡ (rise && follows (optionalOf s previous) (partOf s key))
+    → Passing (pairs-kind s depth) s before later first (sofar s still (Is key)) count cost (n - 1) (2 * (n - 1)) c next
+unfolding optionalOf risenBy
+pairs-next depth {n} rise previous key passing h item e = rw (e, ← item .1) (siblings-next passing (2 * (n - 1)) h (omega arith) (item .0))
+
+-- All keys have been read.
+module _ {s before words : List ℕ} (depth : ℕ) {count : ℕ} {rise : Bool} (previous : OptionalPart) {n : ℕ} {c here : Cursor}
+    (passing : Passing (pairs-kind s depth) s before words (true, none) (sofar s rise previous) count (2 * count) n (2 * n) c here) (e : n ≡ 0)
+  where
+    abbrev all-read : (i : Indexed (pairsOf count (valueIn depth)) (PairsAt s) pairsEntries s before words (2 * count) c here) × (risen (true, none) (i .tree) ≡ sofar s rise previous)
+    all-read = siblings-ended passing e (omega arith)
+
+    all-count : countOfPairs (all-read .0 .tree) ≡ count
+    all-count = pairs-count count (valueIn depth) (aheadOf s c) (aheadOf s here) (all-read .0 .tree) (all-read .0 .reads)
+
+    object-good : noneTwice (keysOf (all-read .0 .tree)) ≡ true → PairsAnswer s before words depth count c (tree.Good here)
+    object-good e =
+        let i = all-read .0 in
+        record {
+          tree = i .tree;
+          reads = object-read count (valueIn depth) (aheadOf s c) (i .tree) (aheadOf s here) (i .reads) e;
+          indexed = i .indexed;
+          size = i .size;
+          kept = i .kept;
+          inside = i .inside;
+          budget = i .budget;
+        }
+
+    pub object-rises : rise ≡ true → PairsAnswer s before words depth count c (tree.Good here)
+    object-rises q = object-good (risen-differ (all-read .0 .tree) (ap (λ (k : Risen). k .0) (all-read .1) ∙ q))
+
+    pub object-differs : {r : Bool} → NoneTwice s words (c .word) count r → r ≡ true → PairsAnswer s before words depth count c (tree.Good here)
+    object-differs none-twice q = object-good (sym (none-twice .told (all-read .0 .tree) (all-read .0 .indexed) all-count) ∙ q)
+
+    pub object-repeats : {r : Bool} → NoneTwice s words (c .word) count r → r ≡ false → PairsAnswer s before words depth count c tree.Bad
+    object-repeats none-twice q =
+        let i = all-read .0 in
+        (object-twice count (valueIn depth) (aheadOf s c) (i .tree) (aheadOf s here) (i .reads) (sym (none-twice .told (i .tree) (i .indexed) all-count) ∙ q), kept-wider (i .kept) (omega arith) (omega (arith, passing .ready .budget)))
+
+-- a key or a value is not well formed
+pub object-bad : {s before words later : List ℕ} (depth : ℕ) {count : ℕ} {first k : Risen} {n : ℕ} {c here : Cursor}
+    → Passing (pairs-kind s depth) s before words first k count (2 * count) n (2 * n) c here
+    → 0 < n
+    → (pairIn (valueIn depth) (aheadOf s here) ≡ none) × Kept words later (here .word) maxRuleEntries
+    → PairsAnswer s before later depth count c tree.Bad
+object-bad {s} depth {count} {c} passing h bad =
+    let all = siblings-bad passing h bad in
+    (object-unread count (valueIn depth) (aheadOf s c) (all .0), all .1)

@@ -12,19 +12,22 @@ use Rattle.rule.specs.IndexLaws.{Agree, agree-within, agree-then, agree-
 use Rattle.rule.specs.Read.{aheadOf, Kept, Ready, Indexed}
 use Rattle.rule.proofs.KeptLaws.{kept-all, kept-then, agree-below}
 
--- A kind of siblings: each reader is told what the one before it read.
+-- A kind of siblings. What is carried along goes from each to the next; `ending` is what is carried behind the last.
 pub record Siblings (K E T : Type 0) : Type 1 where
-  pub item : K → Reader Ahead E
-  pub all : K → ℕ → Reader Ahead T
-  pub told : E → K
+  pub item : Reader Ahead E
+  pub all : ℕ → Reader Ahead T
+  pub told : K → E → K
+  pub ending : K → T → K
   pub none-of : T
   pub cons : E → T → T
   pub ItemAt : List ℕ → ℕ → E → Type 0
   pub AllAt : List ℕ → ℕ → T → Type 0
   pub itemSize : E → ℕ
   pub allSize : T → ℕ
-  pub all-zero : (k : K) (a : Ahead) → all k 0 a ≡ some (none-of, a)
-  pub all-suc : (k : K) (n : ℕ) (a : Ahead) → all k (suc n) a ≡ andThen (item k a) (λ e. all (told e) n >>= λ t. pure (cons e t))
+  pub all-zero : (a : Ahead) → all 0 a ≡ some (none-of, a)
+  pub all-suc : (n : ℕ) (a : Ahead) → all (suc n) a ≡ andThen (item a) (λ e. all n >>= λ t. pure (cons e t))
+  pub none-ending : (k : K) → ending k none-of ≡ k
+  pub cons-ending : (k : K) (e : E) (t : T) → ending k (cons e t) ≡ ending (told k e) t
   pub none-at : (words : List ℕ) (i : ℕ) → AllAt words i none-of
   pub cons-at : (words : List ℕ) (i : ℕ) (e : E) (t : T) → ItemAt words i e → AllAt words (i + itemSize e) t → AllAt words i (cons e t)
   pub none-size : allSize none-of ≡ 0
@@ -34,7 +37,8 @@ pub record Siblings (K E T : Type 0) : Type 1 where
 -- `count` siblings, of `cost` entries, were announced at `c`; `n` of them, of `paid` entries, lie ahead of `here`
 pub record Passing {K E T : Type 0} (S : Siblings K E T) (s before words : List ℕ) (first k : K) (count cost n paid : ℕ) (c here : Cursor) : Type 0 where
   pub done : T → T
-  pub onward : S .all first count (aheadOf s c) ≡ andThen (S .all k n (aheadOf s here)) (λ t. pure (done t))
+  pub onward : S .all count (aheadOf s c) ≡ andThen (S .all n (aheadOf s here)) (λ t. pure (done t))
+  pub carried : (t : T) → S .ending first (done t) ≡ S .ending k t
   pub indexed : (later : List ℕ) (t : T) → Agree words later (c .word) (here .word) → S .AllAt later (here .word) t → S .AllAt later (c .word) (done t)
   pub size : (t : T) → c .word + S .allSize (done t) ≡ here .word + S .allSize t
   pub kept : Kept before words (c .word) (here .word)
@@ -59,7 +63,8 @@ pub siblings-begin : {K E T : Type 0} (S : Siblings K E T) {s words : List ℕ} 
 siblings-begin S {s} k count {c} ready =
     record {
       done = λ t. t;
-      onward = then-pure (S .all k count (aheadOf s c));
+      onward = then-pure (S .all count (aheadOf s c));
+      carried = λ t. refl;
       indexed = λ later t agree at. at;
       size = λ t. refl;
       kept = kept-all;
@@ -71,18 +76,18 @@ siblings-begin S {s} k count {c} ready =
 module _ {K E T : Type 0} {S : Siblings K E T} {s before words : List ℕ} {first k : K} {count cost n paid : ℕ} {c here : Cursor} (passing : Passing S s before words first k count cost n paid c here) where
   item-then : (o : Option (E × Ahead))
       → 0 < n
-      → S .item k (aheadOf s here) ≡ o
-      → S .all k n (aheadOf s here) ≡ andThen o (λ e. S .all (S .told e) (n - 1) >>= λ t. pure (S .cons e t))
+      → S .item (aheadOf s here) ≡ o
+      → S .all n (aheadOf s here) ≡ andThen o (λ e. S .all (n - 1) >>= λ t. pure (S .cons e t))
   item-then o h e =
       let one-more : n ≡ suc (n - 1) = omega arith in
-      ap (λ (n : ℕ). S .all k n (aheadOf s here)) one-more
-      ∙ S .all-suc k (n - 1) (aheadOf s here)
-      ∙ ap (λ o. andThen o (λ e. S .all (S .told e) (n - 1) >>= λ t. pure (S .cons e t))) e
+      ap (λ (n : ℕ). S .all n (aheadOf s here)) one-more
+      ∙ S .all-suc (n - 1) (aheadOf s here)
+      ∙ ap (λ o. andThen o (λ e. S .all (n - 1) >>= λ t. pure (S .cons e t))) e
 
   pub siblings-bad : {later : List ℕ}
       → 0 < n
-      → (S .item k (aheadOf s here) ≡ none) × Kept words later (here .word) maxRuleEntries
-      → (S .all first count (aheadOf s c) ≡ none) × Kept before later (c .word) maxRuleEntries
+      → (S .item (aheadOf s here) ≡ none) × Kept words later (here .word) maxRuleEntries
+      → (S .all count (aheadOf s c) ≡ none) × Kept before later (c .word) maxRuleEntries
   unfolding andThen
   siblings-bad h bad =
       (passing .onward ∙ ap (λ o. andThen o (λ t. pure (passing .done t))) (item-then none h (bad .0)), kept-then (passing .kept) (bad .1) (omega arith) (passing .rises) (omega (arith, passing .ready .budget)) (omega arith))
@@ -90,16 +95,17 @@ module _ {K E T : Type 0} {S : Siblings K E T} {s before words : List ℕ} {firs
   pub siblings-next : (rest : ℕ) {later : List ℕ} {spent : ℕ} {next : Cursor}
       → 0 < n
       → spent + rest ≡ paid
-      → (item : Indexed (S .item k) (S .ItemAt) (S .itemSize) s words later spent here next)
-      → Passing S s before later first (S .told (item .tree)) count cost (n - 1) rest c next
+      → (item : Indexed (S .item) (S .ItemAt) (S .itemSize) s words later spent here next)
+      → Passing S s before later first (S .told k (item .tree)) count cost (n - 1) rest c next
   unfolding andThen _>>=_ pure
   siblings-next rest {later} {next} h e item =
       let v = item .tree in
-      let step : S .all k n (aheadOf s here) ≡ andThen (S .all (S .told v) (n - 1) (aheadOf s next)) (λ t. pure (S .cons v t)) = item-then (some (v, aheadOf s next)) h (item .reads) in
+      let step : S .all n (aheadOf s here) ≡ andThen (S .all (n - 1) (aheadOf s next)) (λ t. pure (S .cons v t)) = item-then (some (v, aheadOf s next)) h (item .reads) in
       let rises : here .word ≤ next .word = omega (arith, item .size) in
       record {
         done = λ t. passing .done (S .cons v t);
-        onward = passing .onward ∙ ap (λ o. andThen o (λ t. pure (passing .done t))) step ∙ then-twice (passing .done) (S .cons v) (S .all (S .told v) (n - 1) (aheadOf s next));
+        onward = passing .onward ∙ ap (λ o. andThen o (λ t. pure (passing .done t))) step ∙ then-twice (passing .done) (S .cons v) (S .all (n - 1) (aheadOf s next));
+        carried = λ t. passing .carried (S .cons v t) ∙ S .cons-ending k v t;
         indexed =
             λ last t agree at.
             passing .indexed last (S .cons v t)
@@ -114,15 +120,22 @@ module _ {K E T : Type 0} {S : Siblings K E T} {s before words : List ℕ} {firs
         budget = omega arith;
       }
 
-  pub siblings-end : n ≡ 0 → paid ≡ 0 → Indexed (S .all first count) (S .AllAt) (S .allSize) s before words cost c here
+  -- all have been read, and what is carried behind the last is what is at hand
+  pub siblings-ended : n ≡ 0 → paid ≡ 0
+      → (i : Indexed (S .all count) (S .AllAt) (S .allSize) s before words cost c here) × (S .ending first (i .tree) ≡ k)
   unfolding andThen pure
-  siblings-end f e =
-      record {
-        tree = passing .done (S .none-of);
-        reads = passing .onward ∙ ap (λ (n : ℕ). andThen (S .all k n (aheadOf s here)) (λ t. pure (passing .done t))) f ∙ ap (λ o. andThen o (λ t. pure (passing .done t))) (S .all-zero k (aheadOf s here));
-        indexed = passing .indexed words (S .none-of) agree-same (S .none-at words (here .word));
-        size = omega (arith, passing .size (S .none-of), S .none-size);
-        kept = passing .kept;
-        inside = passing .ready .inside;
-        budget = omega arith;
-      }
+  siblings-ended f e = (
+    record {
+      tree = passing .done (S .none-of);
+      reads = passing .onward ∙ ap (λ (n : ℕ). andThen (S .all n (aheadOf s here)) (λ t. pure (passing .done t))) f ∙ ap (λ o. andThen o (λ t. pure (passing .done t))) (S .all-zero (aheadOf s here));
+      indexed = passing .indexed words (S .none-of) agree-same (S .none-at words (here .word));
+      size = omega (arith, passing .size (S .none-of), S .none-size);
+      kept = passing .kept;
+      inside = passing .ready .inside;
+      budget = omega arith;
+    },
+    passing .carried (S .none-of) ∙ S .none-ending k,
+  )
+
+  pub siblings-end : n ≡ 0 → paid ≡ 0 → Indexed (S .all count) (S .AllAt) (S .allSize) s before words cost c here
+  siblings-end f e = siblings-ended f e .0

@@ -10,7 +10,7 @@ use Rattle.sheet.specs.Places.{ReadsTo, valueOf, valueCount}
 use Rattle.sheet.specs.declared.rule_heads.ValueHead.{ValueHead}
 use Rattle.sheet.specs.declared.rule_heads.ValueHead.the-variants as head
 use Rattle.definition.specs.Limits.{maxRuleEntries}
-use Rattle.definition.specs.Decode.{Ahead, valueIn, valuesOf, pairsOf}
+use Rattle.definition.specs.Decode.{Ahead, valueIn, valuesOf, objectOf}
 use Rattle.definition.specs.Decode as decode
 use Rattle.definition.specs.Within.{pairsEntries, valueEntries, valuesEntries}
 use Rattle.rule.specs.declared.cursor.Cursor.{Cursor}
@@ -118,7 +118,7 @@ module _ (s words : List ℕ) (depth behind : ℕ) (c : Cursor) (h : ValueHead) 
         (values-held s (c .word + 1) (valueIn (depth - 1)) ahead (aheadOf s next) (within .tree) (held-values s h n (sym e)) (omega arith) (within .reads))
     held-answer next {x} (held.Pairs n) e f ready word inner =
         let within = rw f at inner in
-        value-closed (pairsOf n none (valueIn (depth - 1))) (PairsAt s) pairsEntries (λ words later i ps at agree. pairs-frame s words later ps i at agree) s words mid c next depth (depth - 1) behind (2 * n) x (objectHead n) ready below-depth
+        value-closed (objectOf n (valueIn (depth - 1))) (PairsAt s) pairsEntries (λ words later i ps at agree. pairs-frame s words later ps i at agree) s words mid c next depth (depth - 1) behind (2 * n) x (objectHead n) ready below-depth
         (reads .reads ∙ ap (λ h. some (h, drop behind s)) (sym (held-pairs s h n (sym e))))
         (omega arith)
         word

@@ -2,14 +2,14 @@
 use Prim.Native.Nat.{ℕ, zero, suc, _+_, _*_, _≤_, _<_}
 use mathlib.Core.Bool.{Bool, true, false}
 use mathlib.Core.List.{List}
-use mathlib.Core.Option.{Option, none, some}
+use mathlib.Core.Option.{Option, none, some, Option·none-ne-some}
 use mathlib.Core.Path.{_≡_, refl, sym, ap, _∙_}
 use native.Mathlib.Omega.{arith}
 use Rattle.sheet.specs.Reader.{Reader, pure, refuse, ensure, andThen, _>>=_, _>>_}
-use Rattle.sheet.specs.Order.{follows}
+use Rattle.sheet.specs.Order.{noneTwice}
 use Rattle.sheet.specs.Entries.{ValueHead, constantHead, numberHead, stringHead, arrayHead, objectHead, valueHead, keyHead}
 use Rattle.definition.specs.Tree.{Text, Value, constant, number, string, array, object, Values, noValues, value, Pairs, noPairs, pair}
-use Rattle.definition.specs.Decode.{Ahead, entered, entry, valuesOf, pairsOf, valueOf, valueIn}
+use Rattle.definition.specs.Decode.{Ahead, entered, entry, valuesOf, pairsOf, keysOf, objectOf, valueOf, valueIn}
 use Rattle.definition.specs.Within.{pairsEntries, valueEntries, valuesEntries}
 use Rattle.rule.specs.Index.{countOfValues, countOfPairs, EntryAt, ValueAt, ValuesAt, PairsAt}
 use Rattle.rule.specs.Read.{pairIn}
@@ -58,47 +58,80 @@ values-count (suc n) p a b vs e =
     let y : countOfValues (x .others) ≡ n = values-count n p (x .mid) b (x .others) (x .areOthers) in
     ap countOfValues (sym (x .isFirst)) ∙ omega arith
 
-pub pairs-none : (before : Option Text) (p : Reader Ahead Value) (a b : Ahead) (ps : Pairs)
-    → pairsOf 0 before p a ≡ some (ps, b)
-    → (noPairs ≡ ps) × (a ≡ b)
+pub pairs-none : (p : Reader Ahead Value) (a b : Ahead) (ps : Pairs) → pairsOf 0 p a ≡ some (ps, b) → (noPairs ≡ ps) × (a ≡ b)
 unfolding pairsOf pure
-pairs-none before p a b ps e = some-both e
+pairs-none p a b ps e = some-both e
 
 module _ (n : ℕ) (p : Reader Ahead Value) where
   abbrev pairs-behind : Text × Value → Reader Ahead Pairs
-  pairs-behind kv = pairsOf n (some (kv .0)) p >>= λ others. pure (pair (kv .0) (kv .1) others)
+  pairs-behind kv = pairsOf n p >>= λ others. pure (pair (kv .0) (kv .1) others)
 
   -- a key, and its value
-  pub pairs-first : (before : Option Text) (a : Ahead) → pairsOf (suc n) before p a ≡ andThen (pairIn before p a) pairs-behind
-  unfolding pairsOf pairIn _>>=_ _>>_ ensure andThen pure
-  pairs-first before a = key (entry keyHead a)
+  pub pairs-first : (a : Ahead) → pairsOf (suc n) p a ≡ andThen (pairIn p a) pairs-behind
+  unfolding pairsOf pairIn _>>=_ andThen pure
+  pairs-first a = key (entry keyHead a)
     where
       with-value : (k : Text) (o : Option (Value × Ahead))
           → andThen o (λ v. pairs-behind (k, v)) ≡ andThen (andThen o (λ v. pure (k, v))) pairs-behind
       with-value k none = refl
       with-value k (some r) = refl
 
-      ordered : (b : Bool) (k : Text) (m : Ahead)
-          → (ensure b >> (p >>= λ v. pairs-behind (k, v))) m ≡ andThen ((ensure b >> (p >>= λ v. pure (k, v))) m) pairs-behind
-      ordered false k m = refl
-      ordered true k m = with-value k (p m)
-
       key : (o : Option ((ℕ × Text) × Ahead))
-          → andThen o (λ k. ensure (follows before (k .1)) >> (p >>= λ v. pairs-behind (k .1, v)))
-          ≡ andThen (andThen o (λ k. ensure (follows before (k .1)) >> (p >>= λ v. pure (k .1, v)))) pairs-behind
+          → andThen o (λ k. p >>= λ v. pairs-behind (k .1, v)) ≡ andThen (andThen o (λ k. p >>= λ v. pure (k .1, v))) pairs-behind
       key none = refl
-      key (some r) = ordered (follows before (r .0 .1)) (r .0 .1) (r .1)
+      key (some r) = with-value (r .0 .1) (p (r .1))
 
-pub pairs-count : (n : ℕ) (before : Option Text) (p : Reader Ahead Value) (a b : Ahead) (ps : Pairs)
-    → pairsOf n before p a ≡ some (ps, b)
-    → countOfPairs ps ≡ n
+pub pairs-count : (n : ℕ) (p : Reader Ahead Value) (a b : Ahead) (ps : Pairs) → pairsOf n p a ≡ some (ps, b) → countOfPairs ps ≡ n
 unfolding countOfPairs _>>=_ pure
-pairs-count zero before p a b ps e = rw (← (pairs-none before p a b ps e .0))
-pairs-count (suc n) before p a b ps e =
-    let x = then-some (pairIn before p a) (pairs-behind n p) (sym (pairs-first n p before a) ∙ e) in
-    let y = then-some (pairsOf n (some (x .fst .0)) p (x .mid)) (λ others. pure (pair (x .fst .0) (x .fst .1) others)) (x .second) in
-    let z : countOfPairs (y .fst) ≡ n = pairs-count n (some (x .fst .0)) p (x .mid) (y .mid) (y .fst) (y .first) in
+pairs-count zero p a b ps e = rw (← (pairs-none p a b ps e .0))
+pairs-count (suc n) p a b ps e =
+    let x = then-some (pairIn p a) (pairs-behind n p) (sym (pairs-first n p a) ∙ e) in
+    let y = then-some (pairsOf n p (x .mid)) (λ others. pure (pair (x .fst .0) (x .fst .1) others)) (x .second) in
+    let z : countOfPairs (y .fst) ≡ n = pairs-count n p (x .mid) (y .mid) (y .fst) (y .first) in
     ap countOfPairs (sym (some-both (y .second) .0)) ∙ omega arith
+
+-- An object's keys and values, by whether a key stands twice.
+module _ (n : ℕ) (p : Reader Ahead Value) (a : Ahead) where
+  tested : Option (Pairs × Ahead) → Option (Pairs × Ahead)
+  tested o = andThen o (λ ps. ensure (noneTwice (keysOf ps)) >> pure ps)
+
+  object-tested : objectOf n p a ≡ tested (pairsOf n p a)
+  unfolding tested objectOf _>>=_
+  object-tested = refl
+
+  pub object-unread : pairsOf n p a ≡ none → objectOf n p a ≡ none
+  unfolding tested andThen
+  object-unread e = object-tested ∙ ap tested e
+
+  module _ (ps : Pairs) (b : Ahead) (read : pairsOf n p a ≡ some (ps, b)) where
+    told-apart : (t : Bool) → noneTwice (keysOf ps) ≡ t → objectOf n p a ≡ (ensure t >> pure ps) b
+    unfolding tested andThen
+    told-apart t e = object-tested ∙ ap tested read ∙ ap (λ (t : Bool). (ensure t >> pure ps) b) e
+
+    pub object-read : noneTwice (keysOf ps) ≡ true → objectOf n p a ≡ some (ps, b)
+    unfolding _>>_ _>>=_ ensure andThen pure
+    object-read e = told-apart true e
+
+    pub object-twice : noneTwice (keysOf ps) ≡ false → objectOf n p a ≡ none
+    unfolding _>>_ _>>=_ ensure andThen pure
+    object-twice e = told-apart false e
+
+passed : (t : Bool) (r : Pairs × Ahead) {u : Pairs × Ahead} → (ensure t >> pure (r .0)) (r .1) ≡ some u → some r ≡ some u
+unfolding _>>_ _>>=_ ensure andThen pure
+passed true r e = e
+passed false r e = absurd (Option·none-ne-some _ e)
+
+tested-inv : (o : Option (Pairs × Ahead)) {u : Pairs × Ahead} → andThen o (λ ps. ensure (noneTwice (keysOf ps)) >> pure ps) ≡ some u → o ≡ some u
+unfolding andThen
+tested-inv none e = e
+tested-inv (some r) e = passed (noneTwice (keysOf (r .0))) r e
+
+object-pairs : (n : ℕ) (p : Reader Ahead Value) (a b : Ahead) (ps : Pairs) → objectOf n p a ≡ some (ps, b) → pairsOf n p a ≡ some (ps, b)
+unfolding tested
+object-pairs n p a b ps e = tested-inv (pairsOf n p a) (sym (object-tested n p a) ∙ e)
+
+pub object-count : (n : ℕ) (p : Reader Ahead Value) (a b : Ahead) (ps : Pairs) → objectOf n p a ≡ some (ps, b) → countOfPairs ps ≡ n
+object-count n p a b ps e = pairs-count n p a b ps (object-pairs n p a b ps e)
 
 -- What a value's head announces: so many values, where it is no object.
 pub data HoldsValues : ValueHead → ℕ → Type 0 where
@@ -168,7 +201,7 @@ module _ (sheet : List ℕ) (e : ℕ) (p : Reader Ahead Value) (a b : Ahead) whe
 
   pub pairs-held : (n : ℕ) (ps : Pairs)
       → 2 * n ≤ a .left
-      → pairsOf n none p (paid (2 * n) a) ≡ some (ps, b)
+      → objectOf n p (paid (2 * n) a) ≡ some (ps, b)
       → Holder sheet e (objectHead n) p a b (pairsEntries ps) (λ words i. PairsAt sheet words i ps)
   unfolding valueOf pure _>>=_ _>>_ andThen valueEntries
   pairs-held n ps q f =
@@ -176,7 +209,7 @@ module _ (sheet : List ℕ) (e : ℕ) (p : Reader Ahead Value) (a b : Ahead) whe
         tree = object e ps;
         reads = rw (announced (2 * n) a q, f);
         isSize = refl;
-        isAt = λ words i at inside. (rw (← pairs-count n none p (paid (2 * n) a) b ps f) at at, inside);
+        isAt = λ words i at inside. (rw (← object-count n p (paid (2 * n) a) b ps f) at at, inside);
       }
 
 module _ (e : ℕ) (p : Reader Ahead Value) (a : Ahead) (n : ℕ) where
@@ -184,40 +217,35 @@ module _ (e : ℕ) (p : Reader Ahead Value) (a : Ahead) (n : ℕ) where
   unfolding valueOf _>>=_ _>>_ andThen
   pairs-unpaid q = rw (not-announced (2 * n) a q)
 
-  pub pairs-bad : 2 * n ≤ a .left → pairsOf n none p (paid (2 * n) a) ≡ none → valueOf e (objectHead n) p a ≡ none
+  pub pairs-bad : 2 * n ≤ a .left → objectOf n p (paid (2 * n) a) ≡ none → valueOf e (objectHead n) p a ≡ none
   unfolding valueOf _>>=_ _>>_ andThen
   pairs-bad q f = rw (announced (2 * n) a q, f)
 
 -- Each way through the reader of a key and its value.
-module _ (previous : Option Text) (p : Reader Ahead Value) (a : Ahead) where
+module _ (p : Reader Ahead Value) (a : Ahead) where
   with-key : Option (List ℕ × List ℕ) → Option ((Text × Value) × Ahead)
-  with-key o = andThen (entered (a .next) (a .left) o) (λ k. ensure (follows previous (k .1)) >> (p >>= λ v. pure (k .1, v)))
+  with-key o = andThen (entered (a .next) (a .left) o) (λ k. p >>= λ v. pure (k .1, v))
 
-  pair-with-key : pairIn previous p a ≡ with-key (keyHead (a .rest))
+  pair-with-key : pairIn p a ≡ with-key (keyHead (a .rest))
   unfolding with-key pairIn _>>=_ entry
   pair-with-key = refl
 
-  pub pair-keyless : keyHead (a .rest) ≡ none → pairIn previous p a ≡ none
+  pub pair-keyless : keyHead (a .rest) ≡ none → pairIn p a ≡ none
   unfolding with-key andThen entered
   pair-keyless e = pair-with-key ∙ ap with-key e
 
   module _ (key : Text) (behind : List ℕ) (head : keyHead (a .rest) ≡ some (key, behind)) where
-    pair-headed : (b : Bool) → follows previous key ≡ b → pairIn previous p a ≡ (ensure b >> (p >>= λ v. pure (key, v))) (record { next = a .next + 1; left = a .left; rest = behind })
+    pair-headed : pairIn p a ≡ (p >>= λ v. pure (key, v)) (record { next = a .next + 1; left = a .left; rest = behind })
     unfolding with-key andThen entered
-    pair-headed b e = pair-with-key ∙ ap with-key head ∙ ap (λ b. (ensure b >> (p >>= λ v. pure (key, v))) (record { next = a .next + 1; left = a .left; rest = behind })) e
+    pair-headed = pair-with-key ∙ ap with-key head
 
-    pub pair-unordered : follows previous key ≡ false → pairIn previous p a ≡ none
-    unfolding _>>_ _>>=_ ensure andThen
-    pair-unordered e = pair-headed false e
+    pub pair-valueless : p (record { next = a .next + 1; left = a .left; rest = behind }) ≡ none → pairIn p a ≡ none
+    unfolding _>>=_ andThen
+    pair-valueless f = pair-headed ∙ rw f
 
-    pub pair-valueless : follows previous key ≡ true → p (record { next = a .next + 1; left = a .left; rest = behind }) ≡ none → pairIn previous p a ≡ none
-    unfolding _>>_ _>>=_ ensure andThen
-    pair-valueless e f = pair-headed true e ∙ rw f
-
-pub pair-read : (previous : Option Text) (p : Reader Ahead Value) (a b : Ahead) (key : Text) (behind : List ℕ) (v : Value)
+pub pair-read : (p : Reader Ahead Value) (a b : Ahead) (key : Text) (behind : List ℕ) (v : Value)
     → keyHead (a .rest) ≡ some (key, behind)
-    → follows previous key ≡ true
     → p (record { next = a .next + 1; left = a .left; rest = behind }) ≡ some (v, b)
-    → pairIn previous p a ≡ some ((key, v), b)
-unfolding _>>_ _>>=_ ensure andThen pure
-pair-read previous p a b key behind v head e f = pair-headed previous p a key behind head true e ∙ rw f
+    → pairIn p a ≡ some ((key, v), b)
+unfolding _>>=_ andThen pure
+pair-read p a b key behind v head f = pair-headed p a key behind head ∙ rw f

@@ -1,21 +1,19 @@
 -- What the readers of subtrees answer: what the decoder answers on the same bytes, and where it gives a tree, the tree's index.
 use Prim.Native.Nat.{ℕ, _+_, _*_, _≤_, _<_}
 use mathlib.Core.List.{List}
-use mathlib.Core.Option.{Option, none, some}
+use mathlib.Core.Option.{none, some}
 use mathlib.Core.Path.{_≡_}
 use lib.ListN.{length, getD, drop}
-use Rattle.sheet.specs.Reader.{Reader, _>>=_, _>>_, ensure, pure}
-use Rattle.sheet.specs.Order.{follows}
+use Rattle.sheet.specs.Reader.{Reader, _>>=_, pure}
 use Rattle.sheet.specs.Entries.{keyHead}
-use Rattle.sheet.specs.Parts.{partOf, optionalOf}
-use Rattle.sheet.specs.declared.part.OptionalPart.{OptionalPart}
+use Rattle.sheet.specs.Parts.{partOf}
 use Rattle.sheet.specs.declared.rule_heads.ValueHead.{ValueHead}
 use Rattle.sheet.specs.declared.rule_heads.ValueHead.the-variants as value-head
 use Rattle.sheet.specs.declared.rule_heads.ConditionHead.{ConditionHead}
 use Rattle.sheet.specs.declared.rule_heads.ConditionHead.the-variants as condition-head
 use Rattle.definition.specs.Limits.{maxSheetBytes, maxRuleEntries}
 use Rattle.definition.specs.Tree.{Text, Value, Values, Pairs}
-use Rattle.definition.specs.Decode.{Ahead, entry, valueIn, valuesOf, pairsOf, conditionIn, conditionsOf}
+use Rattle.definition.specs.Decode.{Ahead, entry, valueIn, valuesOf, objectOf, conditionIn, conditionsOf}
 use Rattle.definition.specs.Within.{conditionEntries, conditionsEntries, pairsEntries, valueEntries, valuesEntries}
 use Rattle.rule.specs.declared.cursor.Cursor.{Cursor}
 use Rattle.rule.specs.declared.cursor.TreeRead.{TreeRead}
@@ -31,11 +29,10 @@ use Rattle.rule.specs.Index.{EntryAt, ValueAt, ValuesAt, PairsAt, Condit
 abbrev pub aheadOf : List ℕ → Cursor → Ahead
 aheadOf s c = record { next = c .word + 1; left = c .left; rest = drop (c .at) s }
 
--- one key of an object with its value; keys rise
-unfoldable pub pairIn : Option Text → Reader Ahead Value → Reader Ahead (Text × Value)
-pairIn before p = do
+-- one key of an object with its value
+unfoldable pub pairIn : Reader Ahead Value → Reader Ahead (Text × Value)
+pairIn p = do
   k ← entry keyHead
-  ensure (follows before (k .1))
   v ← p
   pure (k .1, v)
 
@@ -108,14 +105,13 @@ ValueAnswer s before after depth c r = Answers (valueIn depth) (ValueAt s) value
 abbrev pub ValuesAnswer : (s before after : List ℕ) (depth n : ℕ) (c : Cursor) → TreeRead → Type 0
 ValuesAnswer s before after depth n c r = Answers (valuesOf n (valueIn depth)) (ValuesAt s) valuesEntries s before after n c r
 
-abbrev pub PairAnswer : (s before after : List ℕ) (depth : ℕ) (previous : OptionalPart) (c : Cursor) → PairRead → Type 0
-PairAnswer s before after depth previous c (pair.Good key next) =
-    (i : Indexed (pairIn (optionalOf s previous) (valueIn depth)) (PairAt s) sizeOfPair s before after 2 c next) × (i .tree .0 ≡ partOf s key)
-PairAnswer s before after depth previous c pair.Bad =
-    (pairIn (optionalOf s previous) (valueIn depth) (aheadOf s c) ≡ none) × Kept before after (c .word) maxRuleEntries
+abbrev pub PairAnswer : (s before after : List ℕ) (depth : ℕ) (c : Cursor) → PairRead → Type 0
+PairAnswer s before after depth c (pair.Good key next) =
+    (i : Indexed (pairIn (valueIn depth)) (PairAt s) sizeOfPair s before after 2 c next) × (i .tree .0 ≡ partOf s key)
+PairAnswer s before after depth c pair.Bad = (pairIn (valueIn depth) (aheadOf s c) ≡ none) × Kept before after (c .word) maxRuleEntries
 
 abbrev pub PairsAnswer : (s before after : List ℕ) (depth n : ℕ) (c : Cursor) → TreeRead → Type 0
-PairsAnswer s before after depth n c r = Answers (pairsOf n none (valueIn depth)) (PairsAt s) pairsEntries s before after (2 * n) c r
+PairsAnswer s before after depth n c r = Answers (objectOf n (valueIn depth)) (PairsAt s) pairsEntries s before after (2 * n) c r
 
 abbrev pub HeldAnswer : (s before after : List ℕ) (depth : ℕ) (what : Held) (c : Cursor) → TreeRead → Type 0
 HeldAnswer s before after depth (held.Values n) c r = ValuesAnswer s before after depth n c r

@@ -52,9 +52,9 @@ fn operands_of(h: ConditionHead) -> Operands
 }
 
 // One condition. `depth` is how deep it may nest.
-pub fn read_condition(s: &[u8], scratch: &mut [u32], depth: usize, c: Cursor) -> TreeRead
-    requires { ⌜ Ready (now s) (now scratch) 1 c ⌝ }
-    ensures { λ r. ⌜ ConditionAnswer (now (s .entry)) (now (scratch .entry)) (now (scratch .exit)) depth c r ⌝ }
+pub fn read_condition(s: &[u8], words: &mut [u32], depth: usize, c: Cursor) -> TreeRead
+    requires { ⌜ Ready (now s) (now words) 1 c ⌝ }
+    ensures { λ r. ⌜ ConditionAnswer (now (s .entry)) (now (words .entry)) (now (words .exit)) depth c r ⌝ }
 {
     if depth == 0 {
         return TreeRead::Bad;
@@ -75,27 +75,27 @@ pub fn read_condition(s: &[u8], scratch: &mut [u32], depth: usize, c: Cursor) ->
         word: word + 1,
         left: left - cost,
     };
-    let TreeRead::Good(middle) = read_values(s, scratch, MAX_VALUE_NESTING, operands.values, inner)
+    let TreeRead::Good(middle) = read_values(s, words, MAX_VALUE_NESTING, operands.values, inner)
     else {
         return TreeRead::Bad;
     };
-    let TreeRead::Good(next) = read_conditions(s, scratch, depth - 1, operands.conditions, middle)
+    let TreeRead::Good(next) = read_conditions(s, words, depth - 1, operands.conditions, middle)
     else {
         return TreeRead::Bad;
     };
-    scratch[word] = word_of(at, next.word);
+    words[word] = word_of(at, next.word);
     TreeRead::Good(next)
 }
 
 // `count` conditions, side by side.
-fn read_conditions(s: &[u8], scratch: &mut [u32], depth: usize, count: usize, c: Cursor) -> TreeRead
-    requires { ⌜ Ready (now s) (now scratch) count c ⌝ }
-    ensures { λ r. ⌜ ConditionsAnswer (now (s .entry)) (now (scratch .entry)) (now (scratch .exit)) depth count c r ⌝ }
+fn read_conditions(s: &[u8], words: &mut [u32], depth: usize, count: usize, c: Cursor) -> TreeRead
+    requires { ⌜ Ready (now s) (now words) count c ⌝ }
+    ensures { λ r. ⌜ ConditionsAnswer (now (s .entry)) (now (words .entry)) (now (words .exit)) depth count c r ⌝ }
 {
     let mut here = c;
     let mut n = count;
     while 0 < n {
-        let TreeRead::Good(next) = read_condition(s, scratch, depth, here) else {
+        let TreeRead::Good(next) = read_condition(s, words, depth, here) else {
             return TreeRead::Bad;
         };
         here = next;

@@ -4,21 +4,21 @@ ghost use mathlib.Core.Path.{_≡_};
 ghost use Rattle.rule.specs.Index.{startOf, endOf};
 
 // Where the entry of word `i` starts in the sheet.
-pub fn start_of(scratch: &[u32], i: usize) -> usize
-    ensures { λ r. ⌜ r ≡ startOf (now (scratch .entry)) i ⌝ }
+pub fn start_of(words: &[u32], i: usize) -> usize
+    ensures { λ r. ⌜ r ≡ startOf (now (words .entry)) i ⌝ }
 {
-    if i < scratch.len() {
-        return scratch[i] as usize / WORD_ENTRIES;
+    if i < words.len() {
+        return words[i] as usize / WORD_ENTRIES;
     }
     0
 }
 
 // The word behind the subtree of word `i`: that of its next sibling, if it has one.
-pub fn end_of(scratch: &[u32], i: usize) -> usize
-    ensures { λ r. ⌜ r ≡ endOf (now (scratch .entry)) i ⌝ }
+pub fn end_of(words: &[u32], i: usize) -> usize
+    ensures { λ r. ⌜ r ≡ endOf (now (words .entry)) i ⌝ }
 {
-    if i < scratch.len() {
-        return scratch[i] as usize % WORD_ENTRIES;
+    if i < words.len() {
+        return words[i] as usize % WORD_ENTRIES;
     }
     0
 }

@@ -1,6 +1,7 @@
 // A rule sheet, read once: whether it is well formed, and an index of its entries in the lent scratch.
 pub mod index; // index.rt: the words of the index
 mod cursor; // cursor.rt: where reading stands
+mod keys; // keys.rt: the keys of an object
 mod value; // value.rt: values, with all that they hold
 mod condition; // condition.rt: conditions, with all that they hold
 
@@ -44,14 +45,14 @@ fn is_template(h: RuleHead) -> bool
 }
 
 // What follows the first entry: a value under `T`, a condition under `R`.
-fn read_tree(s: &[u8], scratch: &mut [u32], is_template: bool, c: Cursor) -> TreeRead
-    requires { ⌜ Ready (now s) (now scratch) 1 c ⌝ }
-    ensures { λ r. ⌜ TreeAnswer (now (s .entry)) (now (scratch .entry)) (now (scratch .exit)) «is_template» c r ⌝ }
+fn read_tree(s: &[u8], words: &mut [u32], is_template: bool, c: Cursor) -> TreeRead
+    requires { ⌜ Ready (now s) (now words) 1 c ⌝ }
+    ensures { λ r. ⌜ TreeAnswer (now (s .entry)) (now (words .entry)) (now (words .exit)) «is_template» c r ⌝ }
 {
     if is_template {
-        return read_value(s, scratch, MAX_VALUE_NESTING, c);
+        return read_value(s, words, MAX_VALUE_NESTING, c);
     }
-    read_condition(s, scratch, MAX_CONDITION_NESTING, c)
+    read_condition(s, words, MAX_CONDITION_NESTING, c)
 }
 
 // The words of the index are written, and no others.

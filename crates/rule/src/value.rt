@@ -2,6 +2,7 @@
 use crate::cursor::Cursor;
 use crate::cursor::TreeRead;
 use crate::cursor::word_of;
+use crate::keys::none_twice;
 use lines::rule_sheet::key_head;
 use lines::rule_sheet::value_head;
 use sheet::order::ByteOrder;
@@ -12,6 +13,7 @@ use sheet::rule_heads::KeyRead;
 use sheet::rule_heads::ValueHead;
 use sheet::rule_heads::ValueRead;
 ghost use mathlib.Core.Path.{_≡_};
+ghost use mathlib.Core.Bool.{_&&_};
 ghost use Prim.Native.Nat.{_*_, _≤_};
 ghost use Rattle.sheet.specs.Entries.{maxCount};
 ghost use Rattle.sheet.specs.Order.{follows};
@@ -57,7 +59,7 @@ fn cost_of(held: Held) -> usize
     }
 }
 
-// Whether a key may stand behind the one before it, if there is one.
+// Whether a key stands behind the one before it in the order of bytes, if there is one.
 fn is_next_key(s: &[u8], previous: OptionalPart, key: Part) -> bool
     ensures { λ r. ⌜ r ≡ follows (optionalOf (now (s .entry)) previous) (partOf (now (s .entry)) key) ⌝ }
 {
@@ -71,10 +73,20 @@ fn is_next_key(s: &[u8], previous: OptionalPart, key: Part) -> bool
     }
 }
 
+// Whether keys that rose up to the one before still do.
+fn still_rise(s: &[u8], rise: bool, previous: OptionalPart, key: Part) -> bool
+    ensures { λ r. ⌜ r ≡ (rise && follows (optionalOf (now (s .entry)) previous) (partOf (now (s .entry)) key)) ⌝ }
+{
+    if rise {
+        return is_next_key(s, previous, key);
+    }
+    false
+}
+
 // One value. `depth` is how deep it may nest.
-pub fn read_value(s: &[u8], scratch: &mut [u32], depth: usize, c: Cursor) -> TreeRead
-    requires { ⌜ Ready (now s) (now scratch) 1 c ⌝ }
-    ensures { λ r. ⌜ ValueAnswer (now (s .entry)) (now (scratch .entry)) (now (scratch .exit)) depth c r ⌝ }
+pub fn read_value(s: &[u8], words: &mut [u32], depth: usize, c: Cursor) -> TreeRead
+    requires { ⌜ Ready (now s) (now words) 1 c ⌝ }
+    ensures { λ r. ⌜ ValueAnswer (now (s .entry)) (now (words .entry)) (now (words .exit)) depth c r ⌝ }
 {
     if depth == 0 {
         return TreeRead::Bad;
@@ -95,33 +107,33 @@ pub fn read_value(s: &[u8], scratch: &mut [u32], depth: usize, c: Cursor) -> Tre
         word: word + 1,
         left: left - cost,
     };
-    let TreeRead::Good(next) = read_held(s, scratch, depth - 1, held, inner) else {
+    let TreeRead::Good(next) = read_held(s, words, depth - 1, held, inner) else {
         return TreeRead::Bad;
     };
-    scratch[word] = word_of(at, next.word);
+    words[word] = word_of(at, next.word);
     TreeRead::Good(next)
 }
 
 // What a value holds, its entries announced.
-fn read_held(s: &[u8], scratch: &mut [u32], depth: usize, held: Held, c: Cursor) -> TreeRead
-    requires { ⌜ Ready (now s) (now scratch) (costOf held) c ⌝ }
-    ensures { λ r. ⌜ HeldAnswer (now (s .entry)) (now (scratch .entry)) (now (scratch .exit)) depth held c r ⌝ }
+fn read_held(s: &[u8], words: &mut [u32], depth: usize, held: Held, c: Cursor) -> TreeRead
+    requires { ⌜ Ready (now s) (now words) (costOf held) c ⌝ }
+    ensures { λ r. ⌜ HeldAnswer (now (s .entry)) (now (words .entry)) (now (words .exit)) depth held c r ⌝ }
 {
     match held {
-        Held::Values(n) => read_values(s, scratch, depth, n, c),
-        Held::Pairs(n) => read_pairs(s, scratch, depth, n, c),
+        Held::Values(n) => read_values(s, words, depth, n, c),
+        Held::Pairs(n) => read_pairs(s, words, depth, n, c),
     }
 }
 
 // `count` values, side by side.
-pub fn read_values(s: &[u8], scratch: &mut [u32], depth: usize, count: usize, c: Cursor) -> TreeRead
-    requires { ⌜ Ready (now s) (now scratch) count c ⌝ }
-    ensures { λ r. ⌜ ValuesAnswer (now (s .entry)) (now (scratch .entry)) (now (scratch .exit)) depth count c r ⌝ }
+pub fn read_values(s: &[u8], words: &mut [u32], depth: usize, count: usize, c: Cursor) -> TreeRead
+    requires { ⌜ Ready (now s) (now words) count c ⌝ }
+    ensures { λ r. ⌜ ValuesAnswer (now (s .entry)) (now (words .entry)) (now (words .exit)) depth count c r ⌝ }
 {
     let mut here = c;
     let mut n = count;
     while 0 < n {
-        let TreeRead::Good(next) = read_value(s, scratch, depth, here) else {
+        let TreeRead::Good(next) = read_value(s, words, depth, here) else {
             return TreeRead::Bad;
         };
         here = next;
@@ -130,52 +142,51 @@ pub fn read_values(s: &[u8], scratch: &mut [u32], depth: usize, count: usize, c:
     TreeRead::Good(here)
 }
 
-// A key behind the key before it, and its value.
-fn read_pair(
-    s: &[u8],
-    scratch: &mut [u32],
-    depth: usize,
-    previous: OptionalPart,
-    c: Cursor,
-) -> PairRead
-    requires { ⌜ Ready (now s) (now scratch) 2 c ⌝ }
-    ensures { λ r. ⌜ PairAnswer (now (s .entry)) (now (scratch .entry)) (now (scratch .exit)) depth previous c r ⌝ }
+// A key and its value.
+fn read_pair(s: &[u8], words: &mut [u32], depth: usize, c: Cursor) -> PairRead
+    requires { ⌜ Ready (now s) (now words) 2 c ⌝ }
+    ensures { λ r. ⌜ PairAnswer (now (s .entry)) (now (words .entry)) (now (words .exit)) depth c r ⌝ }
 {
     let at = c.at;
     let word = c.word;
     let KeyRead::Is(key, behind) = key_head(s, at) else {
         return PairRead::Bad;
     };
-    if is_next_key(s, previous, key) {
-        let inner = Cursor {
-            at: behind,
-            word: word + 1,
-            left: c.left,
-        };
-        let TreeRead::Good(next) = read_value(s, scratch, depth, inner) else {
-            return PairRead::Bad;
-        };
-        scratch[word] = word_of(at, next.word);
-        return PairRead::Good(key, next);
-    }
-    PairRead::Bad
+    let inner = Cursor {
+        at: behind,
+        word: word + 1,
+        left: c.left,
+    };
+    let TreeRead::Good(next) = read_value(s, words, depth, inner) else {
+        return PairRead::Bad;
+    };
+    words[word] = word_of(at, next.word);
+    PairRead::Good(key, next)
 }
 
-// `count` keys, each with its value.
-fn read_pairs(s: &[u8], scratch: &mut [u32], depth: usize, count: usize, c: Cursor) -> TreeRead
-    requires { ⌜ Ready (now s) (now scratch) (2 * count) c ⌝ }
-    ensures { λ r. ⌜ PairsAnswer (now (s .entry)) (now (scratch .entry)) (now (scratch .exit)) depth count c r ⌝ }
+// `count` keys, each with its value, no key twice. Keys that rise differ; where they do not, all are compared once they are read.
+fn read_pairs(s: &[u8], words: &mut [u32], depth: usize, count: usize, c: Cursor) -> TreeRead
+    requires { ⌜ Ready (now s) (now words) (2 * count) c ⌝ }
+    ensures { λ r. ⌜ PairsAnswer (now (s .entry)) (now (words .entry)) (now (words .exit)) depth count c r ⌝ }
 {
     let mut here = c;
+    let mut rise = true;
     let mut previous = OptionalPart::Absent;
     let mut n = count;
     while 0 < n {
-        let PairRead::Good(key, next) = read_pair(s, scratch, depth, previous, here) else {
+        let PairRead::Good(key, next) = read_pair(s, words, depth, here) else {
             return TreeRead::Bad;
         };
         here = next;
+        rise = still_rise(s, rise, previous, key);
         previous = OptionalPart::Is(key);
         n -= 1;
     }
-    TreeRead::Good(here)
+    if rise {
+        return TreeRead::Good(here);
+    }
+    if none_twice(s, words, c.word, count) {
+        return TreeRead::Good(here);
+    }
+    TreeRead::Bad
 }

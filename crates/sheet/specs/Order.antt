@@ -1,6 +1,6 @@
 -- The order of texts by their bytes, as numbers: the first byte that differs decides, and a text stands before its continuations.
 use Prim.Native.Nat.{ℕ}
-use mathlib.Core.Bool.{Bool, true, false, _&&_, _||_}
+use mathlib.Core.Bool.{Bool, true, false, not, _&&_, _||_}
 use mathlib.Core.List.{List, [], _∷_}
 use mathlib.Core.Option.{Option, none, some}
 use lib.Dec.{ltb, eqb}
@@ -21,3 +21,13 @@ sameBytes (a ∷ s) (b ∷ t) = eqb a b && sameBytes s t
 unfoldable pub follows : Option (List ℕ) → List ℕ → Bool
 follows none name = true
 follows (some before) name = precedes before name
+
+-- whether a text is one of several
+unfoldable pub isAmong : List ℕ → List (List ℕ) → Bool
+isAmong t [] = false
+isAmong t (first ∷ others) = sameBytes t first || isAmong t others
+
+-- whether no text stands twice, next to each other or apart
+unfoldable pub noneTwice : List (List ℕ) → Bool
+noneTwice [] = true
+noneTwice (first ∷ others) = not (isAmong first others) && noneTwice others

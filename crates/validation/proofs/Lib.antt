@@ -8,3 +8,4 @@ pub mod Widened
 pub mod Slips
 pub mod ShutOut
 pub mod Moves
+mod MemberOrder

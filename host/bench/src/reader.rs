@@ -256,20 +256,20 @@ impl Reader<'_> {
         Some(values)
     }
 
+    /// The members of an object in the order given. That a key comes again is told by the map.
     fn members(&mut self, count: usize, nesting: usize) -> Option<Map<String, Value>> {
-        let mut members: Vec<(String, Value)> = Vec::with_capacity(count);
+        let mut members = Map::with_capacity(count);
         for _ in 0..count {
             self.begin(b'K')?;
             let length = self.numeral(MAX_TEXT_BYTES)?;
             self.byte(b',')?;
             let key = self.text(length)?;
             self.byte(b'\n')?;
-            if members.last().is_some_and(|(last, _)| *last >= key) {
+            if members.insert(key, self.value(nesting)?).is_some() {
                 return None;
             }
-            members.push((key, self.value(nesting)?));
         }
-        Some(members.into_iter().collect())
+        Some(members)
     }
 }
 

@@ -32,10 +32,17 @@ pub struct Group {
     pub make: fn(usize) -> Sample,
 }
 
-pub const GROUPS: [Group; 7] = [
+pub const GROUPS: [Group; 8] = [
     Group { name: "small", unit: "fields and conditions", sizes: &[1, 2, 4, 6, 8, 12, 16], listed: 4, make: small },
     Group { name: "typical", unit: "schema entries", sizes: &[51, 101, 201, 301, 401, 511, 611], listed: 611, make: typical },
     Group { name: "wide", unit: "siblings", sizes: &[100, 200, 350, 500, 650, 800, 1_000], listed: 1_000, make: wide },
+    Group {
+        name: "keys in no order",
+        unit: "members of one object",
+        sizes: &[100, 200, 350, 500, 650, 800, 1_000],
+        listed: 1_000,
+        make: strewn_keys,
+    },
     Group { name: "deep", unit: "levels", sizes: &[8, 16, 24, 32, 40, 52, 64], listed: 64, make: deep },
     Group {
         name: "long texts",
@@ -144,6 +151,20 @@ fn wide(fields: usize) -> Sample {
     Sample::new(wide_schema(fields), format!("T\nV,6,{count},\n{}", each(count, |i| text(&format!("$fields.{}", pair_name(2 * i))))))
 }
 
+fn members(keys: impl Iterator<Item = usize>) -> String {
+    keys.map(|i| format!("K,2,{}\nV,1,0,\n", pair_name(i))).collect()
+}
+
+/// Each of the numbers once, in no order: 1,021 is a prime.
+fn strewn(count: usize) -> impl Iterator<Item = usize> {
+    (0..1_021).map(|i| i * 617 % 1_021).filter(move |i| *i < count)
+}
+
+/// An object whose keys lie in no order, none twice.
+fn strewn_keys(count: usize) -> Sample {
+    Sample::new("H,0,0,-,0\n".to_owned(), format!("T\nV,7,{count},\n{}", members(strewn(count))))
+}
+
 pub fn deep_schema(levels: usize) -> String {
     format!("H,0,1,-,0\n{}", each(levels, |i| object("n", usize::from(i + 1 < levels))))
 }
@@ -222,6 +243,8 @@ pub fn sheets() -> Vec<Sheet> {
         sheet("template, 2,046 constants", values("V,1,0,\n".to_owned(), 2_046)),
         sheet("template, 1,900 numbers", values(number("12.5e10"), 1_900)),
         sheet("template, strings of 512 bytes", values(text(&"s".repeat(512)), 57)),
+        sheet("template, 1,000 keys that rise", format!("T\nV,7,1000,\n{}", members(0..1_000))),
+        sheet("template, 1,000 keys in no order", format!("T\nV,7,1000,\n{}", members(strewn(1_000)))),
         sheet("rule, 600 pairs", format!("R,-,-,\nC,2,600,\n{}", pair.repeat(600))),
         sheet("rule, 256 levels", format!("R,-,-,\n{}C,1,1,\n", "C,4,0,\n".repeat(255))),
     ]

@@ -3,7 +3,7 @@
 use super::error::{BuildError, Nesting, start};
 use super::part::{Built, Part, lent, text};
 use crate::entries::is_number;
-use std::collections::btree_map::{BTreeMap, Entry};
+use std::collections::HashSet;
 
 /// A value of a condition or template. Strings that begin with `$`, but not with `$$`, are references.
 ///
@@ -104,12 +104,12 @@ impl Value {
         }
     }
 
-    /// An object; its keys may come in any order, none twice.
+    /// An object; its members stand in the order given, no key twice.
     ///
     /// ```
     /// # use entity_rules::{BuildError, Template, Value};
     /// let object = Value::object([("b", 2), ("a", 1)]);
-    /// assert_eq!(Template::new(object).sheet()?, b"T\nV,7,2,\nK,1,a\nV,4,1,1\nK,1,b\nV,4,1,2\n");
+    /// assert_eq!(Template::new(object).sheet()?, b"T\nV,7,2,\nK,1,b\nV,4,1,2\nK,1,a\nV,4,1,1\n");
     ///
     /// let object = Value::object([("a", 2), ("a", 1)]);
     /// assert_eq!(Template::new(object).sheet(), Err(BuildError::KeyTwice { key: "a".to_owned() }));
@@ -144,24 +144,19 @@ fn array<V: Into<Value>>(elements: impl IntoIterator<Item = V>) -> Built {
 }
 
 fn object<K: AsRef<str>, V: Into<Value>>(members: impl IntoIterator<Item = (K, V)>) -> Built {
-    let mut sorted = BTreeMap::new();
+    let mut met = HashSet::new();
+    let mut entries = Part::of_rule();
     for (key, value) in members {
         let key = text("key", key.as_ref())?;
-        match sorted.entry(key.to_owned()) {
-            Entry::Occupied(_) => {
-                return Err(BuildError::KeyTwice {
-                    key: key.to_owned(),
-                });
-            }
-            Entry::Vacant(place) => place.insert(value.into()),
-        };
+        if !met.insert(key.to_owned()) {
+            return Err(BuildError::KeyTwice {
+                key: key.to_owned(),
+            });
+        }
+        entries.add_entry(&format!("K,{},", key.len()), &[key])?;
+        entries.add(lent(&value.into().part)?)?;
     }
-    let mut members = Part::of_rule();
-    for (key, value) in &sorted {
-        members.add_entry(&format!("K,{},", key.len()), &[key])?;
-        members.add(lent(&value.part)?)?;
-    }
-    members.under(&format!("V,7,{},", sorted.len()), &[], Nesting::Values)
+    entries.under(&format!("V,7,{},", met.len()), &[], Nesting::Values)
 }
 
 impl From<bool> for Value {

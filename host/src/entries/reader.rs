@@ -3,6 +3,7 @@
 use super::{Content, Entry, Malformed};
 use crate::build::Nesting;
 use crate::limits::{MAX_SHEET_BYTES, MAX_TEXT_BYTES};
+use std::collections::HashSet;
 
 pub type Read<T> = Result<T, Malformed>;
 
@@ -201,17 +202,25 @@ impl<'a> Reader<'a> {
         }
     }
 
-    /// Refuses a text that does not come after the one before it. The fault is where the entry begins.
-    pub fn rises(&self, before: Option<&str>, text: &str, what: &str) -> Read<()> {
+    /// Refuses a name that does not come after the one before it. The fault is where the entry begins.
+    pub fn rises(&self, before: Option<&str>, name: &str) -> Read<()> {
         match before {
-            Some(before) if text.as_bytes() <= before.as_bytes() => {
-                let start = self.begun.unwrap_or_default();
-                self.fail_at(
-                    start,
-                    format!("{what} that comes after {before:?} by bytes, not {text:?}"),
-                )
-            }
+            Some(before) if name.as_bytes() <= before.as_bytes() => self.fail_at(
+                self.begun.unwrap_or_default(),
+                format!("a name that comes after {before:?} by bytes, not {name:?}"),
+            ),
             _ => Ok(()),
+        }
+    }
+
+    /// Refuses a key that was met before. The fault is where the entry begins.
+    pub fn is_new(&self, met: &mut HashSet<&'a str>, key: &'a str) -> Read<()> {
+        match met.insert(key) {
+            true => Ok(()),
+            false => self.fail_at(
+                self.begun.unwrap_or_default(),
+                format!("a key that the object does not have yet, not {key:?}"),
+            ),
         }
     }
 }

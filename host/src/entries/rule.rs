@@ -5,6 +5,7 @@ use super::reader::{Read, Reader, read};
 use super::{Content, Entry, Malformed, Operator};
 use crate::build::{CompareOp, Nesting};
 use crate::limits::MAX_RULE_ENTRIES;
+use std::collections::HashSet;
 
 /// The entries of a rule sheet, be it a rule or a template.
 ///
@@ -47,11 +48,11 @@ enum Task<'a> {
         count: usize,
         depth: usize,
     },
-    /// Members of an object, the first of which comes after the key before it.
+    /// Members of an object, and the keys of those before them.
     Members {
         count: usize,
         depth: usize,
-        before: Option<&'a str>,
+        met: HashSet<&'a str>,
     },
 }
 
@@ -100,13 +101,13 @@ impl<'a> Reader<'a> {
             Task::Members {
                 count,
                 depth,
-                before,
+                mut met,
             } => {
-                let before = Some(self.key(before)?);
+                self.key(&mut met)?;
                 tasks.push(Task::Members {
                     count: count.saturating_sub(1),
                     depth,
-                    before,
+                    met,
                 });
                 tasks.push(Task::Values { count: 1, depth });
             }
@@ -132,15 +133,14 @@ impl<'a> Reader<'a> {
         Ok(content)
     }
 
-    /// The key of a member, which comes after the one before it.
-    fn key(&mut self, before: Option<&str>) -> Read<&'a str> {
+    /// The key of a member, which no member before it has.
+    fn key(&mut self, met: &mut HashSet<&'a str>) -> Read<()> {
         self.begin("K", "the key of a member")?;
         let length = self.length("the key")?;
         self.comma()?;
         let key = self.text(length, "a key")?;
-        self.rises(before, key, "a key")?;
-        self.end(Content::Key(key))?;
-        Ok(key)
+        self.is_new(met, key)?;
+        self.end(Content::Key(key))
     }
 
     fn operator(&mut self) -> Read<Operator> {
@@ -237,7 +237,7 @@ fn below_value(content: Content<'_>, depth: usize) -> Option<Task<'_>> {
         Content::Object(count) => Some(Task::Members {
             count,
             depth,
-            before: None,
+            met: HashSet::new(),
         }),
         _ => None,
     }

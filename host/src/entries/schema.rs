@@ -133,7 +133,7 @@ impl<'a> Reader<'a> {
         self.comma()?;
         let name = self.text(name_length, "a name")?;
         let tag = self.text_or_absent(tag_length, "a tag")?;
-        self.rises(before, name, "a name")?;
+        self.rises(before, name)?;
         self.end(Content::Field {
             kind,
             open,

@@ -7,10 +7,11 @@ use crate::generate::build::{
 };
 use crate::generate::build::{schema, text, value, ARRAY, INTEGER, JSON, MAP, OBJECT, STRING, UNION};
 use crate::generate::limits::{schema_bytes, SHAPES};
+use crate::generate::names::STOCK;
 use crate::generate::Setting;
 use crate::refusals::{MAX_RULE_ENTRIES, MAX_SCHEMA_ENTRIES, MAX_SHEET_BYTES};
 use differential::model::{write_rule, write_schema};
-use differential::trees::{Condition, Data, Field, Operator, Rule, Schema, Sheet};
+use differential::trees::{Condition, Data, Field, Holder, Operator, Rule, Schema, Sheet, Value};
 
 const ACCEPTED: (u32, u32) = (0, 0);
 
@@ -23,14 +24,37 @@ struct Edge {
 }
 
 pub fn edges() -> Vec<Case> {
-    let of_format = [depths(), binders(), instants(), paths(), unions(), roots(), literals(), families(), blanks()];
+    let of_format = [depths(), binders(), instants(), paths(), unions(), roots(), literals(), families(), blanks(), members()];
     let schema = edge_schema();
     let cases = of_format.into_iter().flatten().map(|edge| {
         let (answer, detail) = edge.answer;
         Case::new(edge.kind, edge.semantics, b"r", write_schema(&schema), write_rule(&edge.sheet)).expecting(Expect::Detail(answer, detail))
     });
-    let full = [MAX_SHEET_BYTES, MAX_SHEET_BYTES + 1].map(|bytes| schema_bytes(&Setting { kind: 2, semantics: 2, label: "r" }, bytes));
-    cases.chain(without_arguments()).chain([example()]).chain(schema_entries()).chain([most_entries()]).chain(full).collect()
+    let setting = Setting { kind: 2, semantics: 2, label: "r", names: &STOCK };
+    let full = [MAX_SHEET_BYTES, MAX_SHEET_BYTES + 1].map(|bytes| schema_bytes(&setting, bytes));
+    let sheets = [names(), without_arguments(), vec![example()], schema_entries(), vec![most_entries()], full.to_vec()];
+    cases.chain(sheets.into_iter().flatten()).collect()
+}
+
+/// Siblings whose names rise, fall or are the same, in the record, in the arguments and below a field.
+fn names() -> Vec<Case> {
+    let mut cases = Vec::new();
+    for (first, second, rises) in
+        [("a", "b", true), ("", "a", true), ("a", "aa", true), ("a", "a", false), ("", "", false), ("b", "a", false)]
+    {
+        let two = || vec![field(first, STRING), field(second, STRING)];
+        let open = || Holder { open: true, fields: Vec::new() };
+        let below = Field { properties: two(), ..field("o", OBJECT) };
+        for schema in [
+            schema(Holder { open: true, fields: two() }, None),
+            schema(open(), Some(Holder { open: false, fields: two() })),
+            schema(Holder { open: false, fields: vec![below] }, None),
+        ] {
+            let expect = Expect::Number(if rises { 0 } else { 4 });
+            cases.push(Case::new(2, 2, b"r", write_schema(&schema), write_rule(&Sheet::Template(text("$id")))).expecting(expect));
+        }
+    }
+    cases
 }
 
 /// Schemas of one entry less than there may be, as many, and one more. The rule reads the field behind all others.
@@ -276,6 +300,49 @@ fn families() -> Vec<Edge> {
         Edge { semantics: 1, ..usual(compare(1, array(Vec::new()), text("$nope")), (15, 0)) },
         Edge { semantics: 1, ..usual(quantifier(20, "", value(Data::Null), literal(true)), (15, 0)) },
     ]
+}
+
+/// An object of these keys, each with that text.
+fn object_of(members: &[(&str, &str)]) -> Value {
+    let members = members.iter().map(|(key, member)| ((*key).to_owned(), text(member)));
+    value(Data::Object(members.collect()))
+}
+
+/// Members in every order, and keys that stand twice, near and far; of two defects that of the member written first.
+fn members() -> Vec<Edge> {
+    let of_keys = |keys: &[&str], answer| {
+        let members: Vec<_> = keys.iter().map(|key| (*key, "$id")).collect();
+        Edge { kind: 4, semantics: 1, sheet: Sheet::Template(object_of(&members)), answer }
+    };
+    let four = ["", "a", "aa", "b"];
+    let mut edges = Vec::new();
+    for first in four {
+        for second in four {
+            edges.push(of_keys(&[first, second], if first == second { (5, 0) } else { ACCEPTED }));
+            for third in four {
+                let is_twice = first == second || third == first || third == second;
+                edges.push(of_keys(&[first, second, third], if is_twice { (5, 0) } else { ACCEPTED }));
+            }
+        }
+    }
+    let two = |first: (&str, &str), second: (&str, &str)| object_of(&[first, second]);
+    edges.extend([
+        usual(exists(two(("b", "$nope"), ("a", "$fields."))), (18, 12)),
+        usual(exists(two(("a", "$fields."), ("b", "$nope"))), (18, 1)),
+        usual(exists(two(("b", "$fields.zz"), ("a", "$nope"))), (18, 2)),
+        usual(exists(array(vec![two(("b", "$id"), ("a", "$nope")), text("$fields.")])), (18, 12)),
+    ]);
+    // An object inside another has keys of its own.
+    let inner = value(Data::Object(vec![("b".to_owned(), object_of(&[("b", "$id"), ("a", "$id")])), ("a".to_owned(), text("$id"))]));
+    edges.push(usual(exists(inner), ACCEPTED));
+    // As many as a sheet can have, falling, and the first key again at the end.
+    let keys: Vec<String> = (0..1_022).rev().map(|index| format!("{index:04}")).collect();
+    let most: Vec<_> = keys.iter().map(|key| (key.as_str(), "")).collect();
+    let again = [&most[..1_021], &most[..1]].concat();
+    for (members, answer) in [(most, ACCEPTED), (again, (5, 0))] {
+        edges.push(Edge { kind: 4, semantics: 1, sheet: Sheet::Template(object_of(&members)), answer });
+    }
+    edges
 }
 
 fn blanks() -> Vec<Edge> {

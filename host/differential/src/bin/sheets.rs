@@ -1,7 +1,7 @@
 //! Writes the sheets that the program `sheets` is run on, and what it must write, by the model: `sheets FOLDER`.
 //!
-//! Good sheets, every limit one below, at and one above it, numerals past 32 and 64 bits, and small sheets with each byte replaced, left out or
-//! doubled, and cut at each length.
+//! Good sheets, every limit one below, at and one above it, objects whose keys rise, fall or stand twice, numerals past 32 and 64 bits, and small
+//! sheets with each byte replaced, left out or doubled, and cut at each length.
 
 use differential::model::{decode_rule, decode_schema};
 use std::fmt::Write as _;
@@ -117,6 +117,35 @@ fn schemas_of_entries(entries: usize) -> [String; 4] {
     ]
 }
 
+/// A template of one object with these keys.
+fn object_of<K: AsRef<str>>(keys: &[K]) -> String {
+    let member = |key: &K| format!("K,{},{}\nV,1,0,\n", key.as_ref().len(), key.as_ref());
+    format!("T\nV,7,{},\n{}", keys.len(), keys.iter().map(member).collect::<String>())
+}
+
+/// Keys that fall, lie in no order, or stand twice next to each other, apart, or as far apart as can be; few, and as many as a sheet can have.
+fn keys(cases: &mut Cases) {
+    for few in [["a", "b", "c"], ["c", "b", "a"], ["b", "a", "c"], ["a", "c", "b"], ["a", "b", "a"], ["a", "a", "b"], ["b", "a", "a"], ["", "a", ""], ["", "a", "aa"]] {
+        cases.rule(object_of(&few));
+    }
+    for count in [20, 40] {
+        let falling: Vec<String> = (0..count).rev().map(|n| format!("{n:02}")).collect();
+        // 7 has no factor in common with the counts
+        let strewn: Vec<String> = (0..count).map(|n| format!("{:02}", n * 7 % count)).collect();
+        for keys in [falling, strewn] {
+            cases.rule(object_of(&keys));
+            for (from, to) in [(0, count - 1), (count / 2, count - 1), (0, count / 2), (count / 2, count / 2 + 1)] {
+                let mut twice = keys.clone();
+                twice[to] = keys[from].clone();
+                cases.rule(object_of(&twice));
+            }
+        }
+    }
+    let letter = |n: usize| char::from(b"ABCDEFGHIJKLMNOPQRSTUVWXYZabcdef"[n]);
+    let most: Vec<String> = (0..1_022).rev().map(|n| format!("{}{}", letter(n / 32), letter(n % 32))).collect();
+    cases.rule(object_of(&most));
+}
+
 fn limits(cases: &mut Cases) {
     for n in 511..=513 {
         cases.schema(format!("H,0,1,-,0\nF,1,0,0,0,{n},-,{}\n", text(n)));
@@ -177,6 +206,7 @@ fn all_cases() -> Cases {
         cases.0.push((letter, sheet.into()));
     }
     limits(&mut cases);
+    keys(&mut cases);
     for (letter, sheet) in small {
         numerals(&mut cases, letter, sheet);
         cases.damage(letter, sheet.as_bytes());

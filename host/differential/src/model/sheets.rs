@@ -3,6 +3,7 @@
 use super::number::is_number;
 use super::text::is_utf8;
 use crate::trees::{Condition, Data, Field, Holder, Operator, Rule, Schema, Sheet, Value};
+use std::collections::HashSet;
 
 pub const MAX_SHEET_BYTES: usize = 30_000;
 pub const MAX_SCHEMA_ENTRIES: u32 = 1_024;
@@ -130,6 +131,12 @@ fn rise<'t>(texts: impl Iterator<Item = &'t String> + Clone) -> bool {
     texts
         .zip(following)
         .all(|(one, next)| one.as_bytes() < next.as_bytes())
+}
+
+/// Whether no text stands twice.
+fn differ<'t>(mut texts: impl Iterator<Item = &'t String>) -> bool {
+    let mut met = HashSet::new();
+    texts.all(|text| met.insert(text))
 }
 
 /// The schema sheet.
@@ -307,12 +314,12 @@ impl Reader<'_> {
         Some(Value { entry, data })
     }
 
-    /// An object's members, their keys rising.
+    /// An object's members, in the order given, no key twice.
     fn members(&mut self, count: usize, nesting: usize) -> Option<Vec<(String, Value)>> {
         let members = (0..count)
             .map(|_| self.member(nesting))
             .collect::<Option<Vec<_>>>()?;
-        rise(members.iter().map(|(key, _)| key)).then_some(members)
+        differ(members.iter().map(|(key, _)| key)).then_some(members)
     }
 
     /// `K,n,key`, then the member's value.

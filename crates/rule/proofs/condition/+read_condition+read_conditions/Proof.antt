@@ -81,7 +81,7 @@ abbrev cs-read-conditions : ℕ → read-conditions-lts.Claims
 cs-read-conditions t = (read-condition-below t, read-condition.Post)
 
 read-condition-returns : (t : ℕ) → read-condition-lts.Need-returns (cs-read-condition t) (read-condition-at t) read-condition.Post
-read-condition-returns t c = condition-deep-answer (now (c .before .before .before .args .s)) (now (c .before .before .before .args .scratch)) (c .before .before .before .args .depth) (c .before .before .before .args .c) (c .if1 .taken)
+read-condition-returns t c = condition-deep-answer (now (c .before .before .before .args .s)) (now (c .before .before .before .args .words)) (c .before .before .before .args .depth) (c .before .before .before .args .c) (c .if1 .taken)
 
 read-condition-condition-head-requires : (t : ℕ) → read-condition-lts.Need-condition-head-requires (cs-read-condition t) (read-condition-at t) read-condition.Post
 read-condition-condition-head-requires t c κs = search needs
@@ -93,7 +93,7 @@ read-condition-enum-told : (t : ℕ) → read-condition-lts.Need-enum-told (cs-r
 read-condition-enum-told t c = search needs
 
 read-condition-returns-2 : (t : ℕ) → read-condition-lts.Need-returns-2 (cs-read-condition t) (read-condition-at t) read-condition.Post
-read-condition-returns-2 t c = condition-headless-answer (now (c .before .before .before .before .before .before .args .s)) (now (c .before .before .before .before .before .before .args .scratch)) (c .before .before .before .before .before .before .args .depth) (c .before .before .before .before .before .before .args .c) (c .before .before .before .if1 .left) (rw (c .enum-told .given .1) at (c .before .before .condition-head .ensures))
+read-condition-returns-2 t c = condition-headless-answer (now (c .before .before .before .before .before .before .args .s)) (now (c .before .before .before .before .before .before .args .words)) (c .before .before .before .before .before .before .args .depth) (c .before .before .before .before .before .before .args .c) (c .before .before .before .if1 .left) (rw (c .enum-told .given .1) at (c .before .before .condition-head .ensures))
 
 read-condition-operands-of-requires : (t : ℕ) → read-condition-lts.Need-operands-of-requires (cs-read-condition t) (read-condition-at t) read-condition.Post
 read-condition-operands-of-requires t c κs = search needs
@@ -105,7 +105,7 @@ read-condition-returns-3 : (t : ℕ) → read-condition-lts.Need-returns-3 (cs-r
 read-condition-returns-3 t c =
     let head = rw (c .before .before .before .before .head .given .1) at (c .before .before .before .before .before .before .condition-head .ensures) in
     let operands = c .before .before .operands-of .result in
-    operands-unpaid-answer (now (c .before .before .before .before .before .before .before .before .before .before .args .s)) (now (c .before .before .before .before .before .before .before .before .before .before .args .scratch)) (c .before .before .before .before .before .before .before .before .before .before .args .depth) (c .before .before .before .before .head .given .0 .1 .0) (operands .values) (operands .conditions) (c .before .before .before .before .before .before .before .before .before .before .args .c) (c .before .before .before .before .head .given .0 .0) (c .before .before .before .before .before .before .before .if1 .left) (head .0) (ap (λ o. o .values) (c .before .before .operands-of .ensures)) (ap (λ o. o .conditions) (c .before .before .operands-of .ensures)) (c .if2 .taken)
+    operands-unpaid-answer (now (c .before .before .before .before .before .before .before .before .before .before .args .s)) (now (c .before .before .before .before .before .before .before .before .before .before .args .words)) (c .before .before .before .before .before .before .before .before .before .before .args .depth) (c .before .before .before .before .head .given .0 .1 .0) (operands .values) (operands .conditions) (c .before .before .before .before .before .before .before .before .before .before .args .c) (c .before .before .before .before .head .given .0 .0) (c .before .before .before .before .before .before .before .if1 .left) (head .0) (ap (λ o. o .values) (c .before .before .operands-of .ensures)) (ap (λ o. o .conditions) (c .before .before .operands-of .ensures)) (c .if2 .taken)
 
 read-condition-add-read-conditions : (t : ℕ) → read-condition-lts.Need-add-read-conditions (cs-read-condition t) (read-condition-at t) read-condition.Post
 read-condition-add-read-conditions t c = omega (arith, c .before .before .before .before .before .before .before .before .before .before .pre .1 .budget)
@@ -126,7 +126,7 @@ read-condition-returns-4 : (t : ℕ) → read-condition-lts.Need-returns-4 (cs-r
 read-condition-returns-4 t c =
     let head = rw (c .before .before .before .before .before .before .before .before .before .before .head .given .1) at (c .before .before .before .before .before .before .before .before .before .before .before .before .condition-head .ensures) in
     let operands = c .before .before .before .before .before .before .before .before .operands-of .result in
-    operands-valueless-answer (now (c .before .before .before .before .before .before .before .before .before .before .before .before .before .before .before .before .args .s)) (now (c .before .before .before .before .before .before .before .before .before .before .before .before .before .before .before .before .args .scratch)) (c .before .before .before .before .before .before .before .before .before .before .before .before .before .before .before .before .args .depth) (c .before .before .before .before .before .before .before .before .before .before .head .given .0 .1 .0) (operands .values) (operands .conditions) (c .before .before .before .before .before .before .before .before .before .before .before .before .before .before .before .before .args .c) (c .before .before .before .before .before .before .before .before .before .before .head .given .0 .0) (c .before .before .before .before .before .before .before .before .before .before .before .before .before .if1 .left) (head .0) (ap (λ o. o .values) (c .before .before .before .before .before .before .before .before .operands-of .ensures)) (ap (λ o. o .conditions) (c .before .before .before .before .before .before .before .before .operands-of .ensures)) (c .before .before .before .before .before .before .if2 .left) (rw (c .enum-told2 .given .1) at (c .before .before .before .before .read-values .ensures))
+    operands-valueless-answer (now (c .before .before .before .before .before .before .before .before .before .before .before .before .before .before .before .before .args .s)) (now (c .before .before .before .before .before .before .before .before .before .before .before .before .before .before .before .before .args .words)) (c .before .before .before .before .before .before .before .before .before .before .before .before .before .before .before .before .args .depth) (c .before .before .before .before .before .before .before .before .before .before .head .given .0 .1 .0) (operands .values) (operands .conditions) (c .before .before .before .before .before .before .before .before .before .before .before .before .before .before .before .before .args .c) (c .before .before .before .before .before .before .before .before .before .before .head .given .0 .0) (c .before .before .before .before .before .before .before .before .before .before .before .before .before .if1 .left) (head .0) (ap (λ o. o .values) (c .before .before .before .before .before .before .before .before .operands-of .ensures)) (ap (λ o. o .conditions) (c .before .before .before .before .before .before .before .before .operands-of .ensures)) (c .before .before .before .before .before .before .if2 .left) (rw (c .enum-told2 .given .1) at (c .before .before .before .before .read-values .ensures))
 
 read-condition-sub-read-conditions : (t : ℕ) → read-condition-lts.Need-sub-read-conditions (cs-read-condition t) (read-condition-at t) read-condition.Post
 read-condition-sub-read-conditions t c = search needs
@@ -137,7 +137,7 @@ read-condition-read-conditions-requires t c κs = (
   omega (arith, c .before .before .before .before .before .before .before .before .before .before .before .before .before .before .before .before .before .before .pre .0, c .before .before .before .before .before .before .before .before .before .before .before .before .before .before .before .if1 .left),
   let head = rw (c .before .before .before .before .before .before .before .before .before .before .before .before .head .given .1) at (c .before .before .before .before .before .before .before .before .before .before .before .before .before .before .condition-head .ensures) in
       let operands = c .before .before .before .before .before .before .before .before .before .before .operands-of .result in
-      operands-ready (now (c .before .before .before .before .before .before .before .before .before .before .before .before .before .before .before .before .before .before .args .s)) (now (c .before .before .before .before .before .before .before .before .before .before .before .before .before .before .before .before .before .before .args .scratch)) (c .before .before .before .before .before .before .before .before .before .before .before .before .before .before .before .before .before .before .args .depth) (c .before .before .before .before .before .before .before .before .before .before .before .before .head .given .0 .1 .0) (operands .values) (operands .conditions) (c .before .before .before .before .before .before .before .before .before .before .before .before .before .before .before .before .before .before .args .c) (c .before .before .before .before .before .before .before .before .before .before .before .before .head .given .0 .0) (c .before .before .before .before .before .before .before .before .before .before .before .before .before .before .before .if1 .left) (head .0) (ap (λ o. o .values) (c .before .before .before .before .before .before .before .before .before .before .operands-of .ensures)) (ap (λ o. o .conditions) (c .before .before .before .before .before .before .before .before .before .before .operands-of .ensures)) (c .before .before .before .before .before .before .before .before .if2 .left) (c .before .before .before .before .before .before .before .before .before .before .before .before .before .before .before .before .before .before .pre .1) (rw (c .before .before .middle .given .1) at (c .before .before .before .before .before .before .read-values .ensures)),
+      operands-ready (now (c .before .before .before .before .before .before .before .before .before .before .before .before .before .before .before .before .before .before .args .s)) (now (c .before .before .before .before .before .before .before .before .before .before .before .before .before .before .before .before .before .before .args .words)) (c .before .before .before .before .before .before .before .before .before .before .before .before .before .before .before .before .before .before .args .depth) (c .before .before .before .before .before .before .before .before .before .before .before .before .head .given .0 .1 .0) (operands .values) (operands .conditions) (c .before .before .before .before .before .before .before .before .before .before .before .before .before .before .before .before .before .before .args .c) (c .before .before .before .before .before .before .before .before .before .before .before .before .head .given .0 .0) (c .before .before .before .before .before .before .before .before .before .before .before .before .before .before .before .if1 .left) (head .0) (ap (λ o. o .values) (c .before .before .before .before .before .before .before .before .before .before .operands-of .ensures)) (ap (λ o. o .conditions) (c .before .before .before .before .before .before .before .before .before .before .operands-of .ensures)) (c .before .before .before .before .before .before .before .before .if2 .left) (c .before .before .before .before .before .before .before .before .before .before .before .before .before .before .before .before .before .before .pre .1) (rw (c .before .before .middle .given .1) at (c .before .before .before .before .before .before .read-values .ensures)),
 )
 
 read-condition-enum-known-next : (t : ℕ) → read-condition-lts.Need-enum-known-next (cs-read-condition t) (read-condition-at t) read-condition.Post
@@ -153,16 +153,16 @@ read-condition-returns-5 : (t : ℕ) → read-condition-lts.Need-returns-5 (cs-r
 read-condition-returns-5 t c =
     let head = rw (c .before .before .before .before .before .before .before .before .before .before .before .before .before .before .before .before .before .head .given .1) at (c .before .before .before .before .before .before .before .before .before .before .before .before .before .before .before .before .before .before .before .condition-head .ensures) in
     let operands = c .before .before .before .before .before .before .before .before .before .before .before .before .before .before .before .operands-of .result in
-    operands-conditionless-answer (now (c .before .before .before .before .before .before .before .before .before .before .before .before .before .before .before .before .before .before .before .before .before .before .before .args .s)) (now (c .before .before .before .before .before .before .before .before .before .before .before .before .before .before .before .before .before .before .before .before .before .before .before .args .scratch)) (c .before .before .before .before .before .before .before .before .before .before .before .before .before .before .before .before .before .before .before .before .before .before .before .args .depth) (c .before .before .before .before .before .before .before .before .before .before .before .before .before .before .before .before .before .head .given .0 .1 .0) (operands .values) (operands .conditions) (c .before .before .before .before .before .before .before .before .before .before .before .before .before .before .before .before .before .before .before .before .before .before .before .args .c) (c .before .before .before .before .before .before .before .before .before .before .before .before .before .before .before .before .before .head .given .0 .0) (c .before .before .before .before .before .before .before .before .before .before .before .before .before .before .before .before .before .before .before .before .if1 .left) (head .0) (ap (λ o. o .values) (c .before .before .before .before .before .before .before .before .before .before .before .before .before .before .before .operands-of .ensures)) (ap (λ o. o .conditions) (c .before .before .before .before .before .before .before .before .before .before .before .before .before .before .before .operands-of .ensures)) (c .before .before .before .before .before .before .before .before .before .before .before .before .before .if2 .left) (c .before .before .before .before .before .before .before .before .before .before .before .before .before .before .before .before .before .before .before .before .before .before .before .pre .1) (rw (c .before .before .before .before .before .before .before .middle .given .1) at (c .before .before .before .before .before .before .before .before .before .before .before .read-values .ensures)) (rw (c .enum-told3 .given .1) at (c .before .before .before .before .read-conditions .ensures))
+    operands-conditionless-answer (now (c .before .before .before .before .before .before .before .before .before .before .before .before .before .before .before .before .before .before .before .before .before .before .before .args .s)) (now (c .before .before .before .before .before .before .before .before .before .before .before .before .before .before .before .before .before .before .before .before .before .before .before .args .words)) (c .before .before .before .before .before .before .before .before .before .before .before .before .before .before .before .before .before .before .before .before .before .before .before .args .depth) (c .before .before .before .before .before .before .before .before .before .before .before .before .before .before .before .before .before .head .given .0 .1 .0) (operands .values) (operands .conditions) (c .before .before .before .before .before .before .before .before .before .before .before .before .before .before .before .before .before .before .before .before .before .before .before .args .c) (c .before .before .before .before .before .before .before .before .before .before .before .before .before .before .before .before .before .head .given .0 .0) (c .before .before .before .before .before .before .before .before .before .before .before .before .before .before .before .before .before .before .before .before .if1 .left) (head .0) (ap (λ o. o .values) (c .before .before .before .before .before .before .before .before .before .before .before .before .before .before .before .operands-of .ensures)) (ap (λ o. o .conditions) (c .before .before .before .before .before .before .before .before .before .before .before .before .before .before .before .operands-of .ensures)) (c .before .before .before .before .before .before .before .before .before .before .before .before .before .if2 .left) (c .before .before .before .before .before .before .before .before .before .before .before .before .before .before .before .before .before .before .before .before .before .before .before .pre .1) (rw (c .before .before .before .before .before .before .before .middle .given .1) at (c .before .before .before .before .before .before .before .before .before .before .before .read-values .ensures)) (rw (c .enum-told3 .given .1) at (c .before .before .before .before .read-conditions .ensures))
 
 read-condition-word-of-requires : (t : ℕ) → read-condition-lts.Need-word-of-requires (cs-read-condition t) (read-condition-at t) read-condition.Post
 read-condition-word-of-requires t c κs = let values = rw (c .before .before .before .before .before .before .before .before .middle .given .1) at (c .before .before .before .before .before .before .before .before .before .before .before .before .read-values .ensures) in let conditions = rw (c .before .next .given .1) at (c .before .before .before .before .before .read-conditions .ensures) in (omega (arith, c .before .before .before .before .before .before .before .before .before .before .before .before .before .before .before .before .before .before .before .before .before .before .before .before .pre .1 .inside, c .before .before .before .before .before .before .before .before .before .before .before .before .before .before .before .before .before .before .before .before .before .before .before .before .pre .1 .small), omega (arith, values .budget, conditions .budget, c .before .before .before .before .before .before .before .before .before .before .before .before .before .before .before .before .before .before .before .before .before .before .before .before .pre .1 .budget, c .before .before .before .before .before .before .before .before .before .before .before .before .before .before .if2 .left))
 
-read-condition-mul-scratch : (t : ℕ) → read-condition-lts.Need-mul-scratch (cs-read-condition t) (read-condition-at t) read-condition.Post
-read-condition-mul-scratch t c = omega (arith, c .before .before .before .before .before .before .before .before .before .before .before .before .before .before .before .before .before .before .before .before .before .before .before .before .before .pre .1 .budget)
+read-condition-mul-words : (t : ℕ) → read-condition-lts.Need-mul-words (cs-read-condition t) (read-condition-at t) read-condition.Post
+read-condition-mul-words t c = omega (arith, c .before .before .before .before .before .before .before .before .before .before .before .before .before .before .before .before .before .before .before .before .before .before .before .before .before .pre .1 .budget)
 
-read-condition-slice-write-scratch : (t : ℕ) → read-condition-lts.Need-slice-write-scratch (cs-read-condition t) (read-condition-at t) read-condition.Post
-read-condition-slice-write-scratch t c = omega (arith, c .before .before .before .before .before .before .read-conditions .kept .1 .0, c .before .before .before .before .before .before .before .before .before .before .before .before .before .read-values .kept .1 .0, c .before .before .before .before .before .before .before .before .before .before .before .before .before .before .before .before .before .before .before .before .before .before .before .before .before .pre .1 .room, c .before .before .before .before .before .before .before .before .before .before .before .before .before .before .before .before .before .before .before .before .before .before .before .before .before .pre .1 .budget)
+read-condition-slice-write-words : (t : ℕ) → read-condition-lts.Need-slice-write-words (cs-read-condition t) (read-condition-at t) read-condition.Post
+read-condition-slice-write-words t c = omega (arith, c .before .before .before .before .before .before .read-conditions .kept .1 .0, c .before .before .before .before .before .before .before .before .before .before .before .before .before .read-values .kept .1 .0, c .before .before .before .before .before .before .before .before .before .before .before .before .before .before .before .before .before .before .before .before .before .before .before .before .before .pre .1 .room, c .before .before .before .before .before .before .before .before .before .before .before .before .before .before .before .before .before .before .before .before .before .before .before .before .before .pre .1 .budget)
 
 read-condition-same-length-3 : (t : ℕ) → read-condition-lts.Need-same-length-3 (cs-read-condition t) (read-condition-at t) read-condition.Post
 read-condition-same-length-3 t c = length-set (c .before .before .before .before .before .before .read-conditions .last .1 .0) (c .before .before .before .before .before .before .before .before .before .before .before .before .before .before .before .before .before .before .before .before .before .before .before .before .before .args .c .word) (c .word-of .result) ∙ c .before .before .before .before .before .before .read-conditions .kept .1 .0 ∙ c .before .before .before .before .before .before .before .before .before .before .before .before .before .read-values .kept .1 .0
@@ -171,13 +171,13 @@ read-condition-returns-6 : (t : ℕ) → read-condition-lts.Need-returns-6 (cs-r
 read-condition-returns-6 t c =
     let head = rw (c .before .before .before .before .before .before .before .before .before .before .before .before .before .before .before .before .before .before .before .head .given .1) at (c .before .before .before .before .before .before .before .before .before .before .before .before .before .before .before .before .before .before .before .before .before .condition-head .ensures) in
     let operands = c .before .before .before .before .before .before .before .before .before .before .before .before .before .before .before .before .before .operands-of .result in
-    operands-answer (now (c .before .before .before .before .before .before .before .before .before .before .before .before .before .before .before .before .before .before .before .before .before .before .before .before .before .args .s)) (now (c .before .before .before .before .before .before .before .before .before .before .before .before .before .before .before .before .before .before .before .before .before .before .before .before .before .args .scratch)) (c .before .before .before .before .before .before .before .before .before .before .before .before .before .before .before .before .before .before .before .before .before .before .before .before .before .args .depth) (c .before .before .before .before .before .before .before .before .before .before .before .before .before .before .before .before .before .before .before .head .given .0 .1 .0) (operands .values) (operands .conditions) (c .before .before .before .before .before .before .before .before .before .before .before .before .before .before .before .before .before .before .before .before .before .before .before .before .before .args .c) (c .before .before .before .before .before .before .before .before .before .before .before .before .before .before .before .before .before .before .before .head .given .0 .0) (c .before .before .before .before .before .before .before .before .before .before .before .before .before .before .before .before .before .before .before .before .before .before .if1 .left) (head .0) (ap (λ o. o .values) (c .before .before .before .before .before .before .before .before .before .before .before .before .before .before .before .before .before .operands-of .ensures)) (ap (λ o. o .conditions) (c .before .before .before .before .before .before .before .before .before .before .before .before .before .before .before .before .before .operands-of .ensures)) (c .before .before .before .before .before .before .before .before .before .before .before .before .before .before .before .if2 .left) (c .before .before .before .before .before .before .before .before .before .before .before .before .before .before .before .before .before .before .before .before .before .before .before .before .before .pre .1) (rw (c .before .before .before .before .before .before .before .before .before .middle .given .1) at (c .before .before .before .before .before .before .before .before .before .before .before .before .before .read-values .ensures)) (c .word-of .ensures) (rw (c .before .before .next .given .1) at (c .before .before .before .before .before .before .read-conditions .ensures))
+    operands-answer (now (c .before .before .before .before .before .before .before .before .before .before .before .before .before .before .before .before .before .before .before .before .before .before .before .before .before .args .s)) (now (c .before .before .before .before .before .before .before .before .before .before .before .before .before .before .before .before .before .before .before .before .before .before .before .before .before .args .words)) (c .before .before .before .before .before .before .before .before .before .before .before .before .before .before .before .before .before .before .before .before .before .before .before .before .before .args .depth) (c .before .before .before .before .before .before .before .before .before .before .before .before .before .before .before .before .before .before .before .head .given .0 .1 .0) (operands .values) (operands .conditions) (c .before .before .before .before .before .before .before .before .before .before .before .before .before .before .before .before .before .before .before .before .before .before .before .before .before .args .c) (c .before .before .before .before .before .before .before .before .before .before .before .before .before .before .before .before .before .before .before .head .given .0 .0) (c .before .before .before .before .before .before .before .before .before .before .before .before .before .before .before .before .before .before .before .before .before .before .if1 .left) (head .0) (ap (λ o. o .values) (c .before .before .before .before .before .before .before .before .before .before .before .before .before .before .before .before .before .operands-of .ensures)) (ap (λ o. o .conditions) (c .before .before .before .before .before .before .before .before .before .before .before .before .before .before .before .before .before .operands-of .ensures)) (c .before .before .before .before .before .before .before .before .before .before .before .before .before .before .before .if2 .left) (c .before .before .before .before .before .before .before .before .before .before .before .before .before .before .before .before .before .before .before .before .before .before .before .before .before .pre .1) (rw (c .before .before .before .before .before .before .before .before .before .middle .given .1) at (c .before .before .before .before .before .before .before .before .before .before .before .before .before .read-values .ensures)) (c .word-of .ensures) (rw (c .before .before .next .given .1) at (c .before .before .before .before .before .before .read-conditions .ensures))
 
 abbrev read-conditions-Inv-loop : read-conditions-lts.InvT-loop
-read-conditions-Inv-loop s scratch₀ depth count here₀ n₀ scratch here n = Passing (conditions-kind s depth) s scratch₀ scratch tt tt count count n n here₀ here
+read-conditions-Inv-loop s words₀ depth count here₀ n₀ words here n = Passing (conditions-kind s depth) s words₀ words tt tt count count n n here₀ here
 
 abbrev read-conditions-μ-loop : read-conditions-lts.MeasureT-loop
-read-conditions-μ-loop s scratch₀ depth count here₀ n₀ scratch here n = n
+read-conditions-μ-loop s words₀ depth count here₀ n₀ words here n = n
 
 read-conditions-loop-holds : (t : ℕ) → read-conditions-lts.Need-loop-holds (cs-read-conditions t) (read-conditions-at t) read-conditions.Post read-conditions-Inv-loop read-conditions-μ-loop
 read-conditions-loop-holds t c = siblings-begin (conditions-kind (now (c .before .before .args .s)) (c .before .before .args .depth)) tt (c .before .before .args .count) (c .before .before .pre .1)
@@ -239,8 +239,8 @@ pub +read-condition+read-conditions-spec : {M : Type 1} → statement M
     (read-condition-same-length-2 t)
     (read-condition-returns-5 t)
     (read-condition-word-of-requires t)
-    (read-condition-mul-scratch t)
-    (read-condition-slice-write-scratch t)
+    (read-condition-mul-words t)
+    (read-condition-slice-write-words t)
     (read-condition-same-length-3 t)
     (read-condition-returns-6 t))
     λ t. read-conditions-lts.spec

@@ -21,7 +21,7 @@ returns : tie.Need-returns
 returns c = search needs
 
 returns-2 : tie.Need-returns-2
-returns-2 c = ap (λ (w : ℕ). w % 4096) (sym (getD-behind (now (c .before .args .scratch)) (c .before .args .i) (c .if1 .left)))
+returns-2 c = ap (λ (w : ℕ). w % 4096) (sym (getD-behind (now (c .before .args .words)) (c .before .args .i) (c .if1 .left)))
 
 pub end-of-spec : {M : Type 1} → statement M
 end-of-spec =

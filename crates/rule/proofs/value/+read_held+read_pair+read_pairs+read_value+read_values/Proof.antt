@@ -4,7 +4,8 @@
 use native.Mathlib.Omega.{arith}
 use borrow.Author.Needs.{needs}
 use Prim.Native.Nat.{ℕ, _+_, _*_, _-_, _<_}
-use mathlib.Core.Path.{sym, _∙_}
+use mathlib.Core.Bool.{true}
+use mathlib.Core.Path.{_∙_}
 use lib.ListN.{drop, length-set}
 use Rattle.rule.proofs.CloseLaws.{pair-closed}
 use Rattle.rule.proofs.ValueAnswers.{value-deep-answer, value-headless-answer, held-few, held-unpaid-answer, held-bad-answer, held-limit, held-answer}
@@ -16,9 +17,9 @@ use Rattle.rule.specs.Read.{aheadOf}
 use borrow.Fn.Kinds.{In}
 use borrow.Fn.PlainCycle.{Measures, is, falls, and}
 use Rattle.rule.proofs.KeptLaws.{ready-fewer, ready-inside, kept-all, kept-wider}
-use Rattle.rule.proofs.ValueLaws.{pair-keyless, pair-unordered, pair-valueless}
+use Rattle.rule.proofs.ValueLaws.{pair-keyless, pair-valueless}
 use Rattle.rule.proofs.SiblingLaws.{Passing, siblings-begin, siblings-bad, siblings-next, siblings-end}
-use Rattle.rule.proofs.SiblingKinds.{values-kind, pairs-kind, pairs-next}
+use Rattle.rule.proofs.SiblingKinds.{values-kind, pairs-kind, sofar, pairs-next, object-bad, object-rises, object-differs, object-repeats}
 use Rattle.rule.proofs.value.read_held.Reads as read-held
 use Rattle.rule.proofs.value.read_held.Kinds as read-held-kinds
 use Rattle.rule.proofs.value.+read_held+read_pair+read_pairs+read_value+read_values.Lts-read_held as read-held-lts
@@ -37,7 +38,8 @@ use Rattle.rule.proofs.value.+read_held+read_pair+read_pairs+read_value
 use Rattle.rule.proofs.cursor.word_of.Reads as word-of-reads
 use Rattle.rule.proofs.value.cost_of.Reads as cost-of-reads
 use Rattle.rule.proofs.value.held_by.Reads as held-by-reads
-use Rattle.rule.proofs.value.is_next_key.Reads as is-next-key-reads
+use Rattle.rule.proofs.keys.none_twice.Reads as none-twice-reads
+use Rattle.rule.proofs.value.still_rise.Reads as still-rise-reads
 use Rattle.sheet.proofs.rule_heads.key_head.Reads as key-head-reads
 use Rattle.sheet.proofs.rule_heads.value_head.Reads as value-head-reads
 use Rattle.rule.proofs.value.+read_held+read_pair+read_pairs+read_value+read_values.{statement}
@@ -108,8 +110,6 @@ abbrev cs-read-pair : ℕ → read-pair-lts.Claims
 cs-read-pair t = (
   key-head-reads.Asked,
   key-head-reads.Learnt,
-  is-next-key-reads.Asked,
-  is-next-key-reads.Learnt,
   read-value-below t,
   read-value.Post,
   word-of-reads.Asked,
@@ -117,7 +117,14 @@ cs-read-pair t = (
 )
 
 abbrev cs-read-pairs : ℕ → read-pairs-lts.Claims
-cs-read-pairs t = (read-pair-below t, read-pair.Post)
+cs-read-pairs t = (
+  read-pair-below t,
+  read-pair.Post,
+  still-rise-reads.Asked,
+  still-rise-reads.Learnt,
+  none-twice-reads.Asked,
+  none-twice-reads.Learnt,
+)
 
 abbrev cs-read-value : ℕ → read-value-lts.Claims
 cs-read-value t = (
@@ -170,16 +177,13 @@ read-pair-enum-told : (t : ℕ) → read-pair-lts.Need-enum-told (cs-read-pair t
 read-pair-enum-told t c = search needs
 
 read-pair-returns : (t : ℕ) → read-pair-lts.Need-returns (cs-read-pair t) (read-pair-at t) read-pair.Post
-read-pair-returns t c = (pair-keyless (optionalOf (now (c .before .before .before .before .before .args .s)) (c .before .before .before .before .before .args .previous)) (valueIn (c .before .before .before .before .before .args .depth)) (aheadOf (now (c .before .before .before .before .before .args .s)) (c .before .before .before .before .before .args .c)) (rw (c .enum-told .given .1) at (c .before .before .key-head .ensures)), kept-all)
+read-pair-returns t c = (pair-keyless (valueIn (c .before .before .before .before .before .args .depth)) (aheadOf (now (c .before .before .before .before .before .args .s)) (c .before .before .before .before .before .args .c)) (rw (c .enum-told .given .1) at (c .before .before .key-head .ensures)), kept-all)
 
-read-pair-is-next-key-requires : (t : ℕ) → read-pair-lts.Need-is-next-key-requires (cs-read-pair t) (read-pair-at t) read-pair.Post
-read-pair-is-next-key-requires t c κs = search needs
-
-read-pair-add-scratch : (t : ℕ) → read-pair-lts.Need-add-scratch (cs-read-pair t) (read-pair-at t) read-pair.Post
-read-pair-add-scratch t c = omega (arith, c .before .before .before .before .before .before .before .before .pre .1 .budget)
+read-pair-add-words : (t : ℕ) → read-pair-lts.Need-add-words (cs-read-pair t) (read-pair-at t) read-pair.Post
+read-pair-add-words t c = omega (arith, c .before .before .before .before .before .before .pre .1 .budget)
 
 read-pair-read-value-requires : (t : ℕ) → read-pair-lts.Need-read-value-requires (cs-read-pair t) (read-pair-at t) read-pair.Post
-read-pair-read-value-requires t c κs = let head = rw (c .before .before .before .before .key .given .1) at (c .before .before .before .before .before .before .key-head .ensures) in (omega (arith, c .before .before .before .before .before .before .before .before .before .pre .0), ready-inside (c .before .before .before .before .before .before .before .before .before .pre .1) (head .within) (omega arith))
+read-pair-read-value-requires t c κs = let head = rw (c .before .before .key .given .1) at (c .before .before .before .before .key-head .ensures) in (omega (arith, c .before .before .before .before .before .before .before .pre .0), ready-inside (c .before .before .before .before .before .before .before .pre .1) (head .within) (omega arith))
 
 read-pair-enum-known-next : (t : ℕ) → read-pair-lts.Need-enum-known-next (cs-read-pair t) (read-pair-at t) read-pair.Post
 read-pair-enum-known-next t c = search needs
@@ -192,45 +196,40 @@ read-pair-same-length t c = c .before .before .before .before .read-value .kept 
 
 read-pair-returns-2 : (t : ℕ) → read-pair-lts.Need-returns-2 (cs-read-pair t) (read-pair-at t) read-pair.Post
 read-pair-returns-2 t c =
-    let s = now (c .before .before .before .before .before .before .before .before .before .before .before .before .before .before .args .s) in
-    let head = rw (c .before .before .before .before .before .before .before .before .before .key .given .1) at (c .before .before .before .before .before .before .before .before .before .before .before .key-head .ensures) in
+    let s = now (c .before .before .before .before .before .before .before .before .before .before .before .before .args .s) in
+    let head = rw (c .before .before .before .before .before .before .before .key .given .1) at (c .before .before .before .before .before .before .before .before .before .key-head .ensures) in
     let bad = rw (c .enum-told2 .given .1) at (c .before .before .before .before .read-value .ensures) in
-    (pair-valueless (optionalOf s (c .before .before .before .before .before .before .before .before .before .before .before .before .before .before .args .previous)) (valueIn (c .before .before .before .before .before .before .before .before .before .before .before .before .before .before .args .depth)) (aheadOf s (c .before .before .before .before .before .before .before .before .before .before .before .before .before .before .args .c)) (partOf s (c .before .before .before .before .before .before .before .before .before .key .given .0 .0)) (drop (c .before .before .before .before .before .before .before .before .before .key .given .0 .1 .0) s) (head .reads) (sym (c .before .before .before .before .before .before .before .is-next-key .ensures) ∙ c .before .before .before .before .before .before .if1 .taken) (bad .0), kept-wider (bad .1) (omega arith) (omega arith))
+    (pair-valueless (valueIn (c .before .before .before .before .before .before .before .before .before .before .before .before .args .depth)) (aheadOf s (c .before .before .before .before .before .before .before .before .before .before .before .before .args .c)) (partOf s (c .before .before .before .before .before .before .before .key .given .0 .0)) (drop (c .before .before .before .before .before .before .before .key .given .0 .1 .0) s) (head .reads) (bad .0), kept-wider (bad .1) (omega arith) (omega arith))
 
 read-pair-word-of-requires : (t : ℕ) → read-pair-lts.Need-word-of-requires (cs-read-pair t) (read-pair-at t) read-pair.Post
-read-pair-word-of-requires t c κs = let inner = rw (c .before .next .given .1) at (c .before .before .before .before .before .read-value .ensures) in (omega (arith, c .before .before .before .before .before .before .before .before .before .before .before .before .before .before .before .pre .1 .inside, c .before .before .before .before .before .before .before .before .before .before .before .before .before .before .before .pre .1 .small), omega (arith, inner .budget, c .before .before .before .before .before .before .before .before .before .before .before .before .before .before .before .pre .1 .budget))
+read-pair-word-of-requires t c κs = let inner = rw (c .before .next .given .1) at (c .before .before .before .before .before .read-value .ensures) in (omega (arith, c .before .before .before .before .before .before .before .before .before .before .before .before .before .pre .1 .inside, c .before .before .before .before .before .before .before .before .before .before .before .before .before .pre .1 .small), omega (arith, inner .budget, c .before .before .before .before .before .before .before .before .before .before .before .before .before .pre .1 .budget))
 
-read-pair-mul-scratch : (t : ℕ) → read-pair-lts.Need-mul-scratch (cs-read-pair t) (read-pair-at t) read-pair.Post
-read-pair-mul-scratch t c = omega (arith, c .before .before .before .before .before .before .before .before .before .before .before .before .before .before .before .before .pre .1 .budget)
+read-pair-mul-words : (t : ℕ) → read-pair-lts.Need-mul-words (cs-read-pair t) (read-pair-at t) read-pair.Post
+read-pair-mul-words t c = omega (arith, c .before .before .before .before .before .before .before .before .before .before .before .before .before .before .pre .1 .budget)
 
-read-pair-slice-write-scratch : (t : ℕ) → read-pair-lts.Need-slice-write-scratch (cs-read-pair t) (read-pair-at t) read-pair.Post
-read-pair-slice-write-scratch t c = omega (arith, c .before .before .before .before .before .before .read-value .kept .1 .0, c .before .before .before .before .before .before .before .before .before .before .before .before .before .before .before .before .pre .1 .room, c .before .before .before .before .before .before .before .before .before .before .before .before .before .before .before .before .pre .1 .budget)
+read-pair-slice-write-words : (t : ℕ) → read-pair-lts.Need-slice-write-words (cs-read-pair t) (read-pair-at t) read-pair.Post
+read-pair-slice-write-words t c = omega (arith, c .before .before .before .before .before .before .read-value .kept .1 .0, c .before .before .before .before .before .before .before .before .before .before .before .before .before .before .pre .1 .room, c .before .before .before .before .before .before .before .before .before .before .before .before .before .before .pre .1 .budget)
 
 read-pair-same-length-2 : (t : ℕ) → read-pair-lts.Need-same-length-2 (cs-read-pair t) (read-pair-at t) read-pair.Post
-read-pair-same-length-2 t c = length-set (c .before .before .before .before .before .before .read-value .last .1 .0) (c .before .before .before .before .before .before .before .before .before .before .before .before .before .before .before .before .args .c .word) (c .word-of .result) ∙ c .before .before .before .before .before .before .read-value .kept .1 .0
+read-pair-same-length-2 t c = length-set (c .before .before .before .before .before .before .read-value .last .1 .0) (c .before .before .before .before .before .before .before .before .before .before .before .before .before .before .args .c .word) (c .word-of .result) ∙ c .before .before .before .before .before .before .read-value .kept .1 .0
 
 read-pair-returns-3 : (t : ℕ) → read-pair-lts.Need-returns-3 (cs-read-pair t) (read-pair-at t) read-pair.Post
 read-pair-returns-3 t c =
-    let s = now (c .before .before .before .before .before .before .before .before .before .before .before .before .before .before .before .before .args .s) in
-    let head = rw (c .before .before .before .before .before .before .before .before .before .before .before .key .given .1) at (c .before .before .before .before .before .before .before .before .before .before .before .before .before .key-head .ensures) in
+    let s = now (c .before .before .before .before .before .before .before .before .before .before .before .before .before .before .args .s) in
+    let head = rw (c .before .before .before .before .before .before .before .before .before .key .given .1) at (c .before .before .before .before .before .before .before .before .before .before .before .key-head .ensures) in
     let inner = rw (c .before .before .next .given .1) at (c .before .before .before .before .before .before .read-value .ensures) in
-    pair-closed s (now (c .before .before .before .before .before .before .before .before .before .before .before .before .before .before .before .before .args .scratch)) (c .before .before .before .before .before .before .read-value .last .1 .0) (c .before .before .before .before .before .before .before .before .before .before .before .before .before .before .before .before .args .c) (c .before .before .next .given .0 .0) (c .before .before .before .before .before .before .before .before .before .before .before .before .before .before .before .before .args .depth) (c .before .before .before .before .before .before .before .before .before .before .before .key .given .0 .1 .0) (c .word-of .result) (optionalOf s (c .before .before .before .before .before .before .before .before .before .before .before .before .before .before .before .before .args .previous)) (partOf s (c .before .before .before .before .before .before .before .before .before .before .before .key .given .0 .0)) (c .before .before .before .before .before .before .before .before .before .before .before .before .before .before .before .before .pre .1) (head .reads) (sym (c .before .before .before .before .before .before .before .before .before .is-next-key .ensures) ∙ c .before .before .before .before .before .before .before .before .if1 .taken) (c .word-of .ensures) inner
-
-read-pair-returns-4 : (t : ℕ) → read-pair-lts.Need-returns-4 (cs-read-pair t) (read-pair-at t) read-pair.Post
-read-pair-returns-4 t c =
-    let s = now (c .before .before .before .before .before .before .before .before .args .s) in
-    let head = rw (c .before .before .before .key .given .1) at (c .before .before .before .before .before .key-head .ensures) in
-    (pair-unordered (optionalOf s (c .before .before .before .before .before .before .before .before .args .previous)) (valueIn (c .before .before .before .before .before .before .before .before .args .depth)) (aheadOf s (c .before .before .before .before .before .before .before .before .args .c)) (partOf s (c .before .before .before .key .given .0 .0)) (drop (c .before .before .before .key .given .0 .1 .0) s) (head .reads) (sym (c .before .is-next-key .ensures) ∙ c .if1 .left), kept-all)
+    pair-closed s (now (c .before .before .before .before .before .before .before .before .before .before .before .before .before .before .args .words)) (c .before .before .before .before .before .before .read-value .last .1 .0) (c .before .before .before .before .before .before .before .before .before .before .before .before .before .before .args .c) (c .before .before .next .given .0 .0) (c .before .before .before .before .before .before .before .before .before .before .before .before .before .before .args .depth) (c .before .before .before .before .before .before .before .before .before .key .given .0 .1 .0) (c .word-of .result) (partOf s (c .before .before .before .before .before .before .before .before .before .key .given .0 .0)) (c .before .before .before .before .before .before .before .before .before .before .before .before .before .before .pre .1) (head .reads) (c .word-of .ensures) inner
 
 abbrev read-pairs-Inv-loop : read-pairs-lts.InvT-loop
-read-pairs-Inv-loop s scratch₀ depth count here₀ previous₀ n₀ scratch here previous n = Passing (pairs-kind s depth) s scratch₀ scratch none (optionalOf s previous) count (2 * count) n (2 * n) here₀ here
+read-pairs-Inv-loop s words₀ depth count c here₀ rise₀ previous₀ n₀ words here rise previous n =
+    Passing (pairs-kind s depth) s words₀ words (true, none) (sofar s rise previous) count (2 * count) n (2 * n) c here
 
 abbrev read-pairs-μ-loop : read-pairs-lts.MeasureT-loop
-read-pairs-μ-loop s scratch₀ depth count here₀ previous₀ n₀ scratch here previous n = n
+read-pairs-μ-loop s words₀ depth count c here₀ rise₀ previous₀ n₀ words here rise previous n = n
 
 read-pairs-loop-holds : (t : ℕ) → read-pairs-lts.Need-loop-holds (cs-read-pairs t) (read-pairs-at t) read-pairs.Post read-pairs-Inv-loop read-pairs-μ-loop
 unfolding optionalOf
-read-pairs-loop-holds t c = siblings-begin (pairs-kind (now (c .before .before .args .s)) (c .before .before .args .depth)) none (c .before .before .args .count) (c .before .before .pre .1)
+read-pairs-loop-holds t c = siblings-begin (pairs-kind (now (c .before .before .args .s)) (c .before .before .args .depth)) (true, none) (c .before .before .args .count) (c .before .before .pre .1)
 
 read-pairs-read-pair-requires : (t : ℕ) → read-pairs-lts.Need-read-pair-requires (cs-read-pairs t) (read-pairs-at t) read-pairs.Post read-pairs-Inv-loop read-pairs-μ-loop
 read-pairs-read-pair-requires t c κs = (omega (arith, c .before .before .before .before .before .pre .0), ready-fewer (c .before .before .loop .inv .ready) (omega (arith, c .before .loop-test .taken)))
@@ -238,67 +237,50 @@ read-pairs-read-pair-requires t c κs = (omega (arith, c .before .before .before
 read-pairs-enum-known-key : (t : ℕ) → read-pairs-lts.Need-enum-known-key (cs-read-pairs t) (read-pairs-at t) read-pairs.Post read-pairs-Inv-loop read-pairs-μ-loop
 read-pairs-enum-known-key t c = search needs
 
-read-pairs-enum-told :
-    (t : ℕ) →
-    read-pairs-lts.Need-enum-told
-    (read-pair-below t, read-pair.Post)
-    (read-pairs-at t)
-    read-pairs.Post
-    read-pairs-Inv-loop
-    read-pairs-μ-loop
+read-pairs-enum-told : (t : ℕ) → read-pairs-lts.Need-enum-told (cs-read-pairs t) (read-pairs-at t) read-pairs.Post read-pairs-Inv-loop read-pairs-μ-loop
 read-pairs-enum-told t c = search needs
 
 read-pairs-same-length : (t : ℕ) → read-pairs-lts.Need-same-length (cs-read-pairs t) (read-pairs-at t) read-pairs.Post read-pairs-Inv-loop read-pairs-μ-loop
 read-pairs-same-length t c = c .before .before .before .before .read-pair .kept .1 .0 ∙ c .before .before .before .before .before .before .before .loop .inv .kept .len
 
-read-pairs-returns :
-    (t : ℕ) →
-    read-pairs-lts.Need-returns
-    (read-pair-below t, read-pair.Post)
-    (read-pairs-at t)
-    read-pairs.Post
-    read-pairs-Inv-loop
-    read-pairs-μ-loop
-read-pairs-returns t c = siblings-bad (c .before .before .before .before .before .before .before .loop .inv) (c .before .before .before .before .before .before .loop-test .taken) (rw (c .enum-told .given .1) at (c .before .before .before .before .read-pair .ensures))
+read-pairs-returns : (t : ℕ) → read-pairs-lts.Need-returns (cs-read-pairs t) (read-pairs-at t) read-pairs.Post read-pairs-Inv-loop read-pairs-μ-loop
+read-pairs-returns t c = object-bad (c .before .before .before .before .before .before .before .before .before .before .args .depth) (c .before .before .before .before .before .before .before .loop .inv) (c .before .before .before .before .before .before .loop-test .taken) (rw (c .enum-told .given .1) at (c .before .before .before .before .read-pair .ensures))
 
-read-pairs-sub-n :
-    (t : ℕ) →
-    read-pairs-lts.Need-sub-n
-    (read-pair-below t, read-pair.Post)
-    (read-pairs-at t)
-    read-pairs.Post
-    read-pairs-Inv-loop
-    read-pairs-μ-loop
+read-pairs-still-rise-requires : (t : ℕ) → read-pairs-lts.Need-still-rise-requires (cs-read-pairs t) (read-pairs-at t) read-pairs.Post read-pairs-Inv-loop read-pairs-μ-loop
+read-pairs-still-rise-requires t c κs = search needs
+
+read-pairs-sub-n : (t : ℕ) → read-pairs-lts.Need-sub-n (cs-read-pairs t) (read-pairs-at t) read-pairs.Post read-pairs-Inv-loop read-pairs-μ-loop
 read-pairs-sub-n t c = search needs
 
-read-pairs-loop-less :
-    (t : ℕ) →
-    read-pairs-lts.Need-loop-less
-    (read-pair-below t, read-pair.Post)
-    (read-pairs-at t)
-    read-pairs.Post
-    read-pairs-Inv-loop
-    read-pairs-μ-loop
+read-pairs-loop-less : (t : ℕ) → read-pairs-lts.Need-loop-less (cs-read-pairs t) (read-pairs-at t) read-pairs.Post read-pairs-Inv-loop read-pairs-μ-loop
 read-pairs-loop-less t c = search needs
 
 read-pairs-loop-again : (t : ℕ) → read-pairs-lts.Need-loop-again (cs-read-pairs t) (read-pairs-at t) read-pairs.Post read-pairs-Inv-loop read-pairs-μ-loop
-read-pairs-loop-again t c = pairs-next (c .before .before .before .before .before .before .before .before .before .before .before .args .depth) (c .before .key .given .0 .0) (c .before .before .before .before .before .before .before .before .loop .inv) (c .before .before .before .before .before .before .before .loop-test .taken) (rw (c .before .key .given .1) at (c .before .before .before .before .before .read-pair .ensures))
+read-pairs-loop-again t c = pairs-next (c .before .before .before .before .before .before .before .before .before .before .before .before .args .depth) (c .before .before .before .before .before .before .before .before .before .loop .rise) (c .before .before .before .before .before .before .before .before .before .loop .previous) (c .before .before .key .given .0 .0) (c .before .before .before .before .before .before .before .before .before .loop .inv) (c .before .before .before .before .before .before .before .before .loop-test .taken) (rw (c .before .before .key .given .1) at (c .before .before .before .before .before .before .read-pair .ensures)) (c .still-rise .ensures)
 
 read-pairs-same-length-2 : (t : ℕ) → read-pairs-lts.Need-same-length-2 (cs-read-pairs t) (read-pairs-at t) read-pairs.Post read-pairs-Inv-loop read-pairs-μ-loop
-read-pairs-same-length-2 t c = c .before .loop .inv .kept .len
+read-pairs-same-length-2 t c = c .before .before .loop .inv .kept .len
 
-read-pairs-returns-2 :
-    (t : ℕ) →
-    read-pairs-lts.Need-returns-2
-    (read-pair-below t, read-pair.Post)
-    (read-pairs-at t)
-    read-pairs.Post
-    read-pairs-Inv-loop
-    read-pairs-μ-loop
-read-pairs-returns-2 t c = siblings-end (c .before .loop .inv) (omega (arith, c .loop-test .left)) (omega (arith, c .loop-test .left))
+read-pairs-returns-2 : (t : ℕ) → read-pairs-lts.Need-returns-2 (cs-read-pairs t) (read-pairs-at t) read-pairs.Post read-pairs-Inv-loop read-pairs-μ-loop
+read-pairs-returns-2 t c = object-rises (c .before .before .before .before .before .args .depth) (c .before .before .loop .previous) (c .before .before .loop .inv) (omega (arith, c .before .loop-test .left)) (c .if1 .taken)
+
+read-pairs-none-twice-requires : (t : ℕ) → read-pairs-lts.Need-none-twice-requires (cs-read-pairs t) (read-pairs-at t) read-pairs.Post read-pairs-Inv-loop read-pairs-μ-loop
+read-pairs-none-twice-requires t c κs = omega (arith, c .before .before .before .before .before .before .pre .1 .budget)
+
+read-pairs-same-length-3 : (t : ℕ) → read-pairs-lts.Need-same-length-3 (cs-read-pairs t) (read-pairs-at t) read-pairs.Post read-pairs-Inv-loop read-pairs-μ-loop
+read-pairs-same-length-3 t c = c .before .before .before .before .before .loop .inv .kept .len
+
+read-pairs-returns-3 : (t : ℕ) → read-pairs-lts.Need-returns-3 (cs-read-pairs t) (read-pairs-at t) read-pairs.Post read-pairs-Inv-loop read-pairs-μ-loop
+read-pairs-returns-3 t c = object-differs (c .before .before .before .before .before .before .before .before .args .depth) (c .before .before .before .before .before .loop .previous) (c .before .before .before .before .before .loop .inv) (omega (arith, c .before .before .before .before .loop-test .left)) (c .before .none-twice .ensures) (c .if2 .taken)
+
+read-pairs-same-length-4 : (t : ℕ) → read-pairs-lts.Need-same-length-4 (cs-read-pairs t) (read-pairs-at t) read-pairs.Post read-pairs-Inv-loop read-pairs-μ-loop
+read-pairs-same-length-4 t c = c .before .before .before .before .before .loop .inv .kept .len
+
+read-pairs-returns-4 : (t : ℕ) → read-pairs-lts.Need-returns-4 (cs-read-pairs t) (read-pairs-at t) read-pairs.Post read-pairs-Inv-loop read-pairs-μ-loop
+read-pairs-returns-4 t c = object-repeats (c .before .before .before .before .before .before .before .before .args .depth) (c .before .before .before .before .before .loop .previous) (c .before .before .before .before .before .loop .inv) (omega (arith, c .before .before .before .before .loop-test .left)) (c .before .none-twice .ensures) (c .if2 .left)
 
 read-value-returns : (t : ℕ) → read-value-lts.Need-returns (cs-read-value t) (read-value-at t) read-value.Post
-read-value-returns t c = value-deep-answer (now (c .before .before .before .args .s)) (now (c .before .before .before .args .scratch)) (c .before .before .before .args .depth) (c .before .before .before .args .c) (c .if1 .taken)
+read-value-returns t c = value-deep-answer (now (c .before .before .before .args .s)) (now (c .before .before .before .args .words)) (c .before .before .before .args .depth) (c .before .before .before .args .c) (c .if1 .taken)
 
 read-value-value-head-requires : (t : ℕ) → read-value-lts.Need-value-head-requires (cs-read-value t) (read-value-at t) read-value.Post
 read-value-value-head-requires t c κs = search needs
@@ -310,7 +292,7 @@ read-value-enum-told : (t : ℕ) → read-value-lts.Need-enum-told (cs-read-valu
 read-value-enum-told t c = search needs
 
 read-value-returns-2 : (t : ℕ) → read-value-lts.Need-returns-2 (cs-read-value t) (read-value-at t) read-value.Post
-read-value-returns-2 t c = value-headless-answer (now (c .before .before .before .before .before .before .args .s)) (now (c .before .before .before .before .before .before .args .scratch)) (c .before .before .before .before .before .before .args .depth) (c .before .before .before .before .before .before .args .c) (c .before .before .before .if1 .left) (rw (c .enum-told .given .1) at (c .before .before .value-head .ensures))
+read-value-returns-2 t c = value-headless-answer (now (c .before .before .before .before .before .before .args .s)) (now (c .before .before .before .before .before .before .args .words)) (c .before .before .before .before .before .before .args .depth) (c .before .before .before .before .before .before .args .c) (c .before .before .before .if1 .left) (rw (c .enum-told .given .1) at (c .before .before .value-head .ensures))
 
 read-value-held-by-requires : (t : ℕ) → read-value-lts.Need-held-by-requires (cs-read-value t) (read-value-at t) read-value.Post
 read-value-held-by-requires t c κs = search needs
@@ -321,7 +303,7 @@ read-value-cost-of-requires t c κs = let head = rw (c .before .before .head .gi
 read-value-returns-3 : (t : ℕ) → read-value-lts.Need-returns-3 (cs-read-value t) (read-value-at t) read-value.Post
 read-value-returns-3 t c =
     let head = rw (c .before .before .before .before .head .given .1) at (c .before .before .before .before .before .before .value-head .ensures) in
-    held-unpaid-answer (now (c .before .before .before .before .before .before .before .before .before .before .args .s)) (now (c .before .before .before .before .before .before .before .before .before .before .args .scratch)) (c .before .before .before .before .before .before .before .before .before .before .args .depth) (c .before .before .before .before .head .given .0 .1 .0) (c .before .before .before .before .before .before .before .before .before .before .args .c) (c .before .before .before .before .head .given .0 .0) (c .before .before .before .before .before .before .before .if1 .left) (head .0) (c .before .cost-of .result) (c .before .before .held-by .result) (c .before .before .held-by .ensures) (c .before .cost-of .ensures) (c .if2 .taken)
+    held-unpaid-answer (now (c .before .before .before .before .before .before .before .before .before .before .args .s)) (now (c .before .before .before .before .before .before .before .before .before .before .args .words)) (c .before .before .before .before .before .before .before .before .before .before .args .depth) (c .before .before .before .before .head .given .0 .1 .0) (c .before .before .before .before .before .before .before .before .before .before .args .c) (c .before .before .before .before .head .given .0 .0) (c .before .before .before .before .before .before .before .if1 .left) (head .0) (c .before .cost-of .result) (c .before .before .held-by .result) (c .before .before .held-by .ensures) (c .before .cost-of .ensures) (c .if2 .taken)
 
 read-value-add-read-held : (t : ℕ) → read-value-lts.Need-add-read-held (cs-read-value t) (read-value-at t) read-value.Post
 read-value-add-read-held t c = omega (arith, c .before .before .before .before .before .before .before .before .before .before .pre .1 .budget)
@@ -344,20 +326,20 @@ read-value-same-length t c = c .before .before .before .before .read-held .kept 
 read-value-returns-4 : (t : ℕ) → read-value-lts.Need-returns-4 (cs-read-value t) (read-value-at t) read-value.Post
 read-value-returns-4 t c =
     let head = rw (c .before .before .before .before .before .before .before .before .before .before .head .given .1) at (c .before .before .before .before .before .before .before .before .before .before .before .before .value-head .ensures) in
-    held-bad-answer (now (c .before .before .before .before .before .before .before .before .before .before .before .before .before .before .before .before .args .s)) (now (c .before .before .before .before .before .before .before .before .before .before .before .before .before .before .before .before .args .scratch)) (c .before .before .before .before .before .before .before .before .before .before .before .before .before .before .before .before .args .depth) (c .before .before .before .before .before .before .before .before .before .before .head .given .0 .1 .0) (c .before .before .before .before .before .before .before .before .before .before .before .before .before .before .before .before .args .c) (c .before .before .before .before .before .before .before .before .before .before .head .given .0 .0) (c .before .before .before .before .before .before .before .before .before .before .before .before .before .if1 .left) (head .0) (c .before .before .before .before .read-held .last .1 .0) (c .before .before .before .before .before .before .before .cost-of .result) (c .before .before .before .before .before .before .if2 .left) (c .before .before .before .before .before .before .before .before .held-by .result) (c .before .before .before .before .before .before .before .before .held-by .ensures) (c .before .before .before .before .before .before .before .cost-of .ensures) (rw (c .enum-told2 .given .1) at (c .before .before .before .before .read-held .ensures))
+    held-bad-answer (now (c .before .before .before .before .before .before .before .before .before .before .before .before .before .before .before .before .args .s)) (now (c .before .before .before .before .before .before .before .before .before .before .before .before .before .before .before .before .args .words)) (c .before .before .before .before .before .before .before .before .before .before .before .before .before .before .before .before .args .depth) (c .before .before .before .before .before .before .before .before .before .before .head .given .0 .1 .0) (c .before .before .before .before .before .before .before .before .before .before .before .before .before .before .before .before .args .c) (c .before .before .before .before .before .before .before .before .before .before .head .given .0 .0) (c .before .before .before .before .before .before .before .before .before .before .before .before .before .if1 .left) (head .0) (c .before .before .before .before .read-held .last .1 .0) (c .before .before .before .before .before .before .before .cost-of .result) (c .before .before .before .before .before .before .if2 .left) (c .before .before .before .before .before .before .before .before .held-by .result) (c .before .before .before .before .before .before .before .before .held-by .ensures) (c .before .before .before .before .before .before .before .cost-of .ensures) (rw (c .enum-told2 .given .1) at (c .before .before .before .before .read-held .ensures))
 
 read-value-word-of-requires : (t : ℕ) → read-value-lts.Need-word-of-requires (cs-read-value t) (read-value-at t) read-value.Post
 read-value-word-of-requires t c κs = (
   omega (arith, c .before .before .before .before .before .before .before .before .before .before .before .before .before .before .before .before .before .pre .1 .inside, c .before .before .before .before .before .before .before .before .before .before .before .before .before .before .before .before .before .pre .1 .small),
   let head = rw (c .before .before .before .before .before .before .before .before .before .before .before .head .given .1) at (c .before .before .before .before .before .before .before .before .before .before .before .before .before .value-head .ensures) in
-      held-limit (now (c .before .before .before .before .before .before .before .before .before .before .before .before .before .before .before .before .before .args .s)) (now (c .before .before .before .before .before .before .before .before .before .before .before .before .before .before .before .before .before .args .scratch)) (c .before .before .before .before .before .before .before .before .before .before .before .before .before .before .before .before .before .args .depth) (c .before .before .before .before .before .before .before .before .before .before .before .head .given .0 .1 .0) (c .before .before .before .before .before .before .before .before .before .before .before .before .before .before .before .before .before .args .c) (c .before .before .before .before .before .before .before .before .before .before .before .head .given .0 .0) (c .before .before .before .before .before .before .before .before .before .before .before .before .before .before .if1 .left) (head .0) (c .before .before .before .before .before .read-held .last .1 .0) (c .before .before .before .before .before .before .before .before .cost-of .result) (c .before .before .before .before .before .before .before .if2 .left) (c .before .next .given .0 .0) (c .before .before .before .before .before .before .before .before .before .held-by .result) (c .before .before .before .before .before .before .before .before .before .before .before .before .before .before .before .before .before .pre .1) (c .before .before .before .before .before .before .before .before .cost-of .ensures) (rw (c .before .next .given .1) at (c .before .before .before .before .before .read-held .ensures)),
+      held-limit (now (c .before .before .before .before .before .before .before .before .before .before .before .before .before .before .before .before .before .args .s)) (now (c .before .before .before .before .before .before .before .before .before .before .before .before .before .before .before .before .before .args .words)) (c .before .before .before .before .before .before .before .before .before .before .before .before .before .before .before .before .before .args .depth) (c .before .before .before .before .before .before .before .before .before .before .before .head .given .0 .1 .0) (c .before .before .before .before .before .before .before .before .before .before .before .before .before .before .before .before .before .args .c) (c .before .before .before .before .before .before .before .before .before .before .before .head .given .0 .0) (c .before .before .before .before .before .before .before .before .before .before .before .before .before .before .if1 .left) (head .0) (c .before .before .before .before .before .read-held .last .1 .0) (c .before .before .before .before .before .before .before .before .cost-of .result) (c .before .before .before .before .before .before .before .if2 .left) (c .before .next .given .0 .0) (c .before .before .before .before .before .before .before .before .before .held-by .result) (c .before .before .before .before .before .before .before .before .before .before .before .before .before .before .before .before .before .pre .1) (c .before .before .before .before .before .before .before .before .cost-of .ensures) (rw (c .before .next .given .1) at (c .before .before .before .before .before .read-held .ensures)),
 )
 
-read-value-mul-scratch : (t : ℕ) → read-value-lts.Need-mul-scratch (cs-read-value t) (read-value-at t) read-value.Post
-read-value-mul-scratch t c = omega (arith, c .before .before .before .before .before .before .before .before .before .before .before .before .before .before .before .before .before .before .pre .1 .budget)
+read-value-mul-words : (t : ℕ) → read-value-lts.Need-mul-words (cs-read-value t) (read-value-at t) read-value.Post
+read-value-mul-words t c = omega (arith, c .before .before .before .before .before .before .before .before .before .before .before .before .before .before .before .before .before .before .pre .1 .budget)
 
-read-value-slice-write-scratch : (t : ℕ) → read-value-lts.Need-slice-write-scratch (cs-read-value t) (read-value-at t) read-value.Post
-read-value-slice-write-scratch t c = omega (arith, c .before .before .before .before .before .before .read-held .kept .1 .0, c .before .before .before .before .before .before .before .before .before .before .before .before .before .before .before .before .before .before .pre .1 .room, c .before .before .before .before .before .before .before .before .before .before .before .before .before .before .before .before .before .before .pre .1 .budget)
+read-value-slice-write-words : (t : ℕ) → read-value-lts.Need-slice-write-words (cs-read-value t) (read-value-at t) read-value.Post
+read-value-slice-write-words t c = omega (arith, c .before .before .before .before .before .before .read-held .kept .1 .0, c .before .before .before .before .before .before .before .before .before .before .before .before .before .before .before .before .before .before .pre .1 .room, c .before .before .before .before .before .before .before .before .before .before .before .before .before .before .before .before .before .before .pre .1 .budget)
 
 read-value-same-length-2 : (t : ℕ) → read-value-lts.Need-same-length-2 (cs-read-value t) (read-value-at t) read-value.Post
 read-value-same-length-2 t c = length-set (c .before .before .before .before .before .before .read-held .last .1 .0) (c .before .before .before .before .before .before .before .before .before .before .before .before .before .before .before .before .before .before .args .c .word) (c .word-of .result) ∙ c .before .before .before .before .before .before .read-held .kept .1 .0
@@ -365,13 +347,13 @@ read-value-same-length-2 t c = length-set (c .before .before .before .before .be
 read-value-returns-5 : (t : ℕ) → read-value-lts.Need-returns-5 (cs-read-value t) (read-value-at t) read-value.Post
 read-value-returns-5 t c =
     let head = rw (c .before .before .before .before .before .before .before .before .before .before .before .before .head .given .1) at (c .before .before .before .before .before .before .before .before .before .before .before .before .before .before .value-head .ensures) in
-    held-answer (now (c .before .before .before .before .before .before .before .before .before .before .before .before .before .before .before .before .before .before .args .s)) (now (c .before .before .before .before .before .before .before .before .before .before .before .before .before .before .before .before .before .before .args .scratch)) (c .before .before .before .before .before .before .before .before .before .before .before .before .before .before .before .before .before .before .args .depth) (c .before .before .before .before .before .before .before .before .before .before .before .before .head .given .0 .1 .0) (c .before .before .before .before .before .before .before .before .before .before .before .before .before .before .before .before .before .before .args .c) (c .before .before .before .before .before .before .before .before .before .before .before .before .head .given .0 .0) (c .before .before .before .before .before .before .before .before .before .before .before .before .before .before .before .if1 .left) (head .0) (c .before .before .before .before .before .before .read-held .last .1 .0) (c .before .before .before .before .before .before .before .before .before .cost-of .result) (c .before .before .before .before .before .before .before .before .if2 .left) (c .before .before .next .given .0 .0) (c .before .before .before .before .before .before .before .before .before .before .held-by .result) (c .before .before .before .before .before .before .before .before .before .before .held-by .ensures) (c .before .before .before .before .before .before .before .before .before .cost-of .ensures) (c .before .before .before .before .before .before .before .before .before .before .before .before .before .before .before .before .before .before .pre .1) (c .word-of .ensures) (rw (c .before .before .next .given .1) at (c .before .before .before .before .before .before .read-held .ensures))
+    held-answer (now (c .before .before .before .before .before .before .before .before .before .before .before .before .before .before .before .before .before .before .args .s)) (now (c .before .before .before .before .before .before .before .before .before .before .before .before .before .before .before .before .before .before .args .words)) (c .before .before .before .before .before .before .before .before .before .before .before .before .before .before .before .before .before .before .args .depth) (c .before .before .before .before .before .before .before .before .before .before .before .before .head .given .0 .1 .0) (c .before .before .before .before .before .before .before .before .before .before .before .before .before .before .before .before .before .before .args .c) (c .before .before .before .before .before .before .before .before .before .before .before .before .head .given .0 .0) (c .before .before .before .before .before .before .before .before .before .before .before .before .before .before .before .if1 .left) (head .0) (c .before .before .before .before .before .before .read-held .last .1 .0) (c .before .before .before .before .before .before .before .before .before .cost-of .result) (c .before .before .before .before .before .before .before .before .if2 .left) (c .before .before .next .given .0 .0) (c .before .before .before .before .before .before .before .before .before .before .held-by .result) (c .before .before .before .before .before .before .before .before .before .before .held-by .ensures) (c .before .before .before .before .before .before .before .before .before .cost-of .ensures) (c .before .before .before .before .before .before .before .before .before .before .before .before .before .before .before .before .before .before .pre .1) (c .word-of .ensures) (rw (c .before .before .next .given .1) at (c .before .before .before .before .before .before .read-held .ensures))
 
 abbrev read-values-Inv-loop : read-values-lts.InvT-loop
-read-values-Inv-loop s scratch₀ depth count here₀ n₀ scratch here n = Passing (values-kind s depth) s scratch₀ scratch tt tt count count n n here₀ here
+read-values-Inv-loop s words₀ depth count here₀ n₀ words here n = Passing (values-kind s depth) s words₀ words tt tt count count n n here₀ here
 
 abbrev read-values-μ-loop : read-values-lts.MeasureT-loop
-read-values-μ-loop s scratch₀ depth count here₀ n₀ scratch here n = n
+read-values-μ-loop s words₀ depth count here₀ n₀ words here n = n
 
 read-values-loop-holds : (t : ℕ) → read-values-lts.Need-loop-holds (cs-read-values t) (read-values-at t) read-values.Post read-values-Inv-loop read-values-μ-loop
 read-values-loop-holds t c = siblings-begin (values-kind (now (c .before .before .args .s)) (c .before .before .args .depth)) tt (c .before .before .args .count) (c .before .before .pre .1)
@@ -440,21 +422,18 @@ pub +read-held+read-pair+read-pairs+read-value+read-values-spec : {M : Type 1} �
     (read-pair-enum-known-key t)
     (read-pair-enum-told t)
     (read-pair-returns t)
-    (read-pair-is-next-key-requires t)
-    (read-pair-add-scratch t)
+    (read-pair-add-words t)
     (read-pair-read-value-requires t)
     (read-pair-enum-known-next t)
     (read-pair-enum-told-2 t)
     (read-pair-same-length t)
     (read-pair-returns-2 t)
     (read-pair-word-of-requires t)
-    (read-pair-mul-scratch t)
-    (read-pair-slice-write-scratch t)
+    (read-pair-mul-words t)
+    (read-pair-slice-write-words t)
     (read-pair-same-length-2 t)
-    (read-pair-returns-3 t)
-    (read-pair-returns-4 t))
-    (λ t. read-pairs-lts.spec
-    (read-pair-below t, read-pair.Post)
+    (read-pair-returns-3 t))
+    (λ t. read-pairs-lts.spec (cs-read-pairs t)
     (read-pairs-at t)
     read-pairs.Post
     read-pairs-Inv-loop
@@ -465,11 +444,17 @@ pub +read-held+read-pair+read-pairs+read-value+read-values-spec : {M : Type 1} �
     (read-pairs-enum-told t)
     (read-pairs-same-length t)
     (read-pairs-returns t)
+    (read-pairs-still-rise-requires t)
     (read-pairs-sub-n t)
     (read-pairs-loop-less t)
     (read-pairs-loop-again t)
     (read-pairs-same-length-2 t)
-    (read-pairs-returns-2 t))
+    (read-pairs-returns-2 t)
+    (read-pairs-none-twice-requires t)
+    (read-pairs-same-length-3 t)
+    (read-pairs-returns-3 t)
+    (read-pairs-same-length-4 t)
+    (read-pairs-returns-4 t))
     (λ t. read-value-lts.spec (cs-read-value t)
     (read-value-at t)
     read-value.Post
@@ -489,8 +474,8 @@ pub +read-held+read-pair+read-pairs+read-value+read-values-spec : {M : Type 1} �
     (read-value-same-length t)
     (read-value-returns-4 t)
     (read-value-word-of-requires t)
-    (read-value-mul-scratch t)
-    (read-value-slice-write-scratch t)
+    (read-value-mul-words t)
+    (read-value-slice-write-words t)
     (read-value-same-length-2 t)
     (read-value-returns-5 t))
     λ t. read-values-lts.spec

@@ -1,7 +1,7 @@
 //! Short ways to build trees. Entry numbers are given when a sheet is read, so they are 0 here.
 
 use differential::trees::{Condition, Data, Field, Holder, Operator, Rule, Schema, Sheet, Value};
-use std::collections::BTreeMap;
+use std::collections::{BTreeMap, HashSet};
 
 pub const STRING: u8 = 1;
 pub const INTEGER: u8 = 2;
@@ -50,10 +50,11 @@ pub fn array(values: Vec<Value>) -> Value {
     value(Data::Array(values))
 }
 
-/// An object, its keys in the order of a sheet and none twice.
-pub fn object(members: Vec<(String, Value)>) -> Value {
-    let by_key: BTreeMap<String, Value> = members.into_iter().collect();
-    value(Data::Object(by_key.into_iter().collect()))
+/// An object, its members in the order given. Of members with one key the first stays.
+pub fn object(mut members: Vec<(String, Value)>) -> Value {
+    let mut met = HashSet::new();
+    members.retain(|(key, _)| met.insert(key.clone()));
+    value(Data::Object(members))
 }
 
 pub fn condition(operator: Operator) -> Condition {

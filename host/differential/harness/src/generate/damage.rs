@@ -1,14 +1,18 @@
 //! Sheets that are nearly well formed: bytes and lines changed, numerals made too long, texts cut.
 
-use super::planted;
+use super::names::Names;
+use super::{members, planted};
 use crate::case::{Case, Expect};
 use crate::random::Random;
 
 /// Bytes that matter in a sheet, and some that are no UTF-8.
 const BYTES: [u8; 24] = *b"\n,-0123456789HFRTCVK.$\xc3\xff";
 
-pub fn case(random: &mut Random) -> Case {
-    let mut case = if random.chance(50) { super::slips(random) } else { planted::case(random) };
+pub fn case(random: &mut Random, names: &Names) -> Case {
+    let mut case = if random.chance(50) { super::slips(random, names) } else { planted::case(random, names) };
+    if let Some(case) = random.chance(20).then(|| members::key_twice(random, &case)).flatten() {
+        return case;
+    }
     for _ in 0..random.between(1, 2) {
         let in_schema = random.chance(40);
         let sheet = if in_schema { &mut case.schema } else { &mut case.rule };
@@ -54,7 +58,7 @@ fn repeat_or_drop_line(random: &mut Random, sheet: &mut Vec<u8>) {
         0 => drop(sheet.drain(line)),
         1 => drop(sheet.splice(into..into, text)),
         _ => {
-            // Moved: sibling names or keys may then no longer rise.
+            // Moved: sibling names may then no longer rise.
             sheet.drain(line);
             let into = into.min(sheet.len());
             sheet.splice(into..into, text);

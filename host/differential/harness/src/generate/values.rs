@@ -134,7 +134,12 @@ impl Scope<'_> {
         if random.chance(50) {
             return array((0..count).map(|_| self.value(random, depth - 1)).collect());
         }
-        object((0..count).map(|_| (key(random), self.value(random, depth - 1))).collect())
+        let mut members: Vec<_> = (0..count).map(|_| (key(random), self.value(random, depth - 1))).collect();
+        // They come in no order; in half of the cases they rise.
+        if random.chance(50) {
+            members.sort_by(|(one, _), (other, _)| one.as_bytes().cmp(other.as_bytes()));
+        }
+        object(members)
     }
 
     /// An operand of `before` or `after`.

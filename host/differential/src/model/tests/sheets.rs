@@ -136,6 +136,35 @@ fn sibling_names_rise_by_bytes() {
 }
 
 #[test]
+fn keys_stand_in_any_order_and_none_twice() {
+    let object = |keys: &[&str]| {
+        let members: String = keys
+            .iter()
+            .map(|key| format!("K,{},{key}\nV,1,0,\n", key.len()))
+            .collect();
+        is_rule(&format!("T\nV,7,{},\n{members}", keys.len()))
+    };
+    for keys in [
+        &["a", "b"][..],
+        &["b", "a"],
+        &["aa", "a", ""],
+        &["b", "c", "a"],
+    ] {
+        assert!(object(keys), "{keys:?}");
+    }
+    for keys in [
+        &["a", "a"][..],
+        &["a", "b", "a"],
+        &["b", "a", "a"],
+        &["", "a", ""],
+    ] {
+        assert!(!object(keys), "{keys:?}");
+    }
+    // An object inside another has keys of its own.
+    assert!(is_rule("T\nV,7,1,\nK,1,a\nV,7,1,\nK,1,a\nV,1,0,\n"));
+}
+
+#[test]
 fn conditions() {
     let v = "V,1,0,\n";
     for condition in [
@@ -239,7 +268,6 @@ fn values() {
         "V,7,1,\nK,0,\n",
         "V,7,1,\nK,-,\nV,1,0,\n",
         "V,7,2,\nK,1,a\nV,1,0,\nK,1,a\nV,1,0,\n",
-        "V,7,2,\nK,1,b\nV,1,0,\nK,1,a\nV,1,0,\n",
         "V,6,4294967296,\n",
     ] {
         assert!(!is_value(value), "{value}");
