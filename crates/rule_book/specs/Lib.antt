@@ -1,3 +1,4 @@
 pub mod Book
 pub mod Tally
+pub mod BookLaws
 pub mod Computing
