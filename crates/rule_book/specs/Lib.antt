@@ -1,4 +1,5 @@
 pub mod Book
 pub mod Tally
 pub mod BookLaws
+pub mod ByteLaws
 pub mod Computing

@@ -41,10 +41,13 @@ unfoldable pub countOf : ℕ → List Answer → ℕ
 countOf n [] = 0
 countOf n (a ∷ others) = cond (eqb (numbersOf a .number) n) 1 0 + countOf n others
 
--- the checks that passed, of all answers together
+unfoldable pub sum : List ℕ → ℕ
+sum [] = 0
+sum (n ∷ ns) = n + sum ns
+
+-- the checks that passed, under all answers together
 unfoldable pub passedIn : List Answer → ℕ
-passedIn [] = 0
-passedIn (a ∷ others) = numbersOf a .passed + passedIn others
+passedIn answers = sum (map (λ (a : Answer). numbersOf a .passed) answers)
 
 pub record Tally : Type 0 where
   pub read : ℕ
