@@ -1,8 +1,7 @@
 -- A file is of a rule book's form exactly if it is the writing of some sheets; and how it is read, sheet by sheet.
 use Prim.Native.Nat.{ℕ, zero, suc, _+_, _≤_}
 use native.Mathlib.Omega.{arith}
-use mathlib.Core.Bool.{cond}
-use mathlib.Core.List.{List, [], _∷_, _++_, append-assoc}
+use mathlib.Core.List.{List, [], _∷_, _++_}
 use mathlib.Core.Logic.{_↔_}
 use mathlib.Core.Option.{Option, none, some, Option·map, Option·none-ne-some, Option·some-injective}
 use mathlib.Core.Path.{_≡_, refl, sym, ap, _∙_}
@@ -13,7 +12,7 @@ use borrow.Author.Tests.{leb-true, le-leb}
 use Rattle.sheet.specs.Ascii.{ascii}
 use Rattle.sheet.specs.Reader.{Reader, _>>=_, _>>_, andThen, pure, either, orElse}
 use Rattle.sheet.specs.ReaderLaws.{Reads, by-test, bind-inv, then-inv, bind-reads, then-reads, pure-inv}
-use Rattle.sheet.specs.Numeral.{decimal, decimalOf}
+use Rattle.sheet.specs.Numeral.{decimalOf}
 use Rattle.sheet.specs.NumeralLaws.{decimal-sound, decimal-complete, decimalOf-begins}
 use Rattle.sheet.specs.Entries.{comma, bytes}
 use Rattle.sheet.specs.ItemLaws.{byte-sound, byte-complete, comma-begins}
@@ -137,11 +136,15 @@ first-of : (o : Option (List (List ℕ) × List ℕ)) (sheets : List (List ℕ))
 first-of none sheets e = absurd (Option·none-ne-some _ e)
 first-of (some r) sheets e = (r .1, ap (λ (x : List (List ℕ)). some (x, r .1)) (Option·some-injective (r .0) sheets e))
 
+pub book-first : (x : List ℕ) (others : List (List ℕ)) → Reads sheetIn (writeBook (x ∷ others)) x (writeBook others)
+unfolding writeBook
+book-first x others = sheet-complete x (writeBook others)
+
 book-written : (sheets : List (List ℕ)) → sheetsOf (writeBook sheets) ≡ some sheets
 unfolding writeBook
 book-written [] = sheets-end
 book-written (x ∷ others) =
-    sheets-more _ x (writeBook others) (sheet-complete x (writeBook others))
+    sheets-more _ x (writeBook others) (book-first x others)
     ∙ ap (Option·map (λ (more : List (List ℕ)). x ∷ more)) (book-written others)
 
 pub book-round-trip : (file : List ℕ) (sheets : List (List ℕ)) → (sheetsOf file ≡ some sheets) ↔ (file ≡ writeBook sheets)

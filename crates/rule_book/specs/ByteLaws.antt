@@ -9,8 +9,7 @@ use Rattle.sheet.specs.Ascii.{ascii}
 use Rattle.sheet.specs.Numeral.{decimalOf}
 use Rattle.sheet.specs.NumeralLaws.{decimalOf-begins}
 use Rattle.sheet.specs.Entries.{ConditionHead, literalHead, manyHead, negationHead, oneHead, twoHead, comparisonHead, quantifierHead, ValueHead, constantHead, numberHead, stringHead, arrayHead, objectHead}
-use Rattle.sheet.specs.Entries as Entries
-use Rattle.sheet.specs.Write.{writeEnd, writeItem, writeLength, writeText, writeRuleHead, writeLast, writeOperator, writeConditionHead, writeType, writeValueHead, writeKeyHead, markOf}
+use Rattle.sheet.specs.Write.{writeEnd, writeItem, writeLength, writeRuleHead, writeLast, writeOperator, writeConditionHead, writeType, writeValueHead, writeKeyHead, markOf}
 use Rattle.definition.specs.Tree.{Text, Value, constant, number, string, array, object, Values, noValues, value, Pairs, noPairs, pair, Condition, literal, many, negation, one, two, comparison, quantifier, Conditions, noConditions, condition, Rule, rule, template, Schema}
 use Rattle.definition.specs.Write.{writeValue, writeValues, writePairs, writeCondition, writeConditions, writeRule, valueCount, pairCount, conditionCount}
 use Rattle.definition.specs.Decode.{decodeSchema, decodeRule}

@@ -2,4 +2,5 @@ pub mod Book
 pub mod Tally
 pub mod BookLaws
 pub mod ByteLaws
+pub mod TallyLaws
 pub mod Computing

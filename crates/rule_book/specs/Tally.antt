@@ -27,11 +27,13 @@ askedOf c sheet = record { takes = any; kind = c .kind; semantics = c .semantics
 unfoldable pub single : BookCall → (sheet : List ℕ) → Call
 single c sheet = record { asked = askedOf c sheet; table = c .table; schema = c .schema; lent = c .lent }
 
+-- of a file that is not of the form
+abbrev pub ofForm : (book : List ℕ) → Refusal
+ofForm book = record { number = 34; isDue = isNone (sheetsOf book) }
+
 -- the refusals in the order in which they are tried; settings, label and widths are the same for every sheet
 unfoldable pub bookRefusals : BookCall → List Refusal
-bookRefusals c =
-    ofSettings (askedOf c []) (c .lent)
-    ++ (record { number = 34; isDue = isNone (sheetsOf (c .book)) } ∷ ofTable (c .table))
+bookRefusals c = ofSettings (askedOf c []) (c .lent) ++ (ofForm (c .book) ∷ ofTable (c .table))
 
 unfoldable pub answersOf : BookCall → List (List ℕ) → List Answer
 answersOf c sheets = map (λ (sheet : List ℕ). resultOf (single c sheet)) sheets
