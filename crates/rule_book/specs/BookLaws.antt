@@ -12,7 +12,7 @@ use borrow.Author.Tests.{leb-true, le-leb}
 use Rattle.sheet.specs.Ascii.{ascii}
 use Rattle.sheet.specs.Reader.{Reader, _>>=_, _>>_, andThen, pure, either, orElse}
 use Rattle.sheet.specs.ReaderLaws.{Reads, by-test, bind-inv, then-inv, bind-reads, then-reads, pure-inv}
-use Rattle.sheet.specs.Numeral.{decimalOf}
+use Rattle.sheet.specs.Numeral.{decimal, decimalOf}
 use Rattle.sheet.specs.NumeralLaws.{decimal-sound, decimal-complete, decimalOf-begins}
 use Rattle.sheet.specs.Entries.{comma, bytes}
 use Rattle.sheet.specs.ItemLaws.{byte-sound, byte-complete, comma-begins}
@@ -63,6 +63,14 @@ sheet-bytes s x t e =
     let some-digit : length (decimalOf (length x)) ≡ 1 + length rest = ap length digits ∙ omega arith in
     let size : length s ≡ length (decimalOf (length x)) + (1 + (length x + length t)) = ap length (sheet-sound s x t e) ∙ simp length-append (omega arith) in
     omega arith
+
+-- and what is read as its length is that
+pub sheet-length : (s x t : List ℕ) → Reads sheetIn s x t → (u : List ℕ) × (decimal s ≡ some (length x, u))
+unfolding sheetIn
+sheet-length s x t e =
+    bind-inv _ _ s e λ n s₁ e₁ e.
+    then-inv _ _ s₁ e λ u s₂ e₂ e₃.
+    (s₁, e₁ ∙ ap (λ (m : ℕ). some (m, s₁)) (sym (bytes-sound n s₂ x t e₃ .1)))
 
 -- The sheets of a file: there are no more of them than bytes, so a larger bound changes nothing.
 

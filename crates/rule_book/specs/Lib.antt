@@ -1,5 +1,6 @@
 pub mod Book
 pub mod Tally
+pub mod Places
 pub mod BookLaws
 pub mod ByteLaws
 pub mod TallyLaws

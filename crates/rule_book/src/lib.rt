@@ -1,1 +1,2 @@
 // Rule books: many rule sheets in one file, tallied against one schema (docs/FORMAT.md, "Rule books").
+pub mod sheets; // sheets.rt: the sheets of a file, one behind the other
