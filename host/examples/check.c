@@ -1,4 +1,4 @@
-/* Checks a good and a bad rule of a mill from C. In this folder, after `rt staticlib entity_rules` in the repository's root:
+/* Checks a good and a bad rule of a mill from C, and a third under the mill's own name table. In this folder, after `rt staticlib entity_rules` in the repository's root:
  *
  *   cc check.c -I../include -L../../target/staticlib -lentity_rules -o ../../target/check && ../../target/check
  *
@@ -6,6 +6,7 @@
  *
  *   good: accepted, 9 checks passed
  *   bad: defect 18 of family 8, detail 3, at entry 5, bad.assert.for_all.that.eq[0], after 8 checks
+ *   own: accepted, 5 checks passed
  */
 #include <entity_rules.h>
 #include <stdio.h>
@@ -13,27 +14,46 @@
 
 static uint8_t path[ENTITY_RULES_PATH_BYTES];
 
+/* The mill's own name table, loaded. */
+static uint8_t table[ENTITY_RULES_TABLE_BYTES];
+
 static const uint8_t *bytes(const char *text) { return (const uint8_t *)text; }
 
-/* Prints what the library answers for one rule. */
+/* Prints what the library answered for one rule. */
+static void show(const char *label, uint32_t number, const uint8_t result[ENTITY_RULES_RESULT_BYTES]) {
+  const size_t size = ENTITY_RULES_RESULT_BYTES;
+  uint32_t passed = rulecheck_field(result, size, ENTITY_RULES_PASSED);
+  if (number == ENTITY_RULES_ACCEPTED) {
+    printf("%s: accepted, %u checks passed\n", label, (unsigned)passed);
+  } else if (number < ENTITY_RULES_DEFECT_NAME || number > ENTITY_RULES_DEFECT_OVER) {
+    printf("%s: refused, %u\n", label, (unsigned)number);
+  } else {
+    printf("%s: defect %u of family %u, detail %u, at entry %u, %.*s, after %u checks\n", label, (unsigned)number,
+           (unsigned)rulecheck_field(result, size, ENTITY_RULES_FAMILY),
+           (unsigned)rulecheck_field(result, size, ENTITY_RULES_DETAIL),
+           (unsigned)rulecheck_field(result, size, ENTITY_RULES_PLACE),
+           (int)rulecheck_field(result, size, ENTITY_RULES_PATH_LENGTH), (const char *)path, (unsigned)passed);
+  }
+}
+
+/* Checks a rule by the stock table. */
 static void check(const char *label, const char *schema, const char *rule) {
   uint8_t result[ENTITY_RULES_RESULT_BYTES];
   uint32_t number = rulecheck_rule(ENTITY_RULES_PRECONDITION, ENTITY_RULES_SERVICE_1,
                                    bytes(label), strlen(label), bytes(schema), strlen(schema),
                                    bytes(rule), strlen(rule),
                                    path, sizeof path, result, sizeof result);
-  uint32_t passed = rulecheck_field(result, sizeof result, ENTITY_RULES_PASSED);
-  if (number == ENTITY_RULES_ACCEPTED) {
-    printf("%s: accepted, %u checks passed\n", label, (unsigned)passed);
-  } else if (number <= ENTITY_RULES_REFUSED_RULE_SHEET) {
-    printf("%s: refused, %u\n", label, (unsigned)number);
-  } else {
-    printf("%s: defect %u of family %u, detail %u, at entry %u, %.*s, after %u checks\n", label, (unsigned)number,
-           (unsigned)rulecheck_field(result, sizeof result, ENTITY_RULES_FAMILY),
-           (unsigned)rulecheck_field(result, sizeof result, ENTITY_RULES_DETAIL),
-           (unsigned)rulecheck_field(result, sizeof result, ENTITY_RULES_PLACE),
-           (int)rulecheck_field(result, sizeof result, ENTITY_RULES_PATH_LENGTH), (const char *)path, (unsigned)passed);
-  }
+  show(label, number, result);
+}
+
+/* Checks a rule by the table that is loaded. */
+static void check_own(const char *label, const char *schema, const char *rule) {
+  uint8_t result[ENTITY_RULES_RESULT_BYTES];
+  uint32_t number = rulecheck_check(ENTITY_RULES_OUTCOME_SELECTOR, ENTITY_RULES_SERVICE_1,
+                                    bytes(label), strlen(label), table, sizeof table,
+                                    bytes(schema), strlen(schema), bytes(rule), strlen(rule),
+                                    path, sizeof path, result, sizeof result);
+  show(label, number, result);
 }
 
 int main(void) {
@@ -56,5 +76,22 @@ int main(void) {
         "C,8,0,\n"
         "V,5,12,$bar.threded\n"
         "V,3,0,\n");
+  /* In this mill outcome selectors read the state, the fifth mark of entry 5. */
+  const char *own = "N,1,1,1,1,1,1,0,0,0,0\n"
+                    "N,2,1,1,1,1,0,1,1,1,1\n"
+                    "N,3,1,1,1,1,1,1,0,0,0\n"
+                    "N,4,1,1,1,1,1,1,1,1,1\n"
+                    "N,5,1,1,1,1,1,0,1,1,0\n"
+                    "N,6,1,1,1,0,0,0,0,1,0\n"
+                    "N,7,1,1,1,0,1,1,0,1,0\n"
+                    "N,8,1,1,1,1,1,1,0,1,0\n";
+  if (rulecheck_load_table(bytes(own), strlen(own), table, sizeof table) != 0) {
+    return 1;
+  }
+  check_own("own", schema,
+            "R,-,-,\n"
+            "C,8,0,\n"
+            "V,5,6,$state\n"
+            "V,5,5,drawn\n");
   return 0;
 }

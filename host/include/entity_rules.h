@@ -1,7 +1,7 @@
 /* One rule, template or key path checked against the schema of its record: the C functions of libentity_rules.a.
  *
  * docs/FORMAT.md says what the sheets hold and what each number means. Lengths are in bytes. A pointer must lead to as many bytes
- * as the length after it says, and must not be null, even where that is 0. path and result must not overlap each other or
+ * as the length after it says, and must not be null, even where that is 0. path, result and buffer must not overlap each other or
  * anything else. No function keeps a pointer, allocates or waits, so any number of threads may call them at once. A call
  * takes up to about 280 KB of stack: 16 KB for its scratch, the rest by how deep the sheets nest, most of it with 31 quantifiers in one
  * another. A path under 32,768 bytes or a result under 28 is refusal 3, and is not written.
@@ -42,7 +42,7 @@ enum entity_rules_reader {
   ENTITY_RULES_PROJECTION = 2
 };
 
-/* The number of an answer: 0, a refusal (1 to 5) or a defect (11 to 22). */
+/* The number of an answer: 0, a refusal (1 to 5, 37, 38) or a defect (11 to 22). */
 enum entity_rules_number {
   ENTITY_RULES_ACCEPTED = 0,
   ENTITY_RULES_REFUSED_SETTING = 1,
@@ -61,7 +61,9 @@ enum entity_rules_number {
   ENTITY_RULES_DEFECT_AFFIX = 19,
   ENTITY_RULES_DEFECT_INSTANT = 20,
   ENTITY_RULES_DEFECT_BIND = 21,
-  ENTITY_RULES_DEFECT_OVER = 22
+  ENTITY_RULES_DEFECT_OVER = 22,
+  ENTITY_RULES_REFUSED_TABLE = 37,
+  ENTITY_RULES_REFUSED_TABLE_MARK = 38
 };
 
 /* The family of a defect. */
@@ -93,6 +95,9 @@ enum entity_rules_field {
 /* What a key path may hold at most. */
 #define ENTITY_RULES_KEY_BYTES 512
 
+/* What a name table has, and the buffer that it is loaded into must hold at least. */
+#define ENTITY_RULES_TABLE_BYTES 176
+
 /* What the buffers of a call must hold at least. */
 #define ENTITY_RULES_PATH_BYTES 32768
 #define ENTITY_RULES_RESULT_BYTES 28
@@ -113,6 +118,23 @@ uint32_t rulecheck_template(uint64_t kind, uint64_t semantics,
                             const uint8_t *rule, size_t rule_length,
                             uint8_t *path, size_t path_length,
                             uint8_t *result, size_t result_length);
+
+/* Checks a rule or a template, as the first letter of its sheet says, under a name table; otherwise as rulecheck_rule. A table of 0 bytes
+ * is the stock table, which the other functions go by. Of any other the first 176 bytes count: 37 where they are no table, 38 where
+ * a mark hides $id, $entity or $version, or shows $old_fields where $fields is hidden, both tried after 3 and before 4. */
+uint32_t rulecheck_check(uint64_t kind, uint64_t semantics,
+                         const uint8_t *label, size_t label_length,
+                         const uint8_t *table, size_t table_length,
+                         const uint8_t *schema, size_t schema_length,
+                         const uint8_t *rule, size_t rule_length,
+                         uint8_t *path, size_t path_length,
+                         uint8_t *result, size_t result_length);
+
+/* Loads a name table: copies it to the start of buffer, from which later checks can be lent it, and returns 0. Returns 37 for what is no
+ * table of exactly 176 bytes and for a buffer under 176, then 38 as rulecheck_check does; buffer is then unchanged. It keeps its other
+ * bytes in every case. */
+uint32_t rulecheck_load_table(const uint8_t *table, size_t table_length,
+                              uint8_t *buffer, size_t buffer_length);
 
 /* Checks one path of the record's fields, without `$fields.` before it, for a reader (enum entity_rules_reader). Returns 0 with one
  * check passed, 18 with its detail, or a refusal: 1 for an unknown semantics or reader, 2 for a path over 512 bytes or not UTF-8, 3 for a

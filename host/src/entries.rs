@@ -20,14 +20,17 @@ mod number;
 mod reader;
 mod rule;
 mod schema;
+mod table;
 
 use crate::build::{CompareOp, FieldKind};
 use crate::numbered::numbered;
+use crate::settings::Kind;
 use std::fmt;
 
 pub(crate) use number::is_number;
 pub use rule::read_rule;
 pub use schema::read_schema;
+pub use table::read_table;
 
 numbered! {
     /// The operator of a condition.
@@ -149,6 +152,13 @@ pub enum Content<'a> {
     Object(usize),
     /// `K`: the key of a member.
     Key(&'a str),
+    /// `N`: a row of a name table.
+    Row {
+        /// The kind that it is about.
+        kind: Kind,
+        /// Which names the kind may read, by rising number of [`Name`](crate::Name).
+        marks: [bool; 9],
+    },
 }
 
 impl fmt::Display for Content<'_> {
@@ -176,6 +186,7 @@ impl fmt::Display for Content<'_> {
             Self::Array(n) => write!(f, "array of {n}"),
             Self::Object(n) => write!(f, "object of {n}"),
             Self::Key(key) => write!(f, "key {key:?}"),
+            Self::Row { kind, .. } => write!(f, "row of {kind}"),
         }
     }
 }

@@ -15,6 +15,7 @@
 )]
 
 mod build;
+mod checks;
 pub mod entries;
 mod finite;
 pub mod limits;
@@ -22,14 +23,17 @@ mod numbered;
 #[allow(unsafe_code)]
 pub mod raw;
 mod settings;
+mod table;
 mod verdict;
 
 pub use build::{
     BuildError, CompareOp, Condition, Field, FieldKind, Nesting, Rule, Schema, Template, Value,
 };
+pub use checks::{Check, Checked};
 pub use entries::Operator;
 pub use finite::{Finite, finite};
-pub use settings::{Kind, Reader, Semantics, UnknownName};
+pub use settings::{Kind, Name, Reader, Semantics, UnknownName};
+pub use table::{Table, TableError};
 pub use verdict::{
     CollectionFault, Defect, DefectNumber, Detail, Family, InstantFault, PathVerdict,
     ReferenceFault, Refusal, Side, Verdict,
@@ -39,7 +43,8 @@ use limits::{PATH_BYTES, RESULT_BYTES};
 
 /// Checks a rule or a template, as the first letter of its sheet says, against a schema.
 ///
-/// The label begins the path of a defect. It is text of at most 256 bytes.
+/// The label begins the path of a defect. It is text of at most 256 bytes. Which names may be read goes by the stock table; a [`Check`] can
+/// be lent another.
 ///
 /// ```
 /// use entity_rules::{check, Field, FieldKind, Kind, Schema, Semantics, Template, Value};

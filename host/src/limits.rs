@@ -1,4 +1,4 @@
-//! The limits of sheets, labels, keys and buffers (docs/FORMAT.md).
+//! The limits of sheets, labels, keys, tables and buffers (docs/FORMAT.md).
 //!
 //! ```
 //! use entity_rules::limits::MAX_TEXT_BYTES;
@@ -35,6 +35,9 @@ pub const MAX_LABEL_BYTES: usize = 256;
 
 /// Bytes of a key path.
 pub const MAX_KEY_BYTES: usize = 512;
+
+/// Bytes of a name table.
+pub const TABLE_BYTES: usize = 176;
 
 /// Bytes that a call wants for the path.
 pub const PATH_BYTES: usize = 32_768;

@@ -48,6 +48,30 @@ unsafe extern "C" {
         result_length: usize,
     ) -> u32;
 
+    fn rulecheck_check(
+        kind: u64,
+        semantics: u64,
+        label: *const u8,
+        label_length: usize,
+        table: *const u8,
+        table_length: usize,
+        schema: *const u8,
+        schema_length: usize,
+        rule: *const u8,
+        rule_length: usize,
+        path: *mut u8,
+        path_length: usize,
+        result: *mut u8,
+        result_length: usize,
+    ) -> u32;
+
+    fn rulecheck_load_table(
+        table: *const u8,
+        table_length: usize,
+        buffer: *mut u8,
+        buffer_length: usize,
+    ) -> u32;
+
     fn rulecheck_path(
         semantics: u64,
         reader: u64,
@@ -140,6 +164,86 @@ pub fn template(
             path.len(),
             result.as_mut_ptr(),
             result.len(),
+        )
+    }
+}
+
+/// Checks a rule or a template, as the first letter of its sheet says, under a name table; otherwise as [`rule`].
+///
+/// A table of 0 bytes is the stock table. Of any other the first 176 bytes count: what is no table is refusal 37, and a mark that breaks one of
+/// the two conditions refusal 38, both tried after 3 and before 4.
+///
+/// ```
+/// use entity_rules::raw;
+///
+/// let (mut path, mut result) = (vec![0; 32_768], [0; 28]);
+/// let (schema, template) = (b"H,0,0,-,0\n", b"T\nV,5,6,$state\n");
+/// let stock = entity_rules::Table::stock().sheet()?;
+/// assert_eq!(raw::check(3, 1, b"", &[], schema, template, &mut path, &mut result), 0);
+/// assert_eq!(raw::check(5, 1, b"", &stock, schema, template, &mut path, &mut result), 18);
+/// assert_eq!(raw::check(5, 1, b"", b"N", schema, template, &mut path, &mut result), 37);
+/// assert_eq!(raw::check(5, 1, b"", b"N", schema, template, &mut [], &mut result), 3);
+/// # Ok::<(), entity_rules::TableError>(())
+/// ```
+#[expect(
+    clippy::too_many_arguments,
+    reason = "as many as the C function has slices and numbers"
+)]
+pub fn check(
+    kind: u64,
+    semantics: u64,
+    label: &[u8],
+    table: &[u8],
+    schema: &[u8],
+    rule: &[u8],
+    path: &mut [u8],
+    result: &mut [u8],
+) -> u32 {
+    // SAFETY: as in `rule`; the table is a slice that is read, like the sheets.
+    unsafe {
+        rulecheck_check(
+            kind,
+            semantics,
+            label.as_ptr(),
+            label.len(),
+            table.as_ptr(),
+            table.len(),
+            schema.as_ptr(),
+            schema.len(),
+            rule.as_ptr(),
+            rule.len(),
+            path.as_mut_ptr(),
+            path.len(),
+            result.as_mut_ptr(),
+            result.len(),
+        )
+    }
+}
+
+/// Copies a name table to the start of a buffer and answers 0; else the buffer stays as it is.
+///
+/// What is no table of exactly 176 bytes, and a buffer under 176 bytes, are refusal 37. A mark that breaks one of the two conditions is refusal 38.
+///
+/// ```
+/// use entity_rules::raw;
+///
+/// let stock = entity_rules::Table::stock().sheet()?;
+/// let mut buffer = [b'-'; 180];
+/// assert_eq!(raw::load_table(&stock, &mut buffer[..175]), 37);
+/// assert_eq!(buffer, [b'-'; 180]);
+/// assert_eq!(raw::load_table(&stock, &mut buffer), 0);
+/// assert_eq!(buffer, *[&stock[..], b"----"].concat());
+/// # Ok::<(), entity_rules::TableError>(())
+/// ```
+pub fn load_table(table: &[u8], buffer: &mut [u8]) -> u32 {
+    // SAFETY: both pointers and lengths are those of slices. The library reads the first and writes the second, neither beyond its length, and
+    // keeps no pointer; as a slice lent mutably the second does not overlap the first.
+    unsafe {
+        rulecheck_load_table(
+            table.as_ptr(),
+            table.len(),
+            buffer.as_mut_ptr(),
+            buffer.len(),
         )
     }
 }

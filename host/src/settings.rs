@@ -1,4 +1,4 @@
-//! Kind and semantics of a rule or template, and the reader of a key (docs/FORMAT.md, "Settings and names", "Keys").
+//! Kind and semantics of a rule or template, the names that it may read, and the reader of a key (docs/FORMAT.md, "Settings and names", "Keys").
 
 use crate::numbered::numbered;
 use std::fmt;
@@ -7,7 +7,8 @@ use std::str::FromStr;
 numbered! {
     /// Where a rule or template stands, and so which names it may read.
     ///
-    /// All may read `$id`, `$entity` and `$version`; the values below say what else. Any kind goes with either sheet.
+    /// All may read `$id`, `$entity` and `$version`; the values below say what else, unless a [`Table`](crate::Table) says otherwise. Any kind
+    /// goes with either sheet.
     ///
     /// ```
     /// use entity_rules::Kind;
@@ -56,7 +57,7 @@ impl Kind {
         )
     }
 
-    /// The names that it may read, each without its `$`. Binds of quantifiers come in addition, in their bodies.
+    /// The names that it may read by the stock table, each without its `$`. Binds of quantifiers come in addition, in their bodies.
     ///
     /// ```
     /// use entity_rules::Kind;
@@ -96,6 +97,40 @@ impl Kind {
                 "id", "entity", "version", "fields", "state", "to_state", "args",
             ],
         }
+    }
+}
+
+numbered! {
+    /// A name that a reference can begin with, after its `$`. Its number is the place of its mark in a row of a [`Table`](crate::Table).
+    ///
+    /// ```
+    /// use entity_rules::Name;
+    ///
+    /// let name: Name = "$to_state".parse()?;
+    /// assert_eq!(name, Name::ToState);
+    /// assert_eq!((name.number(), name.text()), (6, "to_state"));
+    /// assert!("to".parse::<Name>().is_err());
+    /// # Ok::<(), entity_rules::UnknownName>(())
+    /// ```
+    Name {
+        /// The record's identity.
+        Id = 1, "id";
+        /// What the record is called in its definition.
+        Entity = 2, "entity";
+        /// The record's version.
+        Version = 3, "version";
+        /// The record's fields; a path may follow.
+        Fields = 4, "fields";
+        /// The record's state.
+        State = 5, "state";
+        /// The state that an operation leads to.
+        ToState = 6, "to_state";
+        /// The state that an operation starts from.
+        FromState = 7, "from_state";
+        /// The arguments; a path may follow.
+        Args = 8, "args";
+        /// The record's fields before an operation; a path may follow.
+        OldFields = 9, "old_fields";
     }
 }
 
@@ -156,7 +191,7 @@ numbered! {
     }
 }
 
-/// A text that names no kind, no semantics or no reader.
+/// A text that names no kind, no semantics, no reader, or nothing that a reference can begin with.
 ///
 /// ```
 /// use entity_rules::{Kind, Semantics};
@@ -169,7 +204,7 @@ numbered! {
 /// ```
 #[derive(Clone, Debug, PartialEq, Eq)]
 pub struct UnknownName {
-    /// What was asked for: `kind`, `semantics` or `reader`.
+    /// What was asked for: `kind`, `semantics`, `reader` or `name`.
     pub what: &'static str,
     /// The text that was given.
     pub given: String,
@@ -201,6 +236,21 @@ impl FromStr for Kind {
             what: "kind",
             given: given.to_owned(),
             known: Self::ALL.iter().map(|kind| kind.text()).collect(),
+        })
+    }
+}
+
+impl FromStr for Name {
+    type Err = UnknownName;
+
+    /// Reads a name, with or without its `$`.
+    fn from_str(given: &str) -> Result<Self, UnknownName> {
+        let bare = given.strip_prefix('$').unwrap_or(given);
+        let found = Self::ALL.iter().find(|name| name.text() == bare);
+        found.copied().ok_or_else(|| UnknownName {
+            what: "name",
+            given: given.to_owned(),
+            known: Self::ALL.iter().map(|name| name.text()).collect(),
         })
     }
 }

@@ -489,6 +489,10 @@ pub enum Refusal {
     SchemaSheet,
     /// 5: the rule sheet is not well formed, or is not of the sort that the function takes.
     RuleSheet,
+    /// 37: the name table is not well formed. [`Table::read`](crate::Table::read) says where.
+    Table,
+    /// 38: a mark of the name table breaks one of its two conditions. [`Table::read`](crate::Table::read) says which.
+    TableMark,
     /// The library that is linked gave these seven numbers, which this crate does not know: they are of different versions.
     Unknown([u32; 7]),
 }
@@ -507,6 +511,8 @@ impl Refusal {
             Self::Width => 3,
             Self::SchemaSheet => 4,
             Self::RuleSheet => 5,
+            Self::Table => 37,
+            Self::TableMark => 38,
             Self::Unknown([number, ..]) => number,
         }
     }
@@ -525,6 +531,8 @@ impl Refusal {
             Self::Width => "width",
             Self::SchemaSheet => "schema sheet",
             Self::RuleSheet => "rule sheet",
+            Self::Table => "table",
+            Self::TableMark => "table mark",
             Self::Unknown(_) => "unknown",
         }
     }
@@ -536,6 +544,8 @@ impl Refusal {
             3 => Some(Self::Width),
             4 => Some(Self::SchemaSheet),
             5 => Some(Self::RuleSheet),
+            37 => Some(Self::Table),
+            38 => Some(Self::TableMark),
             _ => None,
         }
     }
@@ -554,6 +564,10 @@ impl fmt::Display for Refusal {
             Self::RuleSheet => {
                 f.pad("the rule sheet is not well formed, or not of the sort asked for")
             }
+            Self::Table => f.pad("the name table is not well formed"),
+            Self::TableMark => f.pad(
+                "a mark of the name table hides a name that every kind reads, or shows $old_fields where $fields is hidden",
+            ),
             Self::Unknown(numbers) => write!(f, "the library gave an unknown answer, {numbers:?}"),
         }
     }

@@ -1,7 +1,7 @@
 //! The C header and the C example.
 
-use entity_rules::limits::{MAX_KEY_BYTES, PATH_BYTES, RESULT_BYTES};
-use entity_rules::{DefectNumber, Family, Kind, Reader, ReferenceFault, Semantics};
+use entity_rules::limits::{MAX_KEY_BYTES, PATH_BYTES, RESULT_BYTES, TABLE_BYTES};
+use entity_rules::{DefectNumber, Family, Kind, Reader, ReferenceFault, Refusal, Semantics};
 use std::path::{Path, PathBuf};
 use std::process::Command;
 
@@ -48,7 +48,8 @@ fn runs(program: &Path) {
     assert_eq!(
         printed,
         "good: accepted, 9 checks passed\n\
-         bad: defect 18 of family 8, detail 3, at entry 5, bad.assert.for_all.that.eq[0], after 8 checks\n"
+         bad: defect 18 of family 8, detail 3, at entry 5, bad.assert.for_all.that.eq[0], after 8 checks\n\
+         own: accepted, 5 checks passed\n"
     );
     let source = include_str!("../examples/check.c");
     for line in printed.lines() {
@@ -109,8 +110,19 @@ fn the_header_has_the_numbers_of_the_crate() {
     let readers = Reader::ALL
         .iter()
         .map(|one| (spelled(one.name()), one.number()));
+    let refusals = [
+        ("SETTING", Refusal::Setting),
+        ("LABEL", Refusal::Label),
+        ("WIDTH", Refusal::Width),
+        ("SCHEMA_SHEET", Refusal::SchemaSheet),
+        ("RULE_SHEET", Refusal::RuleSheet),
+        ("TABLE", Refusal::Table),
+        ("TABLE_MARK", Refusal::TableMark),
+    ];
+    let refusals = refusals.map(|(name, one)| (format!("REFUSED_{name}"), one.number()));
     let settings = kinds.chain(semantics).chain(readers);
-    for (name, number) in settings.chain(defects).chain(families) {
+    let answers = defects.chain(families).chain(refusals);
+    for (name, number) in settings.chain(answers) {
         let line = format!("  ENTITY_RULES_{name} = {number}");
         assert!(
             HEADER
@@ -122,6 +134,7 @@ fn the_header_has_the_numbers_of_the_crate() {
     for (name, number) in [
         ("TEXT_COUNT", ReferenceFault::TextCount as usize),
         ("KEY_BYTES", MAX_KEY_BYTES),
+        ("TABLE_BYTES", TABLE_BYTES),
         ("PATH_BYTES", PATH_BYTES),
         ("RESULT_BYTES", RESULT_BYTES),
     ] {

@@ -8,7 +8,7 @@ use entity_rules::{
     Schema, Semantics, check_path, check_rule, raw,
 };
 use std::collections::BTreeSet;
-use support::Random;
+use support::{Random, line, take};
 
 /// One case: a call, and the three numbers of its answer that may differ from 0.
 struct Case<'a> {
@@ -41,19 +41,6 @@ impl Case<'_> {
             other => panic!("{other} is no answer to a key"),
         }
     }
-}
-
-fn line<'a>(bytes: &mut &'a [u8]) -> &'a str {
-    let end = bytes.iter().position(|&byte| byte == b'\n');
-    let (line, rest) = bytes.split_at(end.expect("the end of a line"));
-    *bytes = &rest[1..];
-    std::str::from_utf8(line).expect("a line of numbers")
-}
-
-fn take<'a>(bytes: &mut &'a [u8], count: u64) -> &'a [u8] {
-    let (taken, rest) = bytes.split_at(usize::try_from(count).expect("a count"));
-    *bytes = rest;
-    taken
 }
 
 /// Calls the function on every case of the list.

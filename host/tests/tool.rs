@@ -1,6 +1,6 @@
 //! The tool as people and programs run it.
 
-use entity_rules::{Kind, Semantics, check_template};
+use entity_rules::{Kind, Name, Semantics, Table, check_template};
 use std::fs;
 use std::io::Write;
 use std::path::{Path, PathBuf};
@@ -512,6 +512,126 @@ fn sheets_cannot_steer_the_terminal() {
         assert_eq!(status, Some(1));
         assert!(!out.contains('\x1b'), "{out:?}");
     }
+}
+
+#[test]
+fn the_readme_shows_what_is_printed_under_a_table() {
+    let readme = include_str!("../README.md");
+    let examples = readme.split("$ entity-rules ").skip(1);
+    let example = examples
+        .filter(|example| example.contains("--table"))
+        .last()
+        .expect("an example");
+    let (words, rest) = example.split_once('\n').expect("a command");
+    let (shown, _) = rest.split_once("```").expect("the end of the example");
+    let output = run(&mill(), words);
+    assert_eq!(String::from_utf8_lossy(&output.stdout), shown);
+    assert_eq!(output.status.code(), Some(0));
+}
+
+#[test]
+fn the_stock_table_is_printed_to_start_from() {
+    let folder = folder("stock");
+    let output = run(&folder, "table");
+    assert_eq!(output.status.code(), Some(0));
+    assert_eq!(output.stdout, Table::stock().sheet().expect("a table"));
+    fs::write(folder.join("t"), &output.stdout).expect("a table");
+    fs::write(folder.join("s"), "H,0,0,-,0\n").expect("a schema");
+    fs::write(folder.join("r"), "T\nV,5,6,$state\n").expect("a template");
+    for kind in Kind::ALL {
+        let settings = format!("check s r --kind {kind} --semantics service/1");
+        let without = run(&folder, &settings);
+        let with = run(&folder, &format!("{settings} --table t"));
+        assert_eq!(without.stdout, with.stdout);
+        assert_eq!(without.status.code(), with.status.code());
+    }
+    let usage = run(&folder, "table s");
+    assert_eq!((usage.status.code(), usage.stdout.len()), (Some(2), 0));
+}
+
+#[test]
+fn hints_say_what_the_table_shows() {
+    let folder = folder("shown_names");
+    let kind = Kind::Invariant;
+    let table = Table::stock()
+        .hide(kind, Name::State)
+        .show(kind, Name::Args);
+    fs::write(folder.join("t"), table.sheet().expect("a table")).expect("a table");
+    fs::write(folder.join("s"), "H,0,0,-,0\n").expect("a schema");
+    fs::write(folder.join("r"), "T\nV,5,6,$state\n").expect("a template");
+    let output = run(
+        &folder,
+        "check s r --table t --kind invariant --semantics kernel/1",
+    );
+    let out = String::from_utf8_lossy(&output.stdout);
+    let hint = "  hint    the kind invariant may read $id, $entity, $version, $fields, $args, and binds in their bodies\n";
+    assert!(out.contains(hint), "{out}");
+}
+
+#[test]
+fn a_refused_table_is_told_by_row_and_mark() {
+    let folder = folder("tables");
+    let stock = Table::stock().sheet().expect("a table");
+    let file = |name: &str, sheet: &[u8]| fs::write(folder.join(name), sheet).expect("a file");
+    file("s", b"H,0,0,-,0\n");
+    file("r", b"T\nV,5,6,$state\n");
+    file("cut", &stock[..100]);
+    file("long", &[&stock[..], b"\n"].concat());
+    let mut mark = stock.clone();
+    mark[22 + 6] = b'2';
+    file("mark", &mark);
+    mark[22 + 6] = b'0';
+    file("entity", &mark);
+    let mut old = stock.clone();
+    old[5 * 22 + 20] = b'1';
+    file("old", &old);
+    for (table, told) in [
+        (
+            "cut",
+            "cut:5: refused 37 (table): entry 5, byte 100: expected the mark of $state for outcome_selector, 0 or 1\n",
+        ),
+        (
+            "long",
+            "long:9: refused 37 (table): entry 9, byte 176: expected the end of the sheet\n",
+        ),
+        (
+            "mark",
+            "mark:2: refused 37 (table): entry 2, byte 28: expected the mark of $entity for precondition, 0 or 1\n",
+        ),
+        (
+            "entity",
+            "entity:2: refused 38 (table mark): entry 2, byte 28: expected 1, the mark of $entity for precondition, since every kind reads it\n",
+        ),
+        (
+            "old",
+            "old:6: refused 38 (table mark): entry 6, byte 130: expected 0, the mark of $old_fields for create_selector, since it does not read $fields\n",
+        ),
+        (
+            "s",
+            "s:1: refused 37 (table): entry 1, byte 0: expected `N`, which begins the row of invariant\n",
+        ),
+    ] {
+        let (status, out, err) = run_check(&folder, &format!("s r --table {table}"));
+        assert_eq!(
+            (status, out.as_str(), err.as_str()),
+            (Some(2), told, ""),
+            "{table}"
+        );
+    }
+    // It is told once for all rules, and in JSON for each.
+    let (_, out, _) = run_check(&folder, "s r r --table old");
+    assert!(out.ends_with("2 rules: 0 accepted, 0 with a defect, 0 refused, 2 not checked\n"));
+    assert_eq!(out.lines().count(), 2);
+    let (status, out, _) = run_check(&folder, "s r r --table old --json");
+    assert_eq!((status, out.lines().count()), (Some(2), 2));
+    assert!(out.starts_with(r#"{"file":"r","verdict":"refused","number":38,"word":"table mark","explanation":"entry 6, byte 130: expected 0, "#));
+    assert!(out.ends_with(concat!(
+        r#","fault_file":"old","line":6,"place":6,"byte":130}"#,
+        "\n"
+    )));
+    let (status, out, _) = run_check(&folder, "s r --table none");
+    assert_eq!(status, Some(2));
+    assert!(out.starts_with("none: unreadable: expected a file that holds a name table: "));
 }
 
 #[test]

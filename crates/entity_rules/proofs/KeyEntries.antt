@@ -2,7 +2,7 @@
 use Prim.Native.Nat.{ℕ, _-_, min}
 use native.Mathlib.Omega.{arith}
 use mathlib.Core.List.{List, []}
-use mathlib.Core.Path.{_≡_, refl, ap, sym, _∙_}
+use mathlib.Core.Path.{_≡_, refl, ap, _∙_}
 use lib.ListN.{length, take, length-take, replicate, length-replicate}
 use Rattle.reference.specs.Setting.{Reader}
 use Rattle.validation.specs.Result.{Answer, Numbers, numbersOf, pathAfter, scratchWords}

@@ -1,8 +1,8 @@
 -- The two answers of a number's test as one number.
 use Prim.Native.Nat.{ℕ, _+_, _*_, _≤_}
-use mathlib.Core.Bool.{Bool, true, false}
+use mathlib.Core.Bool.{true, false}
 use mathlib.Core.List.{List}
-use mathlib.Core.Path.{_≡_, refl}
+use mathlib.Core.Path.{_≡_}
 use Rattle.number.specs.Finite.{isFinite}
 use Rattle.number.specs.FirstDigit.{compared}
 use Rattle.number.specs.ComparedLaws.{compared-within}

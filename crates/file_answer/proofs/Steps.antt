@@ -1,6 +1,6 @@
 -- Each way through the code, as a law: what stands in the lent bytes is the output.
 use Prim.Native.Nat.{ℕ, _<_, _^_}
-use mathlib.Core.List.{List}
+use mathlib.Core.List.{List, []}
 use mathlib.Core.Option.{none, some, Option·map}
 use mathlib.Core.Path.{_≡_}
 use native.Mathlib.Omega.{arith}
@@ -28,7 +28,7 @@ module _ (p : Parts) (o : Outcome) (pathBefore scratchBefore path scratch : List
   pub printed-run : {before after : List ℕ} {next : ℕ}
       → length pathBefore ≡ pathBytes
       → length scratchBefore ≡ scratchWords
-      → Meets (runOf Any (p .kind) (p .semantics) (p .label) (p .schema) (p .rule) pathBefore scratchBefore o path scratch)
+      → Meets (runOf Any (p .kind) (p .semantics) (p .label) [] (p .schema) (p .rule) pathBefore scratchBefore o path scratch)
       → Wrote before after 0 (lineOf (numbers (o .number) (o .family) (o .detail) (o .place) (o .«over_place») (o .passed) (o .«path_length»)) (take (o .«path_length») path)) next
       → o .number < 2 ^ 32
       → o .family < 2 ^ 32
@@ -39,7 +39,7 @@ module _ (p : Parts) (o : Outcome) (pathBefore scratchBefore path scratch : List
       → Printed (answered (resultOf (callFor p))) before after next
   unfolding takesOf callOf callFor answered
   printed-run e f m w h1 h2 h3 h4 h5 h6 =
-      let run = runOf Any (p .kind) (p .semantics) (p .label) (p .schema) (p .rule) pathBefore scratchBefore o path scratch in
+      let run = runOf Any (p .kind) (p .semantics) (p .label) [] (p .schema) (p .rule) pathBefore scratchBefore o path scratch in
       let call : callOf run ≡ callFor p = rw (e, f) in
       let fits = path-fits (callFor p) in
       let line = answered-run p run call m (rw e fits) in

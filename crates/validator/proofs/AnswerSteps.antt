@@ -24,7 +24,7 @@ use Rattle.validation.specs.WideningLaws.{passedOf}
 use Rattle.validation.specs.CountLaws.{VerdictIs, every-judged, passes-at-most, checks-at-most, HeldSmall, Small, checks-small}
 use Rattle.validation.specs.Location.{behindLabel}
 use Rattle.validation.specs.Result as Result
-use Rattle.validation.specs.Result.{Answer, checked, ownFamily, numbersOf, pathAfter}
+use Rattle.validation.specs.Result.{checked, ownFamily, numbersOf, pathAfter}
 use Rattle.value_checks.specs.Shown.{overOf, Shown, passes, fails, shownOf, familyOf, overPlaceOf, answerShown, answer-shown}
 use Rattle.value_checks.specs.Verdicts.{numberOf, detailOf, overBy, shownWith, shownBy}
 use Rattle.judge.specs.Rules.{RuleJudged}

@@ -1,7 +1,7 @@
 -- Number, family and detail of a fault, and what a quantifier's body makes of them.
 use Prim.Native.Nat.{ℕ}
 use mathlib.Core.Bool.{Bool}
-use mathlib.Core.Path.{_≡_, _∙_}
+use mathlib.Core.Path.{_≡_}
 use borrow.Author.Tests.{eq-eqb, ne-eqb}
 use Rattle.reference.specs.Setting.{Setting}
 use Rattle.validation.specs.Result.{ownFamily}

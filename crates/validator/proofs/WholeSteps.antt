@@ -1,15 +1,14 @@
 -- The whole call: each way to its end gives what the definitions say of the call.
 use Prim.Native.Nat.{ℕ, _≤_}
 use mathlib.Core.List.{List, []}
-use mathlib.Core.Option.{none, some}
+use mathlib.Core.Option.{none}
 use mathlib.Core.Path.{_≡_, refl, sym, _∙_}
 use lib.ListN.{length}
-use Rattle.reference.specs.Setting.{Setting}
 use Rattle.reference.specs.Table.{tableIn, settingUnder, orStock}
 use Rattle.schema.specs.Read.{SchemaAnswer}
 use Rattle.schema.specs.declared.read.SchemaRead.{SchemaRead}
 use Rattle.validation.specs.Result as Result
-use Rattle.validation.specs.Result.{Call, Answer, scratchWords, ofTable, ofSettings, early, firstRefusal, numbersOf, pathAfter, resultOf, callOf, Meets}
+use Rattle.validation.specs.Result.{Call, scratchWords, ofTable, ofSettings, early, firstRefusal, numbersOf, pathAfter, resultOf, callOf, Meets}
 use Rattle.validation.specs.RefusalLaws.{early-refused, settings-refused, settings-none, table-decides}
 use Rattle.validator.specs.Outcomes.{numbersBy}
 use Rattle.validator.specs.Settings.{settingBy, askedBy, lentBy, callBy, EarlyIs, SettledIs}
@@ -56,13 +55,13 @@ module _ (takes : Takes) (kind semantics : ℕ) (label table schema sheet pathBe
         → Meets (runOf takes kind semantics label table schema sheet pathBefore before r pathBefore before)
     meets-table {m} t q = meets-refused (early-refused call m (by-table ∙ t)) q
 
-    pub meets-sheets : {middle after path : List ℕ} {q : SchemaRead} {s : CodeSetting} {r : Outcome}
+    pub meets-sheets : (s : CodeSetting) {middle after path : List ℕ} {q : SchemaRead} {r : Outcome}
         → SettledIs kind semantics table (Set s)
         → SchemaAnswer schema before middle q
         → SheetChecked takes (settingBy s) label schema q sheet pathBefore path middle after r
         → Meets (runOf takes kind semantics label table schema sheet pathBefore before r path after)
     unfolding callOf
-    meets-sheets {middle} {after} {path} {q} {s} {r} t p c =
+    meets-sheets s {middle} {after} {path} {q} {r} t p c =
         let checked : SheetChecked takes (settingUnder (orStock (tableIn table)) kind semantics) label schema q sheet pathBefore path middle after r = rw (t .1) at c in
         let none-due = by-table ∙ t .0 in
         let told = single-told call none-due refl refl (p .answer) checked in

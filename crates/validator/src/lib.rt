@@ -9,7 +9,7 @@ use crate::outcome::Outcome;
 use crate::outcome::refused;
 use crate::settings::Settled;
 use crate::settings::refused_settings;
-use crate::settings::settled;
+use crate::settings::settle;
 use crate::sheets::Takes;
 use crate::sheets::check_sheet;
 use schema::read::read_schema;
@@ -36,7 +36,7 @@ pub fn validate_under(
     if number != 0 {
         return refused(number);
     }
-    match settled(kind, semantics, table) {
+    match settle(kind, semantics, table) {
         Settled::Refused(number) => refused(number),
         Settled::Set(setting) => {
             let read = read_schema(schema, scratch);

@@ -83,7 +83,7 @@ pub enum Settled {
 }
 
 // What the name table sets a check to: 37 if it is not of its form, 38 if a mark breaks one of its two conditions.
-pub fn settled(kind: u32, semantics: u32, table: &[u8]) -> Settled
+pub fn settle(kind: u32, semantics: u32, table: &[u8]) -> Settled
     ensures { λ r. ⌜ SettledIs kind semantics (now (table .entry)) r ⌝ }
 {
     let TableRead::Is(row, sound) = lent_table(table, kind) else {

@@ -18,8 +18,14 @@ pub fn build(sample: &Sample) -> Option<Built> {
 /// Whether the Rust accepts.
 pub fn validate(sample: &Sample, built: &Built) -> bool {
     let schemas = &built.schemas;
-    let setting =
-        Setting { kind: sample.kind, semantics: sample.semantics, fields: &schemas.fields, args: schemas.args.as_ref(), label: "rule" };
+    let setting = Setting {
+        kind: sample.kind,
+        semantics: sample.semantics,
+        fields: &schemas.fields,
+        args: schemas.args.as_ref(),
+        label: "rule",
+        table: None,
+    };
     match &built.rule {
         Rule::Rule(rule) => entry::rule(rule, &setting),
         Rule::Template(value) => entry::template(value, &setting),

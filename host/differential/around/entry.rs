@@ -3,14 +3,49 @@
 use super::{validate_reference_path, validate_rule_definition, validate_template, Reader, Scope, ScopeKind};
 use crate::{DefinitionError, ObjectSchema, RuleDefinition, Semantics};
 use serde_json::Value;
+use std::cell::Cell;
 
-/// What a call fixes besides the rule: kind 1 to 8, semantics 1 to 4, the schemas, and the label.
+/// What a call fixes besides the rule: kind 1 to 8, semantics 1 to 4, the schemas, the label, and a name table if it is not the stock one.
 pub struct Setting<'a> {
     pub kind: u64,
     pub semantics: u64,
     pub fields: &'a ObjectSchema,
     pub args: Option<&'a ObjectSchema>,
     pub label: &'a str,
+    pub table: Option<Table>,
+}
+
+/// For each kind, from 1 on, which of the names it may read.
+pub type Table = [[bool; 9]; 8];
+
+const NAMES: [&str; 9] = ["$id", "$entity", "$version", "$fields", "$state", "$to_state", "$from_state", "$args", "$old_fields"];
+
+thread_local! {
+    /// The table that stands in place of the Rust's own name test during a call, if any.
+    static TABLE: Cell<Option<Table>> = const { Cell::new(None) };
+}
+
+/// What the table says of a bare reference; none where there is no table. `Scope::allows` begins with this question (see ../build).
+pub(super) fn allowed(kind: ScopeKind, expression: &str) -> Option<bool> {
+    let table = TABLE.get()?;
+    let (_, row) = (1..).zip(table).find(|(number, _)| scope_kind(*number) == kind)?;
+    Some(NAMES.iter().zip(row).any(|(name, mark)| *name == expression && mark))
+}
+
+/// Takes the table away again, after a panic too.
+struct Lent;
+
+impl Lent {
+    fn new(table: Option<Table>) -> Self {
+        TABLE.set(table);
+        Self
+    }
+}
+
+impl Drop for Lent {
+    fn drop(&mut self) {
+        TABLE.set(None);
+    }
 }
 
 impl Setting<'_> {
@@ -20,10 +55,12 @@ impl Setting<'_> {
 }
 
 pub fn rule(rule: &RuleDefinition, setting: &Setting<'_>) -> Result<(), DefinitionError> {
+    let _lent = Lent::new(setting.table);
     validate_rule_definition(rule, setting.label, setting.scope())
 }
 
 pub fn template(value: &Value, setting: &Setting<'_>) -> Result<(), DefinitionError> {
+    let _lent = Lent::new(setting.table);
     validate_template(value, setting.label, setting.scope())
 }
 

@@ -1,10 +1,10 @@
-//! Builds the sheets beside this file and checks both rules: `cargo run --example mill`.
+//! Builds the sheets beside this file and checks the rules: `cargo run --example mill`.
 //!
 //! With a folder as its argument it writes the sheets there instead: `cargo run --example mill -- examples/mill`.
 
 mod sheets;
 
-use entity_rules::{Kind, Semantics, check_rule};
+use entity_rules::{Check, Kind, Semantics, check_rule};
 use std::error::Error;
 use std::path::Path;
 use std::{env, fs};
@@ -30,6 +30,12 @@ fn check() -> Result<(), Box<dyn Error>> {
             &rule.sheet()?,
         )?;
         println!("{label}: {verdict}");
+    }
+    let (rule, table) = (sheets::branch().sheet()?, sheets::own().sheet()?);
+    let branch = Check::new(Kind::OutcomeSelector, Semantics::Service1, "branch");
+    for (table, lent) in [("the stock table", &[][..]), ("the mill's own", &table)] {
+        let checked = branch.table(lent).run(&schema, &rule)?;
+        println!("branch, under {table}: {}", checked.verdict);
     }
     Ok(())
 }

@@ -1,6 +1,7 @@
-//! A mill's pattern record, and two rules that an operation on it must meet.
+//! A mill's pattern record, two rules that an operation on it must meet, and a third that the mill's own name table allows.
 
-use entity_rules::{BuildError, Condition, Field, FieldKind, Rule, Schema};
+use entity_rules::{Condition, Field, FieldKind, Kind, Name, Rule, Schema, Table};
+use std::error::Error;
 
 /// A pattern: its name, when it was drawn, and the bars that it names. Whoever releases it says who and when.
 pub fn pattern() -> Schema {
@@ -37,11 +38,26 @@ pub fn misspelt() -> Rule {
     .message("every bar must be threaded")
 }
 
-/// The sheets with the names of their files.
-pub fn files() -> Result<[(&'static str, Vec<u8>); 3], BuildError> {
+/// Which way a release takes goes by the state that the pattern is in.
+pub fn branch() -> Rule {
+    Rule::new(Condition::eq("$state", "drawn")).name("from the drawing board")
+}
+
+/// The mill's own name table: outcome selectors read `$state`.
+pub fn own() -> Table {
+    Table::stock().show(Kind::OutcomeSelector, Name::State)
+}
+
+/// The name of a file, and the sheet in it.
+pub type File = (&'static str, Vec<u8>);
+
+/// All files of this folder.
+pub fn files() -> Result<[File; 5], Box<dyn Error>> {
     Ok([
         ("pattern.schema", pattern().sheet()?),
         ("release.rule", release().sheet()?),
         ("misspelt.rule", misspelt().sheet()?),
+        ("branch.rule", branch().sheet()?),
+        ("own.table", own().sheet()?),
     ])
 }

@@ -17,6 +17,21 @@ pub fn takes_rule(sheet: &[u8]) -> bool {
     check(Kind::Invariant, Semantics::Kernel1, "", EMPTY_SCHEMA, sheet) != Err(Refusal::RuleSheet)
 }
 
+/// Takes a line off a list.
+pub fn line<'a>(bytes: &mut &'a [u8]) -> &'a str {
+    let end = bytes.iter().position(|&byte| byte == b'\n');
+    let (line, rest) = bytes.split_at(end.expect("the end of a line"));
+    *bytes = &rest[1..];
+    std::str::from_utf8(line).expect("a line of text")
+}
+
+/// Takes so many bytes off a list.
+pub fn take<'a>(bytes: &mut &'a [u8], count: u64) -> &'a [u8] {
+    let (taken, rest) = bytes.split_at(usize::try_from(count).expect("a count"));
+    *bytes = rest;
+    taken
+}
+
 /// A small generator of numbers (xorshift), the same on every machine.
 pub struct Random(pub u64);
 

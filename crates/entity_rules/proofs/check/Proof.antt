@@ -44,7 +44,7 @@ returns c =
     let second = called .before .before .before in
     let first = second .before in
     let lent = first .before in
-    let a = lent .before .before .before .before .before .before .args in
+    let a = lent .before .before .before .before .before .before .before .args in
     let last = called .validate-under .last .1 .1 .1 .1 .1 .1 .1 in
     answered (a .takes) (a .kind) (a .semantics) (a .label .now) (a .table .now) (a .schema .now) (a .rule .now) (a .path .now) (a .result .now)
     (called .validate-under .result) (last .0) (last .1 .0)

@@ -1,14 +1,20 @@
 
 /// The faulty model's answer, in the types of the model that it is a copy of.
 pub fn answer(call: &differential::model::Call) -> differential::model::Answer {
-    let &differential::model::Call { kind, semantics, label, schema, rule, path_len, scratch_len } = call;
-    own(check(&Call { kind, semantics, label, schema, rule, path_len, scratch_len }))
+    let &differential::model::Call { kind, semantics, label, table, schema, rule, path_len, scratch_len } = call;
+    own(check(&Call { kind, semantics, label, table, schema, rule, path_len, scratch_len }))
 }
 
 /// The same for a key.
 pub fn key_answer(call: &differential::model::KeyCall) -> differential::model::Answer {
     let &differential::model::KeyCall { semantics, reader, path, schema, scratch_len } = call;
     own(check_key(&KeyCall { semantics, reader, path, schema, scratch_len }))
+}
+
+/// The same for a table to load: the number, and what is left of a buffer of zeros.
+pub fn load_answer(table: &[u8], buffer_len: usize) -> (u32, Vec<u8>) {
+    let mut buffer = vec![0; buffer_len];
+    (load_table(table, &mut buffer), buffer)
 }
 
 fn own(answer: Answer) -> differential::model::Answer {

@@ -1,17 +1,18 @@
-//! Asks each faulty model until it answers otherwise than the library: on the known edges, on generated cases, on the published samples, and
-//! last on keys: `faults [CASES] [SEED]`.
+//! Asks each faulty model until it answers otherwise than the library: on the known edges, on generated cases, on the published samples, on
+//! keys, and last on tables: `faults [CASES] [SEED]`.
 
 pub use differential::trees;
 
 use differential::model::{Answer, Call, KeyCall};
 use harness::case::Case;
 use harness::edges::edges;
-use harness::generate;
+use harness::generate::{self, names::STOCK};
 use harness::keys::{self, KeyCase};
 use harness::library::{self, Extent};
 use harness::longest::longest;
 use harness::published::sample_cases;
 use harness::random::Random;
+use harness::tables::{self, LoadCase};
 use std::panic::{catch_unwind, AssertUnwindSafe};
 use std::process::ExitCode;
 
@@ -20,12 +21,14 @@ use std::process::ExitCode;
 struct Faulty {
     answer: fn(&Call) -> Answer,
     key_answer: fn(&KeyCall) -> Answer,
+    load_answer: fn(&[u8], usize) -> (u32, Vec<u8>),
 }
 
 /// What the models are asked.
 enum Question {
     Case(Case),
     Key(KeyCase),
+    Load(LoadCase),
 }
 
 include!(concat!(env!("OUT_DIR"), "/faults.rs"));
@@ -62,30 +65,45 @@ fn main() -> ExitCode {
     }
 }
 
-/// All questions, each with the words for it: so many generated cases, and as many keys.
+/// All questions, each with the words for it: so many generated cases, as many keys, as many cases under a table, and as many tables to load.
 fn questions(cases: u64, seed: u64) -> impl Iterator<Item = (String, Question)> {
     let named = |name: &'static str| move |case| (name.to_owned(), Question::Case(case));
     let known = edges().into_iter().chain(longest()).map(named("a known edge"));
-    let made =
-        move |number| (format!("case {number} of seed {seed}"), Question::Case(generate::case(&mut Random::of_case(seed, number)).1));
+    let made = move |number| {
+        (format!("case {number} of seed {seed}"), Question::Case(generate::case(&mut Random::of_case(seed, number), &STOCK).1))
+    };
     let samples = sample_cases().into_iter().map(named("a sample"));
     let known_keys = keys::edges::edges().into_iter().map(|case| ("a known edge of keys".to_owned(), Question::Key(case)));
     let key =
         move |number| (format!("key {number} of seed {seed}"), Question::Key(keys::generate::case(&mut Random::of_case(seed, number)).1));
-    known.chain((0..cases).map(made)).chain(samples).chain(known_keys).chain((0..cases).map(key))
+    let known_tables = tables::edges::edges().into_iter().map(named("a known edge of tables"));
+    let known_loads = tables::edges::loads().into_iter().map(|case| ("a known load".to_owned(), Question::Load(case)));
+    let table = move |number| {
+        let mut random = Random::of_case(seed, number);
+        let case = tables::generate::case(&mut random).1;
+        let load = tables::generate::load(&mut random);
+        [(format!("table {number} of seed {seed}"), Question::Case(case)), (format!("load {number} of seed {seed}"), Question::Load(load))]
+    };
+    let cases_and_keys = known.chain((0..cases).map(made)).chain(samples).chain(known_keys).chain((0..cases).map(key));
+    cases_and_keys.chain(known_tables).chain(known_loads).chain((0..cases).flat_map(table))
 }
 
 /// In what the faulty model and the library differ, if they do.
 fn difference(question: &Question, faulty: Faulty) -> Option<String> {
-    let answer = || match question {
-        Question::Case(case) => (faulty.answer)(&case.call()),
-        Question::Key(case) => (faulty.key_answer)(&case.call()),
+    let held = || match question {
+        Question::Case(case) => library::hold(case, &(faulty.answer)(&case.call()), Extent::Some),
+        Question::Key(case) => library::keys::hold(case, &(faulty.key_answer)(&case.call()), Extent::Some),
+        Question::Load(case) => {
+            let (number, buffer) = (faulty.load_answer)(&case.table, case.buffer_len);
+            let loaded = if number == 0 { case.table.as_slice() } else { &[] };
+            match buffer.starts_with(loaded) && buffer[loaded.len()..].iter().all(|byte| *byte == 0) {
+                true => library::tables::hold(case, number),
+                false => Err("the faulty model leaves other bytes in the buffer".to_owned()),
+            }
+        }
     };
-    let Ok(answer) = catch_unwind(AssertUnwindSafe(answer)) else {
-        return Some("the faulty model panics".to_owned());
-    };
-    match question {
-        Question::Case(case) => library::hold(case, &answer, Extent::Some).err(),
-        Question::Key(case) => library::keys::hold(case, &answer, Extent::Some).err(),
+    match catch_unwind(AssertUnwindSafe(held)) {
+        Ok(held) => held.err(),
+        Err(_) => Some("the faulty model panics".to_owned()),
     }
 }

@@ -5,7 +5,7 @@ use crate::library::{self, Extent};
 use crate::nodes::{entries, node, Node};
 use crate::oracle::{self, Defect, Frame, Quoted, Schemas, Verdict};
 use crate::plan::plan;
-use crate::refusals::refusal;
+use crate::refusals::{refusal, REFUSALS};
 use differential::model::{self, checks::depth, Answer};
 use differential::trees::{Data, Operator, Schema, Sheet, Value};
 use std::panic::catch_unwind;
@@ -13,7 +13,7 @@ use std::panic::catch_unwind;
 /// How a case went where all agree.
 #[derive(Clone, Debug, PartialEq, Eq)]
 pub enum Held {
-    /// One of the refusals 1 to 5, which come before the Rust is asked.
+    /// One of the refusals, which come before the Rust is asked.
     Refused(u32),
     /// Not run on the Rust, since it holds a number that stays out of the runs.
     KeptOut,
@@ -36,7 +36,7 @@ pub fn hold_with(case: &Case, extent: Extent) -> Result<Held, String> {
     }
     library::hold(case, &answer, extent)?;
     let refused = refusal(case);
-    if refused != if answer.number > 5 { 0 } else { answer.number } {
+    if refused != if REFUSALS.contains(&answer.number) { answer.number } else { 0 } {
         return Err(format!("the model answers {}, the second reading of the refusals {refused}", line(&answer)));
     }
     if refused > 0 {
@@ -53,7 +53,7 @@ pub fn hold_with(case: &Case, extent: Extent) -> Result<Held, String> {
         return Ok(Held::KeptOut);
     }
     let label = std::str::from_utf8(&case.label).map_err(|_| "a label that is no UTF-8 was let in".to_owned())?;
-    let frame = Frame { kind: case.kind, semantics: case.semantics, label };
+    let frame = Frame { kind: case.kind, semantics: case.semantics, label, table: &case.table };
     let verdict = oracle::ask(frame, &Schemas::new(&schema), &sheet)?;
     same(&answer, &verdict, &sheet)?;
     Ok(Held::Agreed(answer))

@@ -1,6 +1,6 @@
 //! One case of the comparison: what a caller hands over, and what is known of the answer beforehand.
 
-use crate::refusals::{MIN_PATH_BYTES, MIN_SCRATCH_WORDS};
+use crate::refusals::{MIN_PATH_BYTES, MIN_SCRATCH_WORDS, REFUSALS};
 use differential::model::Call;
 
 #[derive(Clone, Debug, PartialEq, Eq)]
@@ -8,6 +8,8 @@ pub struct Case {
     pub kind: u64,
     pub semantics: u64,
     pub label: Vec<u8>,
+    /// A name table; none where the case is lent none.
+    pub table: Vec<u8>,
     pub schema: Vec<u8>,
     pub rule: Vec<u8>,
     pub path_len: usize,
@@ -19,7 +21,7 @@ pub struct Case {
 #[derive(Clone, Copy, Debug, PartialEq, Eq)]
 pub enum Expect {
     Anything,
-    /// None of the refusals 1 to 5.
+    /// None of the refusals.
     Read,
     Number(u32),
     Detail(u32, u32),
@@ -29,7 +31,7 @@ impl Expect {
     pub fn allows(self, number: u32, detail: u32) -> bool {
         match self {
             Self::Anything => true,
-            Self::Read => !(1..=5).contains(&number),
+            Self::Read => !REFUSALS.contains(&number),
             Self::Number(expected) => number == expected,
             Self::Detail(expected, fault) => (number, detail) == (expected, fault),
         }
@@ -37,12 +39,13 @@ impl Expect {
 }
 
 impl Case {
-    /// A case with buffers that are wide enough.
+    /// A case with buffers that are wide enough, and without a table.
     pub fn new(kind: u64, semantics: u64, label: &[u8], schema: Vec<u8>, rule: Vec<u8>) -> Self {
         Self {
             kind,
             semantics,
             label: label.to_vec(),
+            table: Vec::new(),
             schema,
             rule,
             path_len: MIN_PATH_BYTES,
@@ -55,11 +58,17 @@ impl Case {
         Self { expect, ..self }
     }
 
+    /// The case with that table lent.
+    pub fn under(self, table: Vec<u8>) -> Self {
+        Self { table, ..self }
+    }
+
     pub fn call(&self) -> Call<'_> {
         Call {
             kind: self.kind,
             semantics: self.semantics,
             label: &self.label,
+            table: &self.table,
             schema: &self.schema,
             rule: &self.rule,
             path_len: self.path_len,
@@ -67,7 +76,7 @@ impl Case {
         }
     }
 
-    /// The case as the file `check.in` of the program `rulecheck`.
+    /// The case as the file `check.in` of the program `rulecheck`, in which no table has a place.
     pub fn check_in(&self) -> Vec<u8> {
         let counts = [self.label.len(), self.schema.len(), self.rule.len()].map(|count| count.to_string());
         let head = format!("{},{},{},", self.kind, self.semantics, counts.join(","));

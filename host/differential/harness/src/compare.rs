@@ -3,7 +3,7 @@
 use crate::agreement::{hold, hold_with, Held};
 use crate::case::Case;
 use crate::edges::edges;
-use crate::generate::{self, PROFILES};
+use crate::generate::{self, names::STOCK, PROFILES};
 use crate::library::Extent;
 use crate::longest::longest;
 use crate::random::Random;
@@ -50,7 +50,7 @@ fn run(cases: u64, seed: u64) -> Result<Run, String> {
     let began = Instant::now();
     for number in 0..cases {
         current.store(number, Ordering::Relaxed);
-        let (profile, case) = generate::case(&mut Random::of_case(seed, number));
+        let (profile, case) = generate::case(&mut Random::of_case(seed, number), &STOCK);
         let held = hold(&case).map_err(|trouble| {
             current.store(IDLE, Ordering::Relaxed);
             report(&case, &trouble, &format!("case {number} of seed {seed}, profile {}", PROFILES[profile].0))
@@ -67,6 +67,9 @@ pub fn report(case: &Case, trouble: &str, which: &str) -> String {
     let small = shrink(case, |candidate| hold_with(candidate, Extent::All).is_err());
     if let Err(trouble) = hold_with(&small, Extent::All) {
         println!("made smaller: {trouble}");
+    }
+    if !small.table.is_empty() {
+        println!("table: {:?}", String::from_utf8_lossy(&small.table));
     }
     println!("check.in (path buffer {}, scratch {}):", small.path_len, small.scratch_len);
     // A reader that went away is no reason to fail differently.

@@ -7,6 +7,7 @@ use crate::generate::build::{
 };
 use crate::generate::build::{schema, text, value, ARRAY, INTEGER, JSON, MAP, OBJECT, STRING, UNION};
 use crate::generate::limits::{schema_bytes, SHAPES};
+use crate::generate::names::STOCK;
 use crate::generate::Setting;
 use crate::refusals::{MAX_RULE_ENTRIES, MAX_SCHEMA_ENTRIES, MAX_SHEET_BYTES};
 use differential::model::{write_rule, write_schema};
@@ -29,7 +30,8 @@ pub fn edges() -> Vec<Case> {
         let (answer, detail) = edge.answer;
         Case::new(edge.kind, edge.semantics, b"r", write_schema(&schema), write_rule(&edge.sheet)).expecting(Expect::Detail(answer, detail))
     });
-    let full = [MAX_SHEET_BYTES, MAX_SHEET_BYTES + 1].map(|bytes| schema_bytes(&Setting { kind: 2, semantics: 2, label: "r" }, bytes));
+    let setting = Setting { kind: 2, semantics: 2, label: "r", names: &STOCK };
+    let full = [MAX_SHEET_BYTES, MAX_SHEET_BYTES + 1].map(|bytes| schema_bytes(&setting, bytes));
     cases.chain(without_arguments()).chain([example()]).chain(schema_entries()).chain([most_entries()]).chain(full).collect()
 }
 

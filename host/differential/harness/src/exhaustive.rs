@@ -5,7 +5,7 @@ use crate::case::Case;
 use crate::compare::report;
 use crate::generate::build::{array, element, exists, field, holder, literal, quantifier, rule, schema, sorted, text};
 use crate::generate::build::{ARRAY, INTEGER, JSON, MAP, OBJECT, STRING, UNION};
-use crate::generate::scope::may_read;
+use crate::generate::names::STOCK;
 use crate::instants;
 use crate::library::{self, Extent};
 use crate::oracle::{self, Frame, Schemas};
@@ -54,7 +54,7 @@ impl World {
         for &(kind, semantics) in settings {
             let case = Case::new(kind, semantics, LABEL.as_bytes(), self.sheet.clone(), rule.clone());
             let answer = check(&case.call());
-            let verdict = oracle::ask(Frame { kind, semantics, label: LABEL }, &self.rust, &read);
+            let verdict = oracle::ask(Frame { kind, semantics, label: LABEL, table: &[] }, &self.rust, &read);
             let agreed = verdict.and_then(|verdict| same(&answer, &verdict, &read));
             let agreed = agreed.and_then(|()| library::hold(&case, &answer, Extent::Some));
             agreed.map_err(|trouble| report(&case, &trouble, "exhaustive"))?;
@@ -95,7 +95,7 @@ fn references(world: &World, tokens: u32, tally: &mut Tally) -> Result<(), Strin
 
 /// The kinds that read the collection in the record, then those that only read it in the arguments, each with its semantics.
 fn by_collection(world: &World, settings: Vec<(u64, u64)>) -> Vec<(&'static str, Vec<(u64, u64)>)> {
-    let (record, arguments) = settings.into_iter().partition(|(kind, _)| may_read(*kind, "fields"));
+    let (record, arguments) = settings.into_iter().partition(|(kind, _)| STOCK.may_read(*kind, "fields"));
     let mut found = vec![("$fields.arr", record)];
     if world.has_arguments {
         found.push(("$args.arr", arguments));

@@ -26,6 +26,7 @@ pub mod runs;
 pub mod samples;
 pub mod shrink;
 pub mod slips;
+pub mod tables;
 pub mod tally;
 pub mod vectors;
 pub mod widened;

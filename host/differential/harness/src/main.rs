@@ -1,6 +1,6 @@
 //! The commands of the comparison. See README.md beside the script `run`.
 
-use harness::{compare, exhaustive, fuzzed, keys, leaves, memory, moved, published, vectors, widened};
+use harness::{compare, exhaustive, fuzzed, keys, leaves, memory, moved, published, tables, vectors, widened};
 use std::collections::BTreeMap;
 use std::process::ExitCode;
 
@@ -17,6 +17,13 @@ const USAGE: &str = "usage: differential COMMAND [OPTION..]
   keys-exhaustive [--tokens N]     every key of up to N tokens (2 to 7, else 6) under both readers and all semantics
   keys-vectors --out FILE [--seed S]
                                    writes the fixed list of keys and their answers
+  tables [--cases N] [--seed S]    known edges of name tables, then N generated cases that are lent one, and N tables to load
+  tables-widened [--cases N] [--seed S]
+                                   as widened, each pair of calls under one table
+  tables-moved [--cases N] [--seed S]
+                                   as moved, each rule under one table
+  tables-vectors --out FILE --loads FILE [--seed S]
+                                   writes the fixed lists of checks under tables, and of tables to load, with their answers
   leaves                           text and numbers of the model against Rust's own
   samples [--program FILE]         known edges, slips and published samples: library, model and Rust, and the program rulecheck
   vectors --out FILE [--printed FILE] [--seed S]
@@ -55,13 +62,25 @@ fn run(arguments: &[String]) -> Result<(), Trouble> {
             let seeds = seed..=numeral(&options, "last", seed)?;
             compare::compare(numeral(&options, "cases", 1_000_000)?, seeds, options.get("record").copied()).map_err(Trouble::Failed)
         }
-        "widened" => {
+        "widened" | "tables-widened" => {
             let options = options(rest, &["cases", "seed"])?;
-            widened::widened(numeral(&options, "cases", 1_000_000)?, numeral(&options, "seed", 1)?).map_err(Trouble::Failed)
+            let (pairs, seed) = (numeral(&options, "cases", 1_000_000)?, numeral(&options, "seed", 1)?);
+            widened::widened(pairs, seed, command == "tables-widened").map_err(Trouble::Failed)
         }
-        "moved" => {
+        "moved" | "tables-moved" => {
             let options = options(rest, &["cases", "seed"])?;
-            moved::moved(numeral(&options, "cases", 1_000_000)?, numeral(&options, "seed", 1)?).map_err(Trouble::Failed)
+            let (rules, seed) = (numeral(&options, "cases", 1_000_000)?, numeral(&options, "seed", 1)?);
+            moved::moved(rules, seed, command == "tables-moved").map_err(Trouble::Failed)
+        }
+        "tables" => {
+            let options = options(rest, &["cases", "seed"])?;
+            tables::run::tables(numeral(&options, "cases", 1_000_000)?, numeral(&options, "seed", 1)?).map_err(Trouble::Failed)
+        }
+        "tables-vectors" => {
+            let options = options(rest, &["out", "loads", "seed"])?;
+            let [checks, loads] = ["out", "loads"].map(|name| options.get(name).copied());
+            let files = checks.zip(loads).ok_or_else(|| Trouble::Usage("tables-vectors needs --out FILE and --loads FILE".to_owned()))?;
+            tables::vectors::vectors(files.0, files.1, numeral(&options, "seed", 1)?).map_err(Trouble::Failed)
         }
         "exhaustive" => {
             let options = options(rest, &["tokens"])?;

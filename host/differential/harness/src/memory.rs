@@ -4,15 +4,17 @@
 
 use crate::case::Case;
 use crate::edges::edges;
-use crate::generate;
+use crate::generate::{self, names::STOCK};
 use crate::keys::{self, KeyCase};
 use crate::library::{numbers, raw, Entry, RESULT_BYTES};
 use crate::longest::longest;
 use crate::random::Random;
+use crate::tables::{self, LoadCase};
 use crate::vectors;
-use differential::model::{self, Answer};
+use differential::model;
 
-/// The known edges, the list of answers, then so many generated cases, and the same of keys; an error is a difference from the model.
+/// The known edges, the list of answers, then so many generated cases, and the same of keys, of tables and of loads; an error is a difference from the
+/// model.
 pub fn memory(list: &str, cases: u64, seed: u64) -> Result<(), String> {
     let known: Vec<Case> = edges().into_iter().chain(longest()).collect();
     for case in &known {
@@ -23,7 +25,7 @@ pub fn memory(list: &str, cases: u64, seed: u64) -> Result<(), String> {
         one(case)?;
     }
     for number in 0..cases {
-        let (_, case) = generate::case(&mut Random::of_case(seed, number));
+        let (_, case) = generate::case(&mut Random::of_case(seed, number), &STOCK);
         one(&case).map_err(|trouble| format!("case {number} of seed {seed}: {trouble}"))?;
     }
     let known_keys = keys::edges::edges();
@@ -34,9 +36,38 @@ pub fn memory(list: &str, cases: u64, seed: u64) -> Result<(), String> {
         let (_, case) = keys::generate::case(&mut Random::of_case(seed, number));
         one_key(&case).map_err(|trouble| format!("key {number} of seed {seed}: {trouble}"))?;
     }
+    let (known_tables, known_loads) = (tables::edges::edges(), tables::edges::loads());
+    for case in &known_tables {
+        one(case)?;
+    }
+    for case in &known_loads {
+        one_load(case)?;
+    }
+    for number in 0..cases {
+        let mut random = Random::of_case(seed, number);
+        let (_, case) = tables::generate::case(&mut random);
+        let load = tables::generate::load(&mut random);
+        one(&case).and_then(|()| one_load(&load)).map_err(|trouble| format!("table {number} of seed {seed}: {trouble}"))?;
+    }
     println!("{} known edges, {} cases of {list}, {cases} generated ones (seed {seed}): answers as the model's", known.len(), listed.len());
     println!("{} known edges of keys, {cases} generated ones (seed {seed}): answers as the model's", known_keys.len());
+    println!(
+        "{} known edges of tables, {} known loads, {cases} generated ones of each (seed {seed}): answers as the model's",
+        known_tables.len(),
+        known_loads.len()
+    );
     Ok(())
+}
+
+fn one_load(case: &LoadCase) -> Result<(), String> {
+    let (number, buffer) = case.answer();
+    let found = raw::fresh_load(&case.table, case.buffer_len);
+    let wanted = (number, (number == 0).then(|| buffer[..case.table.len()].to_vec()));
+    if found == wanted {
+        Ok(())
+    } else {
+        Err(format!("a load is answered {found:?}, not {wanted:?}"))
+    }
 }
 
 fn one_key(case: &KeyCase) -> Result<(), String> {
@@ -50,16 +81,13 @@ fn one_key(case: &KeyCase) -> Result<(), String> {
     }
 }
 
-/// Both entries; a case with a short scratch gets a short result.
+/// Every entry; a case with a short scratch gets a short result.
 fn one(case: &Case) -> Result<(), String> {
     let answer = model::check(&case.call());
     let result = if case.scratch_len < crate::refusals::MIN_SCRATCH_WORDS { RESULT_BYTES - 1 } else { RESULT_BYTES };
-    for entry in [Entry::Rule, Entry::Template] {
-        let expected = match answer.number {
-            0 | 5.. if case.rule.first() != Some(&entry.letter()) => Answer { number: 5, ..Answer::default() },
-            _ => answer.clone(),
-        };
-        let found = raw::fresh(case, entry, result);
+    for entry in Entry::all(case) {
+        let expected = entry.answer(case, &answer);
+        let found = raw::fresh(case, *entry, result);
         let wanted = (expected.number, (result == RESULT_BYTES).then(|| numbers(&expected)), expected.path);
         if found != wanted {
             return Err(format!("{entry:?} answers {found:?}, not {wanted:?}"));

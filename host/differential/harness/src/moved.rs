@@ -3,16 +3,17 @@
 use crate::agreement::{hold, line, Held};
 use crate::case::Case;
 use crate::compare::report;
-use crate::generate::{Pair, Setting};
+use crate::generate::names::STOCK;
+use crate::generate::{tables, Pair, Setting};
 use crate::nodes::{node, Node};
 use crate::plan::plan;
 use crate::random::Random;
 use differential::model::{decode_rule, number::is_finite, Answer};
 use differential::trees::{Data, Sheet};
 
-/// Runs so many rules and templates that kernel/1 accepts, each answer one that library, model and Rust agree on; an error is told to the
-/// reader already.
-pub fn moved(rules: u64, seed: u64) -> Result<(), String> {
+/// Runs so many rules and templates that kernel/1 accepts, each answer one that library, model and Rust agree on, under the stock table or each under
+/// one of its own; an error is told to the reader already.
+pub fn moved(rules: u64, seed: u64, with_tables: bool) -> Result<(), String> {
     let (mut counted, mut infinite, mut numbers, mut aside) = (0, 0_u64, 0_u64, 0_u64);
     for number in 0.. {
         if counted == rules {
@@ -20,7 +21,8 @@ pub fn moved(rules: u64, seed: u64) -> Result<(), String> {
         }
         let which = format!("case {number} of seed {seed}");
         let mut random = Random::of_case(seed, number);
-        let setting = Setting { semantics: 1, ..Setting::new(&mut random) };
+        let names = if with_tables { tables::names(&mut random) } else { STOCK.clone() };
+        let setting = Setting { semantics: 1, ..Setting::new(&mut random, &names) };
         let slip = random.between(0, 10);
         let pair = Pair::under(setting, &mut random, slip);
         let case = pair.case();

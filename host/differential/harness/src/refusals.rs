@@ -1,5 +1,5 @@
-//! A second reading of the refusals 1 to 5, which the Rust does not know: a list of what is still to come instead of recursion, the text and
-//! number rules of `str` and serde_json.
+//! A second reading of the refusals, which the Rust does not know: a list of what is still to come instead of recursion, the text and
+//! number rules of `str` and serde_json, a table by the places of its marks.
 
 use crate::case::Case;
 use crate::keys::KeyCase;
@@ -12,20 +12,46 @@ pub const MAX_TEXT_BYTES: usize = 512;
 pub const MAX_LABEL_BYTES: usize = 256;
 /// Of a key, which is lent as it is.
 pub const MAX_PATH_BYTES: usize = 512;
+pub const TABLE_BYTES: usize = 176;
 pub const MIN_PATH_BYTES: usize = 32_768;
 pub const MIN_SCRATCH_WORDS: usize = 4_096;
 pub const MAX_FIELD_NESTING: usize = 64;
 pub const MAX_VALUE_NESTING: usize = 64;
 pub const MAX_CONDITION_NESTING: usize = 256;
 
+/// The refusals of a check, in the order in which they are tried.
+pub const REFUSALS: [u32; 7] = [1, 2, 3, 37, 38, 4, 5];
+
 /// The refusal that answers a call, or 0.
 pub fn refusal(case: &Case) -> u32 {
     let is_known = (1..=8).contains(&case.kind) && (1..=4).contains(&case.semantics);
     let is_label = case.label.len() <= MAX_LABEL_BYTES && std::str::from_utf8(&case.label).is_ok();
     let is_wide = case.path_len >= MIN_PATH_BYTES && case.scratch_len >= MIN_SCRATCH_WORDS;
+    let table = &case.table[..case.table.len().min(TABLE_BYTES)];
+    let is_lent = table.is_empty() || is_table(table);
     let is_schema = is_sheet(&case.schema, b"H", MAX_SCHEMA_ENTRIES);
     let is_rule = is_sheet(&case.rule, b"RT", MAX_RULE_ENTRIES);
-    first_failing(&[is_known, is_label, is_wide, is_schema, is_rule])
+    let tests = [is_known, is_label, is_wide, is_lent, are_marks_sound(table), is_schema, is_rule];
+    first_failing(REFUSALS, &tests)
+}
+
+/// What the loading of a table into a buffer of that many bytes answers.
+pub fn load_refusal(table: &[u8], buffer: usize) -> u32 {
+    let fits = is_table(table) && buffer >= TABLE_BYTES;
+    first_failing([37, 38], &[fits, are_marks_sound(table)])
+}
+
+/// Whether the bytes are what the marks at their places are written as.
+fn is_table(bytes: &[u8]) -> bool {
+    let marks = |row: &[u8]| [4, 6, 8, 10, 12, 14, 16, 18, 20].map(|at| if row.get(at) == Some(&b'1') { ",1" } else { ",0" }).concat();
+    let rows: Vec<String> = (1..).zip(bytes.chunks(22)).map(|(kind, row)| format!("N,{kind}{}\n", marks(row))).collect();
+    rows.len() == 8 && rows.concat().as_bytes() == bytes
+}
+
+/// Whether no entry of a table hides one of the first three names, or shows the last where the fourth is hidden.
+fn are_marks_sound(table: &[u8]) -> bool {
+    let shows = |row: &[u8], at: usize| row.get(at) == Some(&b'1');
+    table.chunks(22).all(|row| [4, 6, 8].iter().all(|at| shows(row, *at)) && (shows(row, 10) || !shows(row, 20)))
 }
 
 /// The refusal that answers a call for a key, or 0.
@@ -34,12 +60,12 @@ pub fn key_refusal(case: &KeyCase) -> u32 {
     let is_path = case.path.len() <= MAX_PATH_BYTES && std::str::from_utf8(&case.path).is_ok();
     let is_wide = case.result_len >= RESULT_BYTES;
     let is_schema = is_sheet(&case.schema, b"H", MAX_SCHEMA_ENTRIES);
-    first_failing(&[is_known, is_path, is_wide, is_schema])
+    first_failing([1, 2, 3, 4], &[is_known, is_path, is_wide, is_schema])
 }
 
-/// From 1, or 0.
-fn first_failing(tests: &[bool]) -> u32 {
-    tests.iter().zip(1..).find(|(passes, _)| !**passes).map_or(0, |(_, refusal)| refusal)
+/// The refusal of the first test that does not pass, or 0.
+fn first_failing<const N: usize>(refusals: [u32; N], tests: &[bool; N]) -> u32 {
+    refusals.into_iter().zip(tests).find(|(_, passes)| !**passes).map_or(0, |(refusal, _)| refusal)
 }
 
 /// serde_json reads white space around a number, which is no part of its text.

@@ -1,6 +1,7 @@
 //! Makes a case smaller as long as it shows the same trouble.
 
 use crate::case::{Case, Expect};
+use differential::model::table::Table;
 use differential::model::{decode_rule, decode_schema, write_rule, write_schema};
 use differential::trees::{Condition, Data, Field, Operator, Schema, Sheet, Value};
 use std::time::{Duration, Instant};
@@ -25,6 +26,7 @@ fn candidates(case: &Case) -> Vec<Case> {
     if !case.label.is_empty() {
         found.push(Case { label: Vec::new(), ..case.clone() });
     }
+    found.extend(tables(&case.table).into_iter().map(|table| Case { table, ..case.clone() }));
     match decode_schema(&case.schema) {
         Some(schema) => found.extend(schemas(&schema).iter().map(|smaller| Case { schema: write_schema(smaller), ..case.clone() })),
         None => found.extend(shorter(&case.schema).into_iter().map(|schema| Case { schema, ..case.clone() })),
@@ -32,6 +34,25 @@ fn candidates(case: &Case) -> Vec<Case> {
     match decode_rule(&case.rule) {
         Some(sheet) => found.extend(sheets(&sheet).iter().map(|smaller| Case { rule: write_rule(smaller), ..case.clone() })),
         None => found.extend(shorter(&case.rule).into_iter().map(|rule| Case { rule, ..case.clone() })),
+    }
+    found
+}
+
+/// No table, nothing behind it, or one mark more as in the stock table; what is no table is made shorter.
+fn tables(table: &[u8]) -> Vec<Vec<u8>> {
+    if table.is_empty() {
+        return Vec::new();
+    }
+    let Some(read) = Table::lent(table) else {
+        return shorter(table);
+    };
+    let stock = Table::stock().write();
+    let bare = read.write();
+    let differing = (0..bare.len()).filter(|at| bare[*at] != stock[*at]);
+    let nearer = differing.map(|at| [&bare[..at], &stock[at..at + 1], &bare[at + 1..]].concat());
+    let mut found: Vec<Vec<u8>> = std::iter::once(Vec::new()).chain(nearer).collect();
+    if table.len() > bare.len() {
+        found.push(bare.clone());
     }
     found
 }

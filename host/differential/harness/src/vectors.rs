@@ -4,6 +4,7 @@ use crate::agreement::{hold, printed, Held};
 use crate::case::Case;
 use crate::compare::report;
 use crate::edges::edges;
+use crate::generate::names::STOCK;
 use crate::generate::{damage, limits, planted, right, slips, widen};
 use crate::random::Random;
 use crate::tally::Tally;
@@ -18,12 +19,12 @@ const MAX_TRIES: u64 = 100_000;
 
 /// What is made how often: a name for the generator, and the number of cases.
 const SHARES: [(Make, u64); 6] = [
-    (|random, number| planted::planted(random, planted::TARGETS[number as usize % planted::TARGETS.len()]), 2_400),
-    (|random, _| slips(random), 1_000),
-    (|random, _| right(random), 600),
-    (|random, _| damage::case(random), 600),
-    (|random, _| widen::case(random), 200),
-    (|random, _| limits::settings(random), 100),
+    (|random, number| planted::planted(random, &STOCK, planted::TARGETS[number as usize % planted::TARGETS.len()]), 2_400),
+    (|random, _| slips(random, &STOCK), 1_000),
+    (|random, _| right(random, &STOCK), 600),
+    (|random, _| damage::case(random, &STOCK), 600),
+    (|random, _| widen::case(random, &STOCK), 200),
+    (|random, _| limits::settings(random, &STOCK), 100),
 ];
 
 type Make = fn(&mut Random, u64) -> Case;

@@ -4,14 +4,16 @@ use crate::agreement::{hold, line, Held};
 use crate::case::Case;
 use crate::changes::{changes, Fared, Table};
 use crate::compare::report;
+use crate::generate::names::STOCK;
 use crate::generate::widen::{narrowed, unwidened, widened as widen, Level};
-use crate::generate::Pair;
+use crate::generate::{tables, Pair};
 use crate::random::Random;
 use differential::model::{is_widening, only_marks_opened, Answer};
 use differential::trees::Schema;
 
-/// Runs so many pairs of schemas that differ, each answer one that library, model and Rust agree on; an error is told to the reader already.
-pub fn widened(pairs: u64, seed: u64) -> Result<(), String> {
+/// Runs so many pairs of schemas that differ, each answer one that library, model and Rust agree on, under the stock table or each pair under one of
+/// its own; an error is told to the reader already.
+pub fn widened(pairs: u64, seed: u64, with_tables: bool) -> Result<(), String> {
     let mut table = Table::default();
     let (mut counted, mut equal, mut aside) = (0, 0_u64, 0_u64);
     for number in 0.. {
@@ -21,12 +23,16 @@ pub fn widened(pairs: u64, seed: u64) -> Result<(), String> {
         let which = format!("case {number} of seed {seed}");
         let mut random = Random::of_case(seed, number);
         let slip = random.between(0, 30);
-        let pair = Pair::new(&mut random, slip);
+        let names = if with_tables { tables::names(&mut random) } else { STOCK.clone() };
+        let pair = Pair::new(&mut random, &names, slip);
         let level = if random.chance(40) { Level::Marks } else { Level::Any };
         let (narrow, wide) = schemas(&mut random, &pair.schema, level);
         relation(&mut random, &narrow, &wide, level).map_err(|trouble| format!("{which}: {trouble}"))?;
         let changes = changes(&narrow, &wide);
-        let cases = [&narrow, &wide].map(|schema| pair.setting.case(schema, &pair.sheet));
+        let mut cases = [&narrow, &wide].map(|schema| pair.setting.case(schema, &pair.sheet));
+        if with_tables {
+            cases[1].table = tables::lent_again(&mut random, &names.lent);
+        }
         let fared = fare(&cases, only_marks_opened(&narrow, &wide))
             .map_err(|(which_case, problem)| report(&cases[which_case], &problem, &which))?;
         match fared {

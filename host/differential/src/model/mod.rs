@@ -9,6 +9,7 @@ mod paths;
 mod program;
 pub mod settings;
 mod sheets;
+pub mod table;
 pub mod text;
 mod walks;
 mod widening;
@@ -19,10 +20,12 @@ mod tests;
 use crate::trees::{Field, Schema, Sheet};
 use checks::{Binders, Check, Question};
 use settings::Setting;
+use table::Table;
 
 pub use keys::{check_key, KeyCall, MAX_KEY_BYTES};
 pub use program::rulecheck;
 pub use sheets::{decode_rule, decode_schema, write_rule, write_schema};
+pub use table::load_table;
 pub use walks::is_ordinal;
 pub use widening::{is_widening, only_marks_opened};
 
@@ -36,6 +39,8 @@ pub struct Call<'a> {
     pub kind: u64,
     pub semantics: u64,
     pub label: &'a [u8],
+    /// A name table; none, 0 bytes, is the stock table.
+    pub table: &'a [u8],
     pub schema: &'a [u8],
     pub rule: &'a [u8],
     pub path_len: usize,
@@ -54,7 +59,7 @@ pub struct Answer {
     pub path: Vec<u8>,
 }
 
-/// Refusals 1 to 5 in their order, then the check list.
+/// Refusals 1, 2, 3, 37, 38, 4 and 5 in this order, then the check list.
 pub fn check(call: &Call) -> Answer {
     let refused = |number| Answer {
         number,
@@ -69,13 +74,19 @@ pub fn check(call: &Call) -> Answer {
     if call.path_len < PATH_BYTES || call.scratch_len < SCRATCH_WORDS {
         return refused(3);
     }
+    let Some(table) = Table::lent(call.table) else {
+        return refused(37);
+    };
+    if !table.is_sound() {
+        return refused(38);
+    }
     let Some(schema) = decode_schema(call.schema) else {
         return refused(4);
     };
     let Some(rule) = decode_rule(call.rule) else {
         return refused(5);
     };
-    judge(&setting, call.label, &schema, &rule)
+    judge(&setting.under(&table), call.label, &schema, &rule)
 }
 
 /// The first failing check, or acceptance.

@@ -29,6 +29,7 @@ fn call(file: &[u8]) -> Option<Call<'_>> {
         kind,
         semantics,
         label,
+        table: &[],
         schema,
         rule,
         path_len: PATH_BYTES,

@@ -10,6 +10,7 @@ Checks rules, templates and key paths against the schema of their record.
 
 usage: entity-rules check SCHEMA RULE.. --kind KIND --semantics SEMANTICS [OPTION..]
        entity-rules path SCHEMA PATH.. --semantics SEMANTICS [OPTION..]
+       entity-rules table
 
   SCHEMA, RULE        files that hold a schema sheet, and rule sheets or templates; one of them
                       may be -, which is standard input
@@ -19,6 +20,8 @@ usage: entity-rules check SCHEMA RULE.. --kind KIND --semantics SEMANTICS [OPTIO
   --semantics SEMANTICS
                       kernel/1, service/1, service/2 or service/3
   --reader READER     path: kernel or projection, who will read the path (default: kernel)
+  --table FILE        check: a file that holds a name table, which says what each kind may read
+                      (default: the stock table, which the command `table` prints); it may be -
   --label TEXT        check: what each path begins with (default: the rule's file name without
                       its end)
   --json              one line of JSON for each rule or path, and no summary
@@ -28,6 +31,8 @@ usage: entity-rules check SCHEMA RULE.. --kind KIND --semantics SEMANTICS [OPTIO
 
 Examples, in the crate's folder examples/mill:
   entity-rules check pattern.schema release.rule --kind precondition --semantics service/1
+  entity-rules check pattern.schema branch.rule --kind outcome_selector --semantics service/1 \
+      --table own.table
   entity-rules path pattern.schema bars.count --semantics service/1 --reader projection
 
 Exit status: 0 all are accepted; 1 one has a defect; 2 one is refused or cannot be read, or the
@@ -37,11 +42,15 @@ Colours and a progress bar appear on a terminal only. NO_COLOR, set to anything,
 colours off; TERM=dumb switches off both.
 ";
 
+const COMMANDS: &str = "the command `check`, `path` or `table`";
+
 /// What the command line asks for.
 #[derive(Debug, PartialEq)]
 pub enum Command {
     Help,
     Version,
+    /// Prints the stock table.
+    Table,
     Check(Arguments),
 }
 
@@ -62,6 +71,7 @@ pub enum Asked {
         files: Vec<PathBuf>,
         kind: Kind,
         label: Option<String>,
+        table: Option<PathBuf>,
     },
     Keys {
         paths: Vec<OsString>,
@@ -87,6 +97,7 @@ struct Options {
     semantics: Option<Semantics>,
     reader: Option<Reader>,
     label: Option<String>,
+    table: Option<PathBuf>,
     json: bool,
     quiet: bool,
 }
@@ -114,10 +125,12 @@ pub fn parse(words: impl IntoIterator<Item = OsString>) -> Result<Command, Strin
     match words.next() {
         Some(command) if command == "check" => options(words)?.check().map(Command::Check),
         Some(command) if command == "path" => options(words)?.path().map(Command::Check),
-        Some(other) => Err(format!(
-            "expected the command `check` or `path`, not {other:?}"
-        )),
-        None => Err("expected the command `check` or `path`".to_owned()),
+        Some(command) if command == "table" => match words.next() {
+            None => Ok(Command::Table),
+            Some(word) => Err(format!("table: expected nothing after it, not {word:?}")),
+        },
+        Some(other) => Err(format!("expected {COMMANDS}, not {other:?}")),
+        None => Err(format!("expected {COMMANDS}")),
     }
 }
 
@@ -150,7 +163,8 @@ impl Options {
         if is_flag && given.is_some() {
             return Err(format!("{name} takes no value"));
         }
-        let mut value = || text(name, given.take().or_else(|| words.next()));
+        let mut word = || given.take().or_else(|| words.next());
+        let mut value = || text(name, word());
         match name {
             "--json" => self.json = true,
             "--quiet" => self.quiet = true,
@@ -158,6 +172,7 @@ impl Options {
             "--semantics" => self.semantics = Some(named(name, &value()?)?),
             "--reader" => self.reader = Some(named(name, &value()?)?),
             "--label" => self.label = Some(value()?),
+            "--table" => self.table = Some(value()?.into()),
             _ => return Err(format!("unknown option {name:?}")),
         }
         Ok(())
@@ -168,20 +183,29 @@ impl Options {
         not_for("check", &[("--reader", is_given)])?;
         let (schema, rules) = self.split("check", "files SCHEMA and RULE", "file RULE")?;
         let files: Vec<PathBuf> = rules.iter().map(PathBuf::from).collect();
-        let all = std::iter::once(&schema).chain(&files);
+        let all = std::iter::once(&schema).chain(&files).chain(&self.table);
         if all.filter(|file| file.as_os_str() == "-").count() > 1 {
             return Err("check: expected `-`, standard input, at most once".to_owned());
         }
         let kind = self
             .kind
             .ok_or_else(|| missing("check", "--kind KIND", Kind::ALL))?;
-        let label = self.label.clone();
-        self.arguments("check", schema, Asked::Rules { files, kind, label })
+        let asked = Asked::Rules {
+            files,
+            kind,
+            label: self.label.clone(),
+            table: self.table.clone(),
+        };
+        self.arguments("check", schema, asked)
     }
 
     fn path(self) -> Result<Arguments, String> {
-        let (kind, label) = (self.kind.is_some(), self.label.is_some());
-        not_for("path", &[("--kind", kind), ("--label", label)])?;
+        let given = [
+            ("--kind", self.kind.is_some()),
+            ("--label", self.label.is_some()),
+            ("--table", self.table.is_some()),
+        ];
+        not_for("path", &given)?;
         let (schema, paths) = self.split("path", "file SCHEMA and a PATH", "PATH")?;
         let reader = self.reader.unwrap_or(Reader::Kernel);
         self.arguments("path", schema, Asked::Keys { paths, reader })
@@ -267,20 +291,22 @@ mod tests {
                 files: vec!["a".into(), "b".into()],
                 kind: Kind::CreateSelector,
                 label: Some("x".to_owned()),
+                table: Some("t".into()),
             },
             semantics: Semantics::Service1,
             json: true,
             quiet: false,
         });
         for line in [
-            "check s a b --kind create_selector --semantics service/1 --label x --json",
-            "check --json --kind=create-selector s --label=x a --semantics=service/1 b",
-            "check --label x --json --kind create_selector --semantics service/1 -- s a b",
+            "check s a b --kind create_selector --semantics service/1 --label x --table t --json",
+            "check --json --kind=create-selector s --label=x --table=t a --semantics=service/1 b",
+            "check --label x --json --kind create_selector --table t --semantics service/1 -- s a b",
         ] {
             assert_eq!(parsed(line).as_ref(), Ok(&expected), "{line}");
         }
         assert_eq!(parsed("check --json --help"), Ok(Command::Help));
         assert_eq!(parsed("-V"), Ok(Command::Version));
+        assert_eq!(parsed("table"), Ok(Command::Table));
     }
 
     #[test]
@@ -321,6 +347,7 @@ mod tests {
         for (line, option) in [
             ("path s a --kind invariant", "path: --kind"),
             ("path s a --label x", "path: --label"),
+            ("path s a --table t", "path: --table"),
             ("check s r --reader kernel", "check: --reader"),
         ] {
             let expected = format!("{option} is no option of this command");
@@ -330,10 +357,14 @@ mod tests {
 
     #[test]
     fn errors_say_what_was_expected() {
-        assert_eq!(error(""), "expected the command `check` or `path`");
+        assert_eq!(error(""), "expected the command `check`, `path` or `table`");
         assert_eq!(
             error("chekc"),
-            "expected the command `check` or `path`, not \"chekc\""
+            "expected the command `check`, `path` or `table`, not \"chekc\""
+        );
+        assert_eq!(
+            error("table --json"),
+            "table: expected nothing after it, not \"--json\""
         );
         assert_eq!(error("check"), "check: expected the files SCHEMA and RULE");
         assert_eq!(
@@ -365,6 +396,10 @@ mod tests {
         );
         assert_eq!(
             error("check - - --kind invariant --semantics kernel/1"),
+            "check: expected `-`, standard input, at most once"
+        );
+        assert_eq!(
+            error("check s - --table - --kind invariant --semantics kernel/1"),
             "check: expected `-`, standard input, at most once"
         );
     }

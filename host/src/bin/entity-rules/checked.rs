@@ -3,9 +3,9 @@
 use crate::arguments::{Arguments, Asked};
 use crate::hint::{hint, no_member};
 use entity_rules::entries::{Content, Entry, Malformed, read_rule, read_schema};
-use entity_rules::limits::{MAX_SHEET_BYTES, MAX_TEXT_BYTES};
+use entity_rules::limits::{MAX_SHEET_BYTES, MAX_TEXT_BYTES, TABLE_BYTES};
 use entity_rules::{
-    Defect, Kind, PathVerdict, Reader, ReferenceFault, Refusal, Semantics, Verdict, check,
+    Check, Defect, Kind, PathVerdict, Reader, ReferenceFault, Refusal, Table, TableError, Verdict,
     check_path,
 };
 use std::ffi::{OsStr, OsString};
@@ -36,7 +36,9 @@ impl Asked {
     /// Each question, in the order given.
     pub fn questions(&self) -> Vec<Question<'_>> {
         match self {
-            Self::Rules { files, kind, label } => {
+            Self::Rules {
+                files, kind, label, ..
+            } => {
                 let (kind, label) = (*kind, label.as_deref());
                 let rule = |file| Question::Rule { file, kind, label };
                 files.iter().map(PathBuf::as_path).map(rule).collect()
@@ -80,7 +82,8 @@ pub struct Spot {
     pub text: String,
 }
 
-/// Where a sheet stops being one.
+/// Where a sheet stops being one, or a table breaks a condition.
+#[derive(Clone)]
 pub struct Fault {
     pub file: PathBuf,
     pub line: usize,
@@ -100,31 +103,93 @@ pub struct Unreadable {
 pub enum Sheet {
     Schema,
     Rule,
+    Table,
 }
 
 impl Outcome {
-    /// Whether the schema is at fault, so that every other question would fare the same.
-    pub fn blames_the_schema(&self) -> bool {
+    /// Whether the schema or the table is at fault, so that every other question would fare the same.
+    pub fn blames_what_is_shared(&self) -> bool {
         match self {
-            Self::Refused { refusal, .. } => *refusal == Refusal::SchemaSheet,
-            Self::Unreadable(unreadable) => unreadable.sheet == Sheet::Schema,
+            Self::Refused { refusal, .. } => matches!(
+                refusal,
+                Refusal::SchemaSheet | Refusal::Table | Refusal::TableMark
+            ),
+            Self::Unreadable(unreadable) => unreadable.sheet != Sheet::Rule,
             _ => false,
         }
     }
 }
 
+/// What all questions share: the schema, and a name table where one is given.
+pub struct Shared {
+    schema: Result<Vec<u8>, Unreadable>,
+    table: Result<Names, NoTable>,
+}
+
+/// The table as it is lent, no bytes for the stock table, and what it says.
+struct Names {
+    lent: Vec<u8>,
+    table: Table,
+}
+
+/// Why there is no table.
+enum NoTable {
+    Unreadable(Unreadable),
+    Refused {
+        refusal: Refusal,
+        fault: Option<Fault>,
+    },
+}
+
+impl Shared {
+    pub fn new(arguments: &Arguments) -> Self {
+        let table = match &arguments.asked {
+            Asked::Rules {
+                table: Some(file), ..
+            } => load(file),
+            _ => Ok(Names {
+                lent: Vec::new(),
+                table: Table::stock(),
+            }),
+        };
+        Self {
+            schema: read_sheet(&arguments.schema, Sheet::Schema),
+            table,
+        }
+    }
+}
+
+/// Loads the table of a file.
+fn load(file: &Path) -> Result<Names, NoTable> {
+    let sheet = read_sheet(file, Sheet::Table).map_err(NoTable::Unreadable)?;
+    let refused = |error: TableError| NoTable::Refused {
+        refusal: error.refusal(),
+        fault: error.fault().map(|malformed| Fault {
+            file: file.to_owned(),
+            line: line_of(&sheet, malformed.byte),
+            malformed,
+        }),
+    };
+    let mut lent = vec![0; TABLE_BYTES];
+    Table::load(&sheet, &mut lent).map_err(refused)?;
+    let table = Table::read(&lent).map_err(refused)?;
+    Ok(Names { lent, table })
+}
+
 impl<'a> Checked<'a> {
-    pub fn new(
-        arguments: &Arguments,
-        schema: &Result<Vec<u8>, Unreadable>,
-        question: Question<'a>,
-    ) -> Self {
-        let outcome = match (schema, question) {
-            (Err(unreadable), _) => Outcome::Unreadable(unreadable.clone()),
-            (Ok(schema), Question::Rule { file, kind, label }) => {
-                rule_outcome(arguments, schema, file, kind, label)
+    pub fn new(arguments: &Arguments, shared: &Shared, question: Question<'a>) -> Self {
+        let outcome = match (&shared.table, &shared.schema, question) {
+            (Err(NoTable::Unreadable(unreadable)), ..) | (_, Err(unreadable), _) => {
+                Outcome::Unreadable(unreadable.clone())
             }
-            (Ok(schema), Question::Key { path, reader }) => {
+            (Err(NoTable::Refused { refusal, fault }), ..) => Outcome::Refused {
+                refusal: *refusal,
+                fault: fault.clone(),
+            },
+            (Ok(names), Ok(schema), Question::Rule { file, kind, label }) => {
+                rule_outcome(arguments, names, schema, file, kind, label)
+            }
+            (Ok(_), Ok(schema), Question::Key { path, reader }) => {
                 key_outcome(arguments, schema, path, reader)
             }
         };
@@ -158,6 +223,7 @@ fn start(input: impl Read) -> io::Result<Vec<u8>> {
 
 fn rule_outcome(
     arguments: &Arguments,
+    names: &Names,
     schema: &[u8],
     file: &Path,
     kind: Kind,
@@ -169,9 +235,14 @@ fn rule_outcome(
     };
     let stem = file.file_stem().unwrap_or_default().to_string_lossy();
     let label = label.unwrap_or(&stem);
-    match check(kind, arguments.semantics, label, schema, &rule) {
+    let check = Check::new(kind, arguments.semantics, label).table(&names.lent);
+    match check.run(schema, &rule).map(|checked| checked.verdict) {
         Ok(Verdict::Accepted { passed }) => Outcome::Accepted { passed },
-        Ok(Verdict::Defect(defect)) => located(kind, arguments.semantics, defect, &rule),
+        Ok(Verdict::Defect(defect)) => {
+            let (semantics, detail) = (arguments.semantics, defect.detail);
+            let hint = |text: &str| hint(kind, semantics, &names.table, detail, text);
+            located(defect, &rule, hint)
+        }
         Err(refusal @ Refusal::RuleSheet) => Outcome::Refused {
             refusal,
             fault: fault(file, &rule, read_rule),
@@ -200,8 +271,8 @@ fn refused(arguments: &Arguments, schema: &[u8], refusal: Refusal) -> Outcome {
     Outcome::Refused { refusal, fault }
 }
 
-/// A defect with the entries that it names.
-fn located(kind: Kind, semantics: Semantics, defect: Defect, rule: &[u8]) -> Outcome {
+/// A defect with the entries that it names, and the hint for its text.
+fn located(defect: Defect, rule: &[u8], hint: impl Fn(&str) -> Option<String>) -> Outcome {
     let entries = read_rule(rule).unwrap_or_default();
     let entry = |place: u32| entries.get(usize::try_from(place).ok()?.checked_sub(1)?);
     let spot = |place: u32| {
@@ -219,7 +290,7 @@ fn located(kind: Kind, semantics: Semantics, defect: Defect, rule: &[u8]) -> Out
     Outcome::Defect {
         at: spot(defect.place),
         over: defect.over_place.and_then(spot),
-        hint: hint(kind, semantics, defect.detail, text),
+        hint: hint(text),
         defect,
     }
 }

@@ -1,15 +1,21 @@
 //! What helps to mend a defect, where its own words do not say it.
 
-use entity_rules::{Detail, Kind, ReferenceFault, Semantics};
+use entity_rules::{Detail, Kind, ReferenceFault, Semantics, Table};
 
 const INSTANT: &str = "an instant is YYYY-MM-DD or YYYY-MM-DDTHH:MM:SS, the latter with up to 9 digits \
                        after a dot and a Z if wanted; it has no offset";
 
-/// The hint for a defect of that detail, whose entry is a string of that text.
-pub fn hint(kind: Kind, semantics: Semantics, detail: Detail, text: &str) -> Option<String> {
+/// The hint for a defect of that detail, whose entry is a string of that text, under a table.
+pub fn hint(
+    kind: Kind,
+    semantics: Semantics,
+    table: &Table,
+    detail: Detail,
+    text: &str,
+) -> Option<String> {
     match detail {
         Detail::Reference(ReferenceFault::RootNotAvailable | ReferenceFault::NoSuchReference) => {
-            Some(readable(kind, text))
+            Some(readable(kind, table, text))
         }
         Detail::Reference(fault) => no_member(semantics, fault),
         Detail::Instant(_) => Some(INSTANT.to_owned()),
@@ -24,9 +30,13 @@ pub fn no_member(semantics: Semantics, fault: ReferenceFault) -> Option<String> 
 }
 
 /// What may be read where a name may not.
-fn readable(kind: Kind, text: &str) -> String {
+fn readable(kind: Kind, table: &Table, text: &str) -> String {
     let name = text.split('.').next().unwrap_or_default();
-    let names: Vec<String> = kind.names().iter().map(|name| format!("${name}")).collect();
+    let names: Vec<String> = table
+        .names(kind)
+        .iter()
+        .map(|name| format!("${name}"))
+        .collect();
     let is_known = names.iter().any(|known| known == name);
     match name {
         "$args" if is_known => "the schema has no arguments".to_owned(),
@@ -41,14 +51,32 @@ fn readable(kind: Kind, text: &str) -> String {
 #[cfg(test)]
 mod tests {
     use super::*;
+    use entity_rules::Name;
 
     fn reference(fault: ReferenceFault, text: &str) -> Option<String> {
         hint(
             Kind::CreateSelector,
             Semantics::Service1,
+            &Table::stock(),
             Detail::Reference(fault),
             text,
         )
+    }
+
+    #[test]
+    fn hints_go_by_the_table() {
+        let (kind, semantics) = (Kind::CreateSelector, Semantics::Service1);
+        let table = Table::stock()
+            .show(kind, Name::State)
+            .hide(kind, Name::Args);
+        let detail = Detail::Reference(ReferenceFault::NoSuchReference);
+        let hinted = |text| hint(kind, semantics, &table, detail, text);
+        let names = "the kind create_selector may read $id, $entity, $version, $state, and binds in their bodies";
+        assert_eq!(hinted("$args").as_deref(), Some(names));
+        assert_eq!(
+            hinted("$state.a").as_deref(),
+            Some("no path may follow $state")
+        );
     }
 
     #[test]

@@ -1,4 +1,5 @@
-//! The command-line tool: `entity-rules check SCHEMA RULE.. --kind KIND --semantics SEMANTICS`, and `entity-rules path SCHEMA PATH..` for keys.
+//! The command-line tool: `entity-rules check SCHEMA RULE.. --kind KIND --semantics SEMANTICS`, `entity-rules path SCHEMA PATH..` for keys, and
+//! `entity-rules table`, which prints the stock table.
 
 #![forbid(unsafe_code)]
 #![deny(
@@ -19,7 +20,8 @@ mod report;
 mod terminal;
 
 use arguments::{Arguments, Command};
-use checked::{Checked, Outcome, Sheet, read_sheet};
+use checked::{Checked, Outcome, Shared};
+use entity_rules::Table;
 use progress::Progress;
 use report::{Palette, Tally};
 use std::env;
@@ -52,6 +54,10 @@ fn run(command: &Command) -> io::Result<u8> {
     match command {
         Command::Help => out.write_all(arguments::HELP.as_bytes())?,
         Command::Version => writeln!(out, "entity-rules {}", env!("CARGO_PKG_VERSION"))?,
+        Command::Table => match Table::stock().sheet() {
+            Ok(sheet) => out.write_all(&sheet)?,
+            Err(error) => return Ok(complain(&error.to_string())),
+        },
         Command::Check(arguments) => return check(arguments, &mut out),
     }
     Ok(0)
@@ -59,7 +65,7 @@ fn run(command: &Command) -> io::Result<u8> {
 
 /// Checks every rule or path, and prints what comes of it.
 fn check(arguments: &Arguments, out: &mut impl Write) -> io::Result<u8> {
-    let schema = read_sheet(&arguments.schema, Sheet::Schema);
+    let shared = Shared::new(arguments);
     let (questions, noun) = (arguments.asked.questions(), arguments.asked.noun());
     let total = questions.len();
     let palette = Palette::new(io::stdout().is_terminal());
@@ -67,14 +73,14 @@ fn check(arguments: &Arguments, out: &mut impl Write) -> io::Result<u8> {
     let mut progress = Progress::new(io::stderr(), has_bar, total, noun);
     let mut tally = Tally::default();
     for question in questions {
-        let checked = Checked::new(arguments, &schema, question);
+        let checked = Checked::new(arguments, &shared, question);
         tally.count(&checked.outcome);
         if arguments.shows(&checked.outcome) {
             progress.clear();
             out.write_all(show(arguments, &palette, &checked).as_bytes())?;
         }
         progress.step();
-        if !arguments.json && checked.outcome.blames_the_schema() {
+        if !arguments.json && checked.outcome.blames_what_is_shared() {
             break;
         }
     }

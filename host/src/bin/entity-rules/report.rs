@@ -34,7 +34,7 @@ impl Palette {
     }
 }
 
-/// What is printed for one rule or path. A sheet that is at fault is named itself, be it the rule's or the schema's.
+/// What is printed for one rule or path. A sheet that is at fault is named itself, be it the rule's, the schema's or the table's.
 pub fn text(palette: &Palette, checked: &Checked) -> String {
     let subject = name(match checked.question {
         Question::Rule { file, .. } => file.as_os_str(),
@@ -154,11 +154,12 @@ pub fn refused(refusal: Refusal, fault: Option<&Fault>) -> String {
 /// What a file that cannot be read should have held, and why it cannot.
 pub fn not_read(unreadable: &Unreadable) -> String {
     let sheet = match unreadable.sheet {
-        Sheet::Schema => "schema",
-        Sheet::Rule => "rule",
+        Sheet::Schema => "schema sheet",
+        Sheet::Rule => "rule sheet",
+        Sheet::Table => "name table",
     };
     let reason = &unreadable.reason;
-    format!("expected a file that holds a {sheet} sheet: {reason}")
+    format!("expected a file that holds a {sheet}: {reason}")
 }
 
 /// A text in which nothing can steer a terminal.
@@ -180,14 +181,14 @@ pub struct Tally {
     defects: usize,
     refused: usize,
     unreadable: usize,
-    /// Whether the schema is refused or unreadable. Nothing is checked then.
-    without_schema: bool,
+    /// Whether the schema or the table is refused or unreadable. Nothing is checked then.
+    checks_nothing: bool,
 }
 
 impl Tally {
     pub fn count(&mut self, outcome: &Outcome) {
-        if outcome.blames_the_schema() {
-            self.without_schema = true;
+        if outcome.blames_what_is_shared() {
+            self.checks_nothing = true;
             return;
         }
         let counter = match outcome {
@@ -202,7 +203,7 @@ impl Tally {
     /// The exit status: that of the worst outcome.
     pub fn status(&self) -> u8 {
         match (self.defects, self.refused, self.unreadable) {
-            _ if self.without_schema => 2,
+            _ if self.checks_nothing => 2,
             (0, 0, 0) => 0,
             (_, 0, 0) => 1,
             _ => 2,
@@ -261,7 +262,7 @@ mod tests {
             defects,
             refused,
             unreadable,
-            without_schema: false,
+            checks_nothing: false,
         };
         let worst = [
             tally(2, 0, 0, 0),
@@ -271,11 +272,11 @@ mod tests {
             tally(1, 1, 0, 1),
         ];
         assert_eq!(worst.map(|tally| tally.status()), [0, 1, 2, 2, 2]);
-        let without_schema = Tally {
-            without_schema: true,
+        let checks_nothing = Tally {
+            checks_nothing: true,
             ..Tally::default()
         };
-        assert_eq!(without_schema.status(), 2);
+        assert_eq!(checks_nothing.status(), 2);
     }
 
     #[test]

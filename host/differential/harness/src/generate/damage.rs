@@ -1,5 +1,6 @@
 //! Sheets that are nearly well formed: bytes and lines changed, numerals made too long, texts cut.
 
+use super::names::Names;
 use super::planted;
 use crate::case::{Case, Expect};
 use crate::random::Random;
@@ -7,8 +8,8 @@ use crate::random::Random;
 /// Bytes that matter in a sheet, and some that are no UTF-8.
 const BYTES: [u8; 24] = *b"\n,-0123456789HFRTCVK.$\xc3\xff";
 
-pub fn case(random: &mut Random) -> Case {
-    let mut case = if random.chance(50) { super::slips(random) } else { planted::case(random) };
+pub fn case(random: &mut Random, names: &Names) -> Case {
+    let mut case = if random.chance(50) { super::slips(random, names) } else { planted::case(random, names) };
     for _ in 0..random.between(1, 2) {
         let in_schema = random.chance(40);
         let sheet = if in_schema { &mut case.schema } else { &mut case.rule };

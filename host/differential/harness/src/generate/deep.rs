@@ -2,6 +2,7 @@
 
 use super::build::{all, array, condition, element, exists, field, holder, literal, not, object, quantifier, rule, schema, text};
 use super::build::{ARRAY, OBJECT};
+use super::names::Names;
 use super::Setting;
 use crate::case::{Case, Expect};
 use crate::random::Random;
@@ -11,12 +12,12 @@ use differential::trees::{Condition, Field, Operator, Sheet, Value};
 /// A condition that is deeper and can be read is refused with 13.
 const MAX_CONDITION_DEPTH: usize = 32;
 
-pub fn case(random: &mut Random) -> Case {
+pub fn case(random: &mut Random, names: &Names) -> Case {
     match random.below(4) {
-        0 => deep_condition(random),
-        1 => deep_value(random),
-        2 => deep_schema(random),
-        _ => chain(random),
+        0 => deep_condition(random, names),
+        1 => deep_value(random, names),
+        2 => deep_schema(random, names),
+        _ => chain(random, names),
     }
 }
 
@@ -24,8 +25,8 @@ fn empty() -> differential::trees::Schema {
     schema(holder(false, Vec::new()), None)
 }
 
-fn deep_condition(random: &mut Random) -> Case {
-    let setting = Setting::new(random);
+fn deep_condition(random: &mut Random, names: &Names) -> Case {
+    let setting = Setting::new(random, names);
     let depth = random.pick(&[1, 30, 31, 32, 33, 34, 100, 254, 255, 256, 257, 258]);
     let core = if random.chance(50) { literal(true) } else { all(Vec::new()) };
     let is_empty = matches!(core.operator, Operator::All(_));
@@ -48,8 +49,8 @@ fn deeper(random: &mut Random, inner: Condition) -> Condition {
     }
 }
 
-fn deep_value(random: &mut Random) -> Case {
-    let setting = Setting::new(random);
+fn deep_value(random: &mut Random, names: &Names) -> Case {
+    let setting = Setting::new(random, names);
     let depth = random.pick(&[62, 63, 64, 65, 66]);
     let wrap =
         |inner: Value, random: &mut Random| if random.chance(50) { array(vec![inner]) } else { object(vec![("k".to_owned(), inner)]) };
@@ -61,8 +62,8 @@ fn deep_value(random: &mut Random) -> Case {
 }
 
 /// Fields nested by properties and elements, and a path that leads all the way down, or one step too far.
-fn deep_schema(random: &mut Random) -> Case {
-    let setting = Setting::new(random);
+fn deep_schema(random: &mut Random, names: &Names) -> Case {
+    let setting = Setting::new(random, names);
     let depth = random.pick(&[2, 20, 62, 63, 64, 65, 66]);
     let service = setting.semantics > 1;
     let mut path = Vec::new();
@@ -81,7 +82,7 @@ fn deep_schema(random: &mut Random) -> Case {
     if random.chance(30) {
         path.push("a");
     }
-    let root = if matches!(setting.kind, 6 | 7) { "args" } else { "fields" };
+    let root = if setting.may_read("fields") { "fields" } else { "args" };
     let reference = format!("${root}.{}", path.join("."));
     let fields = vec![tree];
     let schema = schema(holder(false, fields.clone()), Some(holder(false, fields)));
@@ -90,15 +91,15 @@ fn deep_schema(random: &mut Random) -> Case {
 }
 
 /// Quantifiers one in another, each over the element of the one around it.
-fn chain(random: &mut Random) -> Case {
-    let mut setting = Setting::new(random);
+fn chain(random: &mut Random, names: &Names) -> Case {
+    let mut setting = Setting::new(random, names);
     setting.semantics = random.between(2, 4) as u64;
     let levels = random.pick(&[2, 10, 29, 30, 31, 32]);
     let tree = (0..levels).fold(field("a", 2), |inner, _| {
         let items = Field { properties: vec![Field { name: "a".to_owned(), ..inner }], ..field("", OBJECT) };
         Field { items: element(items), ..field("a", ARRAY) }
     });
-    let root = if matches!(setting.kind, 6 | 7) { "args" } else { "fields" };
+    let root = if setting.may_read("fields") { "fields" } else { "args" };
     let last = random.pick(&["a", "zz", "a.count"]);
     let core = exists(text(&format!("${}.{last}", bind(levels))));
     let body = (1..=levels).rev().fold(core, |inner, level| {

@@ -2,11 +2,12 @@
 
 use super::build::{all, array, condition, element, exists, field, holder, literal, number, object, pair, quantifier, rule, schema, text};
 use super::build::{ARRAY, INTEGER, OBJECT, UNION};
-use super::{schemas, Setting};
+use super::names::Names;
+use super::{schemas, tables, Setting};
 use crate::case::{Case, Expect};
 use crate::random::Random;
 use crate::refusals::{MAX_FIELD_NESTING, MAX_LABEL_BYTES, MAX_RULE_ENTRIES, MAX_SCHEMA_ENTRIES, MAX_SHEET_BYTES, MAX_TEXT_BYTES};
-use crate::refusals::{MIN_PATH_BYTES, MIN_SCRATCH_WORDS};
+use crate::refusals::{MIN_PATH_BYTES, MIN_SCRATCH_WORDS, REFUSALS};
 use differential::model::{write_rule, write_schema};
 use differential::trees::{Field, Operator, Rule, Schema, Sheet, Value};
 
@@ -16,12 +17,12 @@ const NO_SETTINGS: [u64; 6] = [0, 9, 255, 256 + 1, (1 << 32) + 1, u64::MAX];
 pub const NO_UTF8: [&[u8]; 8] =
     [b"\x80", b"\xc3", b"\xc0\x80", b"\xed\xa0\x80", b"\xf4\x90\x80\x80", b"a\xffb", b"\xe2\x82", b"\xf0\x8f\xbf\xbf"];
 
-/// A right case with some of the refusals 1 to 5 called for: the first of them answers.
-pub fn settings(random: &mut Random) -> Case {
-    let mut case = super::right(random);
+/// A right case with some of the refusals called for, those of a table where it is lent one: the first of them answers.
+pub fn settings(random: &mut Random, names: &Names) -> Case {
+    let mut case = super::right(random, names);
     case.label = vec![b'l'; random.pick(&[0, MAX_LABEL_BYTES - 1, MAX_LABEL_BYTES])];
     let mut first = 0;
-    for refusal in (1..=5).rev() {
+    for refusal in refusals_of(&case).into_iter().rev() {
         if random.chance(30) {
             refuse(random, &mut case, refusal);
             first = refusal;
@@ -30,8 +31,14 @@ pub fn settings(random: &mut Random) -> Case {
     case.expecting(Expect::Number(first))
 }
 
-/// Changes the case so that the refusal applies.
-fn refuse(random: &mut Random, case: &mut Case, refusal: u32) {
+/// The refusals that a case can meet, in their order.
+pub fn refusals_of(case: &Case) -> Vec<u32> {
+    let is_of_table = |refusal: &u32| matches!(refusal, 37 | 38);
+    REFUSALS.into_iter().filter(|refusal| !case.table.is_empty() || !is_of_table(refusal)).collect()
+}
+
+/// Changes the case so that the refusal applies. A table is made unsound before it is damaged.
+pub fn refuse(random: &mut Random, case: &mut Case, refusal: u32) {
     match refusal {
         1 if random.chance(50) => case.kind = random.pick(&NO_SETTINGS),
         1 => case.semantics = random.pick(&[0, 5, 6, (1 << 32) + 2, u64::MAX]),
@@ -39,6 +46,8 @@ fn refuse(random: &mut Random, case: &mut Case, refusal: u32) {
         2 => case.label = random.pick(&NO_UTF8).to_vec(),
         3 if random.chance(50) => case.path_len = random.pick(&[0, MIN_PATH_BYTES - 1]),
         3 => case.scratch_len = random.pick(&[0, MIN_SCRATCH_WORDS - 1]),
+        37 => tables::damage(random, &mut case.table),
+        38 => tables::unsound(random, &mut case.table),
         4 => case.schema = broken(random, &case.schema),
         _ => case.rule = broken(random, &case.rule),
     }
@@ -54,8 +63,8 @@ pub fn broken(random: &mut Random, sheet: &[u8]) -> Vec<u8> {
 }
 
 /// One limit, met, missed by one or passed by one.
-pub fn case(random: &mut Random) -> Case {
-    let setting = Setting::new(random);
+pub fn case(random: &mut Random, names: &Names) -> Case {
+    let setting = Setting::new(random, names);
     let step = random.below(3);
     match random.below(6) {
         0 => schema_text(random, &setting, MAX_TEXT_BYTES - 1 + step),
@@ -195,8 +204,8 @@ fn rule_bytes(random: &mut Random, setting: &Setting, bytes: usize) -> Case {
 }
 
 /// Many fields, conditions, members, and long paths.
-pub fn wide(random: &mut Random) -> Case {
-    let setting = Setting::new(random);
+pub fn wide(random: &mut Random, names: &Names) -> Case {
+    let setting = Setting::new(random, names);
     let slip = random.pick(&[0, 1]);
     let many = random.between(20, 150);
     let schema = wide_schema(random, many);

@@ -4,10 +4,12 @@ pub mod build;
 pub mod damage;
 pub mod deep;
 pub mod limits;
+pub mod names;
 pub mod planted;
 pub mod rules;
 pub mod schemas;
 pub mod scope;
+pub mod tables;
 pub mod values;
 pub mod widen;
 
@@ -15,12 +17,13 @@ use crate::case::{Case, Expect};
 use crate::random::Random;
 use differential::model::{write_rule, write_schema};
 use differential::trees::{Schema, Sheet};
+use names::Names;
 use scope::Scope;
 
 const LABELS: [&str; 8] = ["r", "", "invariants[0]", "a.b", "é", "x,y", "l\nl", "operations.release.preconditions[12]"];
 
 /// A name, how often in a thousand cases it comes, and what makes it.
-type Profile = (&'static str, usize, fn(&mut Random) -> Case);
+type Profile = (&'static str, usize, fn(&mut Random, &Names) -> Case);
 
 /// The kinds of cases.
 pub const PROFILES: [Profile; 9] = [
@@ -35,56 +38,66 @@ pub const PROFILES: [Profile; 9] = [
     ("wide", 5, limits::wide),
 ];
 
-/// A case of any profile, and the profile's index.
-pub fn case(random: &mut Random) -> (usize, Case) {
+/// A case of any profile in which those names may be read, and the profile's index.
+pub fn case(random: &mut Random, names: &Names) -> (usize, Case) {
     let mut ticket = random.below(1_000);
     for (index, (_, share, make)) in PROFILES.iter().enumerate() {
         if ticket < *share {
-            return (index, make(random));
+            return (index, make(random, names));
         }
         ticket -= share;
     }
     unreachable!("the shares add up to a thousand")
 }
 
-/// Kind, semantics and label of a generated case.
-pub struct Setting {
+/// Kind, semantics and label of a generated case, and the names that each kind may read.
+#[derive(Clone, Copy)]
+pub struct Setting<'n> {
     pub kind: u64,
     pub semantics: u64,
     pub label: &'static str,
+    pub names: &'n Names,
 }
 
-impl Setting {
-    pub fn new(random: &mut Random) -> Self {
+impl<'n> Setting<'n> {
+    pub fn new(random: &mut Random, names: &'n Names) -> Self {
         let kind = random.between(1, 8) as u64;
         // The service semantics have more to check, so kernel/1 comes in a fifth of the cases only.
         let semantics = if random.chance(20) { 1 } else { random.between(2, 4) as u64 };
-        Self { kind, semantics, label: random.pick(&LABELS) }
+        Self { kind, semantics, label: random.pick(&LABELS), names }
     }
 
-    pub fn scope<'s>(&self, schema: &'s Schema, slip: usize) -> Scope<'s> {
-        Scope { kind: self.kind, service: self.semantics > 1, schema, binders: Vec::new(), slip }
+    pub fn may_read(&self, name: &str) -> bool {
+        self.names.may_read(self.kind, name)
+    }
+
+    pub fn scope<'s>(&self, schema: &'s Schema, slip: usize) -> Scope<'s>
+    where
+        'n: 's,
+    {
+        Scope { kind: self.kind, names: self.names, service: self.semantics > 1, schema, binders: Vec::new(), slip }
     }
 
     pub fn case(&self, schema: &Schema, sheet: &Sheet) -> Case {
-        Case::new(self.kind, self.semantics, self.label.as_bytes(), write_schema(schema), write_rule(sheet))
+        let case = Case::new(self.kind, self.semantics, self.label.as_bytes(), write_schema(schema), write_rule(sheet));
+        case.under(self.names.lent.clone())
     }
 }
 
 /// A schema and a rule or template for it.
-pub struct Pair {
-    pub setting: Setting,
+pub struct Pair<'n> {
+    pub setting: Setting<'n>,
     pub schema: Schema,
     pub sheet: Sheet,
 }
 
-impl Pair {
-    pub fn new(random: &mut Random, slip: usize) -> Self {
-        let setting = Setting::new(random);
+impl<'n> Pair<'n> {
+    pub fn new(random: &mut Random, names: &'n Names, slip: usize) -> Self {
+        let setting = Setting::new(random, names);
         Self::under(setting, random, slip)
     }
 
-    pub fn under(setting: Setting, random: &mut Random, slip: usize) -> Self {
+    pub fn under(setting: Setting<'n>, random: &mut Random, slip: usize) -> Self {
         let fields = random.between(1, 4);
         let schema = schemas::schema(random, fields);
         let scope = setting.scope(&schema, slip);
@@ -99,12 +112,12 @@ impl Pair {
 }
 
 /// Small cases rich in references where everything is right, so that they must be accepted.
-pub fn right(random: &mut Random) -> Case {
-    Pair::new(random, 0).case().expecting(Expect::Number(0))
+pub fn right(random: &mut Random, names: &Names) -> Case {
+    Pair::new(random, names, 0).case().expecting(Expect::Number(0))
 }
 
 /// Small cases in which something slips now and then.
-pub fn slips(random: &mut Random) -> Case {
+pub fn slips(random: &mut Random, names: &Names) -> Case {
     let slip = random.between(3, 25);
-    Pair::new(random, slip).case().expecting(Expect::Read)
+    Pair::new(random, names, slip).case().expecting(Expect::Read)
 }

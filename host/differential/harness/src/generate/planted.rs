@@ -4,9 +4,10 @@ use super::build::{
     all, array, compare, condition, element, exists, field, literal, not, number, object, pair, quantifier, sorted, text, value,
 };
 use super::build::{ARRAY, INTEGER, MAP, OBJECT, STRING, UNION};
+use super::names::{Names, ALL_NAMES};
 use super::rules::{BAD_BINDS, BLANKS};
 use super::schemas;
-use super::scope::{may_read, Scope, ALL_NAMES};
+use super::scope::Scope;
 use super::values::{near_bound, INSTANTS, NO_INSTANTS};
 use super::Setting;
 use crate::case::{Case, Expect};
@@ -59,15 +60,15 @@ const PLAIN_BINDS: [&str; 4] = ["b", "c", "x", "q"];
 /// A bind that only planted quantifiers use.
 const OWN_BIND: &str = "w";
 
-pub fn case(random: &mut Random) -> Case {
+pub fn case(random: &mut Random, names: &Names) -> Case {
     let target = random.pick(&TARGETS);
-    planted(random, target)
+    planted(random, names, target)
 }
 
 /// A case with that number and detail.
-pub fn planted(random: &mut Random, target: (u32, u32)) -> Case {
-    let setting = setting(random, target);
-    let mut schema = schema(random, target, setting.kind);
+pub fn planted(random: &mut Random, names: &Names, target: (u32, u32)) -> Case {
+    let setting = setting(random, names, target);
+    let mut schema = schema(random, target, &setting);
     let plant = Plant { target, scope: setting.scope(&schema, 0) };
     let sheet = plant.sheet(random);
     if random.chance(70) {
@@ -86,9 +87,13 @@ fn drop_unread(schema: &mut Schema, sheet: &Sheet) {
     }
 }
 
-/// A setting under which the defect can occur.
-fn setting(random: &mut Random, (number, detail): (u32, u32)) -> Setting {
-    let mut setting = Setting::new(random);
+/// A setting under which the defect can occur. Most details of a reference and all of a collection want a root that can be read.
+fn setting<'n>(random: &mut Random, names: &'n Names, (number, detail): (u32, u32)) -> Setting<'n> {
+    let mut setting = Setting::new(random, names);
+    let rooted = names.rooted();
+    if matches!((number, detail), (18, ..=10) | (22, _)) && !rooted.contains(&setting.kind) {
+        setting.kind = random.pick(&rooted);
+    }
     match (number, detail) {
         (15, _) => setting.semantics = 1,
         (14 | 17 | 21 | 22, _) | (18, 4..=9) if setting.semantics == 1 => setting.semantics = random.between(2, 4) as u64,
@@ -98,7 +103,7 @@ fn setting(random: &mut Random, (number, detail): (u32, u32)) -> Setting {
 }
 
 /// A random schema to which the fields that are planted on are added, in the record and in the arguments.
-fn schema(random: &mut Random, target: (u32, u32), kind: u64) -> Schema {
+fn schema(random: &mut Random, target: (u32, u32), setting: &Setting) -> Schema {
     let mut schema = schemas::schema(random, 2);
     let mut arguments = schema.arguments.take().unwrap_or(Holder { open: false, fields: Vec::new() });
     for holder in [&mut schema.record, &mut arguments] {
@@ -107,8 +112,8 @@ fn schema(random: &mut Random, target: (u32, u32), kind: u64) -> Schema {
         holder.open &= target != (18, 2);
     }
     // Detail 11 also comes where the kind may read the arguments and there are none: the only way for kinds that may read every root.
-    let reads_all = may_read(kind, "args") && may_read(kind, "old_fields");
-    let without = target == (18, 11) && may_read(kind, "args") && (reads_all || random.chance(50));
+    let reads_all = setting.may_read("args") && setting.may_read("old_fields");
+    let without = target == (18, 11) && setting.may_read("args") && (reads_all || random.chance(50));
     schema.arguments = (!without).then_some(arguments);
     schema
 }
@@ -269,7 +274,7 @@ impl Plant<'_> {
 
     /// A root that the kind may read and that has the planted fields.
     fn root(&self, random: &mut Random) -> &'static str {
-        let is_there = |root: &&str| may_read(self.scope.kind, root) && (*root != "args" || self.scope.schema.arguments.is_some());
+        let is_there = |root: &&str| self.scope.may_read(root) && (*root != "args" || self.scope.schema.arguments.is_some());
         let roots: Vec<_> = ["fields", "old_fields", "args"].into_iter().filter(is_there).collect();
         random.pick(&roots)
     }
@@ -297,7 +302,7 @@ impl Plant<'_> {
     }
 
     fn unreadable(&self, random: &mut Random, detail: u32) -> String {
-        let hidden = |name: &&str| !may_read(self.scope.kind, name);
+        let hidden = |name: &&str| !self.scope.may_read(name);
         if detail == 12 {
             let bare = ALL_NAMES.into_iter().filter(hidden).map(|name| format!("${name}"));
             let never = ["$", "$.x", "$nope", "$id.x", "$Fields.a", "$fieldsx", "$state.x", "$é", "$ id"].map(str::to_owned);

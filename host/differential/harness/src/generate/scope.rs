@@ -1,27 +1,10 @@
 //! What a generated rule may read at some point, and references and collections that can, or nearly can, be read there.
 
 use super::build::{ARRAY, JSON, MAP, OBJECT, STRING, UNION};
+use super::names::{Names, ALL_NAMES};
 use super::schemas::name;
 use crate::random::Random;
 use differential::trees::{Field, Holder, Schema};
-
-/// The names that each kind may read, from kind 1 on.
-const READABLE: [&[&str]; 8] = [
-    &["id", "entity", "version", "fields", "state"],
-    &["id", "entity", "version", "fields", "from_state", "to_state", "args", "old_fields"],
-    &["id", "entity", "version", "fields", "state", "to_state"],
-    &["id", "entity", "version", "fields", "state", "from_state", "to_state", "args", "old_fields"],
-    &["id", "entity", "version", "fields", "from_state", "args"],
-    &["id", "entity", "version", "args"],
-    &["id", "entity", "version", "state", "to_state", "args"],
-    &["id", "entity", "version", "fields", "state", "to_state", "args"],
-];
-
-pub const ALL_NAMES: [&str; 9] = ["id", "entity", "version", "fields", "state", "to_state", "from_state", "args", "old_fields"];
-
-pub fn may_read(kind: u64, name: &str) -> bool {
-    READABLE[kind as usize - 1].contains(&name)
-}
 
 /// An enclosing quantifier: its bind, and its element where that is known.
 #[derive(Clone)]
@@ -33,6 +16,7 @@ pub struct Binder<'s> {
 #[derive(Clone)]
 pub struct Scope<'s> {
     pub kind: u64,
+    pub names: &'s Names,
     pub service: bool,
     pub schema: &'s Schema,
     pub binders: Vec<Binder<'s>>,
@@ -63,6 +47,11 @@ impl<'s> Scope<'s> {
         inner
     }
 
+    /// Whether the kind may read the name, bound or not.
+    pub fn may_read(&self, name: &str) -> bool {
+        self.names.may_read(self.kind, name)
+    }
+
     fn is_bound(&self, name: &str) -> bool {
         self.binders.iter().any(|binder| binder.name == name)
     }
@@ -75,7 +64,7 @@ impl<'s> Scope<'s> {
         let roots =
             [("fields", Some(&self.schema.record)), ("old_fields", Some(&self.schema.record)), ("args", self.schema.arguments.as_ref())];
         for (root, holder) in roots {
-            if let Some(holder) = holder.filter(|_| may_read(self.kind, root) && !self.is_bound(root)) {
+            if let Some(holder) = holder.filter(|_| self.may_read(root) && !self.is_bound(root)) {
                 starts.push((root.to_owned(), Start::Holder(holder)));
             }
         }
@@ -102,7 +91,7 @@ impl<'s> Scope<'s> {
     fn right_reference(&self, random: &mut Random) -> String {
         let starts: Vec<_> = self.starts().into_iter().filter(|(name, _)| !name.starts_with('$')).collect();
         if starts.is_empty() || random.chance(15) {
-            return format!("${}", random.pick(READABLE[self.kind as usize - 1]));
+            return format!("${}", random.pick(&self.names.readable(self.kind)));
         }
         // Binders come first and are the point of a body, so they are taken more often.
         let index = random.below(starts.len()).min(random.below(starts.len()));

@@ -1,6 +1,7 @@
 //! Widened schemas, and schemas that are changed otherwise.
 
 use super::build::{field, sorted, STRING};
+use super::names::Names;
 use super::schemas::{a_field, schema as a_schema};
 use super::Pair;
 use crate::case::Case;
@@ -17,9 +18,9 @@ pub enum Level {
 }
 
 /// A case whose schema is a widening of the one its rule was made for, or has that one as a widening.
-pub fn case(random: &mut Random) -> Case {
+pub fn case(random: &mut Random, names: &Names) -> Case {
     let slip = random.between(0, 20);
-    let mut pair = Pair::new(random, slip);
+    let mut pair = Pair::new(random, names, slip);
     pair.schema = if random.chance(50) { widened(random, &pair.schema, Level::Any) } else { unwidened(random, &pair.schema, Level::Any) };
     pair.case()
 }

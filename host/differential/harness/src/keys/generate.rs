@@ -6,6 +6,7 @@ use crate::generate::build::{element, field, holder, schema, sorted};
 use crate::generate::build::{ARRAY, INTEGER, JSON, MAP, OBJECT, STRING, UNION};
 use crate::generate::damage::damage;
 use crate::generate::limits::{broken, long, NO_UTF8, SHAPES};
+use crate::generate::names::STOCK;
 use crate::generate::schemas::{a_field, name, schema as a_schema};
 use crate::generate::scope::{damaged_reference, Scope};
 use crate::library::RESULT_BYTES;
@@ -47,7 +48,7 @@ fn setting(random: &mut Random) -> (u64, u64) {
 
 /// A path that the kernel reads under the schema, or some name where it names nothing.
 pub fn right_path(random: &mut Random, schema: &Schema, service: bool) -> Option<String> {
-    Scope { kind: 1, service, schema, binders: Vec::new(), slip: 0 }.key(random)
+    Scope { kind: 1, names: &STOCK, service, schema, binders: Vec::new(), slip: 0 }.key(random)
 }
 
 /// The path some edits away.

@@ -35,12 +35,19 @@ impl Arena {
 
     /// Makes the call. An error tells what differs, and leaves the buffers as the library left them.
     pub fn call(&mut self, case: &Case, lent: &Lent, expected: &Answer) -> Result<(), String> {
+        let around = &self.patterns[lent.pattern][..AROUND];
         let (path, result) = (&mut self.paths[lent.pattern], &mut self.results[lent.pattern]);
         let start = AROUND + lent.shift;
         let (path_lent, result_lent) = (AROUND..AROUND + lent.path, start..start + lent.result);
-        let number = raw::check(case, lent.entry, &mut path[path_lent], &mut result[result_lent.clone()]);
+        let table = [around, &case.table, around].concat();
+        let untouched = table.clone();
+        let table_lent = &table[AROUND..AROUND + case.table.len()];
+        let number = raw::check(case, lent.entry, table_lent, &mut path[path_lent], &mut result[result_lent.clone()]);
         if number != expected.number {
             return Err(format!("it returns {number}"));
+        }
+        if table != untouched {
+            return Err("a byte of the table, or around it, has changed".to_owned());
         }
         fields(&result[result_lent])?;
         self.result(&lent.slot(), expected)?;
@@ -65,6 +72,31 @@ impl Arena {
             return Err("a byte of its inputs, or around them, has changed".to_owned());
         }
         self.result(slot, expected)
+    }
+
+    /// Loads a table, which must keep its bytes, into a buffer amid others: where the number is 0 it lies at the start, and all else is as it was.
+    pub fn load(&mut self, table: &[u8], slot: &Slot, expected: u32) -> Result<(), String> {
+        let whole = &self.patterns[slot.pattern][..RESULT_ARENA];
+        let given = [&whole[..AROUND], table, &whole[..AROUND]].concat();
+        let untouched = given.clone();
+        let start = AROUND + slot.shift;
+        let mut wanted = whole.to_vec();
+        if expected == 0 {
+            wanted[start..start + table.len()].copy_from_slice(table);
+        }
+        let found = &mut self.results[slot.pattern];
+        let number = raw::load(&given[AROUND..AROUND + table.len()], &mut found[start..start + slot.length]);
+        if number != expected {
+            return Err(format!("it returns {number}"));
+        }
+        if given != untouched {
+            return Err("a byte of the table, or around it, has changed".to_owned());
+        }
+        if let Some(at) = differs(found, &wanted) {
+            return Err(format!("byte {} of the buffer is {}, not {}", at as isize - start as isize, found[at], wanted[at]));
+        }
+        found.copy_from_slice(whole);
+        Ok(())
     }
 
     /// The seven numbers where there is room, all else as it was; then the pattern again.

@@ -1,6 +1,7 @@
 //! `rulecheck_path`, held against what the model answers: every byte of the result and around it, and every number.
 
 use super::{in_arena, mixed, Extent, Slot, RESULT_BYTES};
+use crate::agreement::line;
 use crate::keys::KeyCase;
 use differential::model::Answer;
 
@@ -8,7 +9,7 @@ use differential::model::Answer;
 pub fn hold(case: &KeyCase, answer: &Answer, extent: Extent) -> Result<(), String> {
     slots(case, extent).iter().try_for_each(|slot| {
         let expected = expected(case, answer, slot);
-        in_arena(slot, &expected, |arena| arena.key(case, slot, &expected))
+        in_arena(slot, || line(&expected), |arena| arena.key(case, slot, &expected))
     })
 }
 

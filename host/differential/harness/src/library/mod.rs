@@ -3,7 +3,9 @@
 mod arena;
 pub mod keys;
 pub mod raw;
+pub mod tables;
 
+use crate::agreement::line;
 use crate::case::Case;
 use crate::refusals::{MIN_PATH_BYTES, MIN_SCRATCH_WORDS};
 use arena::Arena;
@@ -19,12 +21,15 @@ pub const RESULT_BYTES: usize = 28;
 pub enum Entry {
     Rule,
     Template,
+    /// The one that is lent a table, and takes both sheets.
+    Check,
 }
 
 impl Entry {
-    /// The one that takes the sheet; a sheet of neither letter goes to either of them.
-    fn of(sheet: &[u8], chance: u64) -> Self {
-        match sheet.first() {
+    /// The one that takes the sheet alone; a sheet of neither letter goes to either of them. A case with a table has but one.
+    fn of(case: &Case, chance: u64) -> Self {
+        match case.rule.first() {
+            _ if !case.table.is_empty() => Self::Check,
             Some(b'R') => Self::Rule,
             Some(b'T') => Self::Template,
             _ if chance % 2 == 0 => Self::Rule,
@@ -32,18 +37,36 @@ impl Entry {
         }
     }
 
+    /// The one that takes the other sheet alone.
     fn other(self) -> Self {
         match self {
             Self::Rule => Self::Template,
             Self::Template => Self::Rule,
+            Self::Check => Self::Check,
         }
     }
 
-    /// The letter of the sheets that it takes.
-    pub fn letter(self) -> u8 {
-        match self {
-            Self::Rule => b'R',
-            Self::Template => b'T',
+    /// Those that a case can be called through.
+    pub fn all(case: &Case) -> &'static [Self] {
+        if case.table.is_empty() {
+            &[Self::Rule, Self::Template, Self::Check]
+        } else {
+            &[Self::Check]
+        }
+    }
+
+    /// What it answers where the entry for both sheets, all else equal, answers this.
+    pub fn answer(self, case: &Case, answer: &Answer) -> Answer {
+        let letters = match self {
+            Self::Rule => "R",
+            Self::Template => "T",
+            Self::Check => "RT",
+        };
+        let is_taken = case.rule.first().is_some_and(|letter| letters.as_bytes().contains(letter));
+        match answer.number {
+            1..=4 | 37 | 38 => answer.clone(),
+            _ if is_taken => answer.clone(),
+            _ => Answer { number: 5, ..Answer::default() },
         }
     }
 }
@@ -95,17 +118,17 @@ fn mixed(settings: [u64; 2], parts: &[&[u8]]) -> u64 {
     mix(settings.into_iter().chain(bytes).fold(1, mix), 1)
 }
 
-/// Which of the other calls is made, each row equally often: the other entry in a quarter of the cases, short buffers less often. The last one, buffers
-/// without a byte to spare, is often the own call already.
+/// Which of the other calls is made, each row equally often: the other entry and the one for both sheets in a quarter of the cases each, short buffers
+/// less often. The last one, buffers without a byte to spare, is often the own call already.
 const PICKS: [Option<usize>; 16] = {
-    let (other, result, path, all) = (Some(0), Some(1), Some(2), Some(3));
-    [other, other, other, other, result, path, all, None, None, None, None, None, None, None, None, None]
+    let (other, result, path, all, both) = (Some(0), Some(1), Some(2), Some(3), Some(4));
+    [other, other, other, other, result, path, all, None, both, both, both, both, None, None, None, None]
 };
 
 /// The calls of a case: its own, with short buffers where the case has them, and others.
 fn calls(case: &Case, extent: Extent) -> Vec<Lent> {
-    let chance = mixed([case.kind, case.semantics], &[&case.label, &case.schema, &case.rule]);
-    let entry = Entry::of(&case.rule, chance);
+    let chance = mixed([case.kind, case.semantics], &[&case.label, &case.table, &case.schema, &case.rule]);
+    let entry = Entry::of(case, chance);
     let spare = [0, 0, 1, 7, 64][chance as usize % 5];
     let path = if case.path_len < MIN_PATH_BYTES { case.path_len } else { MIN_PATH_BYTES + spare };
     let short = (chance >> 32) as usize % RESULT_BYTES;
@@ -117,6 +140,7 @@ fn calls(case: &Case, extent: Extent) -> Vec<Lent> {
         Lent { result: short, ..own },
         Lent { path: [0, 1, MIN_PATH_BYTES - 1, (chance >> 40) as usize % MIN_PATH_BYTES][chance as usize / 8 % 4], ..own },
         Lent { entry: entry.other(), path: MIN_PATH_BYTES - 1, result: RESULT_BYTES - 1, ..own },
+        Lent { entry: Entry::Check, pattern: 1 - own.pattern, ..own },
         Lent { path: path.min(MIN_PATH_BYTES), result: result.min(RESULT_BYTES), ..own },
     ];
     let picked = PICKS[(chance >> 20) as usize % PICKS.len()];
@@ -126,15 +150,12 @@ fn calls(case: &Case, extent: Extent) -> Vec<Lent> {
 
 /// What the entry answers, given the model's answer to the case: a buffer may be shorter than the case says, and the sheet may be for the other entry.
 fn expected(case: &Case, answer: &Answer, lent: &Lent) -> Answer {
-    let refused = |number| Answer { number, ..Answer::default() };
     let is_path_cut = lent.path < case.path_len.min(MIN_PATH_BYTES);
     let is_result_cut = lent.result < RESULT_BYTES && case.scratch_len >= MIN_SCRATCH_WORDS;
     match answer.number {
         1 | 2 => answer.clone(),
-        _ if is_path_cut || is_result_cut => refused(3),
-        3 | 4 => answer.clone(),
-        _ if case.rule.first() != Some(&lent.entry.letter()) => refused(5),
-        _ => answer.clone(),
+        _ if is_path_cut || is_result_cut => Answer { number: 3, ..Answer::default() },
+        _ => lent.entry.answer(case, answer),
     }
 }
 
@@ -144,15 +165,19 @@ thread_local! {
 
 fn one(case: &Case, answer: &Answer, lent: &Lent) -> Result<(), String> {
     let expected = expected(case, answer, lent);
-    in_arena(lent, &expected, |arena| arena.call(case, lent, &expected))
+    in_arena(lent, || line(&expected), |arena| arena.call(case, lent, &expected))
 }
 
 /// Makes a call in the arena, which is a new one after a difference.
-fn in_arena(lent: &impl Debug, expected: &Answer, call: impl FnOnce(&mut Arena) -> Result<(), String>) -> Result<(), String> {
+fn in_arena(
+    lent: &impl Debug,
+    expected: impl FnOnce() -> String,
+    call: impl FnOnce(&mut Arena) -> Result<(), String>,
+) -> Result<(), String> {
     ARENA.with_borrow_mut(|arena| {
         call(arena).map_err(|what| {
             *arena = Arena::new();
-            format!("the library, {lent:?}: {what}; expected {}", crate::agreement::line(expected))
+            format!("the library, {lent:?}: {what}; expected {}", expected())
         })
     })
 }

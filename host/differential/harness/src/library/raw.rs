@@ -5,7 +5,8 @@ use crate::case::Case;
 use crate::keys::KeyCase;
 use std::mem::MaybeUninit;
 
-type Check = unsafe extern "C" fn(u64, u64, *const u8, usize, *const u8, usize, *const u8, usize, *mut u8, usize, *mut u8, usize) -> u32;
+/// An entry that takes one sort of sheet.
+type Alone = unsafe extern "C" fn(u64, u64, *const u8, usize, *const u8, usize, *const u8, usize, *mut u8, usize, *mut u8, usize) -> u32;
 
 extern "C" {
     fn rulecheck_rule(
@@ -38,6 +39,25 @@ extern "C" {
         result_length: usize,
     ) -> u32;
 
+    fn rulecheck_check(
+        kind: u64,
+        semantics: u64,
+        label: *const u8,
+        label_length: usize,
+        table: *const u8,
+        table_length: usize,
+        schema: *const u8,
+        schema_length: usize,
+        rule: *const u8,
+        rule_length: usize,
+        path: *mut u8,
+        path_length: usize,
+        result: *mut u8,
+        result_length: usize,
+    ) -> u32;
+
+    fn rulecheck_load_table(table: *const u8, table_length: usize, buffer: *mut u8, buffer_length: usize) -> u32;
+
     fn rulecheck_path(
         semantics: u64,
         reader: u64,
@@ -54,9 +74,9 @@ extern "C" {
     fn rulecheck_finite(text: *const u8, text_length: usize) -> u32;
 }
 
-/// One call of the case, the slices lent as they are.
-pub fn check(case: &Case, entry: Entry, path: &mut [u8], result: &mut [u8]) -> u32 {
-    let inputs = [case.label.as_slice(), &case.schema, &case.rule];
+/// One call of the case, the slices lent as they are, and the table from a place of its own.
+pub fn check(case: &Case, entry: Entry, table: &[u8], path: &mut [u8], result: &mut [u8]) -> u32 {
+    let inputs = [case.label.as_slice(), table, &case.schema, &case.rule];
     // SAFETY: pointers and lengths are those of slices, and no two of them overlap.
     unsafe { call(case, entry, inputs, (path.as_mut_ptr(), path.len()), (result.as_mut_ptr(), result.len())) }
 }
@@ -64,10 +84,29 @@ pub fn check(case: &Case, entry: Entry, path: &mut [u8], result: &mut [u8]) -> u
 /// # Safety
 ///
 /// Each pointer of a buffer leads to as many bytes as its length says, and nothing else refers to these.
-unsafe fn call(case: &Case, entry: Entry, [label, schema, rule]: [&[u8]; 3], path: (*mut u8, usize), result: (*mut u8, usize)) -> u32 {
-    let entry: Check = match entry {
+unsafe fn call(case: &Case, entry: Entry, inputs: [&[u8]; 4], path: (*mut u8, usize), result: (*mut u8, usize)) -> u32 {
+    let [label, table, schema, rule] = inputs;
+    let entry: Alone = match entry {
         Entry::Rule => rulecheck_rule,
         Entry::Template => rulecheck_template,
+        Entry::Check => {
+            return rulecheck_check(
+                case.kind,
+                case.semantics,
+                label.as_ptr(),
+                label.len(),
+                table.as_ptr(),
+                table.len(),
+                schema.as_ptr(),
+                schema.len(),
+                rule.as_ptr(),
+                rule.len(),
+                path.0,
+                path.1,
+                result.0,
+                result.1,
+            )
+        }
     };
     entry(
         case.kind,
@@ -88,12 +127,12 @@ unsafe fn call(case: &Case, entry: Entry, [label, schema, rule]: [&[u8]; 3], pat
 /// A call with buffers fresh from the allocator, which nobody wrote yet, and copies of the inputs that are exactly as long as these: the number, the
 /// seven numbers where the result has room for them, and the path.
 pub fn fresh(case: &Case, entry: Entry, result_length: usize) -> (u32, Option<[u32; 7]>, Vec<u8>) {
-    let inputs = [&case.label, &case.schema, &case.rule].map(|input| input.clone().into_boxed_slice());
+    let inputs = [&case.label, &case.table, &case.schema, &case.rule].map(|input| input.clone().into_boxed_slice());
     let (mut path, mut result) = (Box::<[u8]>::new_uninit_slice(case.path_len), Box::<[u8]>::new_uninit_slice(result_length));
-    let [label, schema, rule] = &inputs;
+    let [label, table, schema, rule] = &inputs;
     let (path_lent, result_lent) = ((path.as_mut_ptr().cast(), path.len()), (result.as_mut_ptr().cast(), result.len()));
     // SAFETY: the boxes are as long as said, and only read again after the call.
-    let number = unsafe { call(case, entry, [label, schema, rule], path_lent, result_lent) };
+    let number = unsafe { call(case, entry, [label, table, schema, rule], path_lent, result_lent) };
     // SAFETY: the call wrote the result, if it has room.
     let Some(numbers) = (unsafe { written(&result) }) else {
         return (number, None, Vec::new());
@@ -136,6 +175,24 @@ pub fn key(semantics: u64, reader: u64, path: &[u8], schema: &[u8], result: &mut
 /// The pointer of the result leads to as many bytes as its length says, and nothing else refers to these.
 unsafe fn call_key(semantics: u64, reader: u64, path: &[u8], schema: &[u8], result: (*mut u8, usize)) -> u32 {
     rulecheck_path(semantics, reader, path.as_ptr(), path.len(), schema.as_ptr(), schema.len(), result.0, result.1)
+}
+
+/// Loads a table into a buffer.
+pub fn load(table: &[u8], buffer: &mut [u8]) -> u32 {
+    // SAFETY: pointers and lengths are those of slices that do not overlap.
+    unsafe { rulecheck_load_table(table.as_ptr(), table.len(), buffer.as_mut_ptr(), buffer.len()) }
+}
+
+/// Loads a copy of a table that is exactly as long as it into a buffer fresh from the allocator: the number, and what lies at the buffer's start if that was
+/// written.
+pub fn fresh_load(table: &[u8], length: usize) -> (u32, Option<Vec<u8>>) {
+    let table = table.to_vec().into_boxed_slice();
+    let mut buffer = Box::<[u8]>::new_uninit_slice(length);
+    // SAFETY: the boxes are as long as said.
+    let number = unsafe { rulecheck_load_table(table.as_ptr(), table.len(), buffer.as_mut_ptr().cast(), buffer.len()) };
+    // SAFETY: as long as the table the buffer was written where the answer is 0.
+    let loaded = (number == 0).then(|| unsafe { std::slice::from_raw_parts(buffer.as_ptr().cast::<u8>(), table.len()) }.to_vec());
+    (number, loaded)
 }
 
 pub fn field(result: &[u8], index: u32) -> u32 {

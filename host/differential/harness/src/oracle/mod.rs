@@ -6,6 +6,7 @@ mod sentences;
 
 pub use kept_out::is_kept_out;
 
+use differential::model::table::Table;
 use differential::trees::{Schema, Sheet, Value};
 use entity_core::validation::entry::{self, Setting};
 use entity_core::DefinitionError;
@@ -50,12 +51,13 @@ pub enum Quoted {
     Side,
 }
 
-/// Kind, semantics and label of a call that none of the refusals 1 to 5 answers.
+/// Kind, semantics, label and table of a call that no refusal answers.
 #[derive(Clone, Copy)]
 pub struct Frame<'a> {
     pub kind: u64,
     pub semantics: u64,
     pub label: &'a str,
+    pub table: &'a [u8],
 }
 
 /// The schemas in the Rust's types, for many rules under one schema.
@@ -75,6 +77,7 @@ pub fn ask(frame: Frame<'_>, schemas: &Schemas, sheet: &Sheet) -> Result<Verdict
         fields: &schemas.0.fields,
         args: schemas.0.args.as_ref(),
         label: frame.label,
+        table: table(frame.table),
     };
     let answer = catch_unwind(AssertUnwindSafe(|| call(sheet, &setting)));
     match answer {
@@ -91,6 +94,13 @@ pub fn ask_key(schemas: &Schemas, semantics: u64, reader: u64, path: &str) -> Re
         Ok(Ok(())) => Ok(0),
         Ok(Err(message)) => sentences::of_key(path, &message),
     }
+}
+
+/// The marks that stand in place of the Rust's name test; none for the stock table, under which the Rust is asked as it is.
+fn table(lent: &[u8]) -> Option<entry::Table> {
+    let is_stock = lent.is_empty() || lent.starts_with(&Table::stock().write());
+    let mark = |row: usize, mark: usize| lent.get(row * 22 + 4 + 2 * mark) == Some(&b'1');
+    (!is_stock).then(|| [0, 1, 2, 3, 4, 5, 6, 7].map(|row| [0, 1, 2, 3, 4, 5, 6, 7, 8].map(|name| mark(row, name))))
 }
 
 /// A value as the Rust prints it: compact JSON.

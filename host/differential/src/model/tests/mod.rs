@@ -7,6 +7,7 @@ mod keys;
 mod references;
 mod refusals;
 mod sheets;
+mod tables;
 mod widenings;
 
 use super::*;
@@ -70,6 +71,7 @@ fn call<'a>(kind: u64, semantics: u64, schema: &'a str, rule: &'a str) -> Call<'
         kind,
         semantics,
         label: b"r",
+        table: b"",
         schema: schema.as_bytes(),
         rule: rule.as_bytes(),
         path_len: PATH_BYTES,

@@ -1,11 +1,13 @@
-//! Refusals 1 to 5 (docs/FORMAT.md, "Answers").
+//! Refusals (docs/FORMAT.md, "Answers").
 
 use super::*;
+use table::TABLE_BYTES;
 
 const GOOD: Call = Call {
     kind: 8,
     semantics: 4,
     label: b"",
+    table: b"",
     schema: b"H,0,0,-,0\n",
     rule: b"T\nV,1,0,\n",
     path_len: PATH_BYTES,
@@ -27,6 +29,12 @@ fn stand_in_their_order() {
     assert_eq!(line(&check(&call)), "5,0,0,0,0,0,");
     call.schema = b"";
     assert_eq!(line(&check(&call)), "4,0,0,0,0,0,");
+    let stock = String::from_utf8(Table::stock().write()).unwrap();
+    let nameless = stock.replace("N,1,1", "N,1,0");
+    call.table = nameless.as_bytes();
+    assert_eq!(line(&check(&call)), "38,0,0,0,0,0,");
+    call.table = &call.table[..TABLE_BYTES - 1];
+    assert_eq!(line(&check(&call)), "37,0,0,0,0,0,");
     call.path_len = 0;
     assert_eq!(line(&check(&call)), "3,0,0,0,0,0,");
     call.label = &[0xFF];

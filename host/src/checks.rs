@@ -1,0 +1,112 @@
+//! A check with everything that it can be lent.
+
+use crate::limits::{PATH_BYTES, RESULT_BYTES};
+use crate::settings::{Kind, Semantics};
+use crate::verdict::{self, Refusal, Verdict};
+use crate::{numbers, raw};
+
+/// A check of a rule or template, as the first letter of its sheet says, with everything that it can be lent.
+///
+/// Without a name table it answers as [`check`](crate::check) does.
+///
+/// ```
+/// use entity_rules::{Check, Kind, Name, Schema, Semantics, Table, Template};
+///
+/// let table = Table::stock().hide(Kind::OperationTemplate, Name::ToState).sheet()?;
+/// let event = Check::new(Kind::OperationTemplate, Semantics::Kernel1, "event").table(&table);
+///
+/// let schema = Schema::new().sheet()?;
+/// let template = Template::new("$to_state").sheet()?;
+/// let checked = event.run(&schema, &template)?;
+/// assert_eq!(checked.verdict.defect().map(|defect| defect.path.as_str()), Some("event"));
+/// # Ok::<(), Box<dyn std::error::Error>>(())
+/// ```
+#[derive(Clone, Copy, Debug)]
+pub struct Check<'a> {
+    kind: Kind,
+    semantics: Semantics,
+    label: &'a [u8],
+    table: &'a [u8],
+}
+
+impl<'a> Check<'a> {
+    /// A check that is lent nothing. The label begins the path of a defect; it is text of at most 256 bytes.
+    ///
+    /// ```
+    /// use entity_rules::{Check, Kind, Semantics, Verdict};
+    ///
+    /// let check = Check::new(Kind::Invariant, Semantics::Kernel1, "always");
+    /// let checked = check.run(b"H,0,0,-,0\n", b"R,-,-,\nC,1,1,\n")?;
+    /// assert_eq!(checked.verdict, Verdict::Accepted { passed: 4 });
+    /// # Ok::<(), entity_rules::Refusal>(())
+    /// ```
+    pub fn new(kind: Kind, semantics: Semantics, label: &'a (impl AsRef<[u8]> + ?Sized)) -> Self {
+        Self {
+            kind,
+            semantics,
+            label: label.as_ref(),
+            table: &[],
+        }
+    }
+
+    /// Lends it a name table, of whose bytes the first 176 count. No bytes are the stock table.
+    ///
+    /// ```
+    /// use entity_rules::{Check, Kind, Refusal, Semantics};
+    ///
+    /// let check = Check::new(Kind::Invariant, Semantics::Kernel1, "always").table(b"N,1\n");
+    /// let refused = check.run(b"H,0,0,-,0\n", b"R,-,-,\nC,1,1,\n");
+    /// assert_eq!(refused, Err(Refusal::Table));
+    /// ```
+    #[must_use]
+    pub const fn table(self, table: &'a [u8]) -> Self {
+        Self { table, ..self }
+    }
+
+    /// Checks a rule or template against a schema.
+    ///
+    /// ```
+    /// use entity_rules::{Check, Kind, Refusal, Semantics};
+    ///
+    /// let check = Check::new(Kind::Invariant, Semantics::Kernel1, "r");
+    /// assert_eq!(check.run(b"H,0,0,-,0\n", b"H,0,0,-,0\n"), Err(Refusal::RuleSheet));
+    /// ```
+    ///
+    /// # Errors
+    ///
+    /// If the label, the table or one of the sheets is refused.
+    pub fn run(&self, schema: &[u8], rule: &[u8]) -> Result<Checked, Refusal> {
+        let mut path = vec![0; PATH_BYTES];
+        let mut result = [0; RESULT_BYTES];
+        let (kind, semantics) = (self.kind.number().into(), self.semantics.number().into());
+        raw::check(
+            kind,
+            semantics,
+            self.label,
+            self.table,
+            schema,
+            rule,
+            &mut path,
+            &mut result,
+        );
+        let verdict = verdict::answer(numbers(&result), &path)?;
+        Ok(Checked { verdict })
+    }
+}
+
+/// What a [`Check`] finds.
+///
+/// ```
+/// use entity_rules::{Check, Kind, Semantics};
+///
+/// let check = Check::new(Kind::CreateSelector, Semantics::Service1, "branch");
+/// let checked = check.run(b"H,0,0,-,0\n", b"T\nV,5,7,$fields\n")?;
+/// assert!(checked.verdict.defect().is_some());
+/// # Ok::<(), entity_rules::Refusal>(())
+/// ```
+#[derive(Clone, Debug, PartialEq, Eq, Hash)]
+#[non_exhaustive]
+pub struct Checked {
+    /// Acceptance, or the first defect.
+    pub verdict: Verdict,
+}
