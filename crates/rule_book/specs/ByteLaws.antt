@@ -131,13 +131,13 @@ unfolding numbersOf answerOf passedOf
 verdict-passed setting label r (allPass n) = refl
 verdict-passed setting label r (failsAt n c d) = refl
 
-judged-passed : (setting : Setting) (label sheet : List ℕ) (s : Option Schema) (r : Option Rule) → decodeRule sheet ≡ r
+pub judged-passed : (setting : Setting) (label sheet : List ℕ) (s : Option Schema) (r : Option Rule) → ((x : Rule) → r ≡ some x → decodeRule sheet ≡ some x)
     → numbersOf (judged setting label s r) .passed ≤ length sheet
 unfolding numbersOf judged checked
 judged-passed setting label sheet none r e = omega arith
 judged-passed setting label sheet (some s) none e = omega arith
 judged-passed setting label sheet (some s) (some r) e =
-    let written = ap length (rule-round-trip sheet r .0 e .0) in
+    let written = ap length (rule-round-trip sheet r .0 (e r refl) .0) in
     let passed = verdict-passed setting label r (judge setting s (checks setting r)) in
     let most = passes-at-most setting s (checks setting r) in
     omega (arith, written, passed, most, checks-at-most setting r, rule-bytes r)
@@ -150,4 +150,4 @@ passed-or (some m) a n h = omega arith
 pub passed-bytes : (c : Call) → numbersOf (resultOf c) .passed ≤ length (c .asked .rule)
 unfolding resultOf
 passed-bytes c =
-    passed-or (firstRefusal (refusals c)) _ _ (judged-passed (settingFor c) (c .asked .label) (c .asked .rule) (decodeSchema (c .schema)) (decodeRule (c .asked .rule)) refl)
+    passed-or (firstRefusal (refusals c)) _ _ (judged-passed (settingFor c) (c .asked .label) (c .asked .rule) (decodeSchema (c .schema)) (decodeRule (c .asked .rule)) (λ x e. e))

@@ -4,4 +4,6 @@ pub mod Places
 pub mod BookLaws
 pub mod ByteLaws
 pub mod TallyLaws
+pub mod Tallying
+pub mod AnswerLaws
 pub mod Computing

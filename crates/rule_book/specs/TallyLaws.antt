@@ -137,11 +137,12 @@ all-refused c (s ∷ others) h e =
 
 -- The book is longer than the total: a sheet's length and its comma take two bytes, and no check passes more than its sheet has bytes.
 
-tally-bytes : (c : BookCall) (sheets : List (List ℕ)) → 2 * length (answersOf c sheets) + passedIn (answersOf c sheets) ≤ length (writeBook sheets)
-unfolding answersOf passedIn sum single askedOf
-tally-bytes c [] = omega arith
-tally-bytes c (s ∷ others) =
-    omega (arith, sheet-bytes _ s (writeBook others) (book-first s others), passed-bytes (single c s), tally-bytes c others)
+pub tally-bytes : (f : List ℕ → Answer) → ((sheet : List ℕ) → numbersOf (f sheet) .passed ≤ length sheet) → (sheets : List (List ℕ))
+    → 2 * length sheets + passedIn (map f sheets) ≤ length (writeBook sheets)
+unfolding passedIn sum
+tally-bytes f small [] = omega arith
+tally-bytes f small (s ∷ others) =
+    omega (arith, sheet-bytes _ s (writeBook others) (book-first s others), small s, tally-bytes f small others)
 
 -- The promises.
 
@@ -170,10 +171,12 @@ module _ (c : BookCall) (t : Tally) (e : bookAnswer c ≡ tallied t) where
 
   -- no count and no total is beyond the book's length
   in-bytes : 2 * t .read + t .passed ≤ length (c .book)
-  unfolding tallyOf
+  unfolding tallyOf answersOf single askedOf
   in-bytes =
       let written = ap length (book-round-trip (c .book) (is .sheets) .0 (is .form)) in
-      rw (is .tally) (omega (arith, written, tally-bytes c (is .sheets)))
+      let answered = length-map (is .sheets) (λ (sheet : List ℕ). resultOf (single c sheet)) in
+      rw (is .tally)
+      (omega (arith, written, answered, tally-bytes (λ (sheet : List ℕ). resultOf (single c sheet)) (λ sheet. passed-bytes (single c sheet)) (is .sheets)))
 
   pub read-bound : t .read ≤ length (c .book)
   read-bound = omega (arith, in-bytes)
