@@ -35,6 +35,9 @@ ofForm book = record { number = 34; isDue = isNone (sheetsOf book) }
 unfoldable pub bookRefusals : BookCall → List Refusal
 bookRefusals c = ofSettings (askedOf c []) (c .lent) ++ (ofForm (c .book) ∷ ofTable (c .table))
 
+unfoldable pub bookRefusalNumbers : List ℕ
+bookRefusalNumbers = 1 ∷ 2 ∷ 3 ∷ 34 ∷ 37 ∷ 38 ∷ []
+
 unfoldable pub answersOf : BookCall → List (List ℕ) → List Answer
 answersOf c sheets = map (λ (sheet : List ℕ). resultOf (single c sheet)) sheets
 

@@ -1,26 +1,27 @@
 -- What a tally promises: every sheet of the book is counted once, under the number that its own check answers.
-use Prim.Native.Nat.{ℕ, zero, suc, _+_, _*_, _≤_, _<_}
+use Prim.Native.Nat.{ℕ, zero, suc, _+_, _*_, _≤_, _<_, min}
 use native.Mathlib.Omega.{arith}
-use mathlib.Core.Bool.{Bool, true, cond}
+use mathlib.Core.Bool.{Bool, true, cond, and-false}
 use mathlib.Core.List.{List, [], _∷_, map, map-map}
 use mathlib.Core.Logic.{_↔_}
 use mathlib.Core.Option.{Option, none, some, Option·none-ne-some, Option·some-injective, orElse}
 use mathlib.Core.Path.{_≡_, refl, sym, ap, subst, _∙_}
 use lib.Dec.{leb, eqb}
 use lib.ListN.{length, length-map}
-use borrow.Author.Tests.{eqb-true, eqb-false, leb-true}
+use borrow.Author.Tests.{eqb-true, eqb-false, leb-true, leb-false}
 use Rattle.sheet.specs.ReaderLaws.{by-test}
 use Rattle.definition.specs.Decode.{decodeSchema}
 use Rattle.reference.specs.Setting.{oneOf}
 use Rattle.validation.specs.Check.{isNone, IsDefect}
-use Rattle.validation.specs.Result.{Call, Answer, refused, Heard, refusal, acceptance, finding, ofTable, ofSettings, early, ofSheets, refusals, firstRefusal, numbersOf, resultOf}
+use Rattle.validation.specs.Result.{Call, Answer, refused, Heard, refusal, acceptance, finding, ofTable, ofSettings, early, ofSheets, refusals, firstRefusal, numbersOf, resultOf, pathBytes}
 use Rattle.validation.specs.Result as Result
-use Rattle.validation.specs.RefusalLaws.{every, present, none-due, first-none, of-listed, of-first, sheets-first, first-append}
+use Rattle.validation.specs.RefusalLaws.{every, present, none-due, first-none, of-listed, of-first, sheets-first, first-append, outside}
+use Rattle.validator.specs.SheetLaws.{roomy}
 use Rattle.validation.specs.DemandLaws.{NotRefused, heard, unrefused-answer}
 use Rattle.rule_book.specs.Book.{sheetsOf, writeBook}
 use Rattle.rule_book.specs.BookLaws.{sheet-bytes, book-first, book-round-trip}
 use Rattle.rule_book.specs.ByteLaws.{passed-bytes}
-use Rattle.rule_book.specs.Tally.{BookCall, askedOf, single, ofForm, bookRefusals, answersOf, countOf, sum, passedIn, Tally, defectNumbers, tallyOf, bookRefused, tallied, BookAnswer, orNoSheets, refusedOr, bookAnswer}
+use Rattle.rule_book.specs.Tally.{BookCall, askedOf, single, ofForm, bookRefusals, bookRefusalNumbers, answersOf, countOf, sum, passedIn, Tally, defectNumbers, tallyOf, bookRefused, tallied, BookAnswer, orNoSheets, refusedOr, bookAnswer}
 
 -- A book that is tallied: it is of the form, and no check of a sheet is refused before its sheets are read.
 
@@ -266,3 +267,58 @@ one-sheet c sheet t form e =
     let is = is-tallied c t e in
     let same = Option·some-injective (is .sheets) (sheet ∷ []) (sym (is .form) ∙ form) in
     is .tally ∙ ap (λ (sheets : List (List ℕ)). tallyOf (answersOf c sheets)) same
+
+-- every refusal of a book is one of those listed
+pub book-refusal-listed : (c : BookCall) (n : ℕ) → bookAnswer c ≡ bookRefused n → oneOf n bookRefusalNumbers ≡ true
+unfolding bookRefusals bookRefusalNumbers ofSettings oneOf every
+book-refusal-listed c n e = of-first (λ (m : ℕ). oneOf m bookRefusalNumbers) n (bookRefusals c) refl (book-refused c n .0 e)
+
+-- a path buffer without room is refused, whatever else the call holds
+pub no-room-refused : (c : BookCall) → c .lent .path < pathBytes → (n : ℕ) × (bookAnswer c ≡ bookRefused n)
+unfolding askedOf
+no-room-refused c short = go (settingRefusal c) refl
+  where
+    go : (o : Option ℕ) → settingRefusal c ≡ o → (n : ℕ) × (bookAnswer c ≡ bookRefused n)
+    go none e = absurd (omega (arith, short, roomy (askedOf c []) (c .lent) e .room))
+    go (some n) e = (n, settings-first c n e)
+
+-- A kind or semantics beyond its range is refusal 1, so a number beyond both may stand for every larger one.
+
+pub kind-refused : (c : BookCall) → 8 < c .kind → bookAnswer c ≡ bookRefused 1
+unfolding ofSettings firstRefusal askedOf
+kind-refused c more = settings-first c 1 (rw (outside 8 (c .kind) more))
+
+pub semantics-refused : (c : BookCall) → 4 < c .semantics → bookAnswer c ≡ bookRefused 1
+unfolding ofSettings firstRefusal askedOf
+semantics-refused c more = settings-first c 1 (rw (outside 4 (c .semantics) more, and-false))
+
+unfoldable pub cappedBook : (most : ℕ) → BookCall → BookCall
+cappedBook most c =
+    record {
+      kind = min (c .kind) most;
+      semantics = min (c .semantics) most;
+      label = c .label;
+      table = c .table;
+      schema = c .schema;
+      book = c .book;
+      lent = c .lent;
+    }
+
+pub capped-book : (most : ℕ) (c : BookCall) → 8 < most → bookAnswer (cappedBook most c) ≡ bookAnswer c
+unfolding cappedBook
+capped-book most c beyond =
+    by-test (leb (c .kind) most)
+    (λ k.
+    let kind-low = leb-true (c .kind) most k in
+    let kind-is : min (c .kind) most ≡ c .kind = omega arith in
+    by-test (leb (c .semantics) most)
+    (λ s.
+    let semantics-low = leb-true (c .semantics) most s in
+    let semantics-is : min (c .semantics) most ≡ c .semantics = omega arith in
+    rw (kind-is, semantics-is))
+    (λ s.
+    let semantics-high = leb-false (c .semantics) most s in
+    semantics-refused (cappedBook most c) (omega arith) ∙ sym (semantics-refused c (omega arith))))
+    (λ k.
+    let kind-high = leb-false (c .kind) most k in
+    kind-refused (cappedBook most c) (omega arith) ∙ sym (kind-refused c (omega arith)))
