@@ -5,6 +5,7 @@
 use crate::case::Case;
 use crate::edges::edges;
 use crate::generate::{self, names::STOCK};
+use crate::instants;
 use crate::keys::{self, KeyCase};
 use crate::library::{numbers, raw, Entry, RESULT_BYTES};
 use crate::longest::longest;
@@ -13,8 +14,8 @@ use crate::tables::{self, LoadCase};
 use crate::vectors;
 use differential::model;
 
-/// The known edges, the list of answers, then so many generated cases, and the same of keys, of tables and of loads; an error is a difference from the
-/// model.
+/// The known edges, the list of answers, then so many generated cases, and the same of keys, of tables, of loads and of instants; an error is a difference
+/// from the model.
 pub fn memory(list: &str, cases: u64, seed: u64) -> Result<(), String> {
     let known: Vec<Case> = edges().into_iter().chain(longest()).collect();
     for case in &known {
@@ -49,6 +50,13 @@ pub fn memory(list: &str, cases: u64, seed: u64) -> Result<(), String> {
         let load = tables::generate::load(&mut random);
         one(&case).and_then(|()| one_load(&load)).map_err(|trouble| format!("table {number} of seed {seed}: {trouble}"))?;
     }
+    let known_texts = instants::run::known();
+    for text in &known_texts {
+        one_instant(text)?;
+    }
+    for number in 0..cases {
+        one_instant(&instants::generate::text(&mut Random::of_case(seed, number)))?;
+    }
     println!("{} known edges, {} cases of {list}, {cases} generated ones (seed {seed}): answers as the model's", known.len(), listed.len());
     println!("{} known edges of keys, {cases} generated ones (seed {seed}): answers as the model's", known_keys.len());
     println!(
@@ -56,6 +64,19 @@ pub fn memory(list: &str, cases: u64, seed: u64) -> Result<(), String> {
         known_tables.len(),
         known_loads.len()
     );
+    println!("{} known instants, {cases} generated ones (seed {seed}): answers as the model's", known_texts.len());
+    Ok(())
+}
+
+/// Fields of exactly their length, and one byte less.
+fn one_instant(text: &[u8]) -> Result<(), String> {
+    let fields = instants::read(text)?;
+    for room in [RESULT_BYTES, RESULT_BYTES - 1] {
+        let (found, wanted) = (raw::fresh_instant(text, room), instants::answer(fields, room));
+        if found != wanted {
+            return Err(format!("{:?} is answered {found:?}, not {wanted:?}", String::from_utf8_lossy(text)));
+        }
+    }
     Ok(())
 }
 

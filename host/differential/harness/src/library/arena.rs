@@ -74,23 +74,28 @@ impl Arena {
         self.result(slot, expected)
     }
 
-    /// Loads a table, which must keep its bytes, into a buffer amid others: where the number is 0 it lies at the start, and all else is as it was.
-    pub fn load(&mut self, table: &[u8], slot: &Slot, expected: u32) -> Result<(), String> {
+    /// Calls a function on an input, which must keep its bytes, and a buffer amid others: what is written lies at its start, and all else is as it was.
+    pub fn write(
+        &mut self,
+        function: fn(&[u8], &mut [u8]) -> u32,
+        input: &[u8],
+        slot: &Slot,
+        expected: u32,
+        written: &[u8],
+    ) -> Result<(), String> {
         let whole = &self.patterns[slot.pattern][..RESULT_ARENA];
-        let given = [&whole[..AROUND], table, &whole[..AROUND]].concat();
+        let given = [&whole[..AROUND], input, &whole[..AROUND]].concat();
         let untouched = given.clone();
         let start = AROUND + slot.shift;
         let mut wanted = whole.to_vec();
-        if expected == 0 {
-            wanted[start..start + table.len()].copy_from_slice(table);
-        }
+        wanted[start..start + written.len()].copy_from_slice(written);
         let found = &mut self.results[slot.pattern];
-        let number = raw::load(&given[AROUND..AROUND + table.len()], &mut found[start..start + slot.length]);
+        let number = function(&given[AROUND..AROUND + input.len()], &mut found[start..start + slot.length]);
         if number != expected {
             return Err(format!("it returns {number}"));
         }
         if given != untouched {
-            return Err("a byte of the table, or around it, has changed".to_owned());
+            return Err("a byte of its input, or around it, has changed".to_owned());
         }
         if let Some(at) = differs(found, &wanted) {
             return Err(format!("byte {} of the buffer is {}, not {}", at as isize - start as isize, found[at], wanted[at]));

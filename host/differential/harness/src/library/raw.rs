@@ -72,6 +72,8 @@ extern "C" {
     fn rulecheck_field(result: *const u8, result_length: usize, index: u32) -> u32;
 
     fn rulecheck_finite(text: *const u8, text_length: usize) -> u32;
+
+    fn rulecheck_instant(text: *const u8, text_length: usize, fields: *mut u8, fields_length: usize) -> u32;
 }
 
 /// One call of the case, the slices lent as they are, and the table from a place of its own.
@@ -183,16 +185,29 @@ pub fn load(table: &[u8], buffer: &mut [u8]) -> u32 {
     unsafe { rulecheck_load_table(table.as_ptr(), table.len(), buffer.as_mut_ptr(), buffer.len()) }
 }
 
-/// Loads a copy of a table that is exactly as long as it into a buffer fresh from the allocator: the number, and what lies at the buffer's start if that was
-/// written.
+/// Loads a copy of a table into a buffer fresh from the allocator, as `fresh_write`.
 pub fn fresh_load(table: &[u8], length: usize) -> (u32, Option<Vec<u8>>) {
-    let table = table.to_vec().into_boxed_slice();
+    fresh_write(rulecheck_load_table, table, length, table.len())
+}
+
+/// Reads a copy of a text as an instant, the fields fresh from the allocator, as `fresh_write`.
+pub fn fresh_instant(text: &[u8], length: usize) -> (u32, Option<Vec<u8>>) {
+    fresh_write(rulecheck_instant, text, length, RESULT_BYTES)
+}
+
+/// A function that reads one slice, and writes to the start of another where it answers 0.
+type Writes = unsafe extern "C" fn(*const u8, usize, *mut u8, usize) -> u32;
+
+/// Calls one of the library's functions with a copy of an input that is exactly as long as it and a buffer fresh from the allocator: the number, and
+/// the bytes at the buffer's start if they were written.
+fn fresh_write(function: Writes, input: &[u8], length: usize, written: usize) -> (u32, Option<Vec<u8>>) {
+    let input = input.to_vec().into_boxed_slice();
     let mut buffer = Box::<[u8]>::new_uninit_slice(length);
     // SAFETY: the boxes are as long as said.
-    let number = unsafe { rulecheck_load_table(table.as_ptr(), table.len(), buffer.as_mut_ptr().cast(), buffer.len()) };
-    // SAFETY: as long as the table the buffer was written where the answer is 0.
-    let loaded = (number == 0).then(|| unsafe { std::slice::from_raw_parts(buffer.as_ptr().cast::<u8>(), table.len()) }.to_vec());
-    (number, loaded)
+    let number = unsafe { function(input.as_ptr(), input.len(), buffer.as_mut_ptr().cast(), buffer.len()) };
+    // SAFETY: so many bytes of the buffer were written where the answer is 0.
+    let found = (number == 0).then(|| unsafe { std::slice::from_raw_parts(buffer.as_ptr().cast::<u8>(), written) }.to_vec());
+    (number, found)
 }
 
 pub fn field(result: &[u8], index: u32) -> u32 {
@@ -205,4 +220,10 @@ pub fn finite(text: &[u8]) -> (bool, usize) {
     // SAFETY: pointer and length are those of a slice.
     let answer = unsafe { rulecheck_finite(text.as_ptr(), text.len()) };
     (answer % 2 == 1, answer as usize / 2)
+}
+
+/// Reads an instant, whose fields are written.
+pub fn instant(text: &[u8], fields: &mut [u8]) -> u32 {
+    // SAFETY: pointers and lengths are those of slices that do not overlap.
+    unsafe { rulecheck_instant(text.as_ptr(), text.len(), fields.as_mut_ptr(), fields.len()) }
 }
