@@ -11,9 +11,10 @@ use crate::longest::longest;
 use crate::random::Random;
 use crate::tables::{self, LoadCase};
 use crate::vectors;
+use crate::widens::{self, WidensCase};
 use differential::model;
 
-/// The known edges, the list of answers, then so many generated cases, and the same of keys, of tables and of loads; an error is a difference from the
+/// The known edges, the list of answers, then so many generated cases, and the same of keys, of tables, of loads and of pairs of schemas; an error is a difference from the
 /// model.
 pub fn memory(list: &str, cases: u64, seed: u64) -> Result<(), String> {
     let known: Vec<Case> = edges().into_iter().chain(longest()).collect();
@@ -49,6 +50,14 @@ pub fn memory(list: &str, cases: u64, seed: u64) -> Result<(), String> {
         let load = tables::generate::load(&mut random);
         one(&case).and_then(|()| one_load(&load)).map_err(|trouble| format!("table {number} of seed {seed}: {trouble}"))?;
     }
+    let known_pairs = widens::edges::edges();
+    for case in &known_pairs {
+        one_pair(case)?;
+    }
+    for number in 0..cases {
+        let (_, case) = widens::generate::case(&mut Random::of_case(seed, number));
+        one_pair(&case).map_err(|trouble| format!("pair {number} of seed {seed}: {trouble}"))?;
+    }
     println!("{} known edges, {} cases of {list}, {cases} generated ones (seed {seed}): answers as the model's", known.len(), listed.len());
     println!("{} known edges of keys, {cases} generated ones (seed {seed}): answers as the model's", known_keys.len());
     println!(
@@ -56,6 +65,7 @@ pub fn memory(list: &str, cases: u64, seed: u64) -> Result<(), String> {
         known_tables.len(),
         known_loads.len()
     );
+    println!("{} known pairs of schemas, {cases} generated ones (seed {seed}): answers as the model's", known_pairs.len());
     Ok(())
 }
 
@@ -67,6 +77,17 @@ fn one_load(case: &LoadCase) -> Result<(), String> {
         Ok(())
     } else {
         Err(format!("a load is answered {found:?}, not {wanted:?}"))
+    }
+}
+
+fn one_pair(case: &WidensCase) -> Result<(), String> {
+    let expected = model::widens(&case.first, &case.second, case.result_len);
+    let found = raw::fresh_widens(case);
+    let wanted = (expected[0], (case.result_len >= RESULT_BYTES).then_some(expected));
+    if found == wanted {
+        Ok(())
+    } else {
+        Err(format!("a pair of schemas is answered {found:?}, not {wanted:?}"))
     }
 }
 

@@ -4,6 +4,7 @@ mod arena;
 pub mod keys;
 pub mod raw;
 pub mod tables;
+pub mod widens;
 
 use crate::agreement::line;
 use crate::case::Case;
