@@ -1,4 +1,4 @@
-//! Whether a schema is a widening of another, on the edges of docs/FORMAT.md, "Is it a widening?".
+//! The fixed list of pairs of schemas (host/vectors/widens.txt) replayed through the crate, and the edges of docs/FORMAT.md, "Is it a widening?".
 
 mod support;
 
@@ -7,7 +7,103 @@ use entity_rules::{
     Breach, BreachReason, Condition, Field, FieldKind, Kind, Refusal, Rule, Schema, Semantics,
     Widening, check_rule, raw, widens,
 };
-use support::Random;
+use std::collections::BTreeSet;
+use support::{Random, line, take};
+
+/// One case: two sheets, and the five numbers of the answer that may differ from 0.
+struct Case<'a> {
+    first: &'a [u8],
+    second: &'a [u8],
+    numbers: [u32; 5],
+}
+
+impl Case<'_> {
+    fn expected(&self) -> Result<Widening, Refusal> {
+        match self.numbers {
+            [0, 1, 0, 0, 0] => Ok(Widening::Marks),
+            [0, 2, 0, 0, 0] => Ok(Widening::Anything),
+            [0, 3, reason, old, new] => {
+                let reason = BreachReason::from_number(reason).expect("a reason");
+                Ok(breach(reason, old, new))
+            }
+            [4, 1, 0, 0, 0] => Err(Refusal::SchemaSheet),
+            [4, 2, 0, 0, 0] => Err(Refusal::NewSchemaSheet),
+            other => panic!("{other:?} is no answer to two schemas"),
+        }
+    }
+}
+
+/// Calls the function on every case of the list.
+fn for_each_case(mut look: impl FnMut(&Case)) {
+    let list = concat!(env!("CARGO_MANIFEST_DIR"), "/vectors/widens.txt");
+    let list = std::fs::read(list).expect("the list of pairs");
+    let mut rest = list.as_slice();
+    while rest.first() == Some(&b'#') {
+        line(&mut rest);
+    }
+    let mut count = 0;
+    while !rest.is_empty() {
+        let numbers = line(&mut rest).split(',').map(str::parse);
+        let numbers: Vec<u32> = numbers.collect::<Result<_, _>>().expect("numbers");
+        let [first, second, answer @ ..] = &numbers[..] else {
+            panic!("a case has seven numbers");
+        };
+        let [first, second] = [first, second].map(|count| take(&mut rest, u64::from(*count)));
+        assert_eq!(take(&mut rest, 1), b"\n");
+        look(&Case {
+            first,
+            second,
+            numbers: answer.try_into().expect("five numbers"),
+        });
+        count += 1;
+    }
+    assert_eq!(count, 1_194);
+}
+
+#[test]
+fn the_typed_function_answers_every_case() {
+    for_each_case(|case| assert_eq!(widens(case.first, case.second), case.expected()));
+}
+
+#[test]
+fn the_c_function_answers_every_case_and_keeps_the_other_bytes() {
+    for_each_case(|case| {
+        let mut result = [0xBB; RESULT_BYTES + 9];
+        let number = raw::widens(case.first, case.second, &mut result);
+        assert_eq!(number, case.numbers[0]);
+        let numbers = [0, 1, 2, 3, 4, 5, 6].map(|index| raw::field(&result, index));
+        let [number, answer, reason, first, second] = case.numbers;
+        assert_eq!(numbers, [number, answer, reason, first, second, 0, 0]);
+        assert_eq!(result[RESULT_BYTES..], [0xBB; 9]);
+    });
+}
+
+#[test]
+fn the_list_has_every_answer_and_every_reason() {
+    let mut seen = BTreeSet::new();
+    for_each_case(|case| {
+        let [number, answer, reason, ..] = case.numbers;
+        seen.insert((number, answer, reason));
+    });
+    let reasons = (1..=7).map(|reason| (0, 3, reason));
+    let yes = [(0, 1, 0), (0, 2, 0)].into_iter();
+    let refused = [(4, 1, 0), (4, 2, 0)];
+    assert!(seen.into_iter().eq(yes.chain(reasons).chain(refused)));
+}
+
+/// The answer for a sheet and itself, where a check takes it.
+#[test]
+fn every_schema_is_a_widening_of_itself() {
+    for_each_case(|case| {
+        for sheet in [case.first, case.second] {
+            let expected = match support::takes_schema(sheet) {
+                true => Ok(Widening::Marks),
+                false => Err(Refusal::SchemaSheet),
+            };
+            assert_eq!(widens(sheet, sheet), expected);
+        }
+    });
+}
 
 fn sheet(schema: Schema) -> Vec<u8> {
     schema.sheet().expect("a small schema")

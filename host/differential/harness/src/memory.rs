@@ -12,10 +12,11 @@ use crate::longest::longest;
 use crate::random::Random;
 use crate::tables::{self, LoadCase};
 use crate::vectors;
+use crate::widens::{self, WidensCase};
 use differential::model;
 
-/// The known edges, the list of answers, then so many generated cases, and the same of keys, of tables, of loads and of instants; an error is a difference
-/// from the model.
+/// The known edges, the list of answers, then so many generated cases, and the same of keys, of tables, of loads, of instants and of pairs of schemas; an error is a
+/// difference from the model.
 pub fn memory(list: &str, cases: u64, seed: u64) -> Result<(), String> {
     let known: Vec<Case> = edges().into_iter().chain(longest()).collect();
     for case in &known {
@@ -57,6 +58,14 @@ pub fn memory(list: &str, cases: u64, seed: u64) -> Result<(), String> {
     for number in 0..cases {
         one_instant(&instants::generate::text(&mut Random::of_case(seed, number)))?;
     }
+    let known_pairs = widens::edges::edges();
+    for case in &known_pairs {
+        one_pair(case)?;
+    }
+    for number in 0..cases {
+        let (_, case) = widens::generate::case(&mut Random::of_case(seed, number));
+        one_pair(&case).map_err(|trouble| format!("pair {number} of seed {seed}: {trouble}"))?;
+    }
     println!("{} known edges, {} cases of {list}, {cases} generated ones (seed {seed}): answers as the model's", known.len(), listed.len());
     println!("{} known edges of keys, {cases} generated ones (seed {seed}): answers as the model's", known_keys.len());
     println!(
@@ -65,6 +74,7 @@ pub fn memory(list: &str, cases: u64, seed: u64) -> Result<(), String> {
         known_loads.len()
     );
     println!("{} known instants, {cases} generated ones (seed {seed}): answers as the model's", known_texts.len());
+    println!("{} known pairs of schemas, {cases} generated ones (seed {seed}): answers as the model's", known_pairs.len());
     Ok(())
 }
 
@@ -88,6 +98,17 @@ fn one_load(case: &LoadCase) -> Result<(), String> {
         Ok(())
     } else {
         Err(format!("a load is answered {found:?}, not {wanted:?}"))
+    }
+}
+
+fn one_pair(case: &WidensCase) -> Result<(), String> {
+    let expected = model::widens(&case.first, &case.second, case.result_len);
+    let found = raw::fresh_widens(case);
+    let wanted = (expected[0], (case.result_len >= RESULT_BYTES).then_some(expected));
+    if found == wanted {
+        Ok(())
+    } else {
+        Err(format!("a pair of schemas is answered {found:?}, not {wanted:?}"))
     }
 }
 

@@ -5,6 +5,7 @@ pub mod instants;
 pub mod keys;
 pub mod raw;
 pub mod tables;
+pub mod widens;
 
 use crate::agreement::line;
 use crate::case::Case;

@@ -3,6 +3,7 @@
 use super::{Entry, RESULT_BYTES};
 use crate::case::Case;
 use crate::keys::KeyCase;
+use crate::widens::WidensCase;
 use std::mem::MaybeUninit;
 
 /// An entry that takes one sort of sheet.
@@ -52,6 +53,15 @@ extern "C" {
         rule_length: usize,
         path: *mut u8,
         path_length: usize,
+        result: *mut u8,
+        result_length: usize,
+    ) -> u32;
+
+    fn rulecheck_widens(
+        first: *const u8,
+        first_length: usize,
+        second: *const u8,
+        second_length: usize,
         result: *mut u8,
         result_length: usize,
     ) -> u32;
@@ -177,6 +187,23 @@ pub fn key(semantics: u64, reader: u64, path: &[u8], schema: &[u8], result: &mut
 /// The pointer of the result leads to as many bytes as its length says, and nothing else refers to these.
 unsafe fn call_key(semantics: u64, reader: u64, path: &[u8], schema: &[u8], result: (*mut u8, usize)) -> u32 {
     rulecheck_path(semantics, reader, path.as_ptr(), path.len(), schema.as_ptr(), schema.len(), result.0, result.1)
+}
+
+pub fn widens(first: &[u8], second: &[u8], result: &mut [u8]) -> u32 {
+    // SAFETY: pointers and lengths are those of slices, and the result overlaps nothing.
+    unsafe { rulecheck_widens(first.as_ptr(), first.len(), second.as_ptr(), second.len(), result.as_mut_ptr(), result.len()) }
+}
+
+/// A call for two schemas with a result fresh from the allocator and copies of the inputs, as `fresh`.
+pub fn fresh_widens(case: &WidensCase) -> (u32, Option<[u32; 7]>) {
+    let [first, second] = [&case.first, &case.second].map(|input| input.clone().into_boxed_slice());
+    let mut result = Box::<[u8]>::new_uninit_slice(case.result_len);
+    let lent: *mut u8 = result.as_mut_ptr().cast();
+    // SAFETY: the boxes are as long as said, and only read again after the call, which wrote the result if it has room.
+    unsafe {
+        let number = rulecheck_widens(first.as_ptr(), first.len(), second.as_ptr(), second.len(), lent, result.len());
+        (number, written(&result))
+    }
 }
 
 /// Loads a table into a buffer.
