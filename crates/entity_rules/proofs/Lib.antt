@@ -3,3 +3,4 @@ pub mod Entries
 pub mod KeyEntries
 pub mod Examples
 pub mod NumberTests
+pub mod BookEntries

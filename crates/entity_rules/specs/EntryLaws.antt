@@ -27,7 +27,7 @@ put-together : (n a b c w x y z : ℕ)
     → w + x * 256 + y * 65536 + z * 16777216 ≡ n
 put-together n a b c w x y z e f g h = omega arith
 
-number-first : (n : ℕ) (rest : List ℕ) → n < 2 ^ 32 → numberAt 0 (littleEndian n ++ rest) ≡ n
+pub number-first : (n : ℕ) (rest : List ℕ) → n < 2 ^ 32 → numberAt 0 (littleEndian n ++ rest) ≡ n
 unfolding numberAt littleEndian
 number-first n rest small =
     let second : n / 65536 ≡ n / 256 / 256 = omega arith in
@@ -36,7 +36,7 @@ number-first n rest small =
     rw (second, third)
     (put-together n (n / 256) (n / 256 / 256) (n / 256 / 256 / 256) _ _ _ _ (whole n) (whole (n / 256)) (whole (n / 256 / 256)) top)
 
-number-later : (n i : ℕ) (rest : List ℕ) → numberAt (4 * suc i) (littleEndian n ++ rest) ≡ numberAt (4 * i) rest
+pub number-later : (n i : ℕ) (rest : List ℕ) → numberAt (4 * suc i) (littleEndian n ++ rest) ≡ numberAt (4 * i) rest
 unfolding numberAt littleEndian
 number-later n i rest =
     let zeroth : 4 * suc i ≡ suc (suc (suc (suc (4 * i)))) = omega arith in

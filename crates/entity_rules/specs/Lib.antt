@@ -4,3 +4,5 @@ pub mod EntryLaws
 pub mod NumberTest
 pub mod KeyEntry
 pub mod KeyEntryLaws
+pub mod BookEntry
+pub mod BookEntryLaws

@@ -1,5 +1,6 @@
 // The checker as C functions for a host. Each call brings a scratch of its own.
 mod result; // result.rt: the seven numbers as bytes
+mod book; // book.rt: a whole rule book
 
 use crate::result::RESULT_BYTES;
 use crate::result::read_u32;

@@ -9,7 +9,7 @@ ghost use Rattle.entity_rules.specs.Entry.{Written};
 
 pub const RESULT_BYTES: usize = 28;
 
-fn put_u32(n: u32, at: usize, bytes: &mut [u8])
+pub fn put_u32(n: u32, at: usize, bytes: &mut [u8])
     requires { ⌜ at + 4 ≤ length (now bytes) ⌝ }
     ensures { λ _. ⌜ now (bytes .exit) ≡ sets (now (bytes .entry)) at (littleEndian n) ⌝ }
 {
