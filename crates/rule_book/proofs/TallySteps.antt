@@ -1,7 +1,7 @@
 -- The tally, sheet by sheet: what is counted and what is left to count make the whole.
 use Prim.Native.Nat.{ℕ, zero, suc, _+_, _*_, _<_, _≤_}
 use native.Mathlib.Omega.{arith}
-use mathlib.Core.Bool.{Bool, true, false, cond}
+use mathlib.Core.Bool.{cond}
 use mathlib.Core.List.{List, [], _∷_, map}
 use mathlib.Core.Option.{Option, none, some, Option·map, Option·none-ne-some, Option·some-injective}
 use mathlib.Core.Path.{_≡_, refl, sym, ap, _∙_}
@@ -23,7 +23,7 @@ use Rattle.validator.specs.declared.outcome.Outcome.{Outcome}
 use Rattle.rule_book.specs.Book.{sheetIn, sheetsOf}
 use Rattle.rule_book.specs.BookLaws.{sheets-end, sheets-more, sheets-none, book-round-trip}
 use Rattle.rule_book.specs.Tally.{countOf, passedIn, sum, tallyOf, tallied, tallyNumbers, defectNumbers, KeptFrom}
-use Rattle.rule_book.specs.TallyLaws.{tally-bytes}
+use Rattle.rule_book.specs.TallyLaws.{counts-within, tally-bytes}
 use Rattle.rule_book.specs.AnswerLaws.{sheet-number, sheet-passed, sheet-path}
 use Rattle.rule_book.specs.Tallying.{answersIn, numbersIn, Ready, SheetsTallied}
 
@@ -58,15 +58,6 @@ first-of : (x : List ℕ) (o : Option (List (List ℕ))) (rest : List (List ℕ)
     → (others : List (List ℕ)) × (o ≡ some others) × (rest ≡ x ∷ others)
 first-of x none rest e = absurd (Option·none-ne-some rest e)
 first-of x (some others) rest e = (others, refl, sym (Option·some-injective (x ∷ others) rest e))
-
-counts-within : (n : ℕ) (answers : List Answer) → countOf n answers ≤ length answers
-unfolding countOf
-counts-within n [] = omega arith
-counts-within n (a ∷ others) = go (eqb (numbersOf a .number) n) (counts-within n others)
-  where
-    go : (b : Bool) → countOf n others ≤ length others → cond b 1 0 + countOf n others ≤ suc (length others)
-    go true h = omega arith
-    go false h = omega arith
 
 within : {f : List ℕ → Answer} {book counts : List ℕ} {read passed at : ℕ} (c : Counting f book counts read passed at)
     → ((sheet : List ℕ) → numbersOf (f sheet) .passed ≤ length sheet)

@@ -1,13 +1,13 @@
 -- What a tally promises: every sheet of the book is counted once, under the number that its own check answers.
 use Prim.Native.Nat.{ℕ, zero, suc, _+_, _*_, _≤_, _<_, min}
 use native.Mathlib.Omega.{arith}
-use mathlib.Core.Bool.{Bool, true, cond, and-false}
-use mathlib.Core.List.{List, [], _∷_, map, map-map}
+use mathlib.Core.Bool.{Bool, true, false, cond, and-false}
+use mathlib.Core.List.{List, [], _∷_, _++_, map, map-map}
 use mathlib.Core.Logic.{_↔_}
 use mathlib.Core.Option.{Option, none, some, Option·none-ne-some, Option·some-injective, orElse}
 use mathlib.Core.Path.{_≡_, refl, sym, ap, subst, _∙_}
 use lib.Dec.{leb, eqb}
-use lib.ListN.{length, length-map}
+use lib.ListN.{length, getD, replicate, length-map}
 use borrow.Author.Tests.{eqb-true, eqb-false, leb-true, leb-false}
 use Rattle.sheet.specs.ReaderLaws.{by-test}
 use Rattle.definition.specs.Decode.{decodeSchema}
@@ -21,7 +21,7 @@ use Rattle.validation.specs.DemandLaws.{NotRefused, heard, unrefused-answer}
 use Rattle.rule_book.specs.Book.{sheetsOf, writeBook}
 use Rattle.rule_book.specs.BookLaws.{sheet-bytes, book-first, book-round-trip}
 use Rattle.rule_book.specs.ByteLaws.{passed-bytes}
-use Rattle.rule_book.specs.Tally.{BookCall, askedOf, single, ofForm, bookRefusals, bookRefusalNumbers, answersOf, countOf, sum, passedIn, Tally, defectNumbers, tallyOf, bookRefused, tallied, BookAnswer, orNoSheets, refusedOr, bookAnswer}
+use Rattle.rule_book.specs.Tally.{BookCall, askedOf, single, ofForm, bookRefusals, bookRefusalNumbers, answersOf, countOf, sum, passedIn, Tally, defectNumbers, tallyOf, bookRefused, tallied, BookAnswer, orNoSheets, refusedOr, bookAnswer, tallyNumbers}
 
 -- A book that is tallied: it is of the form, and no check of a sheet is refused before its sheets are read.
 
@@ -135,6 +135,17 @@ unfolding answersOf countOf single
 all-refused c [] h e = refl
 all-refused c (s ∷ others) h e =
     rw (schema-refused (single c s) (h s) e) (omega (arith, all-refused c others h e))
+
+-- No number comes more often than there are answers.
+
+pub counts-within : (n : ℕ) (answers : List Answer) → countOf n answers ≤ length answers
+unfolding countOf
+counts-within n [] = omega arith
+counts-within n (a ∷ others) = go (eqb (numbersOf a .number) n) (counts-within n others)
+  where
+    go : (b : Bool) → countOf n others ≤ length others → cond b 1 0 + countOf n others ≤ suc (length others)
+    go true h = omega arith
+    go false h = omega arith
 
 -- The book is longer than the total: a sheet's length and its comma take two bytes, and no check passes more than its sheet has bytes.
 
@@ -322,3 +333,56 @@ capped-book most c beyond =
     (λ k.
     let kind-high = leb-false (c .kind) most k in
     kind-refused (cappedBook most c) (omega arith) ∙ sym (kind-refused c (omega arith)))
+
+-- The eighteen numbers.
+
+numbers-18 : (o : Option ℕ) (answers : List Answer) → length (tallyNumbers (refusedOr o (tallyOf answers))) ≡ 18
+unfolding refusedOr tallyNumbers tallyOf defectNumbers
+numbers-18 none answers = refl
+numbers-18 (some n) answers = refl
+
+pub tally-size : (c : BookCall) → length (tallyNumbers (bookAnswer c)) ≡ 18
+unfolding bookAnswer
+tally-size c = numbers-18 (firstRefusal (bookRefusals c)) (answersOf c (orNoSheets (sheetsOf (c .book))))
+
+-- the first of them is small: the number of a refusal, or 0
+first-low : (a : BookAnswer) → ((n : ℕ) → a ≡ bookRefused n → n ≤ 38) → getD (tallyNumbers a) 0 0 ≤ 38
+unfolding tallyNumbers
+first-low (bookRefused n) h = h n refl
+first-low (tallied t) h = omega arith
+
+refusal-low : (c : BookCall) (n : ℕ) → bookAnswer c ≡ bookRefused n → n ≤ 38
+unfolding bookRefusalNumbers every
+refusal-low c n e = leb-true n 38 (of-listed (λ (m : ℕ). leb m 38) n bookRefusalNumbers refl (book-refusal-listed c n e))
+
+pub tally-first : (c : BookCall) → getD (tallyNumbers (bookAnswer c)) 0 0 ≤ 38
+tally-first c = first-low (bookAnswer c) (refusal-low c)
+
+-- and none is beyond the book's length and a refusal's number, so eight bytes hold each
+
+abbrev pub AllWithin : ℕ → List ℕ → Type 0
+AllWithin most [] = Unit {0}
+AllWithin most (n ∷ ns) = (n ≤ most) × AllWithin most ns
+
+zeros-within : (most k : ℕ) → AllWithin most (replicate k 0)
+zeros-within most zero = tt
+zeros-within most (suc k) = (omega arith, zeros-within most k)
+
+counts-then : (most : ℕ) (answers : List Answer) (last : ℕ) (ns : List ℕ) → length answers ≤ most → last ≤ most
+    → AllWithin most (map (λ (n : ℕ). countOf n answers) ns ++ (last ∷ []))
+counts-then most answers last [] h l = (l, tt)
+counts-then most answers last (n ∷ ns) h l = (omega (arith, counts-within n answers), counts-then most answers last ns h l)
+
+pub numbers-within : (c : BookCall) → AllWithin (38 + length (c .book)) (tallyNumbers (bookAnswer c))
+unfolding tallyNumbers tallyOf
+numbers-within c = go (bookAnswer c) refl
+  where
+    go : (a : BookAnswer) → bookAnswer c ≡ a → AllWithin (38 + length (c .book)) (tallyNumbers a)
+    go (bookRefused n) e = (omega (arith, refusal-low c n e), zeros-within (38 + length (c .book)) 17)
+    go (tallied t) e =
+        let answers = answersOf c (is-tallied c t e .sheets) in
+        let same = is-tallied c t e .tally in
+        let read : length answers ≤ length (c .book) = rw same at (read-bound c t e) in
+        let passed : passedIn answers ≤ length (c .book) = rw same at (passed-bound c t e) in
+        rw same
+        (omega arith, (omega (arith, read), counts-then _ answers _ (0 ∷ 4 ∷ 5 ∷ defectNumbers) (omega (arith, read)) (omega (arith, passed))))
