@@ -32,7 +32,8 @@ halves-count (n ∷ ns) = omega (arith, halves-count ns)
 halves-fit : (ns : List ℕ) → InEightBytes ns → InFourBytes (halvesOf ns)
 unfolding halvesOf
 halves-fit [] no-more = four.no-more
-halves-fit (n ∷ ns) (one-more h hs) = four.one-more (omega arith) (four.one-more (omega arith) (halves-fit ns hs))
+halves-fit (n ∷ ns) (one-more h hs) =
+    four.one-more {n = n % 256 ^ 4} (omega arith) (four.one-more {n = n / 256 ^ 4} (omega arith) (halves-fit ns hs))
 
 lower-half : (ns : List ℕ) (i : ℕ) → i < length ns → getD (halvesOf ns) (2 * i) 0 ≡ getD ns i 0 % 4294967296
 unfolding halvesOf

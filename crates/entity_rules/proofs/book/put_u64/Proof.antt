@@ -11,11 +11,11 @@ cast-put-u32 c = search needs
 put-u32-requires : tie.Need-put-u32-requires
 put-u32-requires c κs = search needs
 
-cast-put-u32-2 : tie.Need-cast-put-u32-2
-cast-put-u32-2 c = search needs
-
 add-put-u32 : tie.Need-add-put-u32
 add-put-u32 c = search needs
+
+cast-put-u32-2 : tie.Need-cast-put-u32-2
+cast-put-u32-2 c = search needs
 
 put-u32-requires-2 : tie.Need-put-u32-requires-2
 put-u32-requires-2 c κs = search needs
@@ -32,8 +32,8 @@ put-u64-spec =
     (tie.spec
     cast-put-u32
     put-u32-requires
-    cast-put-u32-2
     add-put-u32
+    cast-put-u32-2
     put-u32-requires-2
     same-length
     returns)
