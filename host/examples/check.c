@@ -1,4 +1,4 @@
-/* Checks a good and a bad rule of a mill from C, and a third under the mill's own name table. In this folder, after `rt staticlib entity_rules` in the repository's root:
+/* Checks a good and a bad rule of a mill from C, and a third under the mill's own name table; then asks whether a schema has grown. In this folder, after `rt staticlib entity_rules` in the repository's root:
  *
  *   cc check.c -I../include -L../../target/staticlib -lentity_rules -o ../../target/check && ../../target/check
  *
@@ -7,6 +7,8 @@
  *   good: accepted, 9 checks passed
  *   bad: defect 18 of family 8, detail 3, at entry 5, bad.assert.for_all.that.eq[0], after 8 checks
  *   own: accepted, 5 checks passed
+ *   wider: a widening
+ *   narrower: none, reason 1, at entry 4 of the old sheet and 0 of the new
  */
 #include <entity_rules.h>
 #include <stdio.h>
@@ -56,6 +58,24 @@ static void check_own(const char *label, const char *schema, const char *rule) {
   show(label, number, result);
 }
 
+/* Says whether a schema is a widening of another. */
+static void compare(const char *label, const char *old_schema, const char *new_schema) {
+  uint8_t result[ENTITY_RULES_RESULT_BYTES];
+  const size_t size = sizeof result;
+  uint32_t number = rulecheck_widens(bytes(old_schema), strlen(old_schema),
+                                     bytes(new_schema), strlen(new_schema), result, size);
+  if (number != 0) {
+    printf("%s: refused, %u\n", label, (unsigned)number);
+  } else if (rulecheck_field(result, size, ENTITY_RULES_WIDENS_ANSWER) != ENTITY_RULES_WIDENS_NO) {
+    printf("%s: a widening\n", label);
+  } else {
+    printf("%s: none, reason %u, at entry %u of the old sheet and %u of the new\n", label,
+           (unsigned)rulecheck_field(result, size, ENTITY_RULES_WIDENS_REASON),
+           (unsigned)rulecheck_field(result, size, ENTITY_RULES_WIDENS_FIRST_ENTRY),
+           (unsigned)rulecheck_field(result, size, ENTITY_RULES_WIDENS_SECOND_ENTRY));
+  }
+}
+
 int main(void) {
   /* A pattern names bars, each of them threaded or not. */
   const char *schema = "H,0,1,-,0\n"
@@ -93,5 +113,13 @@ int main(void) {
             "C,8,0,\n"
             "V,5,6,$state\n"
             "V,5,5,drawn\n");
+  /* Bars get a number, so whatever was accepted before is accepted still. */
+  const char *wider = "H,0,1,-,0\n"
+                      "F,6,0,1,0,4,-,bars\n"
+                      "F,7,0,0,2,0,-,\n"
+                      "F,2,0,0,0,6,-,number\n"
+                      "F,4,0,0,0,8,-,threaded\n";
+  compare("wider", schema, wider);
+  compare("narrower", wider, schema);
   return 0;
 }

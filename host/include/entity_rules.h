@@ -1,4 +1,5 @@
-/* One rule, template or key path checked against the schema of its record: the C functions of libentity_rules.a.
+/* One rule, template or key path checked against the schema of its record, and schemas held against each other: the C functions of
+ * libentity_rules.a.
  *
  * docs/FORMAT.md says what the sheets hold and what each number means. Lengths are in bytes. A pointer must lead to as many bytes
  * as the length after it says, and must not be null, even where that is 0. path, result and buffer must not overlap each other or

@@ -25,6 +25,7 @@ pub mod raw;
 mod settings;
 mod table;
 mod verdict;
+mod widening;
 
 pub use build::{
     BuildError, CompareOp, Condition, Field, FieldKind, Nesting, Rule, Schema, Template, Value,
@@ -38,6 +39,7 @@ pub use verdict::{
     CollectionFault, Defect, DefectNumber, Detail, Family, InstantFault, PathVerdict,
     ReferenceFault, Refusal, Side, Verdict,
 };
+pub use widening::{Breach, BreachReason, Widening, widens};
 
 use limits::{PATH_BYTES, RESULT_BYTES};
 

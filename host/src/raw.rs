@@ -83,6 +83,15 @@ unsafe extern "C" {
         result_length: usize,
     ) -> u32;
 
+    fn rulecheck_widens(
+        first: *const u8,
+        first_length: usize,
+        second: *const u8,
+        second_length: usize,
+        result: *mut u8,
+        result_length: usize,
+    ) -> u32;
+
     fn rulecheck_field(result: *const u8, result_length: usize, index: u32) -> u32;
 
     fn rulecheck_finite(text: *const u8, text_length: usize) -> u32;
@@ -281,7 +290,38 @@ pub fn path(semantics: u64, reader: u64, path: &[u8], schema: &[u8], result: &mu
     }
 }
 
-/// One of the numbers in a result: 0 number, 1 family, 2 detail, 3 place, 4 over place, 5 passed, 6 path length.
+/// Decides whether the second schema is a widening of the first; the answer is 0 whichever it is, and `result` takes five numbers and two zeros: 0, which of
+/// the three answers, the reason, and the entries in the first and in the second sheet.
+///
+/// A result under 28 bytes is refusal 3. A sheet that is not well formed is refusal 4, and the next number says which.
+///
+/// ```
+/// use entity_rules::raw;
+///
+/// let (closed, open, mut result) = (b"H,0,0,-,0\n", b"H,1,0,-,0\n", [0; 28]);
+/// assert_eq!(raw::widens(closed, open, &mut result), 0);
+/// assert_eq!(raw::field(&result, 1), 1);
+/// assert_eq!(raw::widens(open, closed, &mut result), 0);
+/// assert_eq!([1, 2, 3, 4].map(|index| raw::field(&result, index)), [3, 5, 1, 1]);
+/// assert_eq!(raw::widens(open, b"", &mut result), 4);
+/// assert_eq!(raw::field(&result, 1), 2);
+/// assert_eq!(raw::widens(b"", b"", &mut []), 3);
+/// ```
+pub fn widens(first: &[u8], second: &[u8], result: &mut [u8]) -> u32 {
+    // SAFETY: as in `path`.
+    unsafe {
+        rulecheck_widens(
+            first.as_ptr(),
+            first.len(),
+            second.as_ptr(),
+            second.len(),
+            result.as_mut_ptr(),
+            result.len(),
+        )
+    }
+}
+
+/// One of the numbers in a result: 0 number, 1 family, 2 detail, 3 place, 4 over place, 5 passed, 6 path length; after [`widens`] its own.
 ///
 /// The answer is 0 where the four bytes do not lie in the result.
 ///

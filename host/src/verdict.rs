@@ -487,6 +487,8 @@ pub enum Refusal {
     Width,
     /// 4: the schema sheet is not well formed.
     SchemaSheet,
+    /// 4 of a call for two schemas, where the new one's sheet is not well formed; [`SchemaSheet`](Refusal::SchemaSheet) is then the old one's.
+    NewSchemaSheet,
     /// 5: the rule sheet is not well formed, or is not of the sort that the function takes.
     RuleSheet,
     /// 37: the name table is not of its form. [`Table::read`](crate::Table::read) says where.
@@ -509,7 +511,7 @@ impl Refusal {
             Self::Setting => 1,
             Self::Label | Self::Path => 2,
             Self::Width => 3,
-            Self::SchemaSheet => 4,
+            Self::SchemaSheet | Self::NewSchemaSheet => 4,
             Self::RuleSheet => 5,
             Self::TableForm => 37,
             Self::TableMark => 38,
@@ -529,7 +531,7 @@ impl Refusal {
             Self::Label => "label",
             Self::Path => "path",
             Self::Width => "width",
-            Self::SchemaSheet => "schema sheet",
+            Self::SchemaSheet | Self::NewSchemaSheet => "schema sheet",
             Self::RuleSheet => "rule sheet",
             Self::TableForm => "table form",
             Self::TableMark => "table mark",
@@ -561,6 +563,7 @@ impl fmt::Display for Refusal {
             Self::Path => f.pad("the path is over 512 bytes long, or not UTF-8"),
             Self::Width => f.pad("the path buffer is under 32,768 bytes, or the result under 28"),
             Self::SchemaSheet => f.pad("the schema sheet is not well formed"),
+            Self::NewSchemaSheet => f.pad("the new schema's sheet is not well formed"),
             Self::RuleSheet => {
                 f.pad("the rule sheet is not well formed, or not of the sort asked for")
             }

@@ -1,7 +1,9 @@
 //! The C header and the C example.
 
 use entity_rules::limits::{MAX_KEY_BYTES, PATH_BYTES, RESULT_BYTES, TABLE_BYTES};
-use entity_rules::{DefectNumber, Family, Kind, Reader, ReferenceFault, Refusal, Semantics};
+use entity_rules::{
+    BreachReason, DefectNumber, Family, Kind, Reader, ReferenceFault, Refusal, Semantics, Widening,
+};
 use std::path::{Path, PathBuf};
 use std::process::Command;
 
@@ -49,7 +51,9 @@ fn runs(program: &Path) {
         printed,
         "good: accepted, 9 checks passed\n\
          bad: defect 18 of family 8, detail 3, at entry 5, bad.assert.for_all.that.eq[0], after 8 checks\n\
-         own: accepted, 5 checks passed\n"
+         own: accepted, 5 checks passed\n\
+         wider: a widening\n\
+         narrower: none, reason 1, at entry 4 of the old sheet and 0 of the new\n"
     );
     let source = include_str!("../examples/check.c");
     for line in printed.lines() {
@@ -120,8 +124,14 @@ fn the_header_has_the_numbers_of_the_crate() {
         ("TABLE_MARK", Refusal::TableMark),
     ];
     let refusals = refusals.map(|(name, one)| (format!("REFUSED_{name}"), one.number()));
+    let reasons = BreachReason::ALL
+        .iter()
+        .map(|one| (spelled(one.name()), one.number()));
+    let widenings = [("MARKS", Widening::Marks), ("ANYTHING", Widening::Anything)];
+    let widenings = widenings.map(|(name, one)| (format!("WIDENS_{name}"), one.number()));
     let settings = kinds.chain(semantics).chain(readers);
     let answers = defects.chain(families).chain(refusals);
+    let answers = answers.chain(reasons).chain(widenings);
     for (name, number) in settings.chain(answers) {
         let line = format!("  ENTITY_RULES_{name} = {number}");
         assert!(

@@ -634,6 +634,215 @@ fn a_refused_table_is_told_by_row_and_mark() {
     assert!(out.starts_with("none: unreadable: expected a file that holds a name table: "));
 }
 
+/// Runs a command about two schemas, which says nothing on standard error.
+fn run_pair(folder: &Path, line: &str) -> (Option<i32>, String) {
+    let output = run(folder, line);
+    assert!(output.stderr.is_empty(), "{output:?}");
+    let out = String::from_utf8(output.stdout).expect("the tool prints UTF-8");
+    (output.status.code(), out)
+}
+
+#[test]
+fn the_readme_shows_what_is_printed_for_two_schemas() {
+    let readme = include_str!("../README.md");
+    let commands = ["$ entity-rules widens ", "$ entity-rules upgrade "];
+    let mut count = 0;
+    for block in readme.split("```console\n").skip(1) {
+        if !commands.iter().any(|command| block.starts_with(command)) {
+            continue;
+        }
+        let (command, rest) = block.split_once('\n').expect("a command");
+        let (shown, _) = rest.split_once("```").expect("the end of the example");
+        let line = command.trim_start_matches("$ entity-rules ");
+        let (status, out) = run_pair(&mill(), line);
+        assert_eq!(out, shown);
+        assert_eq!(
+            status == Some(0),
+            !shown.contains("changed") && !shown.contains("no widening")
+        );
+        count += 1;
+    }
+    assert_eq!(count, 3);
+}
+
+#[test]
+fn the_status_tells_a_widening() {
+    let status = |words: &str| run_pair(&mill(), &format!("widens {words}")).0;
+    assert_eq!(status("pattern.schema wider.schema"), Some(0));
+    assert_eq!(status("pattern.schema pattern.schema"), Some(0));
+    assert_eq!(status("wider.schema pattern.schema"), Some(1));
+    assert_eq!(status("wider.schema release.rule"), Some(2));
+    assert_eq!(status("missing wider.schema"), Some(2));
+    assert_eq!(run(&mill(), "widens pattern.schema").status.code(), Some(2));
+}
+
+#[test]
+fn the_status_tells_a_change() {
+    let status = |words: &str| run_pair(&mill(), &format!("upgrade {words} {SETTINGS}")).0;
+    let (wider, narrower) = ("pattern.schema wider.schema", "wider.schema pattern.schema");
+    assert_eq!(
+        status(&format!("{wider} release.rule misspelt.rule")),
+        Some(0)
+    );
+    assert_eq!(status(&format!("{wider} release.rule fits.rule")), Some(1));
+    assert_eq!(
+        status(&format!("{narrower} release.rule misspelt.rule")),
+        Some(0)
+    );
+    assert_eq!(
+        status(&format!("{narrower} release.rule fits.rule")),
+        Some(1)
+    );
+    assert_eq!(status(&format!("{wider} fits.rule wider.schema")), Some(2));
+    assert_eq!(status(&format!("{wider} missing.rule")), Some(2));
+    assert_eq!(status("pattern.schema release.rule release.rule"), Some(2));
+    assert_eq!(status("missing pattern.schema release.rule"), Some(2));
+    assert_eq!(
+        status(&format!("{wider} release.rule --table release.rule")),
+        Some(2)
+    );
+}
+
+#[test]
+fn a_widening_is_told_quietly_or_not() {
+    let out = |words: &str| run_pair(&mill(), words).1;
+    assert_eq!(
+        out("widens pattern.schema pattern.schema"),
+        "pattern.schema: widening of pattern.schema: nothing differs\n"
+    );
+    assert_eq!(out("widens pattern.schema wider.schema --quiet"), "");
+    let none = out("widens wider.schema pattern.schema --quiet");
+    assert_eq!(none, out("widens wider.schema pattern.schema"));
+    let upgrade = format!("upgrade pattern.schema wider.schema release.rule {SETTINGS} --quiet");
+    assert_eq!(out(&upgrade), "");
+    assert_eq!(out(&format!("{upgrade} misspelt.rule")), "");
+    let changed = out(&format!("{upgrade} fits.rule"));
+    assert!(
+        changed
+            .starts_with("fits.rule: changed\n  under pattern.schema\n    fits.rule:3: defect 18")
+    );
+    assert!(changed.ends_with("2 rules: 1 stay accepted, 0 as before, 1 changed\n"));
+}
+
+#[test]
+fn breaches_are_told_with_their_lines_and_paths() {
+    let folder = folder("breaches");
+    let file = |name: &str, sheet: &str| fs::write(folder.join(name), sheet).expect("a sheet");
+    file(
+        "old",
+        "H,1,2,0,1\nF,6,0,0,0,3,-,a\nb\nF,6,1,1,0,1,-,c\nF,11,0,0,0,0,0,\nF,1,0,0,0,1,-,x\n",
+    );
+    for (new, told) in [
+        (
+            "H,1,2,-,0\nF,6,0,0,0,3,-,a\nb\nF,6,1,1,0,1,-,c\nF,11,0,0,0,0,0,\n",
+            "reason 7: the arguments are taken away\n  old     old:1: entry 1, $args: closed, with 1 field\n  new     none\n",
+        ),
+        (
+            "H,0,0,-,0\n",
+            "reason 5: an open mark has gone from 1 to 0\n  old     old:1: entry 1, $fields: open, with 2 fields\n  new     new:1: entry 1, $fields: closed, with 0 fields\n",
+        ),
+        (
+            "H,1,1,0,0\nF,6,0,0,0,1,-,a\n",
+            "reason 6: a field is added where the old schema is open\n  old     none\n  new     new:2: entry 2, $fields.a: array\n  hint    paths of that name were free, and would now be held against the field\n",
+        ),
+        (
+            "H,1,1,0,0\nF,8,0,0,0,3,-,a\nb\n",
+            "reason 2: the kind of a field differs\n  old     old:2: entry 2, $fields.\"a\\nb\": array\n  new     new:2: entry 2, $fields.\"a\\nb\": json\n  hint    a quantifier over the field would fail, now that it is json\n",
+        ),
+        (
+            "H,1,1,0,0\nF,6,0,1,0,3,-,a\nb\nF,1,0,0,0,0,-,\n",
+            "reason 3: a field has an element in one of the two alone\n  old     old:2: entry 2, $fields.\"a\\nb\": array\n  new     new:2: entry 2, $fields.\"a\\nb\": array, with an element\n  hint    paths through the elements were free, and would now be held against the element\n",
+        ),
+        (
+            "H,1,2,0,0\nF,6,0,0,0,3,-,a\nb\nF,6,1,1,0,1,-,c\nF,11,0,0,0,0,-,\n",
+            "reason 4: the tag of a field differs\n  old     old:5: entry 4, $fields.c[]: union, tag \"\"\n  new     new:5: entry 4, $fields.c[]: union\n",
+        ),
+        (
+            "H,1,2,0,0\nF,6,0,0,0,3,-,a\nb\nF,6,1,1,0,1,-,c\nF,11,0,0,0,0,0,\n",
+            "reason 1: a field is missing\n  old     old:6: entry 5, $args.x: string\n  new     none\n",
+        ),
+    ] {
+        file("new", new);
+        let (status, out) = run_pair(&folder, "widens old new");
+        assert_eq!(status, Some(1));
+        assert_eq!(out, format!("new: no widening of old, {told}"));
+    }
+}
+
+#[test]
+fn machines_read_json_of_two_schemas() {
+    let (status, out) = run_pair(&mill(), "widens pattern.schema wider.schema --json");
+    assert_eq!(status, Some(0));
+    let widening = concat!(
+        r#"{"old":"pattern.schema","new":"wider.schema","verdict":"widening","number":0,"answer":2,"grown":["#,
+        r#"{"what":"opened","place":1,"line":1,"path":"$args","entry":"open, with 2 fields","old_place":1,"old_line":1},"#,
+        r#"{"what":"added","place":5,"line":5,"path":"$fields.bars[].tension","entry":"number"},"#,
+        r#"{"what":"added","place":8,"line":8,"path":"$fields.loom","entry":"object"}]}"#,
+        "\n"
+    );
+    assert_eq!(out, widening);
+    let (_, out) = run_pair(&mill(), "widens wider.schema pattern.schema --json");
+    assert_eq!(
+        out,
+        concat!(
+            r#"{"old":"wider.schema","new":"pattern.schema","verdict":"none","number":0,"answer":3,"reason":5,"word":"MarkCloses","explanation":"an open mark has gone from 1 to 0","#,
+            r#""old_place":1,"old_line":1,"old_path":"$args","old_entry":"open, with 2 fields","new_place":1,"new_line":1,"new_path":"$args","new_entry":"closed, with 2 fields"}"#,
+            "\n"
+        )
+    );
+    let (status, out) = run_pair(&mill(), "widens pattern.schema release.rule --json");
+    assert_eq!(status, Some(2));
+    assert_eq!(
+        out,
+        concat!(
+            r#"{"old":"pattern.schema","new":"release.rule","verdict":"refused","number":4,"word":"schema sheet","explanation":"entry 1, byte 0: expected `H`, which begins a schema sheet","fault_file":"release.rule","line":1,"place":1,"byte":0}"#,
+            "\n"
+        )
+    );
+    let words = "upgrade pattern.schema wider.schema release.rule fits.rule missing.rule --json";
+    let (status, out) = run_pair(&mill(), &format!("{words} {SETTINGS}"));
+    assert_eq!(status, Some(2));
+    let lines = concat!(
+        r#"{"file":"release.rule","change":"stays","old":{"verdict":"accepted","number":0,"passed":19}}"#,
+        "\n",
+        r#"{"file":"fits.rule","change":"changed","old":{"verdict":"defect","number":18,"#
+    );
+    assert!(out.starts_with(&format!("{widening}{lines}")), "{out}");
+    assert!(out.contains(r#"},"new":{"verdict":"accepted","number":0,"passed":6}}"#));
+    assert!(out.contains(r#"{"file":"missing.rule","verdict":"unreadable","#));
+}
+
+#[test]
+fn any_one_file_of_an_upgrade_is_standard_input() {
+    let words = ["pattern.schema", "wider.schema", "fits.rule"];
+    let (_, expected) = run_pair(
+        &mill(),
+        &format!("upgrade {} {SETTINGS} --label r", words.join(" ")),
+    );
+    for at in 0..words.len() {
+        let mut given = words;
+        given[at] = "-";
+        let mut tool = Command::new(env!("CARGO_BIN_EXE_entity-rules"))
+            .arg("upgrade")
+            .args(given)
+            .args(SETTINGS.split(' '))
+            .args(["--label", "r"])
+            .current_dir(mill())
+            .stdin(Stdio::piped())
+            .stdout(Stdio::piped())
+            .spawn()
+            .expect("the tool runs");
+        let sheet = fs::read(mill().join(words[at])).expect("a sheet");
+        let mut input = tool.stdin.take().expect("its input");
+        input.write_all(&sheet).expect("its input is read");
+        drop(input);
+        let output = tool.wait_with_output().expect("it ends");
+        let out = String::from_utf8_lossy(&output.stdout);
+        assert_eq!(out, expected.replace(words[at], "-"));
+        assert_eq!(output.status.code(), Some(1));
+    }
+}
+
 #[test]
 fn bad_usage_goes_to_standard_error() {
     let (status, out, err) = run_check(&mill(), "pattern.schema release.rule --sematics kernel/1");

@@ -5,3 +5,4 @@ pub mod WidensEntries
 pub mod Examples
 pub mod NumberTests
 pub mod Instants
+pub mod BookEntries

@@ -6,3 +6,5 @@ pub mod KeyEntryLaws
 pub mod WidensEntry
 pub mod WidensEntryLaws
 pub mod InstantEntry
+pub mod BookEntry
+pub mod BookEntryLaws

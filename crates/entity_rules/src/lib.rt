@@ -1,6 +1,7 @@
 // The checker as C functions for a host. Each call brings a scratch of its own.
 mod result; // result.rt: the seven numbers as bytes
 mod change; // change.rt: what is answered about two schema sheets
+mod book; // book.rt: a whole rule book
 
 use crate::change::told;
 use crate::result::RESULT_BYTES;

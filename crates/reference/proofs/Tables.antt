@@ -1,12 +1,12 @@
 -- The stock table written out, and what is no table, by computation.
 use Prim.Native.Nat.{ℕ}
-use mathlib.Core.Bool.{true}
+use mathlib.Core.Bool.{Bool, true, false}
 use mathlib.Core.List.{List, [], _∷_, _++_}
 use mathlib.Core.Option.{none}
 use mathlib.Core.Path.{_≡_, refl}
 use lib.ListN.{length, take, drop}
 use Rattle.sheet.specs.Ascii.{ascii}
-use Rattle.reference.specs.Table.{decodeTable, areSound, stockTable, tableBytes, tableIn}
+use Rattle.reference.specs.Table.{Row, decodeTable, isSound, areSound, stockTable, tableBytes, tableIn}
 use Rattle.reference.specs.Computing.{computing}
 
 -- id, entity, version, fields, state, to_state, from_state, args, old_fields
@@ -50,3 +50,31 @@ bytes-175 = refl
 kinds-rise : tableIn (drop 154 stockText ++ take 154 stockText) ≡ none
 unfolding stockText
 kinds-rise = refl
+
+-- Both conditions of a row, each met and broken.
+
+unfoldable rowWith : (isRead hasFields hasOld : Bool) → Row
+rowWith isRead hasFields hasOld =
+    record {
+      id = isRead;
+      entity = true;
+      version = true;
+      fields = hasFields;
+      state = false;
+      toState = false;
+      fromState = false;
+      args = false;
+      oldFields = hasOld;
+    }
+
+sound-with-both : isSound (rowWith true true true) ≡ true
+unfolding rowWith isSound
+sound-with-both = refl
+
+old-fields-alone : isSound (rowWith true false true) ≡ false
+unfolding rowWith isSound
+old-fields-alone = refl
+
+without-id : isSound (rowWith false true true) ≡ false
+unfolding rowWith isSound
+without-id = refl

@@ -4,7 +4,7 @@
 
 mod sheets;
 
-use entity_rules::{Check, Kind, Semantics, check_rule};
+use entity_rules::{Check, Kind, Semantics, check_rule, widens};
 use std::error::Error;
 use std::path::Path;
 use std::{env, fs};
@@ -37,6 +37,9 @@ fn check() -> Result<(), Box<dyn Error>> {
         let checked = branch.table(lent).run(&schema, &rule)?;
         println!("branch, under {table}: {}", checked.verdict);
     }
+    let wider = sheets::wider().sheet()?;
+    println!("pattern, as it has grown: {}", widens(&schema, &wider)?);
+    println!("pattern, as it was: {}", widens(&wider, &schema)?);
     Ok(())
 }
 

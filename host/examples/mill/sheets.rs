@@ -1,4 +1,4 @@
-//! A mill's pattern record, two rules that an operation on it must meet, and a third that the mill's own name table allows.
+//! A mill's pattern record as it was and as it has grown, rules that an operation on it must meet, and one that the mill's own name table allows.
 
 use entity_rules::{Condition, Field, FieldKind, Kind, Name, Rule, Schema, Table};
 use std::error::Error;
@@ -14,6 +14,25 @@ pub fn pattern() -> Schema {
         .field(Field::new("bars", FieldKind::Array).items(bar))
         .argument(Field::new("by", FieldKind::String))
         .argument(Field::new("on", FieldKind::String))
+}
+
+/// The pattern as it has grown: bars have a tension, and it says which loom it is for. Whoever releases it may say more than is declared.
+pub fn wider() -> Schema {
+    let bar = Field::element(FieldKind::Object)
+        .property(Field::new("number", FieldKind::Integer))
+        .property(Field::new("tension", FieldKind::Number))
+        .property(Field::new("threaded", FieldKind::Boolean));
+    let loom = Field::new("loom", FieldKind::Object)
+        .property(Field::new("name", FieldKind::String))
+        .property(Field::new("width", FieldKind::Integer));
+    Schema::new()
+        .field(Field::new("name", FieldKind::String))
+        .field(Field::new("drawn", FieldKind::String))
+        .field(Field::new("bars", FieldKind::Array).items(bar))
+        .field(loom)
+        .argument(Field::new("by", FieldKind::String))
+        .argument(Field::new("on", FieldKind::String))
+        .open_arguments()
 }
 
 /// A pattern may be released only if it names bars and every one of them is threaded.
@@ -38,6 +57,11 @@ pub fn misspelt() -> Rule {
     .message("every bar must be threaded")
 }
 
+/// A pattern may be released only if it fits the loom, which only the grown record has.
+pub fn fits() -> Rule {
+    Rule::new(Condition::gte("$fields.loom.width", "$fields.bars.count")).name("fits")
+}
+
 /// Which way a release takes goes by the state that the pattern is in.
 pub fn branch() -> Rule {
     Rule::new(Condition::eq("$state", "drawn")).name("from the drawing board")
@@ -52,11 +76,13 @@ pub fn own() -> Table {
 pub type File = (&'static str, Vec<u8>);
 
 /// All files of this folder.
-pub fn files() -> Result<[File; 5], Box<dyn Error>> {
+pub fn files() -> Result<[File; 7], Box<dyn Error>> {
     Ok([
         ("pattern.schema", pattern().sheet()?),
+        ("wider.schema", wider().sheet()?),
         ("release.rule", release().sheet()?),
         ("misspelt.rule", misspelt().sheet()?),
+        ("fits.rule", fits().sheet()?),
         ("branch.rule", branch().sheet()?),
         ("own.table", own().sheet()?),
     ])

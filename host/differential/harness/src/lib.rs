@@ -30,3 +30,4 @@ pub mod tables;
 pub mod tally;
 pub mod vectors;
 pub mod widened;
+pub mod widens;

@@ -1,6 +1,6 @@
 //! The commands of the comparison. See README.md beside the script `run`.
 
-use harness::{compare, exhaustive, fuzzed, keys, leaves, memory, moved, published, tables, vectors, widened};
+use harness::{compare, exhaustive, fuzzed, instants, keys, leaves, memory, moved, published, tables, vectors, widened, widens};
 use std::collections::BTreeMap;
 use std::process::ExitCode;
 
@@ -24,6 +24,13 @@ const USAGE: &str = "usage: differential COMMAND [OPTION..]
                                    as moved, each rule under one table
   tables-vectors --out FILE --loads FILE [--seed S]
                                    writes the fixed lists of checks under tables, and of tables to load, with their answers
+  instants [--cases N] [--seed S]  known texts, then N generated ones: which are instants, and their fields
+  instants-vectors --out FILE [--seed S]
+                                   writes the fixed list of texts and their fields; the library is not asked
+  widens [--cases N] [--seed S]    known pairs of schemas, then N generated ones: is the second a widening, by library and model; and N
+                                   with a rule, held against the Rust
+  widens-vectors --out FILE [--seed S]
+                                   writes the fixed list of pairs of schemas and their answers
   leaves                           text and numbers of the model against Rust's own
   samples [--program FILE]         known edges, slips and published samples: library, model and Rust, and the program rulecheck
   vectors --out FILE [--printed FILE] [--seed S]
@@ -82,6 +89,15 @@ fn run(arguments: &[String]) -> Result<(), Trouble> {
             let files = checks.zip(loads).ok_or_else(|| Trouble::Usage("tables-vectors needs --out FILE and --loads FILE".to_owned()))?;
             tables::vectors::vectors(files.0, files.1, numeral(&options, "seed", 1)?).map_err(Trouble::Failed)
         }
+        "widens" => {
+            let options = options(rest, &["cases", "seed"])?;
+            widens::run::widens(numeral(&options, "cases", 1_000_000)?, numeral(&options, "seed", 1)?).map_err(Trouble::Failed)
+        }
+        "widens-vectors" => {
+            let options = options(rest, &["out", "seed"])?;
+            let file = options.get("out").ok_or_else(|| Trouble::Usage("widens-vectors needs --out FILE".to_owned()))?;
+            widens::vectors::vectors(file, numeral(&options, "seed", 1)?).map_err(Trouble::Failed)
+        }
         "exhaustive" => {
             let options = options(rest, &["tokens"])?;
             exhaustive::exhaustive(tokens(&options)?).map_err(Trouble::Failed)
@@ -102,6 +118,15 @@ fn run(arguments: &[String]) -> Result<(), Trouble> {
             let options = options(rest, &["out", "seed"])?;
             let file = options.get("out").ok_or_else(|| Trouble::Usage("keys-vectors needs --out FILE".to_owned()))?;
             keys::vectors::vectors(file, numeral(&options, "seed", 1)?).map_err(Trouble::Failed)
+        }
+        "instants" => {
+            let options = options(rest, &["cases", "seed"])?;
+            instants::run::instants(numeral(&options, "cases", 1_000_000)?, numeral(&options, "seed", 1)?).map_err(Trouble::Failed)
+        }
+        "instants-vectors" => {
+            let options = options(rest, &["out", "seed"])?;
+            let file = options.get("out").ok_or_else(|| Trouble::Usage("instants-vectors needs --out FILE".to_owned()))?;
+            instants::vectors::vectors(file, numeral(&options, "seed", 1)?).map_err(Trouble::Failed)
         }
         "vectors" => {
             let options = options(rest, &["out", "printed", "seed"])?;

@@ -5,16 +5,18 @@
 use crate::case::Case;
 use crate::edges::edges;
 use crate::generate::{self, names::STOCK};
+use crate::instants;
 use crate::keys::{self, KeyCase};
 use crate::library::{numbers, raw, Entry, RESULT_BYTES};
 use crate::longest::longest;
 use crate::random::Random;
 use crate::tables::{self, LoadCase};
 use crate::vectors;
+use crate::widens::{self, WidensCase};
 use differential::model;
 
-/// The known edges, the list of answers, then so many generated cases, and the same of keys, of tables and of loads; an error is a difference from the
-/// model.
+/// The known edges, the list of answers, then so many generated cases, and the same of keys, of tables, of loads, of instants and of pairs of schemas; an error is a
+/// difference from the model.
 pub fn memory(list: &str, cases: u64, seed: u64) -> Result<(), String> {
     let known: Vec<Case> = edges().into_iter().chain(longest()).collect();
     for case in &known {
@@ -49,6 +51,21 @@ pub fn memory(list: &str, cases: u64, seed: u64) -> Result<(), String> {
         let load = tables::generate::load(&mut random);
         one(&case).and_then(|()| one_load(&load)).map_err(|trouble| format!("table {number} of seed {seed}: {trouble}"))?;
     }
+    let known_texts = instants::run::known();
+    for text in &known_texts {
+        one_instant(text)?;
+    }
+    for number in 0..cases {
+        one_instant(&instants::generate::text(&mut Random::of_case(seed, number)))?;
+    }
+    let known_pairs = widens::edges::edges();
+    for case in &known_pairs {
+        one_pair(case)?;
+    }
+    for number in 0..cases {
+        let (_, case) = widens::generate::case(&mut Random::of_case(seed, number));
+        one_pair(&case).map_err(|trouble| format!("pair {number} of seed {seed}: {trouble}"))?;
+    }
     println!("{} known edges, {} cases of {list}, {cases} generated ones (seed {seed}): answers as the model's", known.len(), listed.len());
     println!("{} known edges of keys, {cases} generated ones (seed {seed}): answers as the model's", known_keys.len());
     println!(
@@ -56,6 +73,20 @@ pub fn memory(list: &str, cases: u64, seed: u64) -> Result<(), String> {
         known_tables.len(),
         known_loads.len()
     );
+    println!("{} known instants, {cases} generated ones (seed {seed}): answers as the model's", known_texts.len());
+    println!("{} known pairs of schemas, {cases} generated ones (seed {seed}): answers as the model's", known_pairs.len());
+    Ok(())
+}
+
+/// Fields of exactly their length, and one byte less.
+fn one_instant(text: &[u8]) -> Result<(), String> {
+    let fields = instants::read(text)?;
+    for room in [RESULT_BYTES, RESULT_BYTES - 1] {
+        let (found, wanted) = (raw::fresh_instant(text, room), instants::answer(fields, room));
+        if found != wanted {
+            return Err(format!("{:?} is answered {found:?}, not {wanted:?}", String::from_utf8_lossy(text)));
+        }
+    }
     Ok(())
 }
 
@@ -67,6 +98,17 @@ fn one_load(case: &LoadCase) -> Result<(), String> {
         Ok(())
     } else {
         Err(format!("a load is answered {found:?}, not {wanted:?}"))
+    }
+}
+
+fn one_pair(case: &WidensCase) -> Result<(), String> {
+    let expected = model::widens(&case.first, &case.second, case.result_len);
+    let found = raw::fresh_widens(case);
+    let wanted = (expected[0], (case.result_len >= RESULT_BYTES).then_some(expected));
+    if found == wanted {
+        Ok(())
+    } else {
+        Err(format!("a pair of schemas is answered {found:?}, not {wanted:?}"))
     }
 }
 

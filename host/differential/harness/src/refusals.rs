@@ -4,6 +4,7 @@
 use crate::case::Case;
 use crate::keys::KeyCase;
 use crate::library::RESULT_BYTES;
+use crate::widens::WidensCase;
 
 pub const MAX_SHEET_BYTES: usize = 30_000;
 pub const MAX_SCHEMA_ENTRIES: usize = 1_024;
@@ -61,6 +62,14 @@ pub fn key_refusal(case: &KeyCase) -> u32 {
     let is_wide = case.result_len >= RESULT_BYTES;
     let is_schema = is_sheet(&case.schema, b"H", MAX_SCHEMA_ENTRIES);
     first_failing([1, 2, 3, 4], &[is_known, is_path, is_wide, is_schema])
+}
+
+/// The refusal that answers a call for two schemas, and the sheet that it is about; 0 where there is none.
+pub fn widens_refusal(case: &WidensCase) -> [u32; 2] {
+    let is_schema = |sheet: &[u8]| is_sheet(sheet, b"H", MAX_SCHEMA_ENTRIES);
+    let tests = [case.result_len >= RESULT_BYTES, is_schema(&case.first), is_schema(&case.second)];
+    let refusals = [[3, 0], [4, 1], [4, 2]];
+    refusals.into_iter().zip(tests).find(|(_, passes)| !passes).map_or([0, 0], |(refusal, _)| refusal)
 }
 
 /// The refusal of the first test that does not pass, or 0.

@@ -27,7 +27,7 @@ pub use program::rulecheck;
 pub use sheets::{decode_rule, decode_schema, write_rule, write_schema};
 pub use table::load_table;
 pub use walks::is_ordinal;
-pub use widening::{is_widening, only_marks_opened};
+pub use widening::{first_breach, is_widening, only_marks_opened, widens, Breach};
 
 pub const MAX_LABEL_BYTES: usize = 256;
 pub const PATH_BYTES: usize = 32_768;

@@ -6,26 +6,41 @@ use std::path::PathBuf;
 use std::str::FromStr;
 
 pub const HELP: &str = "\
-Checks rules, templates and key paths against the schema of their record.
+Checks rules, templates and key paths against the schema of their record, and schemas against
+those that come after them.
 
 usage: entity-rules check SCHEMA RULE.. --kind KIND --semantics SEMANTICS [OPTION..]
        entity-rules path SCHEMA PATH.. --semantics SEMANTICS [OPTION..]
+       entity-rules widens OLD NEW [--json] [--quiet]
+       entity-rules upgrade OLD NEW RULE.. --kind KIND --semantics SEMANTICS [OPTION..]
        entity-rules table
 
-  SCHEMA, RULE        files that hold a schema sheet, and rule sheets or templates; one of them
-                      may be -, which is standard input
+  check    whether rules and templates are accepted, or their first defect
+  path     whether paths of the record's fields can be read
+  widens   whether the schema NEW is a widening of OLD, so that what was accepted stays accepted;
+           what grew, or the first breach
+  upgrade  how rules fare when NEW takes the place of OLD: where it is a widening, those that are
+           accepted stay so by the theorem and are not checked again; all others are checked
+           under both
+  table    prints the stock name table
+
+  SCHEMA, OLD, NEW    files that hold a schema sheet; one of all files may be -, which is standard
+                      input
+  RULE                files that hold rule sheets or templates
   PATH                a path of the record's fields, without `$fields.` before it
-  --kind KIND         check: invariant, precondition, create_template, operation_template,
-                      outcome_selector, create_selector, create_set or create_outcome_template
+  --kind KIND         check, upgrade: invariant, precondition, create_template,
+                      operation_template, outcome_selector, create_selector, create_set or
+                      create_outcome_template
   --semantics SEMANTICS
                       kernel/1, service/1, service/2 or service/3
   --reader READER     path: kernel or projection, who will read the path (default: kernel)
-  --table FILE        check: a file that holds a name table, which says what each kind may read
-                      (default: the stock table, which the command `table` prints); it may be -
-  --label TEXT        check: what each path begins with (default: the rule's file name without
-                      its end)
-  --json              one line of JSON for each rule or path, and no summary
-  --quiet             print nothing for what is accepted, and no summary if all are
+  --table FILE        check, upgrade: a file that holds a name table, which says what each kind may
+                      read (default: the stock table, which the command `table` prints); it may be -
+  --label TEXT        check, upgrade: what each path begins with (default: the rule's file name
+                      without its end)
+  --json              one line of JSON for each rule, path or pair of schemas, and no summary
+  --quiet             print nothing for what is accepted, for a widening and for a rule that fares
+                      as before, and no summary if that is all
   --                  all words after this are files, or paths
   --help, --version
 
@@ -34,15 +49,19 @@ Examples, in the crate's folder examples/mill:
   entity-rules check pattern.schema branch.rule --kind outcome_selector --semantics service/1 \
       --table own.table
   entity-rules path pattern.schema bars.count --semantics service/1 --reader projection
+  entity-rules widens pattern.schema wider.schema
+  entity-rules upgrade pattern.schema wider.schema release.rule misspelt.rule \
+      --kind precondition --semantics service/1
 
-Exit status: 0 all are accepted; 1 one has a defect; 2 one is refused or cannot be read, or the
-command line is wrong.
+Exit status: 0 all are accepted, NEW is a widening, every rule fares as before; 1 one has a defect,
+NEW is none, a rule's answer has changed; 2 one is refused or cannot be read, or the command line is
+wrong.
 
 Colours and a progress bar appear on a terminal only. NO_COLOR, set to anything, switches the
 colours off; TERM=dumb switches off both.
 ";
 
-const COMMANDS: &str = "the command `check`, `path` or `table`";
+const COMMANDS: &str = "the command `check`, `path`, `widens`, `upgrade` or `table`";
 
 /// What the command line asks for.
 #[derive(Debug, PartialEq)]
@@ -52,6 +71,24 @@ pub enum Command {
     /// Prints the stock table.
     Table,
     Check(Arguments),
+    Widens(Pair),
+    Upgrade(Upgrade),
+}
+
+/// What `widens` is given.
+#[derive(Debug, PartialEq)]
+pub struct Pair {
+    pub old: PathBuf,
+    pub new: PathBuf,
+    pub json: bool,
+    pub quiet: bool,
+}
+
+/// What `upgrade` is given: rules to check against the old schema, and the new one.
+#[derive(Debug, PartialEq)]
+pub struct Upgrade {
+    pub check: Arguments,
+    pub new: PathBuf,
 }
 
 /// What `check` or `path` is given.
@@ -125,6 +162,8 @@ pub fn parse(words: impl IntoIterator<Item = OsString>) -> Result<Command, Strin
     match words.next() {
         Some(command) if command == "check" => options(words)?.check().map(Command::Check),
         Some(command) if command == "path" => options(words)?.path().map(Command::Check),
+        Some(command) if command == "widens" => options(words)?.widens().map(Command::Widens),
+        Some(command) if command == "upgrade" => options(words)?.upgrade().map(Command::Upgrade),
         Some(command) if command == "table" => match words.next() {
             None => Ok(Command::Table),
             Some(word) => Err(format!("table: expected nothing after it, not {word:?}")),
@@ -179,24 +218,76 @@ impl Options {
     }
 
     fn check(self) -> Result<Arguments, String> {
-        let is_given = self.reader.is_some();
-        not_for("check", &[("--reader", is_given)])?;
+        self.once("check")?;
         let (schema, rules) = self.split("check", "files SCHEMA and RULE", "file RULE")?;
-        let files: Vec<PathBuf> = rules.iter().map(PathBuf::from).collect();
-        let all = std::iter::once(&schema).chain(&files).chain(&self.table);
-        if all.filter(|file| file.as_os_str() == "-").count() > 1 {
-            return Err("check: expected `-`, standard input, at most once".to_owned());
+        self.rules("check", schema, &rules)
+    }
+
+    fn widens(self) -> Result<Pair, String> {
+        let given = [
+            ("--kind", self.kind.is_some()),
+            ("--semantics", self.semantics.is_some()),
+            ("--reader", self.reader.is_some()),
+            ("--label", self.label.is_some()),
+            ("--table", self.table.is_some()),
+        ];
+        not_for("widens", &given)?;
+        self.once("widens")?;
+        match self.words.as_slice() {
+            [old, new] => Ok(Pair {
+                old: old.into(),
+                new: new.into(),
+                json: self.json,
+                quiet: self.quiet,
+            }),
+            _ => Err("widens: expected the files OLD and NEW".to_owned()),
         }
+    }
+
+    fn upgrade(self) -> Result<Upgrade, String> {
+        self.once("upgrade")?;
+        match self.words.clone().as_slice() {
+            [] | [_] => Err("upgrade: expected the files OLD, NEW and RULE".to_owned()),
+            [_, new] => Err(format!(
+                "upgrade: expected at least one file RULE after {new:?}"
+            )),
+            [old, new, rules @ ..] => Ok(Upgrade {
+                check: self.rules("upgrade", old.into(), rules)?,
+                new: new.into(),
+            }),
+        }
+    }
+
+    /// That standard input is named at most once among the files.
+    fn once(&self, command: &str) -> Result<(), String> {
+        let table = self.table.as_ref().map(|file| file.as_os_str());
+        let files = self.words.iter().map(OsString::as_os_str).chain(table);
+        match files.filter(|file| *file == "-").count() {
+            0 | 1 => Ok(()),
+            _ => Err(format!(
+                "{command}: expected `-`, standard input, at most once"
+            )),
+        }
+    }
+
+    /// What a command that checks rules is given.
+    fn rules(
+        self,
+        command: &str,
+        schema: PathBuf,
+        rules: &[OsString],
+    ) -> Result<Arguments, String> {
+        not_for(command, &[("--reader", self.reader.is_some())])?;
         let kind = self
             .kind
-            .ok_or_else(|| missing("check", "--kind KIND", Kind::ALL))?;
+            .ok_or_else(|| missing(command, "--kind KIND", Kind::ALL))?;
         let asked = Asked::Rules {
-            files,
+            files: rules.iter().map(PathBuf::from).collect(),
             kind,
             label: self.label.clone(),
             table: self.table.clone(),
         };
-        self.arguments("check", schema, asked)
+        self.arguments(command, schema, asked)
     }
 
     fn path(self) -> Result<Arguments, String> {
@@ -357,11 +448,9 @@ mod tests {
 
     #[test]
     fn errors_say_what_was_expected() {
-        assert_eq!(error(""), "expected the command `check`, `path` or `table`");
-        assert_eq!(
-            error("chekc"),
-            "expected the command `check`, `path` or `table`, not \"chekc\""
-        );
+        let commands = "expected the command `check`, `path`, `widens`, `upgrade` or `table`";
+        assert_eq!(error(""), commands);
+        assert_eq!(error("chekc"), format!("{commands}, not \"chekc\""));
         assert_eq!(
             error("table --json"),
             "table: expected nothing after it, not \"--json\""
@@ -401,6 +490,70 @@ mod tests {
         assert_eq!(
             error("check s - --table - --kind invariant --semantics kernel/1"),
             "check: expected `-`, standard input, at most once"
+        );
+    }
+
+    #[test]
+    fn two_schemas_and_rules_are_told_apart() {
+        let pair = |quiet| Pair {
+            old: "o".into(),
+            new: "n".into(),
+            json: false,
+            quiet,
+        };
+        assert_eq!(parsed("widens o n"), Ok(Command::Widens(pair(false))));
+        assert_eq!(
+            parsed("widens --quiet -- o n"),
+            Ok(Command::Widens(pair(true)))
+        );
+        let settings = "--kind invariant --semantics kernel/1";
+        let line = format!("upgrade o n a b --table t {settings}");
+        let check = match parsed(&format!("check o a b --table t {settings}")) {
+            Ok(Command::Check(arguments)) => Some(arguments),
+            _ => None,
+        };
+        let expected = Upgrade {
+            check: check.unwrap(),
+            new: "n".into(),
+        };
+        assert_eq!(parsed(&line), Ok(Command::Upgrade(expected)));
+    }
+
+    #[test]
+    fn errors_about_two_schemas_say_what_was_expected() {
+        for line in ["widens", "widens o", "widens o n x"] {
+            assert_eq!(error(line), "widens: expected the files OLD and NEW");
+        }
+        assert_eq!(
+            error("widens - -"),
+            "widens: expected `-`, standard input, at most once"
+        );
+        for option in [
+            "--kind invariant",
+            "--semantics kernel/1",
+            "--reader kernel",
+            "--label x",
+            "--table t",
+        ] {
+            let name = option.split(' ').next().unwrap();
+            let expected = format!("widens: {name} is no option of this command");
+            assert_eq!(error(&format!("widens o n {option}")), expected);
+        }
+        for line in ["upgrade", "upgrade o"] {
+            assert_eq!(error(line), "upgrade: expected the files OLD, NEW and RULE");
+        }
+        assert_eq!(
+            error("upgrade o n"),
+            "upgrade: expected at least one file RULE after \"n\""
+        );
+        assert_eq!(
+            error("upgrade o - - --kind invariant --semantics kernel/1"),
+            "upgrade: expected `-`, standard input, at most once"
+        );
+        assert!(error("upgrade o n r").starts_with("upgrade: expected --kind KIND, one of"));
+        assert_eq!(
+            error("upgrade o n r --reader kernel"),
+            "upgrade: --reader is no option of this command"
         );
     }
 

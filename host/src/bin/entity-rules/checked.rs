@@ -107,6 +107,15 @@ pub enum Sheet {
 }
 
 impl Outcome {
+    /// Whether it is the same answer as another, to the last number.
+    pub fn is_same(&self, other: &Self) -> bool {
+        match (self, other) {
+            (Self::Accepted { passed }, Self::Accepted { passed: others }) => passed == others,
+            (Self::Defect { defect, .. }, Self::Defect { defect: others, .. }) => defect == others,
+            _ => false,
+        }
+    }
+
     /// Whether the schema or the table is at fault, so that every other question would fare the same.
     pub fn blames_what_is_shared(&self) -> bool {
         match self {
@@ -178,22 +187,64 @@ fn load(file: &Path) -> Result<Names, NoTable> {
 
 impl<'a> Checked<'a> {
     pub fn new(arguments: &Arguments, shared: &Shared, question: Question<'a>) -> Self {
-        let outcome = match (&shared.table, &shared.schema, question) {
-            (Err(NoTable::Unreadable(unreadable)), ..) | (_, Err(unreadable), _) => {
-                Outcome::Unreadable(unreadable.clone())
+        let outcome = match (shared.ready(), question) {
+            (Err(outcome), _) => *outcome,
+            (Ok((names, schema)), Question::Rule { file, kind, label }) => {
+                match read_sheet(file, Sheet::Rule) {
+                    Ok(rule) => rule_outcome(arguments, names, schema, (file, &rule), kind, label),
+                    Err(unreadable) => Outcome::Unreadable(unreadable),
+                }
             }
-            (Err(NoTable::Refused { refusal, fault }), ..) => Outcome::Refused {
-                refusal: *refusal,
-                fault: fault.clone(),
-            },
-            (Ok(names), Ok(schema), Question::Rule { file, kind, label }) => {
-                rule_outcome(arguments, names, schema, file, kind, label)
-            }
-            (Ok(_), Ok(schema), Question::Key { path, reader }) => {
+            (Ok((_, schema)), Question::Key { path, reader }) => {
                 key_outcome(arguments, schema, path, reader)
             }
         };
         Self { question, outcome }
+    }
+}
+
+impl Shared {
+    /// The schema's bytes, or why there are none.
+    pub fn schema(&self) -> Result<&[u8], &Unreadable> {
+        self.schema.as_deref()
+    }
+
+    /// The table and the schema, or what comes of every question where one of them is missing.
+    fn ready(&self) -> Result<(&Names, &[u8]), Box<Outcome>> {
+        let outcome = match (&self.table, &self.schema) {
+            (Ok(names), Ok(schema)) => return Ok((names, schema)),
+            (Err(NoTable::Unreadable(unreadable)), _) | (_, Err(unreadable)) => {
+                Outcome::Unreadable(unreadable.clone())
+            }
+            (Err(NoTable::Refused { refusal, fault }), _) => Outcome::Refused {
+                refusal: *refusal,
+                fault: fault.clone(),
+            },
+        };
+        Err(Box::new(outcome))
+    }
+
+    /// What comes of a question, and, for a rule of which it is wanted then, what comes of it under another schema. The rule's file is read once.
+    pub fn outcomes(
+        &self,
+        arguments: &Arguments,
+        other: &[u8],
+        question: Question<'_>,
+        is_wanted: impl Fn(&Outcome) -> bool,
+    ) -> (Outcome, Option<Outcome>) {
+        let (Ok((names, schema)), Question::Rule { file, kind, label }) = (self.ready(), question)
+        else {
+            return (Checked::new(arguments, self, question).outcome, None);
+        };
+        let rule = match read_sheet(file, Sheet::Rule) {
+            Ok(rule) => rule,
+            Err(unreadable) => return (Outcome::Unreadable(unreadable), None),
+        };
+        let under =
+            |schema: &[u8]| rule_outcome(arguments, names, schema, (file, &rule), kind, label);
+        let outcome = under(schema);
+        let after = is_wanted(&outcome).then(|| under(other));
+        (outcome, after)
     }
 }
 
@@ -221,31 +272,28 @@ fn start(input: impl Read) -> io::Result<Vec<u8>> {
     Ok(bytes)
 }
 
+/// What comes of a rule's file that was read.
 fn rule_outcome(
     arguments: &Arguments,
     names: &Names,
     schema: &[u8],
-    file: &Path,
+    (file, rule): (&Path, &[u8]),
     kind: Kind,
     label: Option<&str>,
 ) -> Outcome {
-    let rule = match read_sheet(file, Sheet::Rule) {
-        Ok(rule) => rule,
-        Err(unreadable) => return Outcome::Unreadable(unreadable),
-    };
     let stem = file.file_stem().unwrap_or_default().to_string_lossy();
     let label = label.unwrap_or(&stem);
     let check = Check::new(kind, arguments.semantics, label).table(&names.lent);
-    match check.run(schema, &rule).map(|checked| checked.verdict) {
+    match check.run(schema, rule).map(|checked| checked.verdict) {
         Ok(Verdict::Accepted { passed }) => Outcome::Accepted { passed },
         Ok(Verdict::Defect(defect)) => {
             let (semantics, detail) = (arguments.semantics, defect.detail);
             let hint = |text: &str| hint(kind, semantics, &names.table, detail, text);
-            located(defect, &rule, hint)
+            located(defect, rule, hint)
         }
         Err(refusal @ Refusal::RuleSheet) => Outcome::Refused {
             refusal,
-            fault: fault(file, &rule, read_rule),
+            fault: fault(file, rule, read_rule),
         },
         Err(refusal) => refused(arguments, schema, refusal),
     }
@@ -297,7 +345,8 @@ fn located(defect: Defect, rule: &[u8], hint: impl Fn(&str) -> Option<String>) -
 
 type SheetReader = for<'a> fn(&'a [u8]) -> Result<Vec<Entry<'a>>, Malformed>;
 
-fn fault(file: &Path, sheet: &[u8], read: SheetReader) -> Option<Fault> {
+/// Where a file's sheet stops being one.
+pub fn fault(file: &Path, sheet: &[u8], read: SheetReader) -> Option<Fault> {
     let malformed = read(sheet).err()?;
     Some(Fault {
         file: file.to_owned(),
@@ -307,7 +356,7 @@ fn fault(file: &Path, sheet: &[u8], read: SheetReader) -> Option<Fault> {
 }
 
 /// The line on which a byte stands, from 1. A text may hold line ends, so this is not the entry's number.
-fn line_of(sheet: &[u8], byte: usize) -> usize {
+pub fn line_of(sheet: &[u8], byte: usize) -> usize {
     let ends = sheet
         .iter()
         .take(byte)

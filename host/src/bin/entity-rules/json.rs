@@ -1,8 +1,8 @@
 //! Outcomes as JSON (RFC 8259), one object on one line.
 
-use crate::checked::{Checked, Outcome, Question, Spot};
+use crate::checked::{Checked, Fault, Outcome, Question, Spot, Unreadable};
 use crate::report::{not_read, refused};
-use entity_rules::{Defect, DefectNumber, PathVerdict};
+use entity_rules::{Defect, DefectNumber, PathVerdict, Refusal};
 
 /// The line for one rule or path.
 pub fn line(checked: &Checked) -> String {
@@ -11,7 +11,13 @@ pub fn line(checked: &Checked) -> String {
         Question::Rule { file, .. } => object.text("file", &file.to_string_lossy()),
         Question::Key { path, .. } => object.text("key", &path.to_string_lossy()),
     }
-    match &checked.outcome {
+    outcome_members(&mut object, &checked.outcome);
+    object.line()
+}
+
+/// What came of a rule or path.
+pub fn outcome_members(object: &mut Object, outcome: &Outcome) {
+    match outcome {
         Outcome::Accepted { passed } => {
             object.text("verdict", "accepted");
             object.number("number", 0);
@@ -23,7 +29,7 @@ pub fn line(checked: &Checked) -> String {
             over,
             hint,
         } => {
-            defect_members(&mut object, defect, at.as_ref(), over.as_ref());
+            defect_members(object, defect, at.as_ref(), over.as_ref());
             if let Some(hint) = hint {
                 object.text("hint", hint);
             }
@@ -40,25 +46,28 @@ pub fn line(checked: &Checked) -> String {
                 object.text("hint", hint);
             }
         }
-        Outcome::Refused { refusal, fault } => {
-            object.text("verdict", "refused");
-            object.number("number", refusal.number());
-            object.text("word", refusal.word());
-            object.text("explanation", &refused(*refusal, fault.as_ref()));
-            if let Some(fault) = fault {
-                object.text("fault_file", &fault.file.to_string_lossy());
-                object.number("line", fault.line);
-                object.number("place", fault.malformed.entry);
-                object.number("byte", fault.malformed.byte);
-            }
-        }
-        Outcome::Unreadable(unreadable) => {
-            object.text("verdict", "unreadable");
-            object.text("explanation", &not_read(unreadable));
-            object.text("fault_file", &unreadable.file.to_string_lossy());
-        }
+        Outcome::Refused { refusal, fault } => refused_members(object, *refusal, fault.as_ref()),
+        Outcome::Unreadable(unreadable) => unreadable_members(object, unreadable),
     }
-    object.line()
+}
+
+pub fn refused_members(object: &mut Object, refusal: Refusal, fault: Option<&Fault>) {
+    object.text("verdict", "refused");
+    object.number("number", refusal.number());
+    object.text("word", refusal.word());
+    object.text("explanation", &refused(refusal, fault));
+    if let Some(fault) = fault {
+        object.text("fault_file", &fault.file.to_string_lossy());
+        object.number("line", fault.line);
+        object.number("place", fault.malformed.entry);
+        object.number("byte", fault.malformed.byte);
+    }
+}
+
+pub fn unreadable_members(object: &mut Object, unreadable: &Unreadable) {
+    object.text("verdict", "unreadable");
+    object.text("explanation", &not_read(unreadable));
+    object.text("fault_file", &unreadable.file.to_string_lossy());
 }
 
 fn defect_members(object: &mut Object, defect: &Defect, at: Option<&Spot>, over: Option<&Spot>) {
@@ -83,10 +92,10 @@ fn defect_members(object: &mut Object, defect: &Defect, at: Option<&Spot>, over:
 }
 
 /// An object that is being written.
-struct Object(String);
+pub struct Object(String);
 
 impl Object {
-    fn new() -> Self {
+    pub fn new() -> Self {
         Self("{".to_owned())
     }
 
@@ -98,14 +107,27 @@ impl Object {
         self.0.push(':');
     }
 
-    fn text(&mut self, key: &str, text: &str) {
+    pub fn text(&mut self, key: &str, text: &str) {
         self.key(key);
         self.string(text);
     }
 
-    fn number(&mut self, key: &str, number: impl std::fmt::Display) {
+    pub fn number(&mut self, key: &str, number: impl std::fmt::Display) {
         self.key(key);
         self.0.push_str(&number.to_string());
+    }
+
+    /// An object within this one.
+    pub fn object(&mut self, key: &str, object: &Object) {
+        self.key(key);
+        self.0.push_str(&object.0);
+        self.0.push('}');
+    }
+
+    pub fn list(&mut self, key: &str, objects: impl Iterator<Item = Object>) {
+        self.key(key);
+        let objects: Vec<String> = objects.map(|object| object.0 + "}").collect();
+        self.0.push_str(&format!("[{}]", objects.join(",")));
     }
 
     fn string(&mut self, text: &str) {
@@ -122,7 +144,7 @@ impl Object {
         self.0.push('"');
     }
 
-    fn line(mut self) -> String {
+    pub fn line(mut self) -> String {
         self.0.push_str("}\n");
         self.0
     }

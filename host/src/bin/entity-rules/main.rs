@@ -1,5 +1,6 @@
-//! The command-line tool: `entity-rules check SCHEMA RULE.. --kind KIND --semantics SEMANTICS`, `entity-rules path SCHEMA PATH..` for keys, and
-//! `entity-rules table`, which prints the stock table.
+//! The command-line tool: `entity-rules check SCHEMA RULE.. --kind KIND --semantics SEMANTICS`, `entity-rules path SCHEMA PATH..` for keys,
+//! `entity-rules widens OLD NEW` and `entity-rules upgrade OLD NEW RULE..` for schemas that change, and `entity-rules table`, which prints the stock
+//! table.
 
 #![forbid(unsafe_code)]
 #![deny(
@@ -18,15 +19,20 @@ mod json;
 mod progress;
 mod report;
 mod terminal;
+mod upgraded;
+mod widened;
 
-use arguments::{Arguments, Command};
-use checked::{Checked, Outcome, Shared};
+use arguments::{Arguments, Command, Pair, Upgrade};
+use checked::{Checked, Outcome, Shared, Sheet, read_sheet};
 use entity_rules::Table;
 use progress::Progress;
 use report::{Palette, Tally};
 use std::env;
 use std::io::{self, ErrorKind, IsTerminal, Write};
+use std::path::Path;
 use std::process::ExitCode;
+use upgraded::{Fates, Upgraded};
+use widened::{Compared, Comparison};
 
 /// The exit status of bad usage and of whatever keeps a rule or path from being checked.
 const REFUSED: u8 = 2;
@@ -59,6 +65,8 @@ fn run(command: &Command) -> io::Result<u8> {
             Err(error) => return Ok(complain(&error.to_string())),
         },
         Command::Check(arguments) => return check(arguments, &mut out),
+        Command::Widens(pair) => return widens(pair, &mut out),
+        Command::Upgrade(asked) => return upgrade(asked, &mut out),
     }
     Ok(0)
 }
@@ -88,6 +96,93 @@ fn check(arguments: &Arguments, out: &mut impl Write) -> io::Result<u8> {
     let status = tally.status();
     if !arguments.json && total > 1 && !(arguments.quiet && status == 0) {
         writeln!(out, "{}", tally.summary(total, noun))?;
+    }
+    out.flush()?;
+    Ok(status)
+}
+
+/// Holds two schemas against each other, and prints what comes of it.
+fn widens(pair: &Pair, out: &mut impl Write) -> io::Result<u8> {
+    let compared = Compared::new(&pair.old, &pair.new);
+    show_compared(&compared, pair.json, pair.quiet, out)?;
+    out.flush()?;
+    Ok(compared.status())
+}
+
+fn show_compared(
+    compared: &Compared,
+    json: bool,
+    quiet: bool,
+    out: &mut impl Write,
+) -> io::Result<()> {
+    let palette = Palette::new(io::stdout().is_terminal());
+    let is_hidden = quiet && matches!(compared.comparison, Comparison::Widening { .. });
+    let text = match json {
+        _ if is_hidden => String::new(),
+        true => widened::json::line(compared),
+        false => widened::report::text(&palette, compared),
+    };
+    out.write_all(text.as_bytes())
+}
+
+/// Holds two schemas against each other, then checks every rule as far as that does not tell how it fares.
+fn upgrade(asked: &Upgrade, out: &mut impl Write) -> io::Result<u8> {
+    let (arguments, files) = (&asked.check, [&*asked.check.schema, &*asked.new]);
+    let [old_file, new_file] = files;
+    let shared = Shared::new(arguments);
+    let new = read_sheet(new_file, Sheet::Schema);
+    let compared = match (shared.schema(), &new) {
+        (Ok(old), Ok(new)) => Compared::of((old_file, old), (new_file, new)),
+        (Err(unreadable), _) | (_, Err(unreadable)) => {
+            Compared::unreadable(old_file, new_file, unreadable.clone())
+        }
+    };
+    show_compared(&compared, arguments.json, arguments.quiet, out)?;
+    let is_widening = matches!(compared.comparison, Comparison::Widening { .. });
+    match new {
+        Ok(new) if compared.status() < REFUSED => {
+            upgrade_rules(arguments, &shared, files, &new, is_widening, out)
+        }
+        _ => Ok(REFUSED),
+    }
+}
+
+/// Prints how every rule fares.
+fn upgrade_rules(
+    arguments: &Arguments,
+    shared: &Shared,
+    files: [&Path; 2],
+    new: &[u8],
+    is_widening: bool,
+    out: &mut impl Write,
+) -> io::Result<u8> {
+    let questions = arguments.asked.questions();
+    let total = questions.len();
+    let palette = Palette::new(io::stdout().is_terminal());
+    let has_bar = io::stderr().is_terminal() && !terminal::is_dumb();
+    let mut progress = Progress::new(io::stderr(), has_bar, total, arguments.asked.noun());
+    let mut fates = Fates::default();
+    for question in questions {
+        let upgraded = Upgraded::new(arguments, shared, new, is_widening, question);
+        let is_last = !arguments.json && upgraded.blames_what_is_shared();
+        fates.count(&upgraded.fate);
+        if !(arguments.quiet && upgraded.is_as_before()) {
+            progress.clear();
+            let text = match arguments.json {
+                true => upgraded.line(),
+                false => upgraded.text(&palette, files),
+            };
+            out.write_all(text.as_bytes())?;
+        }
+        progress.step();
+        if is_last {
+            break;
+        }
+    }
+    progress.clear();
+    let status = fates.status();
+    if !arguments.json && total > 1 && !(arguments.quiet && status == 0) {
+        writeln!(out, "{}", fates.summary(total))?;
     }
     out.flush()?;
     Ok(status)

@@ -12,7 +12,7 @@ pub struct Palette {
 
 /// Codes of a terminal's colours.
 #[derive(Clone, Copy)]
-enum Colour {
+pub enum Colour {
     Red = 31,
     Green = 32,
     Yellow = 33,
@@ -26,7 +26,7 @@ impl Palette {
         }
     }
 
-    fn paint(&self, colour: Colour, text: &str) -> String {
+    pub fn paint(&self, colour: Colour, text: &str) -> String {
         match self.on {
             true => format!("\x1b[{}m{text}\x1b[0m", colour as u8),
             false => text.to_owned(),
@@ -64,15 +64,7 @@ pub fn text(palette: &Palette, checked: &Checked) -> String {
             defect_text(palette, &subject, number, &explanation, &rows)
         }
         Outcome::Refused { refusal, fault } => {
-            let word = palette.paint(
-                Colour::Yellow,
-                &format!("refused {} ({})", refusal.number(), refusal.word()),
-            );
-            let place = match fault {
-                Some(fault) => format!("{}:{}", name(fault.file.as_os_str()), fault.line),
-                None => subject,
-            };
-            format!("{place}: {word}: {}\n", refused(*refusal, fault.as_ref()))
+            refused_text(palette, &subject, *refusal, fault.as_ref())
         }
         Outcome::Unreadable(unreadable) => {
             let word = palette.paint(Colour::Yellow, "unreadable");
@@ -82,13 +74,31 @@ pub fn text(palette: &Palette, checked: &Checked) -> String {
     }
 }
 
+/// That something was refused, by the file and line at fault where there is one.
+pub fn refused_text(
+    palette: &Palette,
+    subject: &str,
+    refusal: Refusal,
+    fault: Option<&Fault>,
+) -> String {
+    let word = palette.paint(
+        Colour::Yellow,
+        &format!("refused {} ({})", refusal.number(), refusal.word()),
+    );
+    let place = match fault {
+        Some(fault) => format!("{}:{}", name(fault.file.as_os_str()), fault.line),
+        None => subject.to_owned(),
+    };
+    format!("{place}: {word}: {}\n", refused(refusal, fault))
+}
+
 /// A file's name, or a path, as it is printed.
-fn name(given: &OsStr) -> String {
+pub fn name(given: &OsStr) -> String {
     visible(&given.to_string_lossy())
 }
 
 /// That so many checks, which are all, passed.
-fn accepted(passed: u32) -> String {
+pub fn accepted(passed: u32) -> String {
     match passed {
         0 => "there was nothing to check".to_owned(),
         1 => "its 1 check passed".to_owned(),

@@ -5,6 +5,7 @@ use crate::case::Case;
 use crate::keys::KeyCase;
 use crate::random::Random;
 use crate::refusals::MIN_PATH_BYTES;
+use crate::widens::WidensCase;
 use differential::model::Answer;
 
 /// Bytes before and behind what is lent.
@@ -50,7 +51,7 @@ impl Arena {
             return Err("a byte of the table, or around it, has changed".to_owned());
         }
         fields(&result[result_lent])?;
-        self.result(&lent.slot(), expected)?;
+        self.result(&lent.slot(), numbers(expected))?;
         self.path(lent, expected)
     }
 
@@ -71,26 +72,51 @@ impl Arena {
         if inputs != untouched {
             return Err("a byte of its inputs, or around them, has changed".to_owned());
         }
-        self.result(slot, expected)
+        self.result(slot, numbers(expected))
     }
 
-    /// Loads a table, which must keep its bytes, into a buffer amid others: where the number is 0 it lies at the start, and all else is as it was.
-    pub fn load(&mut self, table: &[u8], slot: &Slot, expected: u32) -> Result<(), String> {
+    /// Makes the call for two schemas, which must keep their bytes as well, amid others.
+    pub fn widens(&mut self, case: &WidensCase, slot: &Slot, expected: &[u32; 7]) -> Result<(), String> {
+        let around = &self.patterns[slot.pattern][..AROUND];
+        let inputs = [&case.first, &case.second].map(|input| [around, input, around].concat());
+        let untouched = inputs.clone();
+        let [first, second] = &inputs;
+        let own = |input: &[u8]| AROUND..input.len() - AROUND;
+        let start = AROUND + slot.shift;
+        let result = &mut self.results[slot.pattern][start..start + slot.length];
+        let number = raw::widens(&first[own(first)], &second[own(second)], result);
+        if number != expected[0] {
+            return Err(format!("it returns {number}"));
+        }
+        fields(result)?;
+        if inputs != untouched {
+            return Err("a byte of its inputs, or around them, has changed".to_owned());
+        }
+        self.result(slot, *expected)
+    }
+
+    /// Calls a function on an input, which must keep its bytes, and a buffer amid others: what is written lies at its start, and all else is as it was.
+    pub fn write(
+        &mut self,
+        function: fn(&[u8], &mut [u8]) -> u32,
+        input: &[u8],
+        slot: &Slot,
+        expected: u32,
+        written: &[u8],
+    ) -> Result<(), String> {
         let whole = &self.patterns[slot.pattern][..RESULT_ARENA];
-        let given = [&whole[..AROUND], table, &whole[..AROUND]].concat();
+        let given = [&whole[..AROUND], input, &whole[..AROUND]].concat();
         let untouched = given.clone();
         let start = AROUND + slot.shift;
         let mut wanted = whole.to_vec();
-        if expected == 0 {
-            wanted[start..start + table.len()].copy_from_slice(table);
-        }
+        wanted[start..start + written.len()].copy_from_slice(written);
         let found = &mut self.results[slot.pattern];
-        let number = raw::load(&given[AROUND..AROUND + table.len()], &mut found[start..start + slot.length]);
+        let number = function(&given[AROUND..AROUND + input.len()], &mut found[start..start + slot.length]);
         if number != expected {
             return Err(format!("it returns {number}"));
         }
         if given != untouched {
-            return Err("a byte of the table, or around it, has changed".to_owned());
+            return Err("a byte of its input, or around it, has changed".to_owned());
         }
         if let Some(at) = differs(found, &wanted) {
             return Err(format!("byte {} of the buffer is {}, not {}", at as isize - start as isize, found[at], wanted[at]));
@@ -100,12 +126,12 @@ impl Arena {
     }
 
     /// The seven numbers where there is room, all else as it was; then the pattern again.
-    fn result(&mut self, slot: &Slot, expected: &Answer) -> Result<(), String> {
+    fn result(&mut self, slot: &Slot, expected: [u32; 7]) -> Result<(), String> {
         let pattern = &self.patterns[slot.pattern][..RESULT_ARENA];
         let found = &mut self.results[slot.pattern];
         let mut wanted = pattern.to_vec();
         if slot.length >= RESULT_BYTES {
-            let bytes: Vec<u8> = numbers(expected).into_iter().flat_map(u32::to_le_bytes).collect();
+            let bytes: Vec<u8> = expected.into_iter().flat_map(u32::to_le_bytes).collect();
             let start = AROUND + slot.shift;
             wanted[start..start + RESULT_BYTES].copy_from_slice(&bytes);
         }

@@ -1,9 +1,11 @@
 //! The library under its C functions, held against what the model answers: every byte of both buffers and around them, and every number.
 
 mod arena;
+pub mod instants;
 pub mod keys;
 pub mod raw;
 pub mod tables;
+pub mod widens;
 
 use crate::agreement::line;
 use crate::case::Case;

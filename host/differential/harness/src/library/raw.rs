@@ -3,6 +3,7 @@
 use super::{Entry, RESULT_BYTES};
 use crate::case::Case;
 use crate::keys::KeyCase;
+use crate::widens::WidensCase;
 use std::mem::MaybeUninit;
 
 /// An entry that takes one sort of sheet.
@@ -56,6 +57,15 @@ extern "C" {
         result_length: usize,
     ) -> u32;
 
+    fn rulecheck_widens(
+        first: *const u8,
+        first_length: usize,
+        second: *const u8,
+        second_length: usize,
+        result: *mut u8,
+        result_length: usize,
+    ) -> u32;
+
     fn rulecheck_load_table(table: *const u8, table_length: usize, buffer: *mut u8, buffer_length: usize) -> u32;
 
     fn rulecheck_path(
@@ -72,6 +82,8 @@ extern "C" {
     fn rulecheck_field(result: *const u8, result_length: usize, index: u32) -> u32;
 
     fn rulecheck_finite(text: *const u8, text_length: usize) -> u32;
+
+    fn rulecheck_instant(text: *const u8, text_length: usize, fields: *mut u8, fields_length: usize) -> u32;
 }
 
 /// One call of the case, the slices lent as they are, and the table from a place of its own.
@@ -177,22 +189,52 @@ unsafe fn call_key(semantics: u64, reader: u64, path: &[u8], schema: &[u8], resu
     rulecheck_path(semantics, reader, path.as_ptr(), path.len(), schema.as_ptr(), schema.len(), result.0, result.1)
 }
 
+pub fn widens(first: &[u8], second: &[u8], result: &mut [u8]) -> u32 {
+    // SAFETY: pointers and lengths are those of slices, and the result overlaps nothing.
+    unsafe { rulecheck_widens(first.as_ptr(), first.len(), second.as_ptr(), second.len(), result.as_mut_ptr(), result.len()) }
+}
+
+/// A call for two schemas with a result fresh from the allocator and copies of the inputs, as `fresh`.
+pub fn fresh_widens(case: &WidensCase) -> (u32, Option<[u32; 7]>) {
+    let [first, second] = [&case.first, &case.second].map(|input| input.clone().into_boxed_slice());
+    let mut result = Box::<[u8]>::new_uninit_slice(case.result_len);
+    let lent: *mut u8 = result.as_mut_ptr().cast();
+    // SAFETY: the boxes are as long as said, and only read again after the call, which wrote the result if it has room.
+    unsafe {
+        let number = rulecheck_widens(first.as_ptr(), first.len(), second.as_ptr(), second.len(), lent, result.len());
+        (number, written(&result))
+    }
+}
+
 /// Loads a table into a buffer.
 pub fn load(table: &[u8], buffer: &mut [u8]) -> u32 {
     // SAFETY: pointers and lengths are those of slices that do not overlap.
     unsafe { rulecheck_load_table(table.as_ptr(), table.len(), buffer.as_mut_ptr(), buffer.len()) }
 }
 
-/// Loads a copy of a table that is exactly as long as it into a buffer fresh from the allocator: the number, and what lies at the buffer's start if that was
-/// written.
+/// Loads a copy of a table into a buffer fresh from the allocator, as `fresh_write`.
 pub fn fresh_load(table: &[u8], length: usize) -> (u32, Option<Vec<u8>>) {
-    let table = table.to_vec().into_boxed_slice();
+    fresh_write(rulecheck_load_table, table, length, table.len())
+}
+
+/// Reads a copy of a text as an instant, the fields fresh from the allocator, as `fresh_write`.
+pub fn fresh_instant(text: &[u8], length: usize) -> (u32, Option<Vec<u8>>) {
+    fresh_write(rulecheck_instant, text, length, RESULT_BYTES)
+}
+
+/// A function that reads one slice, and writes to the start of another where it answers 0.
+type Writes = unsafe extern "C" fn(*const u8, usize, *mut u8, usize) -> u32;
+
+/// Calls one of the library's functions with a copy of an input that is exactly as long as it and a buffer fresh from the allocator: the number, and
+/// the bytes at the buffer's start if they were written.
+fn fresh_write(function: Writes, input: &[u8], length: usize, written: usize) -> (u32, Option<Vec<u8>>) {
+    let input = input.to_vec().into_boxed_slice();
     let mut buffer = Box::<[u8]>::new_uninit_slice(length);
     // SAFETY: the boxes are as long as said.
-    let number = unsafe { rulecheck_load_table(table.as_ptr(), table.len(), buffer.as_mut_ptr().cast(), buffer.len()) };
-    // SAFETY: as long as the table the buffer was written where the answer is 0.
-    let loaded = (number == 0).then(|| unsafe { std::slice::from_raw_parts(buffer.as_ptr().cast::<u8>(), table.len()) }.to_vec());
-    (number, loaded)
+    let number = unsafe { function(input.as_ptr(), input.len(), buffer.as_mut_ptr().cast(), buffer.len()) };
+    // SAFETY: so many bytes of the buffer were written where the answer is 0.
+    let found = (number == 0).then(|| unsafe { std::slice::from_raw_parts(buffer.as_ptr().cast::<u8>(), written) }.to_vec());
+    (number, found)
 }
 
 pub fn field(result: &[u8], index: u32) -> u32 {
@@ -205,4 +247,10 @@ pub fn finite(text: &[u8]) -> (bool, usize) {
     // SAFETY: pointer and length are those of a slice.
     let answer = unsafe { rulecheck_finite(text.as_ptr(), text.len()) };
     (answer % 2 == 1, answer as usize / 2)
+}
+
+/// Reads an instant, whose fields are written.
+pub fn instant(text: &[u8], fields: &mut [u8]) -> u32 {
+    // SAFETY: pointers and lengths are those of slices that do not overlap.
+    unsafe { rulecheck_instant(text.as_ptr(), text.len(), fields.as_mut_ptr(), fields.len()) }
 }

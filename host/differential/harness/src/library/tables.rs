@@ -1,11 +1,12 @@
 //! `rulecheck_load_table`, held against what the model answers: the number, every byte of the buffer and around it, and every byte of the table.
 
-use super::{in_arena, mixed, Slot};
+use super::{in_arena, mixed, raw, Slot};
 use crate::tables::LoadCase;
 
 /// Holds the library against the model's number. An error tells in what they differ.
 pub fn hold(case: &LoadCase, number: u32) -> Result<(), String> {
     let chance = mixed([case.buffer_len as u64, 0], &[&case.table]) as usize;
     let slot = Slot { length: case.buffer_len, shift: chance / 2 % 4, pattern: chance % 2 };
-    in_arena(&slot, || number.to_string(), |arena| arena.load(&case.table, &slot, number))
+    let loaded: &[u8] = if number == 0 { &case.table } else { &[] };
+    in_arena(&slot, || number.to_string(), |arena| arena.write(raw::load, &case.table, &slot, number, loaded))
 }

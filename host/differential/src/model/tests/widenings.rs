@@ -76,6 +76,69 @@ fn json_in_place_of_an_array_would_break_a_quantifier() {
     );
 }
 
+/// The answer, the reason and the two entries.
+fn told(first: &str, second: &str) -> [u32; 4] {
+    match super::widens(first.as_bytes(), second.as_bytes(), 28) {
+        [0, answer, reason, one, two, 0, 0] => [answer, reason, one, two],
+        other => panic!("{other:?} for {first} and {second}"),
+    }
+}
+
+#[test]
+fn the_first_breach_is_that_of_the_first_sheet() {
+    let first = "H,1,2,1,1\nF,6,1,1,1,1,1,ax\nF,7,1,0,1,0,-,\nF,1,0,0,0,1,-,b\nF,1,0,0,0,1,-,p\nF,1,0,0,0,1,-,c\nF,1,0,0,0,1,-,g\n";
+    for (second, expected) in [
+        // The head: the record's mark, the arguments, their mark.
+        ("H,0,0,-,0\n", [3, 5, 1, 1]),
+        ("H,1,0,-,0\n", [3, 7, 1, 0]),
+        ("H,1,0,0,0\n", [3, 5, 1, 1]),
+        // Of two names the smaller one, whichever sheet has it.
+        ("H,1,1,1,0\nF,1,0,0,0,1,-,b\n", [3, 1, 2, 0]),
+        ("H,1,1,1,0\nF,1,0,0,0,0,-,\n", [3, 6, 0, 2]),
+        // A field's own entry, in its order.
+        ("H,1,1,1,0\nF,8,0,0,0,1,-,a\n", [3, 2, 2, 2]),
+        ("H,1,1,1,0\nF,6,0,0,0,1,-,a\n", [3, 5, 2, 2]),
+        ("H,1,1,1,0\nF,6,1,0,0,1,-,a\n", [3, 3, 2, 2]),
+        ("H,1,1,1,0\nF,6,1,1,0,1,-,a\nF,1,0,0,0,0,-,\n", [3, 4, 2, 2]),
+        // Then its element with all below it, then its properties.
+        ("H,1,1,1,0\nF,6,1,1,0,1,1,ax\nF,7,1,0,0,0,-,\n", [3, 1, 4, 0]),
+        ("H,1,1,1,0\nF,6,1,1,0,1,1,ax\nF,7,1,0,1,0,-,\nF,1,0,0,0,1,-,b\n", [3, 1, 5, 0]),
+        ("H,1,1,1,0\nF,6,1,1,2,1,1,ax\nF,7,1,0,1,0,-,\nF,1,0,0,0,1,-,b\nF,1,0,0,0,1,-,o\nF,1,0,0,0,1,-,p\n", [3, 6, 0, 5]),
+        // Then the next field, and at last the arguments.
+        ("H,1,1,1,0\nF,6,1,1,1,1,1,ax\nF,7,1,0,1,0,-,\nF,1,0,0,0,1,-,b\nF,1,0,0,0,1,-,p\n", [3, 1, 6, 0]),
+        ("H,1,2,1,0\nF,6,1,1,1,1,1,ax\nF,7,1,0,1,0,-,\nF,1,0,0,0,1,-,b\nF,1,0,0,0,1,-,p\nF,1,0,0,0,1,-,c\n", [3, 1, 7, 0]),
+        (first, [1, 0, 0, 0]),
+    ] {
+        assert_eq!(told(first, second), expected, "{second}");
+    }
+}
+
+#[test]
+fn a_refused_sheet_is_told_by_its_turn() {
+    let schema = SCHEMA.as_bytes();
+    assert_eq!(super::widens(b"", b"", 27), [3, 0, 0, 0, 0, 0, 0]);
+    assert_eq!(super::widens(b"", b"", 28), [4, 1, 0, 0, 0, 0, 0]);
+    assert_eq!(super::widens(b"", schema, 28), [4, 1, 0, 0, 0, 0, 0]);
+    assert_eq!(super::widens(schema, b"", 28), [4, 2, 0, 0, 0, 0, 0]);
+}
+
+#[test]
+fn there_is_a_breach_exactly_where_there_is_no_widening() {
+    let schemas = small_schemas();
+    for (first, second) in schemas
+        .iter()
+        .flat_map(|first| schemas.iter().map(move |second| (first, second)))
+    {
+        let (is_widening, marks_alone) = widens(first, second);
+        let answer = match (is_widening, marks_alone) {
+            (true, true) => 1,
+            (true, false) => 2,
+            _ => 3,
+        };
+        assert_eq!(told(first, second)[0], answer, "{first}{second}");
+    }
+}
+
 /// Ways for a field `a` to be, the first being not there.
 const FIELDS: [&str; 15] = [
     "",

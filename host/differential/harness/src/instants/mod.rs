@@ -1,13 +1,21 @@
-//! Instants: the model's reading held against a second one, written apart from it.
+//! Instants: the model's reading held against a second one, written apart from it, and against the library's.
 //!
 //! The reader of the Rust is not at hand. Where the sources bring it, `is_instant` asks it; otherwise it asks the stand-in.
 
-#[path = "../../around/timestamp.rs"]
+pub mod generate;
+pub mod run;
+#[path = "../../../around/timestamp.rs"]
 mod second;
+pub mod vectors;
 
 use crate::generate::values::{INSTANTS, NO_INSTANTS};
+use crate::library::{self, RESULT_BYTES};
 use differential::model::instant;
 use entity_core::validation::entry::is_instant;
+use std::str;
+
+/// Year, month, day, hour, minute, second, nanoseconds.
+pub type Fields = [u32; 7];
 
 /// Characters that are inserted and put in place of others: every ASCII one, white space, and digits that are not ASCII.
 fn characters() -> impl Iterator<Item = char> + Clone {
@@ -19,7 +27,7 @@ pub fn one_edit_away() -> Result<(), String> {
     let mut count = 0_u64;
     for sample in INSTANTS.iter().chain(&NO_INSTANTS) {
         for text in edits(sample) {
-            same(&text)?;
+            hold(text.as_bytes())?;
             count += 1;
         }
     }
@@ -52,22 +60,41 @@ fn dates() -> Result<u64, String> {
     let mut count = 0;
     for year in 0..10_000 {
         for day in 0..14 * 33 {
-            same(&format!("{year:04}-{:02}-{:02}", day / 33, day % 33))?;
+            hold(format!("{year:04}-{:02}-{:02}", day / 33, day % 33).as_bytes())?;
             count += 1;
         }
     }
     Ok(count)
 }
 
-fn same(text: &str) -> Result<(), String> {
-    let model = instant::parse(text)
-        .map(|read| [read.year, read.month, read.day, read.hour, read.minute, read.second, read.nanosecond].map(i64::from));
+/// Holds library, model and second reading against each other: the fields, or none.
+pub fn hold(text: &[u8]) -> Result<Option<Fields>, String> {
+    let fields = read(text)?;
+    library::instants::hold(text, fields).map_err(|trouble| format!("{:?}: {trouble}", String::from_utf8_lossy(text)))?;
+    Ok(fields)
+}
+
+/// What `rulecheck_instant` answers where the fields have so much room: the number, and what is written where that is 0.
+pub fn answer(fields: Option<Fields>, room: usize) -> (u32, Option<Vec<u8>>) {
+    match fields {
+        _ if room < RESULT_BYTES => (3, None),
+        None => (20, None),
+        Some(fields) => (0, Some(fields.into_iter().flat_map(u32::to_le_bytes).collect())),
+    }
+}
+
+/// What the model reads, with which the second reading agrees. Bytes that are no text are no instant.
+pub fn read(text: &[u8]) -> Result<Option<Fields>, String> {
+    let Ok(text) = str::from_utf8(text) else {
+        return Ok(None);
+    };
+    let model = instant::parse(text).map(|read| [read.year, read.month, read.day, read.hour, read.minute, read.second, read.nanosecond]);
     let other = second::parse(text).map(|read| [read.year, read.month, read.day, read.hour, read.minute, read.second, read.nanosecond]);
-    if model != other {
+    if model.map(|fields| fields.map(i64::from)) != other {
         return Err(format!("{text:?}: the model reads {model:?}, the second reading {other:?}"));
     }
     if model.is_some() != is_instant(text) {
         return Err(format!("{text:?}: the model reads {model:?}, the Rust otherwise"));
     }
-    Ok(())
+    Ok(model)
 }

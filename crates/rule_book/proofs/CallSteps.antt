@@ -1,0 +1,110 @@
+-- The whole call: each way to its end gives what the definitions say of it.
+use Prim.Native.Nat.{ℕ}
+use native.Mathlib.Omega.{arith}
+use mathlib.Core.List.{List, [], map}
+use mathlib.Core.Option.{Option, none, some, Option·map, Option·none-ne-some}
+use mathlib.Core.Path.{_≡_, refl, sym, ap, _∙_}
+use lib.ListN.{length}
+use Rattle.schema.specs.Read.{SchemaAnswer}
+use Rattle.schema.specs.declared.read.SchemaRead.{SchemaRead}
+use Rattle.validation.specs.Result.{any, Answer, accepted, ofSettings, firstRefusal, keptScratch, resultOf}
+use Rattle.validation.specs.RefusalLaws.{number-some, settings-none, table-decides}
+use Rattle.validator.specs.Settings.{settingBy, askedBy, lentBy, EarlyIs, SettledIs}
+use Rattle.validator.specs.Sheets.{sheetAnswer}
+use Rattle.validator.specs.SheetLaws.{roomy, front-schema, front-both, front-scratch, sheets-decide}
+use Rattle.validator.specs.declared.settings.Setting.{Setting as CodeSetting}
+use Rattle.validator.specs.declared.settings.Settled.the-variants.{Set, Refused}
+use Rattle.rule_book.specs.Book.{sheetsOf}
+use Rattle.rule_book.specs.Places.{sheetCount}
+use Rattle.rule_book.specs.Tally.{BookCall, askedOf, single, answersOf, tallyOf, bookRefused, tallied, bookAnswer, tallyNumbers, freed, bookCallOf, MeetsBook}
+use Rattle.rule_book.specs.TallyLaws.{settingRefusal, settings-first, form-refused, table-refused, book-tallied}
+use Rattle.rule_book.specs.Tallying.{answersIn, Ready, SheetsTallied, bookRunOf}
+
+counted-some : (o : Option (List (List ℕ))) (n : ℕ) → Option·map length o ≡ some n → (sheets : List (List ℕ)) × (o ≡ some sheets)
+counted-some none n e = absurd (Option·none-ne-some n e)
+counted-some (some sheets) n e = (sheets, refl)
+
+module _ (kind semantics : ℕ) (label table schema book pathBefore before : List ℕ) where
+  abbrev call : BookCall
+  call =
+      record {
+        kind = kind;
+        semantics = semantics;
+        label = label;
+        table = table;
+        schema = schema;
+        book = book;
+        lent = lentBy (length pathBefore) (length before);
+      }
+
+  meets-refused : {n : ℕ} {r : List ℕ} → bookAnswer call ≡ bookRefused n → r ≡ tallyNumbers (bookRefused n)
+      → MeetsBook (bookRunOf kind semantics label table schema book pathBefore before r pathBefore before)
+  unfolding bookCallOf
+  meets-refused a e =
+      record {
+        result = rw a e;
+        path = record { size = refl; kept = refl };
+        scratch = record { size = refl; kept = refl };
+      }
+
+  pub meets-settings : {n : ℕ} {r : List ℕ} → EarlyIs kind semantics label (length pathBefore) (length before) n → (n ≡ 0 → ⊥)
+      → r ≡ tallyNumbers (bookRefused n)
+      → MeetsBook (bookRunOf kind semantics label table schema book pathBefore before r pathBefore before)
+  unfolding askedOf
+  meets-settings {n} e h q = meets-refused (settings-first call n (number-some n _ (e .first any []) h)) q
+
+  module _ {n : ℕ} (e : EarlyIs kind semantics label (length pathBefore) (length before) n) (z : n ≡ 0) where
+    not-due : (sheet : List ℕ) → firstRefusal (ofSettings (askedBy any kind semantics label sheet) (lentBy (length pathBefore) (length before))) ≡ none
+    not-due sheet = settings-none _ _ (sym z ∙ e .first any sheet)
+
+    settings-pass : settingRefusal call ≡ none
+    unfolding askedOf
+    settings-pass = not-due []
+
+    pub meets-form : {r : List ℕ} → sheetsOf book ≡ none → r ≡ tallyNumbers (bookRefused 34)
+        → MeetsBook (bookRunOf kind semantics label table schema book pathBefore before r pathBefore before)
+    meets-form f q = meets-refused (form-refused call settings-pass f) q
+
+    module _ {k : ℕ} (count : sheetCount book ≡ some k) where
+      all : (sheets : List (List ℕ)) × (sheetsOf book ≡ some sheets)
+      unfolding sheetCount
+      all = counted-some (sheetsOf book) k count
+
+      pub meets-table : {m : ℕ} {r : List ℕ} → SettledIs kind semantics table (Refused m) → r ≡ tallyNumbers (bookRefused m)
+          → MeetsBook (bookRunOf kind semantics label table schema book pathBefore before r pathBefore before)
+      meets-table {m} t q = meets-refused (table-refused call settings-pass (all .0) (all .1) m t) q
+
+      pub ready : {middle : List ℕ} {q : SchemaRead} → SchemaAnswer schema before middle q → Ready label schema q book pathBefore middle
+      ready p =
+          let room = roomy _ _ (not-due []) in
+          record {
+            sheets = all .0;
+            form = all .1;
+            indexed = p .answer;
+            small = room .small;
+            room = room .room;
+            enough = omega (arith, room .words, p .kept .size);
+          }
+
+      module _ (s : CodeSetting) (t : SettledIs kind semantics table (Set s)) where
+        same-answer : (sheet : List ℕ) → resultOf (single call sheet) ≡ sheetAnswer any (settingBy s) label schema sheet
+        unfolding single askedOf
+        same-answer sheet =
+            rw (t .1) (sheets-decide (single call sheet) (table-decides (single call sheet) (not-due sheet) ∙ t .0))
+
+        same-answers : (sheets : List (List ℕ)) → answersOf call sheets ≡ answersIn (settingBy s) label schema sheets
+        unfolding answersOf answersIn
+        same-answers sheets = ap (λ (f : List ℕ → Answer). map f sheets) (λ i sheet. same-answer sheet i)
+
+        pub meets-tally : {middle after path r : List ℕ} {q : SchemaRead} → SchemaAnswer schema before middle q
+            → SheetsTallied (settingBy s) label schema book pathBefore path middle after r
+            → MeetsBook (bookRunOf kind semantics label table schema book pathBefore before r path after)
+        unfolding bookCallOf freed keptScratch
+        meets-tally p done =
+            let answer : bookAnswer call ≡ tallied (tallyOf (answersIn (settingBy s) label schema (all .0))) = book-tallied call settings-pass (all .0) (all .1) (t .0) ∙ ap (λ (answers : List Answer). tallied (tallyOf answers)) (same-answers (all .0)) in
+            let scratch = front-scratch (accepted 0) (front-both (front-schema (p .kept)) (done .front)) refl in
+            record {
+              result = rw answer (done .numbers (all .0) (all .1));
+              path = rw answer (done .kept);
+              scratch = rw answer (record { size = scratch .size; kept = scratch .kept });
+            }

@@ -1,0 +1,4 @@
+pub mod Edges
+pub mod SheetSteps
+pub mod TallySteps
+pub mod CallSteps

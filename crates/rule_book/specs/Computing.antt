@@ -1,0 +1,8 @@
+-- Opens every definition behind a tally: under `unfolding computing` a worked example holds by computation.
+use Rattle.validation.specs.Computing as Validation
+use Rattle.rule_book.specs.Book.{sheetIn, noMore, sheetsIn, sheetsOf, writeBook}
+use Rattle.rule_book.specs.Tally.{askedOf, single, bookRefusals, answersOf, countOf, sum, passedIn, defectNumbers, tallyOf, orNoSheets, refusedOr, bookAnswer, tallyNumbers, freed, bookCallOf}
+
+unfoldable pub computing : Unit {0}
+unfolding sheetIn noMore sheetsIn sheetsOf writeBook askedOf single bookRefusals answersOf countOf sum passedIn defectNumbers tallyOf orNoSheets refusedOr bookAnswer tallyNumbers freed bookCallOf Validation.computing
+computing = tt

@@ -1,0 +1,9 @@
+pub mod Book
+pub mod Tally
+pub mod Places
+pub mod BookLaws
+pub mod ByteLaws
+pub mod TallyLaws
+pub mod Tallying
+pub mod AnswerLaws
+pub mod Computing

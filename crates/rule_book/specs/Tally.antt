@@ -1,0 +1,144 @@
+-- The tally of a rule book: how often each answer came when each of its sheets was checked alone (docs/FORMAT.md, "Rule books").
+use Prim.Native.Nat.{ℕ, _+_}
+use mathlib.Core.Bool.{cond}
+use mathlib.Core.List.{List, [], _∷_, _++_, map}
+use mathlib.Core.Option.{Option, none, some}
+use mathlib.Core.Path.{_≡_}
+use lib.ListN.{length, drop, replicate}
+use lib.Dec.{eqb}
+use Rattle.validation.specs.Check.{isNone}
+use Rattle.validation.specs.Result.{any, Asked, Lent, Call, Answer, Refusal, ofTable, ofSettings, firstRefusal, numbersOf, resultOf, pathBytes, scratchWords}
+use Rattle.rule_book.specs.Book.{sheetsOf}
+
+pub record BookCall : Type 0 where
+  pub kind : ℕ
+  pub semantics : ℕ
+  pub label : List ℕ
+  pub table : List ℕ
+  pub schema : List ℕ
+  pub book : List ℕ
+  pub lent : Lent
+
+-- one of its sheets, whether a rule or a template
+unfoldable pub askedOf : BookCall → (sheet : List ℕ) → Asked
+askedOf c sheet = record { takes = any; kind = c .kind; semantics = c .semantics; label = c .label; rule = sheet }
+
+-- the call that checks that sheet alone
+unfoldable pub single : BookCall → (sheet : List ℕ) → Call
+single c sheet = record { asked = askedOf c sheet; table = c .table; schema = c .schema; lent = c .lent }
+
+-- of a file that is not of the form
+abbrev pub ofForm : (book : List ℕ) → Refusal
+ofForm book = record { number = 34; isDue = isNone (sheetsOf book) }
+
+-- the refusals in the order in which they are tried; settings, label and widths are the same for every sheet
+unfoldable pub bookRefusals : BookCall → List Refusal
+bookRefusals c = ofSettings (askedOf c []) (c .lent) ++ (ofForm (c .book) ∷ ofTable (c .table))
+
+unfoldable pub bookRefusalNumbers : List ℕ
+bookRefusalNumbers = 1 ∷ 2 ∷ 3 ∷ 34 ∷ 37 ∷ 38 ∷ []
+
+unfoldable pub answersOf : BookCall → List (List ℕ) → List Answer
+answersOf c sheets = map (λ (sheet : List ℕ). resultOf (single c sheet)) sheets
+
+-- how many answers have that number
+unfoldable pub countOf : ℕ → List Answer → ℕ
+countOf n [] = 0
+countOf n (a ∷ others) = cond (eqb (numbersOf a .number) n) 1 0 + countOf n others
+
+unfoldable pub sum : List ℕ → ℕ
+sum [] = 0
+sum (n ∷ ns) = n + sum ns
+
+-- the checks that passed, under all answers together
+unfoldable pub passedIn : List Answer → ℕ
+passedIn answers = sum (map (λ (a : Answer). numbersOf a .passed) answers)
+
+pub record Tally : Type 0 where
+  pub read : ℕ
+  pub accepted : ℕ
+  -- by 4 and by 5
+  pub schemaRefused : ℕ
+  pub ruleRefused : ℕ
+  -- 11 to 22
+  pub found : List ℕ
+  pub passed : ℕ
+
+unfoldable pub defectNumbers : List ℕ
+defectNumbers = 11 ∷ 12 ∷ 13 ∷ 14 ∷ 15 ∷ 16 ∷ 17 ∷ 18 ∷ 19 ∷ 20 ∷ 21 ∷ 22 ∷ []
+
+unfoldable pub tallyOf : List Answer → Tally
+tallyOf answers =
+    record {
+      read = length answers;
+      accepted = countOf 0 answers;
+      schemaRefused = countOf 4 answers;
+      ruleRefused = countOf 5 answers;
+      found = map (λ (n : ℕ). countOf n answers) defectNumbers;
+      passed = passedIn answers;
+    }
+
+pub data BookAnswer : Type 0 where
+  bookRefused : (number : ℕ) → BookAnswer
+  tallied : Tally → BookAnswer
+
+unfoldable pub orNoSheets : Option (List (List ℕ)) → List (List ℕ)
+orNoSheets none = []
+orNoSheets (some sheets) = sheets
+
+unfoldable pub refusedOr : Option ℕ → Tally → BookAnswer
+refusedOr none t = tallied t
+refusedOr (some n) t = bookRefused n
+
+-- the whole answer: the first refusal that is due, or the tally
+unfoldable pub bookAnswer : BookCall → BookAnswer
+bookAnswer c =
+    let tally = tallyOf (answersOf c (orNoSheets (sheetsOf (c .book)))) in
+    refusedOr (firstRefusal (bookRefusals c)) tally
+
+-- the eighteen numbers of a result: number, read, accepted, by 4, by 5, 11 to 22, passed
+unfoldable pub tallyNumbers : BookAnswer → List ℕ
+tallyNumbers (bookRefused n) = n ∷ replicate 17 0
+tallyNumbers (tallied t) = 0 ∷ t .read ∷ t .accepted ∷ t .schemaRefused ∷ t .ruleRefused ∷ (t .found ++ (t .passed ∷ []))
+
+-- how many elements of a buffer are free after the call: none under a refusal
+unfoldable pub freed : ℕ → BookAnswer → ℕ
+freed n (bookRefused number) = 0
+freed n (tallied t) = n
+
+-- only the first `free` elements may differ
+pub record KeptFrom (free : ℕ) (before after : List ℕ) : Type 0 where
+  pub size : length after ≡ length before
+  pub kept : drop free after ≡ drop free before
+
+-- what a caller hands over, and what it has after the call
+pub record BookRun : Type 0 where
+  pub kind : ℕ
+  pub semantics : ℕ
+  pub label : List ℕ
+  pub table : List ℕ
+  pub schema : List ℕ
+  pub book : List ℕ
+  pub pathBefore : List ℕ
+  pub scratchBefore : List ℕ
+  pub result : List ℕ
+  pub path : List ℕ
+  pub scratch : List ℕ
+
+unfoldable pub bookCallOf : BookRun → BookCall
+bookCallOf r =
+    record {
+      kind = r .kind;
+      semantics = r .semantics;
+      label = r .label;
+      table = r .table;
+      schema = r .schema;
+      book = r .book;
+      lent = record { path = length (r .pathBefore); scratch = length (r .scratchBefore) };
+    }
+
+-- what a whole call promises of its run
+pub record MeetsBook (r : BookRun) : Type 0 where
+  pub result : r .result ≡ tallyNumbers (bookAnswer (bookCallOf r))
+  pub path : KeptFrom (freed pathBytes (bookAnswer (bookCallOf r))) (r .pathBefore) (r .path)
+  pub scratch : KeptFrom (freed scratchWords (bookAnswer (bookCallOf r))) (r .scratchBefore) (r .scratch)

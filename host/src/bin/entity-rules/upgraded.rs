@@ -1,0 +1,174 @@
+//! Rules, when a new schema takes the place of the one that they were checked against.
+
+use crate::arguments::Arguments;
+use crate::checked::{Checked, Outcome, Question, Shared};
+use crate::json::{Object, outcome_members};
+use crate::report::{self, Colour, Palette, accepted, name};
+use std::path::Path;
+
+/// A rule and how it fares.
+pub struct Upgraded<'a> {
+    pub question: Question<'a>,
+    pub fate: Fate,
+}
+
+pub enum Fate {
+    /// Accepted before, and so accepted under a widening: by the theorem, without a second check.
+    Stays { passed: u32 },
+    /// The same answer under both.
+    Same(Outcome),
+    /// Another answer under the new schema.
+    Changed { old: Outcome, new: Outcome },
+    /// Refused or not read, under either of them.
+    NotChecked(Outcome),
+}
+
+impl<'a> Upgraded<'a> {
+    /// Checks a rule, under the new schema only where the theorem does not say what comes of it.
+    pub fn new(
+        arguments: &Arguments,
+        shared: &Shared,
+        new: &[u8],
+        is_widening: bool,
+        question: Question<'a>,
+    ) -> Self {
+        let is_wanted = |outcome: &Outcome| match outcome {
+            Outcome::Accepted { .. } => !is_widening,
+            Outcome::Defect { .. } => true,
+            _ => false,
+        };
+        let fate = match shared.outcomes(arguments, new, question, is_wanted) {
+            (Outcome::Accepted { passed }, None) => Fate::Stays { passed },
+            (old, None) => Fate::NotChecked(old),
+            (old, Some(new)) if old.is_same(&new) => Fate::Same(new),
+            (old, Some(new)) => Fate::Changed { old, new },
+        };
+        Self { question, fate }
+    }
+
+    /// Whether the table is at fault, so that every other rule would fare the same.
+    pub fn blames_what_is_shared(&self) -> bool {
+        matches!(&self.fate, Fate::NotChecked(outcome) if outcome.blames_what_is_shared())
+    }
+
+    /// Whether nothing has changed.
+    pub fn is_as_before(&self) -> bool {
+        matches!(self.fate, Fate::Stays { .. } | Fate::Same(_))
+    }
+
+    /// What is printed for it, with the names of the two schemas.
+    pub fn text(self, palette: &Palette, [old_file, new_file]: [&Path; 2]) -> String {
+        let question = self.question;
+        let subject = match question {
+            Question::Rule { file, .. } => name(file.as_os_str()),
+            Question::Key { path, .. } => name(path),
+        };
+        let outcome_text = |outcome| report::text(palette, &Checked { question, outcome });
+        let under = |file: &Path, outcome| {
+            let file = name(file.as_os_str());
+            let text = outcome_text(outcome);
+            let lines = text.lines().map(|line| format!("    {line}\n"));
+            format!("  under {file}\n{}", lines.collect::<String>())
+        };
+        match self.fate {
+            Fate::Stays { passed } => {
+                let word = palette.paint(Colour::Green, "stays accepted");
+                let passed = accepted(passed);
+                format!("{subject}: {word} by the theorem, not checked again; {passed}\n")
+            }
+            Fate::Same(outcome) => {
+                let text = outcome_text(outcome);
+                format!("{subject}: as before\n{}", indented(&text))
+            }
+            Fate::Changed { old, new } => {
+                let word = palette.paint(Colour::Red, "changed");
+                let (old, new) = (under(old_file, old), under(new_file, new));
+                format!("{subject}: {word}\n{old}{new}")
+            }
+            Fate::NotChecked(outcome) => outcome_text(outcome),
+        }
+    }
+
+    /// Its line of JSON.
+    pub fn line(&self) -> String {
+        let mut object = Object::new();
+        if let Question::Rule { file, .. } = self.question {
+            object.text("file", &file.to_string_lossy());
+        }
+        let side = |outcome: &Outcome| {
+            let mut object = Object::new();
+            outcome_members(&mut object, outcome);
+            object
+        };
+        match &self.fate {
+            Fate::Stays { passed } => {
+                object.text("change", "stays");
+                object.object("old", &side(&Outcome::Accepted { passed: *passed }));
+            }
+            Fate::Same(outcome) => {
+                object.text("change", "same");
+                object.object("old", &side(outcome));
+                object.object("new", &side(outcome));
+            }
+            Fate::Changed { old, new } => {
+                object.text("change", "changed");
+                object.object("old", &side(old));
+                object.object("new", &side(new));
+            }
+            Fate::NotChecked(outcome) => outcome_members(&mut object, outcome),
+        }
+        object.line()
+    }
+}
+
+fn indented(text: &str) -> String {
+    text.lines().map(|line| format!("  {line}\n")).collect()
+}
+
+/// How many rules there were of each fate.
+#[derive(Default)]
+pub struct Fates {
+    stay: usize,
+    same: usize,
+    changed: usize,
+    not_checked: usize,
+}
+
+impl Fates {
+    pub fn count(&mut self, fate: &Fate) {
+        let counter = match fate {
+            Fate::Stays { .. } => &mut self.stay,
+            Fate::Same(_) => &mut self.same,
+            Fate::Changed { .. } => &mut self.changed,
+            Fate::NotChecked(_) => &mut self.not_checked,
+        };
+        *counter = counter.saturating_add(1);
+    }
+
+    /// The exit status: 0 nothing has changed, 1 something has, 2 one could not be checked.
+    pub fn status(&self) -> u8 {
+        match (self.changed, self.not_checked) {
+            (0, 0) => 0,
+            (_, 0) => 1,
+            _ => 2,
+        }
+    }
+
+    /// One line for so many rules.
+    pub fn summary(&self, total: usize) -> String {
+        let Self {
+            stay,
+            same,
+            changed,
+            ..
+        } = self;
+        let told = [stay, same, changed]
+            .into_iter()
+            .fold(0, |sum: usize, count| sum.saturating_add(*count));
+        let left = match total.saturating_sub(told) {
+            0 => String::new(),
+            left => format!(", {left} not checked"),
+        };
+        format!("{total} rules: {stay} stay accepted, {same} as before, {changed} changed{left}")
+    }
+}
