@@ -120,9 +120,19 @@ fn the_header_has_the_numbers_of_the_crate() {
         ("TABLE_MARK", Refusal::TableMark),
     ];
     let refusals = refusals.map(|(name, one)| (format!("REFUSED_{name}"), one.number()));
+    let fields = [
+        "YEAR",
+        "MONTH",
+        "DAY",
+        "HOUR",
+        "MINUTE",
+        "SECOND",
+        "NANOSECONDS",
+    ];
+    let fields = fields.into_iter().map(str::to_owned).zip(0..);
     let settings = kinds.chain(semantics).chain(readers);
     let answers = defects.chain(families).chain(refusals);
-    for (name, number) in settings.chain(answers) {
+    for (name, number) in settings.chain(answers).chain(fields) {
         let line = format!("  ENTITY_RULES_{name} = {number}");
         assert!(
             HEADER

@@ -6,15 +6,17 @@ use std::path::PathBuf;
 use std::str::FromStr;
 
 pub const HELP: &str = "\
-Checks rules, templates and key paths against the schema of their record.
+Checks rules, templates and key paths against the schema of their record, and reads instants.
 
 usage: entity-rules check SCHEMA RULE.. --kind KIND --semantics SEMANTICS [OPTION..]
        entity-rules path SCHEMA PATH.. --semantics SEMANTICS [OPTION..]
+       entity-rules instant TEXT.. [OPTION..]
        entity-rules table
 
   SCHEMA, RULE        files that hold a schema sheet, and rule sheets or templates; one of them
                       may be -, which is standard input
   PATH                a path of the record's fields, without `$fields.` before it
+  TEXT                an instant, of which the fields are printed
   --kind KIND         check: invariant, precondition, create_template, operation_template,
                       outcome_selector, create_selector, create_set or create_outcome_template
   --semantics SEMANTICS
@@ -24,9 +26,9 @@ usage: entity-rules check SCHEMA RULE.. --kind KIND --semantics SEMANTICS [OPTIO
                       (default: the stock table, which the command `table` prints); it may be -
   --label TEXT        check: what each path begins with (default: the rule's file name without
                       its end)
-  --json              one line of JSON for each rule or path, and no summary
+  --json              one line of JSON for each rule, path or text, and no summary
   --quiet             print nothing for what is accepted, and no summary if all are
-  --                  all words after this are files, or paths
+  --                  all words after this are files, paths or texts
   --help, --version
 
 Examples, in the crate's folder examples/mill:
@@ -34,15 +36,16 @@ Examples, in the crate's folder examples/mill:
   entity-rules check pattern.schema branch.rule --kind outcome_selector --semantics service/1 \
       --table own.table
   entity-rules path pattern.schema bars.count --semantics service/1 --reader projection
+  entity-rules instant 2024-02-29 '2024-02-29 12:00:00.5Z'
 
-Exit status: 0 all are accepted; 1 one has a defect; 2 one is refused or cannot be read, or the
-command line is wrong.
+Exit status: 0 all are accepted; 1 one has a defect, or is no instant; 2 one is refused or cannot be
+read, or the command line is wrong.
 
 Colours and a progress bar appear on a terminal only. NO_COLOR, set to anything, switches the
 colours off; TERM=dumb switches off both.
 ";
 
-const COMMANDS: &str = "the command `check`, `path` or `table`";
+const COMMANDS: &str = "the command `check`, `path`, `instant` or `table`";
 
 /// What the command line asks for.
 #[derive(Debug, PartialEq)]
@@ -52,6 +55,11 @@ pub enum Command {
     /// Prints the stock table.
     Table,
     Check(Arguments),
+    /// Reads texts as instants.
+    Instants {
+        texts: Vec<OsString>,
+        output: Output,
+    },
 }
 
 /// What `check` or `path` is given.
@@ -60,6 +68,12 @@ pub struct Arguments {
     pub schema: PathBuf,
     pub asked: Asked,
     pub semantics: Semantics,
+    pub output: Output,
+}
+
+/// How outcomes are printed.
+#[derive(Clone, Copy, Debug, Default, PartialEq)]
+pub struct Output {
     pub json: bool,
     pub quiet: bool,
 }
@@ -98,8 +112,7 @@ struct Options {
     reader: Option<Reader>,
     label: Option<String>,
     table: Option<PathBuf>,
-    json: bool,
-    quiet: bool,
+    output: Output,
 }
 
 /// The words after the program's name, or what was expected instead.
@@ -125,6 +138,7 @@ pub fn parse(words: impl IntoIterator<Item = OsString>) -> Result<Command, Strin
     match words.next() {
         Some(command) if command == "check" => options(words)?.check().map(Command::Check),
         Some(command) if command == "path" => options(words)?.path().map(Command::Check),
+        Some(command) if command == "instant" => options(words)?.instant(),
         Some(command) if command == "table" => match words.next() {
             None => Ok(Command::Table),
             Some(word) => Err(format!("table: expected nothing after it, not {word:?}")),
@@ -166,8 +180,8 @@ impl Options {
         let mut word = || given.take().or_else(|| words.next());
         let mut value = || text(name, word());
         match name {
-            "--json" => self.json = true,
-            "--quiet" => self.quiet = true,
+            "--json" => self.output.json = true,
+            "--quiet" => self.output.quiet = true,
             "--kind" => self.kind = Some(named(name, &value()?)?),
             "--semantics" => self.semantics = Some(named(name, &value()?)?),
             "--reader" => self.reader = Some(named(name, &value()?)?),
@@ -211,6 +225,24 @@ impl Options {
         self.arguments("path", schema, Asked::Keys { paths, reader })
     }
 
+    fn instant(self) -> Result<Command, String> {
+        let given = [
+            ("--kind", self.kind.is_some()),
+            ("--semantics", self.semantics.is_some()),
+            ("--reader", self.reader.is_some()),
+            ("--label", self.label.is_some()),
+            ("--table", self.table.is_some()),
+        ];
+        not_for("instant", &given)?;
+        match self.words.is_empty() {
+            true => Err("instant: expected at least one TEXT".to_owned()),
+            false => Ok(Command::Instants {
+                texts: self.words,
+                output: self.output,
+            }),
+        }
+    }
+
     /// The schema's file and the other words, of which there is one at least.
     fn split(
         &self,
@@ -236,8 +268,7 @@ impl Options {
             schema,
             asked,
             semantics,
-            json: self.json,
-            quiet: self.quiet,
+            output: self.output,
         })
     }
 }
@@ -294,8 +325,10 @@ mod tests {
                 table: Some("t".into()),
             },
             semantics: Semantics::Service1,
-            json: true,
-            quiet: false,
+            output: Output {
+                json: true,
+                quiet: false,
+            },
         });
         for line in [
             "check s a b --kind create_selector --semantics service/1 --label x --table t --json",
@@ -356,11 +389,48 @@ mod tests {
     }
 
     #[test]
+    fn instants_are_any_words() {
+        let expected = |texts: &[&str], json| {
+            Ok(Command::Instants {
+                texts: texts.iter().map(OsString::from).collect(),
+                output: Output { json, quiet: false },
+            })
+        };
+        assert_eq!(
+            parsed("instant 2024-02-29"),
+            expected(&["2024-02-29"], false)
+        );
+        assert_eq!(
+            parsed("instant --json - -- --x"),
+            expected(&["-", "--x"], true)
+        );
+        assert_eq!(error("instant"), "instant: expected at least one TEXT");
+        assert_eq!(
+            error("instant --quiet --"),
+            "instant: expected at least one TEXT"
+        );
+        for option in [
+            "--kind invariant",
+            "--semantics kernel/1",
+            "--reader kernel",
+            "--label x",
+            "--table t",
+        ] {
+            let (name, _) = option.split_once(' ').unwrap();
+            let expected = format!("instant: {name} is no option of this command");
+            assert_eq!(error(&format!("instant a {option}")), expected);
+        }
+    }
+
+    #[test]
     fn errors_say_what_was_expected() {
-        assert_eq!(error(""), "expected the command `check`, `path` or `table`");
+        assert_eq!(
+            error(""),
+            "expected the command `check`, `path`, `instant` or `table`"
+        );
         assert_eq!(
             error("chekc"),
-            "expected the command `check`, `path` or `table`, not \"chekc\""
+            "expected the command `check`, `path`, `instant` or `table`, not \"chekc\""
         );
         assert_eq!(
             error("table --json"),

@@ -1,15 +1,17 @@
 //! Outcomes as JSON (RFC 8259), one object on one line.
 
-use crate::checked::{Checked, Outcome, Question, Spot};
-use crate::report::{not_read, refused};
+use crate::checked::{Checked, Outcome, Spot, Subject};
+use crate::hint::INSTANT;
+use crate::report::{NO_INSTANT, instant_fields, not_read, refused};
 use entity_rules::{Defect, DefectNumber, PathVerdict};
 
-/// The line for one rule or path.
+/// The line for one rule, path or text.
 pub fn line(checked: &Checked) -> String {
     let mut object = Object::new();
-    match checked.question {
-        Question::Rule { file, .. } => object.text("file", &file.to_string_lossy()),
-        Question::Key { path, .. } => object.text("key", &path.to_string_lossy()),
+    match checked.subject {
+        Subject::File(file) => object.text("file", &file.to_string_lossy()),
+        Subject::Key(path) => object.text("key", &path.to_string_lossy()),
+        Subject::Text(text) => object.text("text", &text.to_string_lossy()),
     }
     match &checked.outcome {
         Outcome::Accepted { passed } => {
@@ -39,6 +41,21 @@ pub fn line(checked: &Checked) -> String {
             if let Some(hint) = hint {
                 object.text("hint", hint);
             }
+        }
+        Outcome::Instant(instant) => {
+            object.text("verdict", "accepted");
+            object.number("number", 0);
+            for (name, number) in instant_fields(instant) {
+                object.number(name, number);
+            }
+        }
+        Outcome::NoInstant => {
+            let number = DefectNumber::Instant;
+            object.text("verdict", "defect");
+            object.number("number", number.number());
+            object.text("word", number.word());
+            object.text("explanation", NO_INSTANT);
+            object.text("hint", INSTANT);
         }
         Outcome::Refused { refusal, fault } => {
             object.text("verdict", "refused");

@@ -1,5 +1,5 @@
-//! The command-line tool: `entity-rules check SCHEMA RULE.. --kind KIND --semantics SEMANTICS`, `entity-rules path SCHEMA PATH..` for keys, and
-//! `entity-rules table`, which prints the stock table.
+//! The command-line tool: `entity-rules check SCHEMA RULE.. --kind KIND --semantics SEMANTICS`, `entity-rules path SCHEMA PATH..` for keys,
+//! `entity-rules instant TEXT..`, which prints the fields of instants, and `entity-rules table`, which prints the stock table.
 
 #![forbid(unsafe_code)]
 #![deny(
@@ -19,8 +19,8 @@ mod progress;
 mod report;
 mod terminal;
 
-use arguments::{Arguments, Command};
-use checked::{Checked, Outcome, Shared};
+use arguments::{Command, Output};
+use checked::{Checked, Shared};
 use entity_rules::Table;
 use progress::Progress;
 use report::{Palette, Tally};
@@ -58,51 +58,55 @@ fn run(command: &Command) -> io::Result<u8> {
             Ok(sheet) => out.write_all(&sheet)?,
             Err(error) => return Ok(complain(&error.to_string())),
         },
-        Command::Check(arguments) => return check(arguments, &mut out),
+        Command::Check(arguments) => {
+            let shared = Shared::new(arguments);
+            let questions = arguments.asked.questions().into_iter();
+            let all = questions.map(|question| Checked::new(arguments, &shared, question));
+            return print(all, arguments.asked.noun(), arguments.output, &mut out);
+        }
+        Command::Instants { texts, output } => {
+            let all = texts.iter().map(|text| Checked::instant(text));
+            return print(all, "texts", *output, &mut out);
+        }
     }
     Ok(0)
 }
 
-/// Checks every rule or path, and prints what comes of it.
-fn check(arguments: &Arguments, out: &mut impl Write) -> io::Result<u8> {
-    let shared = Shared::new(arguments);
-    let (questions, noun) = (arguments.asked.questions(), arguments.asked.noun());
-    let total = questions.len();
+/// Prints what comes of every rule, path or text, of which several are called so.
+fn print<'a>(
+    all: impl ExactSizeIterator<Item = Checked<'a>>,
+    noun: &'static str,
+    output: Output,
+    out: &mut impl Write,
+) -> io::Result<u8> {
+    let total = all.len();
     let palette = Palette::new(io::stdout().is_terminal());
     let has_bar = io::stderr().is_terminal() && !terminal::is_dumb();
     let mut progress = Progress::new(io::stderr(), has_bar, total, noun);
     let mut tally = Tally::default();
-    for question in questions {
-        let checked = Checked::new(arguments, &shared, question);
+    for checked in all {
         tally.count(&checked.outcome);
-        if arguments.shows(&checked.outcome) {
+        if !(output.quiet && checked.outcome.is_accepted()) {
             progress.clear();
-            out.write_all(show(arguments, &palette, &checked).as_bytes())?;
+            out.write_all(show(output, &palette, &checked).as_bytes())?;
         }
         progress.step();
-        if !arguments.json && checked.outcome.blames_what_is_shared() {
+        if !output.json && checked.outcome.blames_what_is_shared() {
             break;
         }
     }
     progress.clear();
     let status = tally.status();
-    if !arguments.json && total > 1 && !(arguments.quiet && status == 0) {
+    if !output.json && total > 1 && !(output.quiet && status == 0) {
         writeln!(out, "{}", tally.summary(total, noun))?;
     }
     out.flush()?;
     Ok(status)
 }
 
-fn show(arguments: &Arguments, palette: &Palette, checked: &Checked) -> String {
-    match arguments.json {
+fn show(output: Output, palette: &Palette, checked: &Checked) -> String {
+    match output.json {
         true => json::line(checked),
         false => report::text(palette, checked),
-    }
-}
-
-impl Arguments {
-    /// Whether an outcome is printed.
-    fn shows(&self, outcome: &Outcome) -> bool {
-        !(self.quiet && matches!(outcome, Outcome::Accepted { .. }))
     }
 }
