@@ -49,11 +49,11 @@ usage: entity-rules check SCHEMA RULE.. --kind KIND --semantics SEMANTICS [OPTIO
 
 Examples, in the crate's folder examples/mill:
   entity-rules check pattern.schema release.rule --kind precondition --semantics service/1
-  entity-rules check pattern.schema branch.rule --kind outcome_selector --semantics service/1 \
+  entity-rules check pattern.schema branch.rule --kind outcome_selector --semantics service/1 \\
       --table own.table
   entity-rules path pattern.schema bars.count --semantics service/1 --reader projection
   entity-rules widens pattern.schema wider.schema
-  entity-rules upgrade pattern.schema wider.schema release.rule misspelt.rule \
+  entity-rules upgrade pattern.schema wider.schema release.rule misspelt.rule \\
       --kind precondition --semantics service/1
   entity-rules instant 2024-02-29 '2024-02-29 12:00:00.5Z'
 
@@ -626,6 +626,13 @@ mod tests {
         let names = kinds.chain(readers);
         for name in names.chain(Semantics::ALL.iter().map(|semantics| semantics.text())) {
             assert!(HELP.contains(name), "{name}");
+        }
+    }
+
+    #[test]
+    fn the_help_fits_a_terminal() {
+        for line in HELP.lines() {
+            assert!(line.len() <= 100, "{line}");
         }
     }
 }
