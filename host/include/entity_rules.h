@@ -1,9 +1,9 @@
-/* One rule, template or key path checked against the schema of its record, and schemas held against each other: the C functions of
- * libentity_rules.a.
+/* One rule, template or key path checked against the schema of its record, schemas held against each other, and instants read: the C
+ * functions of libentity_rules.a.
  *
  * docs/FORMAT.md says what the sheets hold and what each number means. Lengths are in bytes. A pointer must lead to as many bytes
- * as the length after it says, and must not be null, even where that is 0. path, result and buffer must not overlap each other or
- * anything else. No function keeps a pointer, allocates or waits, so any number of threads may call them at once. A call
+ * as the length after it says, and must not be null, even where that is 0. path, result, buffer and fields must not overlap each other
+ * or anything else. No function keeps a pointer, allocates or waits, so any number of threads may call them at once. A call
  * takes up to about 280 KB of stack: 16 KB for its scratch, the rest by how deep the sheets nest, most of it with 31 quantifiers in one
  * another. A path under 32,768 bytes or a result under 28 is refusal 3, and is not written.
  */
@@ -119,6 +119,17 @@ enum entity_rules_widens_reason {
   ENTITY_RULES_ARGUMENTS_GO = 7
 };
 
+/* The numbers of an instant's fields, by their index. */
+enum entity_rules_instant_field {
+  ENTITY_RULES_YEAR = 0,
+  ENTITY_RULES_MONTH = 1,
+  ENTITY_RULES_DAY = 2,
+  ENTITY_RULES_HOUR = 3,
+  ENTITY_RULES_MINUTE = 4,
+  ENTITY_RULES_SECOND = 5,
+  ENTITY_RULES_NANOSECONDS = 6
+};
+
 /* What a key path may hold at most. */
 #define ENTITY_RULES_KEY_BYTES 512
 
@@ -179,12 +190,18 @@ uint32_t rulecheck_widens(const uint8_t *first, size_t first_length,
                           const uint8_t *second, size_t second_length,
                           uint8_t *result, size_t result_length);
 
-/* One of the numbers of a result, by an index of enum entity_rules_field; 0 where it does not lie in the result. */
+/* One of the numbers of a result, by an index of enum entity_rules_field, or of an instant's fields; 0 where it does not lie in there. */
 uint32_t rulecheck_field(const uint8_t *result, size_t result_length, uint32_t index);
 
 /* Whether a text is a finite number, and how many of its digits were compared with those of 2^1024 - 2^970 for that: the count (at most 309)
  * times 2, and 1 more if it is finite. */
 uint32_t rulecheck_finite(const uint8_t *text, size_t text_length);
+
+/* Reads an instant: its seven numbers (enum entity_rules_instant_field) go to the start of fields, what the text leaves out being 0. Returns 0;
+ * or 3 for fields under 28 bytes (ENTITY_RULES_RESULT_BYTES), then 20 for a text that is no instant, and fields is unchanged. It keeps its other
+ * bytes in every case. */
+uint32_t rulecheck_instant(const uint8_t *text, size_t text_length,
+                           uint8_t *fields, size_t fields_length);
 
 #ifdef __cplusplus
 }

@@ -18,6 +18,7 @@ mod build;
 mod checks;
 pub mod entries;
 mod finite;
+mod instant;
 pub mod limits;
 mod numbered;
 #[allow(unsafe_code)]
@@ -33,6 +34,7 @@ pub use build::{
 pub use checks::{Check, Checked};
 pub use entries::Operator;
 pub use finite::{Finite, finite};
+pub use instant::{Instant, instant};
 pub use settings::{Kind, Name, Reader, Semantics, UnknownName};
 pub use table::{Table, TableError};
 pub use verdict::{
@@ -181,7 +183,7 @@ fn call(
     verdict::answer(numbers(&result), &path)
 }
 
-/// The seven numbers of a result.
+/// The seven numbers of a result, or fields of an instant.
 fn numbers(result: &[u8]) -> [u32; 7] {
     [0, 1, 2, 3, 4, 5, 6].map(|index| raw::field(result, index))
 }

@@ -42,5 +42,5 @@ pub const TABLE_BYTES: usize = 176;
 /// Bytes that a call wants for the path.
 pub const PATH_BYTES: usize = 32_768;
 
-/// Bytes that a call wants for the result: seven numbers of four bytes.
+/// Bytes that a call wants for the result, or for the fields of an instant: seven numbers of four bytes.
 pub const RESULT_BYTES: usize = 28;

@@ -95,6 +95,13 @@ unsafe extern "C" {
     fn rulecheck_field(result: *const u8, result_length: usize, index: u32) -> u32;
 
     fn rulecheck_finite(text: *const u8, text_length: usize) -> u32;
+
+    fn rulecheck_instant(
+        text: *const u8,
+        text_length: usize,
+        fields: *mut u8,
+        fields_length: usize,
+    ) -> u32;
 }
 
 /// Checks a rule; the answer is the number, and `result` takes all seven numbers.
@@ -355,4 +362,25 @@ pub fn field(result: &[u8], index: u32) -> u32 {
 pub fn finite(text: &[u8]) -> u32 {
     // SAFETY: pointer and length are those of a slice, which the library only reads.
     unsafe { rulecheck_finite(text.as_ptr(), text.len()) }
+}
+
+/// Reads an instant and answers 0; `fields` takes its year, month, day, hour, minute, second and nanoseconds as seven numbers, which [`field`] reads.
+///
+/// Fields under 28 bytes are 3, then a text that is no instant is 20; in both cases the fields stay as they are.
+///
+/// ```
+/// use entity_rules::raw;
+///
+/// let mut fields = [0; 28];
+/// assert_eq!(raw::instant(b"2024-02-29 23:59:60.5", &mut fields), 0);
+/// assert_eq!([0, 1, 2].map(|index| raw::field(&fields, index)), [2024, 2, 29]);
+/// assert_eq!([3, 4, 5, 6].map(|index| raw::field(&fields, index)), [23, 59, 60, 500_000_000]);
+/// assert_eq!(raw::instant(b"2023-02-29", &mut fields), 20);
+/// assert_eq!(raw::instant(b"2023-02-29", &mut fields[..27]), 3);
+/// assert_eq!(raw::field(&fields, 0), 2024);
+/// ```
+pub fn instant(text: &[u8], fields: &mut [u8]) -> u32 {
+    // SAFETY: both pointers and lengths are those of slices. The library reads the first and writes the second, neither beyond its length, and
+    // keeps no pointer; as a slice lent mutably the second does not overlap the first.
+    unsafe { rulecheck_instant(text.as_ptr(), text.len(), fields.as_mut_ptr(), fields.len()) }
 }

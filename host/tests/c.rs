@@ -129,9 +129,19 @@ fn the_header_has_the_numbers_of_the_crate() {
         .map(|one| (spelled(one.name()), one.number()));
     let widenings = [("MARKS", Widening::Marks), ("ANYTHING", Widening::Anything)];
     let widenings = widenings.map(|(name, one)| (format!("WIDENS_{name}"), one.number()));
+    let fields = [
+        "YEAR",
+        "MONTH",
+        "DAY",
+        "HOUR",
+        "MINUTE",
+        "SECOND",
+        "NANOSECONDS",
+    ];
+    let fields = fields.into_iter().map(str::to_owned).zip(0..);
     let settings = kinds.chain(semantics).chain(readers);
     let answers = defects.chain(families).chain(refusals);
-    let answers = answers.chain(reasons).chain(widenings);
+    let answers = answers.chain(reasons).chain(widenings).chain(fields);
     for (name, number) in settings.chain(answers) {
         let line = format!("  ENTITY_RULES_{name} = {number}");
         assert!(

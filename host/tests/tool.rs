@@ -410,6 +410,63 @@ fn a_path_that_is_no_text_is_refused() {
     assert!(out.contains(": refused 2 (path): "), "{out}");
 }
 
+fn run_instant(words: &[&str]) -> (Option<i32>, String) {
+    let output = Command::new(env!("CARGO_BIN_EXE_entity-rules"))
+        .arg("instant")
+        .args(words)
+        .output()
+        .expect("the tool runs");
+    let out = String::from_utf8(output.stdout).expect("the tool prints UTF-8");
+    (output.status.code(), out)
+}
+
+#[test]
+fn the_readme_shows_what_is_printed_for_instants() {
+    let readme = include_str!("../README.md");
+    let (_, example) = readme
+        .split_once("$ entity-rules instant ")
+        .expect("an example");
+    let (words, rest) = example.split_once('\n').expect("a command");
+    let (shown, _) = rest.split_once("```").expect("the end of the example");
+    let words: Vec<&str> = words.split_whitespace().collect();
+    assert_eq!(run_instant(&words), (Some(1), shown.to_owned()));
+}
+
+#[test]
+fn the_status_tells_whether_all_are_instants() {
+    let status = |words: &[&str]| run_instant(words).0;
+    assert_eq!(status(&["2024-02-29"]), Some(0));
+    assert_eq!(status(&["2024-02-29", " 2024-02-29 12:00:00.5z "]), Some(0));
+    assert_eq!(status(&["2024-02-29", "2024-02-30"]), Some(1));
+    assert_eq!(status(&[""]), Some(1));
+    assert_eq!(status(&[]), Some(2));
+    assert_eq!(status(&["2024-02-29", "--label", "x"]), Some(2));
+}
+
+#[test]
+fn quiet_prints_what_is_no_instant() {
+    let all_are = run_instant(&["2024-02-29", "2024-03-01", "--quiet"]);
+    assert_eq!(all_are, (Some(0), String::new()));
+    let (_, out) = run_instant(&["2024-02-29", "2024-02-30\x1b", "--quiet"]);
+    assert!(out.starts_with("2024-02-30\\u{1b}: defect 20 (instant): the text is no instant\n"));
+    assert!(out.ends_with("\n2 texts: 1 accepted, 1 with a defect, 0 refused\n"));
+}
+
+#[test]
+fn machines_read_json_of_instants() {
+    let (status, out) = run_instant(&["--json", "2024-02-29 23:59:60.000000001", "now"]);
+    assert_eq!(status, Some(1));
+    assert_eq!(
+        out,
+        concat!(
+            r#"{"text":"2024-02-29 23:59:60.000000001","verdict":"accepted","number":0,"year":2024,"month":2,"day":29,"hour":23,"minute":59,"second":60,"nanoseconds":1}"#,
+            "\n",
+            r#"{"text":"now","verdict":"defect","number":20,"word":"instant","explanation":"the text is no instant","hint":"an instant is YYYY-MM-DD or YYYY-MM-DDTHH:MM:SS, the latter with up to 9 digits after a dot and a Z if wanted; it has no offset"}"#,
+            "\n"
+        )
+    );
+}
+
 #[test]
 fn a_dash_is_standard_input() {
     let mut tool = Command::new(env!("CARGO_BIN_EXE_entity-rules"))
@@ -481,8 +538,9 @@ fn json_answers_for_every_rule_even_under_a_bad_schema() {
 fn the_readme_has_every_key() {
     let readme = include_str!("../README.md");
     let words = "pattern.schema release.rule misspelt.rule missing.rule pattern.schema --json";
-    let (_, out, _) = run_check(&mill(), words);
-    for line in out.lines() {
+    let (_, rules, _) = run_check(&mill(), words);
+    let (_, instants) = run_instant(&["2024-02-29", "2023-02-29", "--json"]);
+    for line in rules.lines().chain(instants.lines()) {
         for key in line
             .split(['{', ','])
             .filter_map(|part| part.split_once("\":"))

@@ -7,12 +7,13 @@ use std::str::FromStr;
 
 pub const HELP: &str = "\
 Checks rules, templates and key paths against the schema of their record, and schemas against
-those that come after them.
+those that come after them; reads instants.
 
 usage: entity-rules check SCHEMA RULE.. --kind KIND --semantics SEMANTICS [OPTION..]
        entity-rules path SCHEMA PATH.. --semantics SEMANTICS [OPTION..]
        entity-rules widens OLD NEW [--json] [--quiet]
        entity-rules upgrade OLD NEW RULE.. --kind KIND --semantics SEMANTICS [OPTION..]
+       entity-rules instant TEXT.. [--json] [--quiet]
        entity-rules table
 
   check    whether rules and templates are accepted, or their first defect
@@ -22,12 +23,14 @@ usage: entity-rules check SCHEMA RULE.. --kind KIND --semantics SEMANTICS [OPTIO
   upgrade  how rules fare when NEW takes the place of OLD: where it is a widening, those that are
            accepted stay so by the theorem and are not checked again; all others are checked
            under both
+  instant  whether texts are instants, and their fields
   table    prints the stock name table
 
   SCHEMA, OLD, NEW    files that hold a schema sheet; one of all files may be -, which is standard
                       input
   RULE                files that hold rule sheets or templates
   PATH                a path of the record's fields, without `$fields.` before it
+  TEXT                a text that may be an instant
   --kind KIND         check, upgrade: invariant, precondition, create_template,
                       operation_template, outcome_selector, create_selector, create_set or
                       create_outcome_template
@@ -38,30 +41,31 @@ usage: entity-rules check SCHEMA RULE.. --kind KIND --semantics SEMANTICS [OPTIO
                       read (default: the stock table, which the command `table` prints); it may be -
   --label TEXT        check, upgrade: what each path begins with (default: the rule's file name
                       without its end)
-  --json              one line of JSON for each rule, path or pair of schemas, and no summary
+  --json              one line of JSON for each rule, path, text or pair of schemas, and no summary
   --quiet             print nothing for what is accepted, for a widening and for a rule that fares
                       as before, and no summary if that is all
-  --                  all words after this are files, or paths
+  --                  all words after this are files, paths or texts
   --help, --version
 
 Examples, in the crate's folder examples/mill:
   entity-rules check pattern.schema release.rule --kind precondition --semantics service/1
-  entity-rules check pattern.schema branch.rule --kind outcome_selector --semantics service/1 \
+  entity-rules check pattern.schema branch.rule --kind outcome_selector --semantics service/1 \\
       --table own.table
   entity-rules path pattern.schema bars.count --semantics service/1 --reader projection
   entity-rules widens pattern.schema wider.schema
-  entity-rules upgrade pattern.schema wider.schema release.rule misspelt.rule \
+  entity-rules upgrade pattern.schema wider.schema release.rule misspelt.rule \\
       --kind precondition --semantics service/1
+  entity-rules instant 2024-02-29 '2024-02-29 12:00:00.5Z'
 
-Exit status: 0 all are accepted, NEW is a widening, every rule fares as before; 1 one has a defect,
-NEW is none, a rule's answer has changed; 2 one is refused or cannot be read, or the command line is
-wrong.
+Exit status: 0 all are accepted, NEW is a widening, every rule fares as before; 1 one has a defect
+or is no instant, NEW is none, a rule's answer has changed; 2 one is refused or cannot be read, or
+the command line is wrong.
 
 Colours and a progress bar appear on a terminal only. NO_COLOR, set to anything, switches the
 colours off; TERM=dumb switches off both.
 ";
 
-const COMMANDS: &str = "the command `check`, `path`, `widens`, `upgrade` or `table`";
+const COMMANDS: &str = "the command `check`, `path`, `widens`, `upgrade`, `instant` or `table`";
 
 /// What the command line asks for.
 #[derive(Debug, PartialEq)]
@@ -73,6 +77,7 @@ pub enum Command {
     Check(Arguments),
     Widens(Pair),
     Upgrade(Upgrade),
+    Instants(Instants),
 }
 
 /// What `widens` is given.
@@ -80,8 +85,7 @@ pub enum Command {
 pub struct Pair {
     pub old: PathBuf,
     pub new: PathBuf,
-    pub json: bool,
-    pub quiet: bool,
+    pub output: Output,
 }
 
 /// What `upgrade` is given: rules to check against the old schema, and the new one.
@@ -91,12 +95,25 @@ pub struct Upgrade {
     pub new: PathBuf,
 }
 
+/// What `instant` is given.
+#[derive(Debug, PartialEq)]
+pub struct Instants {
+    pub texts: Vec<OsString>,
+    pub output: Output,
+}
+
 /// What `check` or `path` is given.
 #[derive(Debug, PartialEq)]
 pub struct Arguments {
     pub schema: PathBuf,
     pub asked: Asked,
     pub semantics: Semantics,
+    pub output: Output,
+}
+
+/// How outcomes are printed.
+#[derive(Clone, Copy, Debug, Default, PartialEq)]
+pub struct Output {
     pub json: bool,
     pub quiet: bool,
 }
@@ -135,8 +152,7 @@ struct Options {
     reader: Option<Reader>,
     label: Option<String>,
     table: Option<PathBuf>,
-    json: bool,
-    quiet: bool,
+    output: Output,
 }
 
 /// The words after the program's name, or what was expected instead.
@@ -164,6 +180,7 @@ pub fn parse(words: impl IntoIterator<Item = OsString>) -> Result<Command, Strin
         Some(command) if command == "path" => options(words)?.path().map(Command::Check),
         Some(command) if command == "widens" => options(words)?.widens().map(Command::Widens),
         Some(command) if command == "upgrade" => options(words)?.upgrade().map(Command::Upgrade),
+        Some(command) if command == "instant" => options(words)?.instant().map(Command::Instants),
         Some(command) if command == "table" => match words.next() {
             None => Ok(Command::Table),
             Some(word) => Err(format!("table: expected nothing after it, not {word:?}")),
@@ -205,8 +222,8 @@ impl Options {
         let mut word = || given.take().or_else(|| words.next());
         let mut value = || text(name, word());
         match name {
-            "--json" => self.json = true,
-            "--quiet" => self.quiet = true,
+            "--json" => self.output.json = true,
+            "--quiet" => self.output.quiet = true,
             "--kind" => self.kind = Some(named(name, &value()?)?),
             "--semantics" => self.semantics = Some(named(name, &value()?)?),
             "--reader" => self.reader = Some(named(name, &value()?)?),
@@ -224,21 +241,13 @@ impl Options {
     }
 
     fn widens(self) -> Result<Pair, String> {
-        let given = [
-            ("--kind", self.kind.is_some()),
-            ("--semantics", self.semantics.is_some()),
-            ("--reader", self.reader.is_some()),
-            ("--label", self.label.is_some()),
-            ("--table", self.table.is_some()),
-        ];
-        not_for("widens", &given)?;
+        self.only_output("widens")?;
         self.once("widens")?;
         match self.words.as_slice() {
             [old, new] => Ok(Pair {
                 old: old.into(),
                 new: new.into(),
-                json: self.json,
-                quiet: self.quiet,
+                output: self.output,
             }),
             _ => Err("widens: expected the files OLD and NEW".to_owned()),
         }
@@ -302,6 +311,29 @@ impl Options {
         self.arguments("path", schema, Asked::Keys { paths, reader })
     }
 
+    fn instant(self) -> Result<Instants, String> {
+        self.only_output("instant")?;
+        match self.words.is_empty() {
+            true => Err("instant: expected at least one TEXT".to_owned()),
+            false => Ok(Instants {
+                texts: self.words,
+                output: self.output,
+            }),
+        }
+    }
+
+    /// That no option is given but those that say how outcomes are printed.
+    fn only_output(&self, command: &str) -> Result<(), String> {
+        let given = [
+            ("--kind", self.kind.is_some()),
+            ("--semantics", self.semantics.is_some()),
+            ("--reader", self.reader.is_some()),
+            ("--label", self.label.is_some()),
+            ("--table", self.table.is_some()),
+        ];
+        not_for(command, &given)
+    }
+
     /// The schema's file and the other words, of which there is one at least.
     fn split(
         &self,
@@ -327,8 +359,7 @@ impl Options {
             schema,
             asked,
             semantics,
-            json: self.json,
-            quiet: self.quiet,
+            output: self.output,
         })
     }
 }
@@ -385,8 +416,10 @@ mod tests {
                 table: Some("t".into()),
             },
             semantics: Semantics::Service1,
-            json: true,
-            quiet: false,
+            output: Output {
+                json: true,
+                quiet: false,
+            },
         });
         for line in [
             "check s a b --kind create_selector --semantics service/1 --label x --table t --json",
@@ -447,8 +480,49 @@ mod tests {
     }
 
     #[test]
+    fn instants_are_any_words() {
+        let expected = |texts: &[&str], json| {
+            Ok(Command::Instants(Instants {
+                texts: texts.iter().map(OsString::from).collect(),
+                output: Output { json, quiet: false },
+            }))
+        };
+        assert_eq!(
+            parsed("instant 2024-02-29"),
+            expected(&["2024-02-29"], false)
+        );
+        assert_eq!(
+            parsed("instant --json - -- --x"),
+            expected(&["-", "--x"], true)
+        );
+        assert_eq!(error("instant"), "instant: expected at least one TEXT");
+        assert_eq!(
+            error("instant --quiet --"),
+            "instant: expected at least one TEXT"
+        );
+    }
+
+    #[test]
+    fn commands_without_settings_take_none() {
+        for option in [
+            "--kind invariant",
+            "--semantics kernel/1",
+            "--reader kernel",
+            "--label x",
+            "--table t",
+        ] {
+            let (name, _) = option.split_once(' ').unwrap();
+            for (command, words) in [("widens", "o n"), ("instant", "a")] {
+                let expected = format!("{command}: {name} is no option of this command");
+                assert_eq!(error(&format!("{command} {words} {option}")), expected);
+            }
+        }
+    }
+
+    #[test]
     fn errors_say_what_was_expected() {
-        let commands = "expected the command `check`, `path`, `widens`, `upgrade` or `table`";
+        let commands =
+            "expected the command `check`, `path`, `widens`, `upgrade`, `instant` or `table`";
         assert_eq!(error(""), commands);
         assert_eq!(error("chekc"), format!("{commands}, not \"chekc\""));
         assert_eq!(
@@ -498,8 +572,7 @@ mod tests {
         let pair = |quiet| Pair {
             old: "o".into(),
             new: "n".into(),
-            json: false,
-            quiet,
+            output: Output { json: false, quiet },
         };
         assert_eq!(parsed("widens o n"), Ok(Command::Widens(pair(false))));
         assert_eq!(
@@ -528,17 +601,6 @@ mod tests {
             error("widens - -"),
             "widens: expected `-`, standard input, at most once"
         );
-        for option in [
-            "--kind invariant",
-            "--semantics kernel/1",
-            "--reader kernel",
-            "--label x",
-            "--table t",
-        ] {
-            let name = option.split(' ').next().unwrap();
-            let expected = format!("widens: {name} is no option of this command");
-            assert_eq!(error(&format!("widens o n {option}")), expected);
-        }
         for line in ["upgrade", "upgrade o"] {
             assert_eq!(error(line), "upgrade: expected the files OLD, NEW and RULE");
         }
@@ -564,6 +626,13 @@ mod tests {
         let names = kinds.chain(readers);
         for name in names.chain(Semantics::ALL.iter().map(|semantics| semantics.text())) {
             assert!(HELP.contains(name), "{name}");
+        }
+    }
+
+    #[test]
+    fn the_help_fits_a_terminal() {
+        for line in HELP.lines() {
+            assert!(line.len() <= 100, "{line}");
         }
     }
 }

@@ -1,22 +1,33 @@
-//! One rule or key path, checked, with what a person wants to know about the answer.
+//! One rule, key path or instant, checked, with what a person wants to know about the answer.
 
 use crate::arguments::{Arguments, Asked};
 use crate::hint::{hint, no_member};
 use entity_rules::entries::{Content, Entry, Malformed, read_rule, read_schema};
 use entity_rules::limits::{MAX_SHEET_BYTES, MAX_TEXT_BYTES, TABLE_BYTES};
 use entity_rules::{
-    Check, Defect, Kind, PathVerdict, Reader, ReferenceFault, Refusal, Table, TableError, Verdict,
-    check_path,
+    Check, Defect, Instant, Kind, PathVerdict, Reader, ReferenceFault, Refusal, Table, TableError,
+    Verdict, check_path, instant,
 };
 use std::ffi::{OsStr, OsString};
 use std::fs::File;
 use std::io::{self, Read};
 use std::path::{Path, PathBuf};
 
-/// A question and what came of it.
+/// What was asked about, and what came of it.
 pub struct Checked<'a> {
-    pub question: Question<'a>,
+    pub subject: Subject<'a>,
     pub outcome: Outcome,
+}
+
+/// What an outcome is about, as the command line names it.
+#[derive(Clone, Copy)]
+pub enum Subject<'a> {
+    /// The file of a rule or template.
+    File(&'a Path),
+    /// A path of the record's fields.
+    Key(&'a OsStr),
+    /// A text that is read as an instant.
+    Text(&'a OsStr),
 }
 
 /// What is checked against the schema: one of what the command line asks for.
@@ -30,6 +41,15 @@ pub enum Question<'a> {
     },
     /// A path of the record's fields.
     Key { path: &'a OsStr, reader: Reader },
+}
+
+impl<'a> Question<'a> {
+    pub fn subject(self) -> Subject<'a> {
+        match self {
+            Self::Rule { file, .. } => Subject::File(file),
+            Self::Key { path, .. } => Subject::Key(path),
+        }
+    }
 }
 
 impl Asked {
@@ -67,6 +87,9 @@ pub enum Outcome {
         fault: ReferenceFault,
         hint: Option<String>,
     },
+    /// The fields of an instant.
+    Instant(Instant),
+    NoInstant,
     Refused {
         refusal: Refusal,
         fault: Option<Fault>,
@@ -107,6 +130,10 @@ pub enum Sheet {
 }
 
 impl Outcome {
+    pub fn is_accepted(&self) -> bool {
+        matches!(self, Self::Accepted { .. } | Self::Instant(_))
+    }
+
     /// Whether it is the same answer as another, to the last number.
     pub fn is_same(&self, other: &Self) -> bool {
         match (self, other) {
@@ -199,7 +226,19 @@ impl<'a> Checked<'a> {
                 key_outcome(arguments, schema, path, reader)
             }
         };
-        Self { question, outcome }
+        Self {
+            subject: question.subject(),
+            outcome,
+        }
+    }
+
+    /// A text that is read as an instant.
+    pub fn instant(text: &'a OsStr) -> Self {
+        let read = instant(text.as_encoded_bytes());
+        Self {
+            subject: Subject::Text(text),
+            outcome: read.map_or(Outcome::NoInstant, Outcome::Instant),
+        }
     }
 }
 

@@ -2,7 +2,8 @@
 
 use entity_rules::{Detail, Kind, ReferenceFault, Semantics, Table};
 
-const INSTANT: &str = "an instant is YYYY-MM-DD or YYYY-MM-DDTHH:MM:SS, the latter with up to 9 digits \
+/// What an instant looks like.
+pub const INSTANT: &str = "an instant is YYYY-MM-DD or YYYY-MM-DDTHH:MM:SS, the latter with up to 9 digits \
                        after a dot and a Z if wanted; it has no offset";
 
 /// The hint for a defect of that detail, whose entry is a string of that text, under a table.

@@ -1,21 +1,28 @@
 //! Outcomes as JSON (RFC 8259), one object on one line.
 
-use crate::checked::{Checked, Fault, Outcome, Question, Spot, Unreadable};
-use crate::report::{not_read, refused};
+use crate::checked::{Checked, Fault, Outcome, Spot, Subject, Unreadable};
+use crate::hint::INSTANT;
+use crate::report::{NO_INSTANT, instant_fields, not_read, refused};
 use entity_rules::{Defect, DefectNumber, PathVerdict, Refusal};
 
-/// The line for one rule or path.
+/// The line for one rule, path or text.
 pub fn line(checked: &Checked) -> String {
     let mut object = Object::new();
-    match checked.question {
-        Question::Rule { file, .. } => object.text("file", &file.to_string_lossy()),
-        Question::Key { path, .. } => object.text("key", &path.to_string_lossy()),
-    }
+    subject_member(&mut object, checked.subject);
     outcome_members(&mut object, &checked.outcome);
     object.line()
 }
 
-/// What came of a rule or path.
+/// What an outcome is about.
+pub fn subject_member(object: &mut Object, subject: Subject<'_>) {
+    match subject {
+        Subject::File(file) => object.text("file", &file.to_string_lossy()),
+        Subject::Key(path) => object.text("key", &path.to_string_lossy()),
+        Subject::Text(text) => object.text("text", &text.to_string_lossy()),
+    }
+}
+
+/// What came of a rule, path or text.
 pub fn outcome_members(object: &mut Object, outcome: &Outcome) {
     match outcome {
         Outcome::Accepted { passed } => {
@@ -45,6 +52,21 @@ pub fn outcome_members(object: &mut Object, outcome: &Outcome) {
             if let Some(hint) = hint {
                 object.text("hint", hint);
             }
+        }
+        Outcome::Instant(instant) => {
+            object.text("verdict", "accepted");
+            object.number("number", 0);
+            for (name, number) in instant_fields(instant) {
+                object.number(name, number);
+            }
+        }
+        Outcome::NoInstant => {
+            let number = DefectNumber::Instant;
+            object.text("verdict", "defect");
+            object.number("number", number.number());
+            object.text("word", number.word());
+            object.text("explanation", NO_INSTANT);
+            object.text("hint", INSTANT);
         }
         Outcome::Refused { refusal, fault } => refused_members(object, *refusal, fault.as_ref()),
         Outcome::Unreadable(unreadable) => unreadable_members(object, unreadable),

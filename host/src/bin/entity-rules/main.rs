@@ -1,6 +1,6 @@
 //! The command-line tool: `entity-rules check SCHEMA RULE.. --kind KIND --semantics SEMANTICS`, `entity-rules path SCHEMA PATH..` for keys,
-//! `entity-rules widens OLD NEW` and `entity-rules upgrade OLD NEW RULE..` for schemas that change, and `entity-rules table`, which prints the stock
-//! table.
+//! `entity-rules widens OLD NEW` and `entity-rules upgrade OLD NEW RULE..` for schemas that change, `entity-rules instant TEXT..`, which prints the
+//! fields of instants, and `entity-rules table`, which prints the stock table.
 
 #![forbid(unsafe_code)]
 #![deny(
@@ -22,8 +22,8 @@ mod terminal;
 mod upgraded;
 mod widened;
 
-use arguments::{Arguments, Command, Pair, Upgrade};
-use checked::{Checked, Outcome, Shared, Sheet, read_sheet};
+use arguments::{Arguments, Command, Instants, Output, Pair, Upgrade};
+use checked::{Checked, Shared, Sheet, read_sheet};
 use entity_rules::Table;
 use progress::Progress;
 use report::{Palette, Tally};
@@ -67,6 +67,7 @@ fn run(command: &Command) -> io::Result<u8> {
         Command::Check(arguments) => return check(arguments, &mut out),
         Command::Widens(pair) => return widens(pair, &mut out),
         Command::Upgrade(asked) => return upgrade(asked, &mut out),
+        Command::Instants(asked) => return instants(asked, &mut out),
     }
     Ok(0)
 }
@@ -74,27 +75,43 @@ fn run(command: &Command) -> io::Result<u8> {
 /// Checks every rule or path, and prints what comes of it.
 fn check(arguments: &Arguments, out: &mut impl Write) -> io::Result<u8> {
     let shared = Shared::new(arguments);
-    let (questions, noun) = (arguments.asked.questions(), arguments.asked.noun());
-    let total = questions.len();
+    let questions = arguments.asked.questions().into_iter();
+    let all = questions.map(|question| Checked::new(arguments, &shared, question));
+    print(all, arguments.asked.noun(), arguments.output, out)
+}
+
+/// Reads every text as an instant, and prints what comes of it.
+fn instants(asked: &Instants, out: &mut impl Write) -> io::Result<u8> {
+    let all = asked.texts.iter().map(|text| Checked::instant(text));
+    print(all, "texts", asked.output, out)
+}
+
+/// Prints what comes of every rule, path or text, of which several are called so.
+fn print<'a>(
+    all: impl ExactSizeIterator<Item = Checked<'a>>,
+    noun: &'static str,
+    output: Output,
+    out: &mut impl Write,
+) -> io::Result<u8> {
+    let total = all.len();
     let palette = Palette::new(io::stdout().is_terminal());
     let has_bar = io::stderr().is_terminal() && !terminal::is_dumb();
     let mut progress = Progress::new(io::stderr(), has_bar, total, noun);
     let mut tally = Tally::default();
-    for question in questions {
-        let checked = Checked::new(arguments, &shared, question);
+    for checked in all {
         tally.count(&checked.outcome);
-        if arguments.shows(&checked.outcome) {
+        if !(output.quiet && checked.outcome.is_accepted()) {
             progress.clear();
-            out.write_all(show(arguments, &palette, &checked).as_bytes())?;
+            out.write_all(show(output, &palette, &checked).as_bytes())?;
         }
         progress.step();
-        if !arguments.json && checked.outcome.blames_what_is_shared() {
+        if !output.json && checked.outcome.blames_what_is_shared() {
             break;
         }
     }
     progress.clear();
     let status = tally.status();
-    if !arguments.json && total > 1 && !(arguments.quiet && status == 0) {
+    if !output.json && total > 1 && !(output.quiet && status == 0) {
         writeln!(out, "{}", tally.summary(total, noun))?;
     }
     out.flush()?;
@@ -104,20 +121,15 @@ fn check(arguments: &Arguments, out: &mut impl Write) -> io::Result<u8> {
 /// Holds two schemas against each other, and prints what comes of it.
 fn widens(pair: &Pair, out: &mut impl Write) -> io::Result<u8> {
     let compared = Compared::new(&pair.old, &pair.new);
-    show_compared(&compared, pair.json, pair.quiet, out)?;
+    show_compared(&compared, pair.output, out)?;
     out.flush()?;
     Ok(compared.status())
 }
 
-fn show_compared(
-    compared: &Compared,
-    json: bool,
-    quiet: bool,
-    out: &mut impl Write,
-) -> io::Result<()> {
+fn show_compared(compared: &Compared, output: Output, out: &mut impl Write) -> io::Result<()> {
     let palette = Palette::new(io::stdout().is_terminal());
-    let is_hidden = quiet && matches!(compared.comparison, Comparison::Widening { .. });
-    let text = match json {
+    let is_hidden = output.quiet && matches!(compared.comparison, Comparison::Widening { .. });
+    let text = match output.json {
         _ if is_hidden => String::new(),
         true => widened::json::line(compared),
         false => widened::report::text(&palette, compared),
@@ -137,7 +149,7 @@ fn upgrade(asked: &Upgrade, out: &mut impl Write) -> io::Result<u8> {
             Compared::unreadable(old_file, new_file, unreadable.clone())
         }
     };
-    show_compared(&compared, arguments.json, arguments.quiet, out)?;
+    show_compared(&compared, arguments.output, out)?;
     let is_widening = matches!(compared.comparison, Comparison::Widening { .. });
     match new {
         Ok(new) if compared.status() < REFUSED => {
@@ -156,6 +168,7 @@ fn upgrade_rules(
     is_widening: bool,
     out: &mut impl Write,
 ) -> io::Result<u8> {
+    let output = arguments.output;
     let questions = arguments.asked.questions();
     let total = questions.len();
     let palette = Palette::new(io::stdout().is_terminal());
@@ -164,11 +177,11 @@ fn upgrade_rules(
     let mut fates = Fates::default();
     for question in questions {
         let upgraded = Upgraded::new(arguments, shared, new, is_widening, question);
-        let is_last = !arguments.json && upgraded.blames_what_is_shared();
+        let is_last = !output.json && upgraded.blames_what_is_shared();
         fates.count(&upgraded.fate);
-        if !(arguments.quiet && upgraded.is_as_before()) {
+        if !(output.quiet && upgraded.is_as_before()) {
             progress.clear();
-            let text = match arguments.json {
+            let text = match output.json {
                 true => upgraded.line(),
                 false => upgraded.text(&palette, files),
             };
@@ -181,23 +194,16 @@ fn upgrade_rules(
     }
     progress.clear();
     let status = fates.status();
-    if !arguments.json && total > 1 && !(arguments.quiet && status == 0) {
+    if !output.json && total > 1 && !(output.quiet && status == 0) {
         writeln!(out, "{}", fates.summary(total))?;
     }
     out.flush()?;
     Ok(status)
 }
 
-fn show(arguments: &Arguments, palette: &Palette, checked: &Checked) -> String {
-    match arguments.json {
+fn show(output: Output, palette: &Palette, checked: &Checked) -> String {
+    match output.json {
         true => json::line(checked),
         false => report::text(palette, checked),
-    }
-}
-
-impl Arguments {
-    /// Whether an outcome is printed.
-    fn shows(&self, outcome: &Outcome) -> bool {
-        !(self.quiet && matches!(outcome, Outcome::Accepted { .. }))
     }
 }

@@ -1,4 +1,4 @@
-//! A bar that shows how many rules or paths are checked.
+//! A bar that shows how many rules, paths or texts are checked.
 
 use std::io::Write;
 use std::time::{Duration, Instant};

@@ -1,8 +1,9 @@
 //! Outcomes in words.
 
-use crate::checked::{Checked, Fault, Outcome, Question, Sheet, Spot, Unreadable};
+use crate::checked::{Checked, Fault, Outcome, Sheet, Spot, Subject, Unreadable};
+use crate::hint::INSTANT;
 use crate::terminal::{is_dumb, is_plain};
-use entity_rules::{Defect, DefectNumber, PathVerdict, Refusal};
+use entity_rules::{Defect, DefectNumber, Instant, PathVerdict, Refusal};
 use std::ffi::OsStr;
 
 /// The colours, or none.
@@ -34,12 +35,12 @@ impl Palette {
     }
 }
 
-/// What is printed for one rule or path. A sheet that is at fault is named itself, be it the rule's, the schema's or the table's.
+/// What is said of a text that is no instant.
+pub const NO_INSTANT: &str = "the text is no instant";
+
+/// What is printed for one rule, path or text. A sheet that is at fault is named itself, be it the rule's, the schema's or the table's.
 pub fn text(palette: &Palette, checked: &Checked) -> String {
-    let subject = name(match checked.question {
-        Question::Rule { file, .. } => file.as_os_str(),
-        Question::Key { path, .. } => path,
-    });
+    let subject = subject(checked.subject);
     match &checked.outcome {
         Outcome::Accepted { passed } => {
             let word = palette.paint(Colour::Green, "accepted");
@@ -62,6 +63,15 @@ pub fn text(palette: &Palette, checked: &Checked) -> String {
             let explanation = PathVerdict::Defect(*fault).to_string();
             let number = DefectNumber::Reference;
             defect_text(palette, &subject, number, &explanation, &rows)
+        }
+        Outcome::Instant(instant) => {
+            let word = palette.paint(Colour::Green, "accepted");
+            let fields = instant_fields(instant).map(|(name, number)| format!("{name} {number}"));
+            format!("{subject}: {word}, {}\n", fields.join(", "))
+        }
+        Outcome::NoInstant => {
+            let rows = [("hint", INSTANT.to_owned())];
+            defect_text(palette, &subject, DefectNumber::Instant, NO_INSTANT, &rows)
         }
         Outcome::Refused { refusal, fault } => {
             refused_text(palette, &subject, *refusal, fault.as_ref())
@@ -92,9 +102,30 @@ pub fn refused_text(
     format!("{place}: {word}: {}\n", refused(refusal, fault))
 }
 
-/// A file's name, or a path, as it is printed.
+/// What an outcome is about, as it is printed.
+pub fn subject(subject: Subject<'_>) -> String {
+    name(match subject {
+        Subject::File(file) => file.as_os_str(),
+        Subject::Key(text) | Subject::Text(text) => text,
+    })
+}
+
+/// A file's name, a path or a text, as it is printed.
 pub fn name(given: &OsStr) -> String {
     visible(&given.to_string_lossy())
+}
+
+/// The fields of an instant by their names.
+pub fn instant_fields(instant: &Instant) -> [(&'static str, u32); 7] {
+    [
+        ("year", instant.year),
+        ("month", instant.month),
+        ("day", instant.day),
+        ("hour", instant.hour),
+        ("minute", instant.minute),
+        ("second", instant.second),
+        ("nanoseconds", instant.nanoseconds),
+    ]
 }
 
 /// That so many checks, which are all, passed.
@@ -184,7 +215,7 @@ pub fn visible(text: &str) -> String {
     shown
 }
 
-/// How many rules or paths there were of each outcome.
+/// How many rules, paths or texts there were of each outcome.
 #[derive(Default)]
 pub struct Tally {
     accepted: usize,
@@ -202,8 +233,10 @@ impl Tally {
             return;
         }
         let counter = match outcome {
-            Outcome::Accepted { .. } => &mut self.accepted,
-            Outcome::Defect { .. } | Outcome::KeyDefect { .. } => &mut self.defects,
+            Outcome::Accepted { .. } | Outcome::Instant(_) => &mut self.accepted,
+            Outcome::Defect { .. } | Outcome::KeyDefect { .. } | Outcome::NoInstant => {
+                &mut self.defects
+            }
             Outcome::Refused { .. } => &mut self.refused,
             Outcome::Unreadable(_) => &mut self.unreadable,
         };

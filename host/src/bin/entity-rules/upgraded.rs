@@ -1,14 +1,14 @@
 //! Rules, when a new schema takes the place of the one that they were checked against.
 
 use crate::arguments::Arguments;
-use crate::checked::{Checked, Outcome, Question, Shared};
-use crate::json::{Object, outcome_members};
+use crate::checked::{Checked, Outcome, Question, Shared, Subject};
+use crate::json::{Object, outcome_members, subject_member};
 use crate::report::{self, Colour, Palette, accepted, name};
 use std::path::Path;
 
 /// A rule and how it fares.
 pub struct Upgraded<'a> {
-    pub question: Question<'a>,
+    pub subject: Subject<'a>,
     pub fate: Fate,
 }
 
@@ -43,7 +43,10 @@ impl<'a> Upgraded<'a> {
             (old, Some(new)) if old.is_same(&new) => Fate::Same(new),
             (old, Some(new)) => Fate::Changed { old, new },
         };
-        Self { question, fate }
+        Self {
+            subject: question.subject(),
+            fate,
+        }
     }
 
     /// Whether the table is at fault, so that every other rule would fare the same.
@@ -58,18 +61,15 @@ impl<'a> Upgraded<'a> {
 
     /// What is printed for it, with the names of the two schemas.
     pub fn text(self, palette: &Palette, [old_file, new_file]: [&Path; 2]) -> String {
-        let question = self.question;
-        let subject = match question {
-            Question::Rule { file, .. } => name(file.as_os_str()),
-            Question::Key { path, .. } => name(path),
-        };
-        let outcome_text = |outcome| report::text(palette, &Checked { question, outcome });
+        let subject = self.subject;
+        let outcome_text = |outcome| report::text(palette, &Checked { subject, outcome });
         let under = |file: &Path, outcome| {
             let file = name(file.as_os_str());
             let text = outcome_text(outcome);
             let lines = text.lines().map(|line| format!("    {line}\n"));
             format!("  under {file}\n{}", lines.collect::<String>())
         };
+        let subject = report::subject(subject);
         match self.fate {
             Fate::Stays { passed } => {
                 let word = palette.paint(Colour::Green, "stays accepted");
@@ -92,9 +92,7 @@ impl<'a> Upgraded<'a> {
     /// Its line of JSON.
     pub fn line(&self) -> String {
         let mut object = Object::new();
-        if let Question::Rule { file, .. } = self.question {
-            object.text("file", &file.to_string_lossy());
-        }
+        subject_member(&mut object, self.subject);
         let side = |outcome: &Outcome| {
             let mut object = Object::new();
             outcome_members(&mut object, outcome);
