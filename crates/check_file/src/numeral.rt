@@ -1,9 +1,10 @@
 // Numerals of any length: decimal, without leading zeros. A number above the longest file's length is read as `TOO_LARGE`, so that nothing wraps.
 use definition::limits::MAX_FILE_BYTES;
+use sheet::numeral::is_digit;
 ghost use mathlib.Core.Path.{_≡_};
 ghost use Prim.Native.Nat.{min, _≤_};
 ghost use lib.ListN.{length};
-ghost use Rattle.sheet.specs.Numeral.{isDigit, decimal};
+ghost use Rattle.sheet.specs.Numeral.{decimal};
 ghost use Rattle.check_file.specs.File.{field};
 ghost use Rattle.check_file.specs.Places.{tooLarge, digitsBehind, NumeralIs};
 
@@ -13,12 +14,6 @@ pub enum NumeralRead {
     // The number, and the place behind it.
     Is(u32, usize),
     Missing,
-}
-
-fn is_digit(b: u8) -> bool
-    ensures { λ r. ⌜ r ≡ isDigit b ⌝ }
-{
-    b'0' <= b && b <= b'9'
 }
 
 fn wide(b: u8) -> u32

@@ -1,11 +1,11 @@
 // The sheets of a rule book, one behind the other, each behind its length.
 use sheet::entry::starts_with;
 use sheet::numeral::NumeralRead;
+use sheet::numeral::is_digit;
 use sheet::part::Part;
 ghost use mathlib.Core.Path.{_≡_};
 ghost use Prim.Native.Nat.{_≤_};
 ghost use lib.ListN.{length};
-ghost use Rattle.sheet.specs.Numeral.{isDigit};
 ghost use Rattle.rule_book.specs.Places.{DigitsAre, LengthIs, SheetIs, CountIs};
 
 pub enum NextSheet {
@@ -17,12 +17,6 @@ pub enum NextSheet {
 pub enum Counted {
     Sheets(usize),
     Bad,
-}
-
-fn is_digit(b: u8) -> bool
-    ensures { λ r. ⌜ r ≡ isDigit b ⌝ }
-{
-    b'0' <= b && b <= b'9'
 }
 
 // The digits from `at` on, behind the one whose value is `first`. A length only grows, so it is given up when it is beyond the file's, before it could wrap.

@@ -2,12 +2,23 @@
 use definition::limits::MAX_FILE_BYTES;
 use file_answer::output;
 use libc::STDOUT_FILENO;
+ghost use Prim.Native.Nat.{_≤_};
+ghost use lib.ListN.{length, take};
+ghost use mathlib.Core.Path.{_≡_};
+ghost use Rattle.check_file.specs.Output.{outputOf};
 
 // One byte more than the longest file that is taken, so that a longer one shows.
 const FILE_BYTES: usize = MAX_FILE_BYTES + 1;
 
 // Room enough for every line.
 const LINE_BYTES: usize = 32835;
+
+// Writes what is printed for a file's bytes to the start of `line`, all of it, and returns how many bytes that are.
+fn answer_line(file: &[u8], line: &mut [u8; LINE_BYTES]) -> usize
+    ensures { λ r. ⌜ (take r (now (line .exit)) ≡ outputOf (now (file .entry))) × (r ≤ length (now (line .exit))) ⌝ }
+{
+    output(file, line)
+}
 
 fn main() {
     let fd = os::open_read(b"check.in");
@@ -17,6 +28,6 @@ fn main() {
     let mut file = [0u8; FILE_BYTES];
     let n = io::read_full(fd, &mut file);
     let mut line = [0u8; LINE_BYTES];
-    let size = output(&file[..n], &mut line);
+    let size = answer_line(&file[..n], &mut line);
     io::write_all(STDOUT_FILENO, &line[0..size]);
 }

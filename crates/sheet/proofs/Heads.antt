@@ -14,15 +14,17 @@ use Rattle.sheet.specs.Reader.{Reader, _>>=_, _>>_, andThen, ensure, pur
 use Rattle.sheet.specs.Entries as entries
 use Rattle.sheet.specs.Entries.{maxText, maxCount, byte, comma, dash, lineEnd, item, mark, textLength, bytes, text, optionalText, holderHead, argumentsHead, schemaHead, fieldHead, ruleHead, Shape, shapeOf, literal, many, negation, one, two, comparison, quantifier, behindOperator, conditionHead, constantRest, numberRest, stringRest, arrayRest, objectRest, behindType, valueHead, keyHead}
 use Rattle.sheet.specs.Parts.{partOf, optionalOf}
-use Rattle.sheet.specs.Pieces.{first, dashed, lastText, fieldMarks, fieldTexts, ruleTexts, leastOf, mostOf, bindLength, conditionBy, conditionFrom, kindOf, mostOfKind, textLengthOf, isRight, valueBy, valueFrom}
+use Rattle.sheet.specs.Pieces.{first, dashed, lastText, fieldMarks, fieldTexts, ruleTexts, conditionRow, conditionBy, conditionFrom, kindOf, valueRow, valueBy, valueFrom}
 use Rattle.sheet.specs.Places.{ReadsTo, Refuses, TextIs, LastTextIs, holderOf, fieldOf, RuleTextsAre, RuleIs, conditionOf, conditionCount, valueOf, valueCount}
 use Rattle.sheet.specs.declared.part.Part.{Part}
 use Rattle.sheet.specs.declared.part.OptionalPart.{OptionalPart}
 use Rattle.sheet.specs.declared.schema_heads.FieldMarks.{FieldMarks}
 use Rattle.sheet.specs.declared.rule_heads.RuleHeadRead.{RuleHeadRead}
 use Rattle.sheet.specs.declared.rule_heads.RuleHeadRead.the-variants as rule
+use Rattle.sheet.specs.declared.rule_heads.ConditionRow.{ConditionRow}
 use Rattle.sheet.specs.declared.rule_heads.ValueKind.{ValueKind}
 use Rattle.sheet.specs.declared.rule_heads.ValueKind.the-variants as kind
+use Rattle.sheet.specs.declared.rule_heads.ValueRow.{ValueRow}
 use Rattle.sheet.proofs.Chains.{then-then, then-bind, byte-other, item-dashed, mark-refused}
 
 -- Holders
@@ -393,10 +395,10 @@ conditionRest : ℕ → Shape → Reader (List ℕ) entries.ConditionHead
 conditionRest op sh = behindOperator op sh >>= λ h. lineEnd >> pure h
 
 conditionEnd : ℕ → Shape → ℕ → Reader (List ℕ) entries.ConditionHead
-conditionEnd op sh n = lastText (bindLength sh n) >>= λ t. pure (conditionBy op n t sh)
+conditionEnd op sh n = lastText (cond (conditionRow sh .bound) n 0) >>= λ t. pure (conditionBy op n t sh)
 
-condition-pieces : (op : ℕ) (sh : Shape) (l : List ℕ) → conditionRest op sh l ≡ (item (leastOf sh) (mostOf sh) >>= conditionEnd op sh) l
-unfolding conditionRest conditionEnd behindOperator leastOf mostOf bindLength conditionBy wordEnd ensure pure _>>=_ _>>_ andThen
+condition-pieces : (op : ℕ) (sh : Shape) (l : List ℕ) → conditionRest op sh l ≡ (item (conditionRow sh .least) (conditionRow sh .most) >>= conditionEnd op sh) l
+unfolding conditionRest conditionEnd behindOperator conditionRow conditionBy wordEnd ensure pure _>>=_ _>>_ andThen
 condition-pieces op literal l =
     ap (λ (o : Option (entries.ConditionHead × List ℕ)). andThen o (λ h. lineEnd >> pure h)) (mark-bind (λ t. comma >> pure (entries.literalHead t)) l)
     ∙ plain 0 1 (λ n. entries.literalHead (eqb n 1)) l
@@ -411,16 +413,19 @@ pub condition-other : (s : List ℕ) (at : ℕ) → Refuses (first 67 1 21) s at
 unfolding conditionHead
 condition-other s at e = first-refuses 67 1 21 _ s at e
 
-module _ {s : List ℕ} {at a op : ℕ} (o : ReadsTo (first 67 1 21) s at op a) (sh : Shape) (is : sh ≡ shapeOf op) (low high : ℕ) (least : low ≡ leastOf sh) (most : high ≡ mostOf sh) where
-  condition-is : conditionHead (drop at s) ≡ (item low high >>= conditionEnd op sh) (drop a s)
+module _ {s : List ℕ} {at a op : ℕ} (o : ReadsTo (first 67 1 21) s at op a) (sh : Shape) (is : sh ≡ shapeOf op) (row : ConditionRow) (its : row ≡ conditionRow sh) where
+  condition-is : conditionHead (drop at s) ≡ (item (row .least) (row .most) >>= conditionEnd op sh) (drop a s)
   unfolding conditionHead conditionRest
-  condition-is = first-behind 67 1 21 _ o ∙ (rw (← is, least, most) (condition-pieces op sh (drop a s)))
+  condition-is = first-behind 67 1 21 _ o ∙ (rw (← is, its) (condition-pieces op sh (drop a s)))
 
-  pub condition-no-number : Refuses (item low high) s a → Refuses conditionHead s at
+  pub condition-no-number : Refuses (item (row .least) (row .most)) s a → Refuses conditionHead s at
   unfolding _>>=_ andThen
   condition-no-number e = condition-is ∙ rw e
 
-  module _ {n b : ℕ} (m : ReadsTo (item low high) s a n b) (len : ℕ) (bind : len ≡ bindLength sh n) where
+  module _ {n b : ℕ} (m : ReadsTo (item (row .least) (row .most)) s a n b) (len : ℕ) (size : len ≡ cond (row .bound) n 0) where
+    bind : len ≡ cond (conditionRow sh .bound) n 0
+    bind = rw its at size
+
     pub condition-no-text : LastTextIs len s b false → Refuses conditionHead s at
     unfolding _>>=_ andThen conditionEnd
     condition-no-text e = condition-is ∙ rw (m .reads, ← bind, e)
@@ -444,8 +449,8 @@ condition-code s op n p two = refl
 condition-code s op n p comparison = refl
 condition-code s op n p quantifier = refl
 
-pub condition-counted : (op n : ℕ) (p : Part) (sh : Shape) → n ≤ mostOf sh → conditionCount (conditionFrom op n p sh) ≤ maxCount
-unfolding conditionCount conditionFrom mostOf
+pub condition-counted : (op n : ℕ) (p : Part) (sh : Shape) → n ≤ conditionRow sh .most → conditionCount (conditionFrom op n p sh) ≤ maxCount
+unfolding conditionCount conditionFrom conditionRow
 condition-counted op n p literal h = omega arith
 condition-counted op n p many h = h
 condition-counted op n p negation h = omega arith
@@ -478,10 +483,10 @@ valueRest : ValueKind → ℕ → Reader (List ℕ) entries.ValueHead
 valueRest k type = restBy k type >>= λ h. lineEnd >> pure h
 
 valueEnd : ValueKind → ℕ → ℕ → Reader (List ℕ) entries.ValueHead
-valueEnd k type n = lastText (textLengthOf k n) >>= λ t. ensure (isRight k t) >> pure (valueBy k type n t)
+valueEnd k type n = lastText (cond (valueRow k .texted) n 0) >>= λ t. ensure (cond (valueRow k .numeric) (isNumber t) true) >> pure (valueBy k type n t)
 
-value-pieces : (k : ValueKind) (type : ℕ) (l : List ℕ) → valueRest k type l ≡ (item 0 (mostOfKind k) >>= valueEnd k type) l
-unfolding valueRest valueEnd restBy constantRest numberRest stringRest arrayRest objectRest mostOfKind textLengthOf isRight valueBy wordEnd ensure pure _>>=_ _>>_ andThen
+value-pieces : (k : ValueKind) (type : ℕ) (l : List ℕ) → valueRest k type l ≡ (item 0 (valueRow k .most) >>= valueEnd k type) l
+unfolding valueRest valueEnd restBy constantRest numberRest stringRest arrayRest objectRest valueRow valueBy wordEnd ensure pure _>>=_ _>>_ andThen
 value-pieces kind.Constant type l = plain 0 0 (λ n. entries.constantHead type) l
 value-pieces kind.Number type l = word 0 maxText (λ n t. isNumber t) (λ n t. entries.numberHead t) (λ n. n) l
 value-pieces kind.Text type l = word 0 maxText (λ n t. true) (λ n t. entries.stringHead t) (λ n. n) l
@@ -492,30 +497,36 @@ pub value-other : (s : List ℕ) (at : ℕ) → Refuses (first 86 1 7) s at → 
 unfolding valueHead
 value-other s at e = first-refuses 86 1 7 _ s at e
 
-module _ {s : List ℕ} {at a type : ℕ} (o : ReadsTo (first 86 1 7) s at type a) (k : ValueKind) (is : k ≡ kindOf type) (high : ℕ) (most : high ≡ mostOfKind k) where
-  value-is : valueHead (drop at s) ≡ (item 0 high >>= valueEnd k type) (drop a s)
+module _ {s : List ℕ} {at a type : ℕ} (o : ReadsTo (first 86 1 7) s at type a) (k : ValueKind) (is : k ≡ kindOf type) (row : ValueRow) (its : row ≡ valueRow k) where
+  value-is : valueHead (drop at s) ≡ (item 0 (row .most) >>= valueEnd k type) (drop a s)
   unfolding valueHead valueRest
-  value-is = first-behind 86 1 7 _ o ∙ (rw (rest-kind type, ← is, most) (value-pieces k type (drop a s)))
+  value-is = first-behind 86 1 7 _ o ∙ (rw (rest-kind type, ← is, its) (value-pieces k type (drop a s)))
 
-  pub value-no-number : Refuses (item 0 high) s a → Refuses valueHead s at
+  pub value-no-number : Refuses (item 0 (row .most)) s a → Refuses valueHead s at
   unfolding _>>=_ andThen
   value-no-number e = value-is ∙ rw e
 
-  module _ {n b : ℕ} (m : ReadsTo (item 0 high) s a n b) (len : ℕ) (sized : len ≡ textLengthOf k n) where
+  module _ {n b : ℕ} (m : ReadsTo (item 0 (row .most)) s a n b) (len : ℕ) (size : len ≡ cond (row .texted) n 0) where
+    sized : len ≡ cond (valueRow k .texted) n 0
+    sized = rw its at size
+
     pub value-no-text : LastTextIs len s b false → Refuses valueHead s at
     unfolding _>>=_ andThen valueEnd
     value-no-text e = value-is ∙ rw (m .reads, ← sized, e)
 
     module _ (e : LastTextIs len s b true) where
-      pub value-wrong : false ≡ isRight k (take len (drop (b + 1) s)) → Refuses valueHead s at
-      unfolding _>>=_ _>>_ andThen ensure valueEnd
-      value-wrong w = value-is ∙ rw (m .reads, ← sized, e .reads, ← w)
+      right : {x : Bool} → x ≡ cond (row .numeric) (isNumber (take len (drop (b + 1) s))) true → x ≡ cond (valueRow k .numeric) (isNumber (take len (drop (b + 1) s))) true
+      right w = rw its at w
 
-      pub value-reads : true ≡ isRight k (take len (drop (b + 1) s)) → ReadsTo valueHead s at (valueBy k type n (take len (drop (b + 1) s))) (b + 1 + len + 1)
+      pub value-wrong : false ≡ cond (row .numeric) (isNumber (take len (drop (b + 1) s))) true → Refuses valueHead s at
+      unfolding _>>=_ _>>_ andThen ensure valueEnd
+      value-wrong w = value-is ∙ rw (m .reads, ← sized, e .reads, ← right w)
+
+      pub value-reads : true ≡ cond (row .numeric) (isNumber (take len (drop (b + 1) s))) true → ReadsTo valueHead s at (valueBy k type n (take len (drop (b + 1) s))) (b + 1 + len + 1)
       unfolding _>>=_ _>>_ andThen ensure valueEnd pure
       value-reads w =
           record {
-            reads = value-is ∙ rw (m .reads, ← sized, e .reads, ← w);
+            reads = value-is ∙ rw (m .reads, ← sized, e .reads, ← right w);
             past = omega (arith, o .past, m .past, e .past);
             within = e .within;
           }
@@ -528,8 +539,8 @@ value-code s kind.Text type n p = refl
 value-code s kind.Array type n p = refl
 value-code s kind.Object type n p = refl
 
-pub value-counted : (k : ValueKind) (type n : ℕ) (p : Part) → n ≤ mostOfKind k → valueCount (valueFrom k type n p) ≤ maxCount
-unfolding valueCount valueFrom mostOfKind
+pub value-counted : (k : ValueKind) (type n : ℕ) (p : Part) → n ≤ valueRow k .most → valueCount (valueFrom k type n p) ≤ maxCount
+unfolding valueCount valueFrom valueRow
 value-counted kind.Constant type n p h = omega arith
 value-counted kind.Number type n p h = omega arith
 value-counted kind.Text type n p h = omega arith

@@ -1,20 +1,21 @@
 -- Pieces of entries, as the code reads them. The heads of Entries are made of these pieces, which the proofs show.
 use Prim.Native.Nat.{ℕ}
-use mathlib.Core.Bool.{Bool, true, cond}
+use mathlib.Core.Bool.{true, false, cond}
 use mathlib.Core.List.{List}
 use mathlib.Core.Option.{Option}
 use lib.Dec.{leb, eqb}
-use Rattle.number.specs.Grammar.{isNumber}
 use Rattle.sheet.specs.Reader.{Reader, _>>=_, _>>_, pure}
 use Rattle.sheet.specs.Entries.{maxText, maxCount, byte, comma, dash, lineEnd, item, mark, textLength, text, optionalText, Shape, literal, many, negation, one, two, comparison, quantifier, RuleHead, rule, ConditionHead, literalHead, manyHead, negationHead, oneHead, twoHead, comparisonHead, quantifierHead, ValueHead, constantHead, numberHead, stringHead, arrayHead, objectHead}
 use Rattle.sheet.specs.declared.part.Part.{Part}
 use Rattle.sheet.specs.declared.schema_heads.FieldMarks.{FieldMarks}
 use Rattle.sheet.specs.declared.rule_heads.Shape.{Shape as CodeShape}
 use Rattle.sheet.specs.declared.rule_heads.Shape.the-variants as shape
+use Rattle.sheet.specs.declared.rule_heads.ConditionRow.{ConditionRow}
 use Rattle.sheet.specs.declared.rule_heads.ConditionHead.{ConditionHead as CodeCondition}
 use Rattle.sheet.specs.declared.rule_heads.ConditionHead.the-variants as condition
 use Rattle.sheet.specs.declared.rule_heads.ValueKind.{ValueKind}
 use Rattle.sheet.specs.declared.rule_heads.ValueKind.the-variants as kind
+use Rattle.sheet.specs.declared.rule_heads.ValueRow.{ValueRow}
 use Rattle.sheet.specs.declared.rule_heads.ValueHead.{ValueHead as CodeValue}
 use Rattle.sheet.specs.declared.rule_heads.ValueHead.the-variants as value
 
@@ -68,7 +69,7 @@ ruleTexts = do
   lineEnd
   pure (rule name message)
 
--- What stands behind an operator: a number from `leastOf` to `mostOf`, and a text of `bindLength` bytes.
+-- What stands behind an operator: a row of the code's table.
 
 unfoldable pub shapeFor : CodeShape → Shape
 shapeFor shape.Literal = literal
@@ -79,32 +80,14 @@ shapeFor shape.Two = two
 shapeFor shape.Comparison = comparison
 shapeFor shape.Quantifier = quantifier
 
-unfoldable pub leastOf : Shape → ℕ
-leastOf literal = 0
-leastOf many = 0
-leastOf negation = 0
-leastOf one = 0
-leastOf two = 0
-leastOf comparison = 1
-leastOf quantifier = 0
-
-unfoldable pub mostOf : Shape → ℕ
-mostOf literal = 1
-mostOf many = maxCount
-mostOf negation = 0
-mostOf one = 0
-mostOf two = 0
-mostOf comparison = 6
-mostOf quantifier = maxText
-
-unfoldable pub bindLength : Shape → ℕ → ℕ
-bindLength literal n = 0
-bindLength many n = 0
-bindLength negation n = 0
-bindLength one n = 0
-bindLength two n = 0
-bindLength comparison n = 0
-bindLength quantifier n = n
+unfoldable pub conditionRow : Shape → ConditionRow
+conditionRow literal = record { least = 0; most = 1; bound = false }
+conditionRow many = record { least = 0; most = maxCount; bound = false }
+conditionRow negation = record { least = 0; most = 0; bound = false }
+conditionRow one = record { least = 0; most = 0; bound = false }
+conditionRow two = record { least = 0; most = 0; bound = false }
+conditionRow comparison = record { least = 1; most = 6; bound = false }
+conditionRow quantifier = record { least = 0; most = maxText; bound = true }
 
 unfoldable pub conditionBy : ℕ → ℕ → List ℕ → Shape → ConditionHead
 conditionBy op n bind literal = literalHead (eqb n 1)
@@ -124,7 +107,7 @@ conditionFrom op n bind two = condition.Two op
 conditionFrom op n bind comparison = condition.Comparison n
 conditionFrom op n bind quantifier = condition.Quantifier op bind
 
--- What stands behind a value's type: a number up to `mostOfKind`, and a text of `textLengthOf` bytes.
+-- What stands behind a value's type: likewise.
 
 unfoldable pub kindOf : ℕ → ValueKind
 kindOf type =
@@ -133,26 +116,12 @@ kindOf type =
     (cond (leb type 5) kind.Text
     (cond (leb type 6) kind.Array kind.Object)))
 
-unfoldable pub mostOfKind : ValueKind → ℕ
-mostOfKind kind.Constant = 0
-mostOfKind kind.Number = maxText
-mostOfKind kind.Text = maxText
-mostOfKind kind.Array = maxCount
-mostOfKind kind.Object = maxCount
-
-unfoldable pub textLengthOf : ValueKind → ℕ → ℕ
-textLengthOf kind.Constant n = 0
-textLengthOf kind.Number n = n
-textLengthOf kind.Text n = n
-textLengthOf kind.Array n = 0
-textLengthOf kind.Object n = 0
-
-unfoldable pub isRight : ValueKind → List ℕ → Bool
-isRight kind.Constant t = true
-isRight kind.Number t = isNumber t
-isRight kind.Text t = true
-isRight kind.Array t = true
-isRight kind.Object t = true
+unfoldable pub valueRow : ValueKind → ValueRow
+valueRow kind.Constant = record { most = 0; texted = false; numeric = false }
+valueRow kind.Number = record { most = maxText; texted = true; numeric = true }
+valueRow kind.Text = record { most = maxText; texted = true; numeric = false }
+valueRow kind.Array = record { most = maxCount; texted = false; numeric = false }
+valueRow kind.Object = record { most = maxCount; texted = false; numeric = false }
 
 unfoldable pub valueBy : ValueKind → ℕ → ℕ → List ℕ → ValueHead
 valueBy kind.Constant type n t = constantHead type

@@ -8,9 +8,11 @@ use crate::numeral::NumeralRead;
 use crate::part;
 use crate::part::OptionalPart;
 use crate::part::Part;
+ghost use mathlib.Core.Bool.{true, cond};
 ghost use mathlib.Core.Path.{_≡_};
+ghost use Rattle.number.specs.Grammar.{isNumber};
 ghost use Rattle.sheet.specs.Entries.{shapeOf};
-ghost use Rattle.sheet.specs.Pieces.{shapeFor, leastOf, mostOf, bindLength, conditionFrom, kindOf, mostOfKind, textLengthOf, isRight, valueFrom};
+ghost use Rattle.sheet.specs.Pieces.{shapeFor, conditionRow, conditionFrom, kindOf, valueRow, valueFrom};
 ghost use Rattle.sheet.specs.Places.{RuleTextsAre, RuleIs, ConditionIs, ValueIs, KeyIs};
 
 // Operators that the checks tell apart, by their numbers (docs/FORMAT.md, "The rule sheet").
@@ -96,6 +98,13 @@ enum Shape {
     Quantifier,
 }
 
+// What stands in the entry behind an operator: a number from `least` to `most`, and if `bound` a bind of so many bytes.
+struct ConditionRow {
+    least: u32,
+    most: u32,
+    bound: bool,
+}
+
 // What follows a value's type.
 enum ValueKind {
     Constant,
@@ -103,6 +112,13 @@ enum ValueKind {
     Text,
     Array,
     Object,
+}
+
+// What stands in the entry behind a value's type: a number up to `most`, and if `texted` a text of so many bytes, if `numeric` that of a number.
+struct ValueRow {
+    most: u32,
+    texted: bool,
+    numeric: bool,
 }
 
 // A rule's entry behind its letter.
@@ -171,49 +187,54 @@ fn shape_of(op: usize) -> Shape
     Shape::Quantifier
 }
 
-// The least number that may stand behind the operator.
-fn least(shape: Shape) -> u32
-    ensures { λ r. ⌜ r ≡ leastOf (shapeFor shape) ⌝ }
+// A condition's row of that table.
+fn condition_row(shape: Shape) -> ConditionRow
+    ensures { λ r. ⌜ r ≡ conditionRow (shapeFor shape) ⌝ }
 {
     match shape {
-        Shape::Literal => 0,
-        Shape::Many => 0,
-        Shape::Negation => 0,
-        Shape::One => 0,
-        Shape::Two => 0,
-        Shape::Comparison => 1,
-        Shape::Quantifier => 0,
+        Shape::Literal => ConditionRow {
+            least: 0,
+            most: 1,
+            bound: false,
+        },
+        Shape::Many => ConditionRow {
+            least: 0,
+            most: MAX_COUNT,
+            bound: false,
+        },
+        Shape::Negation => ConditionRow {
+            least: 0,
+            most: 0,
+            bound: false,
+        },
+        Shape::One => ConditionRow {
+            least: 0,
+            most: 0,
+            bound: false,
+        },
+        Shape::Two => ConditionRow {
+            least: 0,
+            most: 0,
+            bound: false,
+        },
+        Shape::Comparison => ConditionRow {
+            least: 1,
+            most: 6,
+            bound: false,
+        },
+        Shape::Quantifier => ConditionRow {
+            least: 0,
+            most: MAX_TEXT,
+            bound: true,
+        },
     }
 }
 
-// The greatest number that may stand behind the operator.
-fn most(shape: Shape) -> u32
-    ensures { λ r. ⌜ r ≡ mostOf (shapeFor shape) ⌝ }
+// The length of the text behind the number `n`, where there is one.
+fn text_len(texted: bool, n: usize) -> usize
+    ensures { λ r. ⌜ r ≡ cond texted n 0 ⌝ }
 {
-    match shape {
-        Shape::Literal => 1,
-        Shape::Many => MAX_COUNT,
-        Shape::Negation => 0,
-        Shape::One => 0,
-        Shape::Two => 0,
-        Shape::Comparison => 6,
-        Shape::Quantifier => MAX_TEXT,
-    }
-}
-
-// The length of the text behind the number `n`.
-fn bind_len(shape: Shape, n: usize) -> usize
-    ensures { λ r. ⌜ r ≡ bindLength (shapeFor shape) n ⌝ }
-{
-    match shape {
-        Shape::Literal => 0,
-        Shape::Many => 0,
-        Shape::Negation => 0,
-        Shape::One => 0,
-        Shape::Two => 0,
-        Shape::Comparison => 0,
-        Shape::Quantifier => n,
-    }
+    if texted { n } else { 0 }
 }
 
 fn condition_from(shape: Shape, op: usize, n: usize, bind: Part) -> ConditionHead
@@ -237,10 +258,11 @@ pub fn condition_head(s: &[u8], at: usize) -> ConditionRead
         return ConditionRead::Bad;
     };
     let shape = shape_of(op);
-    let NumeralRead::Is(n, end) = entry::item(s, behind, least(shape), most(shape)) else {
+    let row = condition_row(shape);
+    let NumeralRead::Is(n, end) = entry::item(s, behind, row.least, row.most) else {
         return ConditionRead::Bad;
     };
-    let len = bind_len(shape, n);
+    let len = text_len(row.bound, n);
     if entry::is_last_text(s, end, len) {
         let start = end + 1;
         let head = condition_from(shape, op, n, Part { start, len });
@@ -268,42 +290,47 @@ fn kind_of(number: usize) -> ValueKind
     ValueKind::Object
 }
 
-// The greatest number that may stand behind the type.
-fn most_of(kind: ValueKind) -> u32
-    ensures { λ r. ⌜ r ≡ mostOfKind kind ⌝ }
+// A value's row of that table.
+fn value_row(kind: ValueKind) -> ValueRow
+    ensures { λ r. ⌜ r ≡ valueRow kind ⌝ }
 {
     match kind {
-        ValueKind::Constant => 0,
-        ValueKind::Number => MAX_TEXT,
-        ValueKind::Text => MAX_TEXT,
-        ValueKind::Array => MAX_COUNT,
-        ValueKind::Object => MAX_COUNT,
-    }
-}
-
-// The length of the text behind the number `n`.
-fn text_len(kind: ValueKind, n: usize) -> usize
-    ensures { λ r. ⌜ r ≡ textLengthOf kind n ⌝ }
-{
-    match kind {
-        ValueKind::Constant => 0,
-        ValueKind::Number => n,
-        ValueKind::Text => n,
-        ValueKind::Array => 0,
-        ValueKind::Object => 0,
+        ValueKind::Constant => ValueRow {
+            most: 0,
+            texted: false,
+            numeric: false,
+        },
+        ValueKind::Number => ValueRow {
+            most: MAX_TEXT,
+            texted: true,
+            numeric: true,
+        },
+        ValueKind::Text => ValueRow {
+            most: MAX_TEXT,
+            texted: true,
+            numeric: false,
+        },
+        ValueKind::Array => ValueRow {
+            most: MAX_COUNT,
+            texted: false,
+            numeric: false,
+        },
+        ValueKind::Object => ValueRow {
+            most: MAX_COUNT,
+            texted: false,
+            numeric: false,
+        },
     }
 }
 
 // The text of a number is one.
-fn is_right(kind: ValueKind, text: &[u8]) -> bool
-    ensures { λ r. ⌜ r ≡ isRight kind (now (text .entry)) ⌝ }
+fn is_right(numeric: bool, text: &[u8]) -> bool
+    ensures { λ r. ⌜ r ≡ cond numeric (isNumber (now (text .entry))) true ⌝ }
 {
-    match kind {
-        ValueKind::Constant => true,
-        ValueKind::Number => number::is_number(text),
-        ValueKind::Text => true,
-        ValueKind::Array => true,
-        ValueKind::Object => true,
+    if numeric {
+        number::is_number(text)
+    } else {
+        true
     }
 }
 
@@ -326,14 +353,15 @@ pub fn value_head(s: &[u8], at: usize) -> ValueRead
         return ValueRead::Bad;
     };
     let kind = kind_of(number);
-    let NumeralRead::Is(n, end) = entry::item(s, behind, 0, most_of(kind)) else {
+    let row = value_row(kind);
+    let NumeralRead::Is(n, end) = entry::item(s, behind, 0, row.most) else {
         return ValueRead::Bad;
     };
-    let len = text_len(kind, n);
+    let len = text_len(row.texted, n);
     if entry::is_last_text(s, end, len) {
         let start = end + 1;
         let text = Part { start, len };
-        if is_right(kind, part::bytes_of(s, text)) {
+        if is_right(row.numeric, part::bytes_of(s, text)) {
             return ValueRead::Is(value_from(kind, number, n, text), start + len + 1);
         }
     }

@@ -63,6 +63,26 @@ unfolding heard lacks roomy
 mark =
     shows _ _ refl refl (record { fields = record { mark = kept; members = keep (wider opened neither end) end }; arguments = without }) refl refl refl refl
 
+-- the mark of an element, read through an ordinal
+pub element-mark : Shows marks
+    (ask 1 2 (ascii "H,0,1,-,0\nF,6,0,1,0,1,-,a\nF,7,0,0,0,0,-,\n") (ascii "R,-,-,\nC,5,0,\nV,5,13,$fields.a.0.x\n"))
+    (ascii "H,0,1,-,0\nF,6,0,1,0,1,-,a\nF,7,1,0,0,0,-,\n")
+    (lacks 3)
+    (accepts 5)
+unfolding heard lacks roomy
+element-mark =
+    shows _ _ refl refl (record { fields = record { mark = kept; members = keep (wider kept (both (wider opened neither end)) end) end }; arguments = without }) refl refl refl refl
+
+-- the mark of the arguments
+pub arguments-mark : Shows marks
+    (ask 2 2 (ascii "H,0,0,0,0\n") (ascii "R,-,-,\nC,5,0,\nV,5,7,$args.x\n"))
+    (ascii "H,0,0,1,0\n")
+    (lacks 2)
+    (accepts 5)
+unfolding heard lacks roomy
+arguments-mark =
+    shows _ _ refl refl (record { fields = record { mark = kept; members = end }; arguments = stay (record { mark = opened; members = end }) }) refl refl refl refl
+
 -- an open mark elsewhere: the same defect with the same detail
 pub other-mark : Shows marks
     (ask 1 2 (ascii "H,0,1,-,0\nF,7,0,0,0,1,-,o\n") (ascii "R,-,-,\nC,5,0,\nV,5,11,$fields.o.x\n"))

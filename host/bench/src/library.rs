@@ -58,6 +58,14 @@ extern "C" {
         result: *mut u8,
         result_length: usize,
     ) -> u32;
+    fn rulecheck_widens(
+        first: *const u8,
+        first_length: usize,
+        second: *const u8,
+        second_length: usize,
+        result: *mut u8,
+        result_length: usize,
+    ) -> u32;
     fn acceptance_schema(sheet: *const u8, length: usize) -> u32;
     fn acceptance_rule(sheet: *const u8, length: usize) -> u32;
 }
@@ -97,4 +105,14 @@ pub fn accepts(sheet: &[u8]) -> bool {
         }
     };
     answer == 1
+}
+
+/// The answer about two schemas: 1 or 2 where the second is a widening of the first, 3 where it is none.
+pub fn widens(first: &[u8], second: &[u8]) -> u32 {
+    let mut result = [0u8; 28];
+    // SAFETY: each pointer and length are those of a slice; the library reads the first two and writes the last, which overlaps neither.
+    unsafe {
+        rulecheck_widens(first.as_ptr(), first.len(), second.as_ptr(), second.len(), result.as_mut_ptr(), result.len());
+    }
+    u32::from_le_bytes([result[4], result[5], result[6], result[7]])
 }

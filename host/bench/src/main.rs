@@ -4,6 +4,7 @@
 
 mod library;
 mod measure;
+mod pairs;
 mod plot;
 mod reader;
 mod report;
@@ -96,7 +97,9 @@ fn all(counting: bool) -> Result<Figures, String> {
     eprintln!("bench: acceptance and stack");
     let acceptance = sheets::sheets().into_iter().map(acceptance).collect();
     let stack = sheets::deepest().into_iter().map(|(name, sample)| (name, stack::depth(&sample).0)).collect();
-    Ok(Figures { rows, numbers, acceptance, stack })
+    eprintln!("bench: pairs of schemas");
+    let pairs = pairs::compared();
+    Ok(Figures { rows, numbers, acceptance, pairs, stack })
 }
 
 fn row(group: &'static Group, counting: bool) -> Result<Row, String> {

@@ -1,5 +1,6 @@
 //! The figures as tables, and the document that they go into.
 
+use crate::pairs::Compared;
 use crate::plot;
 use crate::sheets::Group;
 use std::fs;
@@ -45,13 +46,14 @@ pub struct Figures {
     /// Rules of long numbers.
     pub numbers: Vec<Row>,
     pub acceptance: Vec<Acceptance>,
+    pub pairs: Vec<Compared>,
     /// What a call takes of the stack, in bytes.
     pub stack: Vec<(&'static str, usize)>,
 }
 
 impl Figures {
     pub fn tables(&self) -> String {
-        [self.checks(), self.counts(), self.long_numbers(), self.acceptances(), self.stacks()].join("\n")
+        [self.checks(), self.counts(), self.long_numbers(), self.acceptances(), self.comparisons(), self.stacks()].join("\n")
     }
 
     /// Puts each table, the processor's name and the plot where the document has a place for them.
@@ -64,6 +66,7 @@ impl Figures {
             ("counts", self.counts()),
             ("numbers", self.long_numbers()),
             ("acceptance", self.acceptances()),
+            ("pairs", self.comparisons()),
             ("stack", self.stacks()),
         ];
         for (name, part) in parts {
@@ -146,6 +149,14 @@ impl Figures {
             )
         };
         head.to_owned() + &self.acceptance.iter().map(line).collect::<String>()
+    }
+
+    fn comparisons(&self) -> String {
+        let head = "| schemas | bytes of both | library, µs | library, ns a byte |\n|---|---|---|---|\n";
+        let line = |row: &Compared| {
+            format!("| {} | {} | {:.1} | {:.2} |\n", row.name, row.bytes, row.library / 1e3, row.library / row.bytes as f64)
+        };
+        head.to_owned() + &self.pairs.iter().map(line).collect::<String>()
     }
 
     fn stacks(&self) -> String {

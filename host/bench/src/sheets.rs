@@ -113,7 +113,7 @@ fn small(size: usize) -> Sample {
 
 /// Blocks of ten entries: an object of four fields, an array of objects of two fields, and one plain field. The rule has 30 entries,
 /// conditions and quantifiers on blocks that are far apart.
-fn typical(entries: usize) -> Sample {
+pub fn typical(entries: usize) -> Sample {
     let blocks = (entries - 1) / 10;
     let parts = each(blocks, |i| {
         let inner = ["amount", "batch", "grade", "weight"].map(|name| plain(2, name)).concat();
@@ -245,6 +245,7 @@ pub fn sheets() -> Vec<Sheet> {
         sheet("template, strings of 512 bytes", values(text(&"s".repeat(512)), 57)),
         sheet("template, 1,000 keys that rise", format!("T\nV,7,1000,\n{}", members(0..1_000))),
         sheet("template, 1,000 keys in no order", format!("T\nV,7,1000,\n{}", members(strewn(1_000)))),
+        sheet("template, 1,022 keys that fall", format!("T\nV,7,1022,\n{}", members((0..1_022).rev()))),
         sheet("rule, 600 pairs", format!("R,-,-,\nC,2,600,\n{}", pair.repeat(600))),
         sheet("rule, 256 levels", format!("R,-,-,\n{}C,1,1,\n", "C,4,0,\n".repeat(255))),
     ]

@@ -32,7 +32,8 @@ pub fn edges() -> Vec<Case> {
     });
     let setting = Setting { kind: 2, semantics: 2, label: "r", names: &STOCK };
     let full = [MAX_SHEET_BYTES, MAX_SHEET_BYTES + 1].map(|bytes| schema_bytes(&setting, bytes));
-    let sheets = [names(), without_arguments(), vec![example()], schema_entries(), vec![most_entries()], full.to_vec()];
+    let sheets =
+        [names(), long_names(), numerals(), without_arguments(), vec![example()], schema_entries(), vec![most_entries()], full.to_vec()];
     cases.chain(sheets.into_iter().flatten()).collect()
 }
 
@@ -52,6 +53,45 @@ fn names() -> Vec<Case> {
         ] {
             let expect = Expect::Number(if rises { 0 } else { 4 });
             cases.push(Case::new(2, 2, b"r", write_schema(&schema), write_rule(&Sheet::Template(text("$id")))).expecting(expect));
+        }
+    }
+    cases
+}
+
+/// Names of eight bytes and more that differ early, late or in their length alone: each is read, and so is one that no field bears.
+fn long_names() -> Vec<Case> {
+    let names =
+        ["aaaaaaaaaaaaaaaa", "aaaaaaaaaaaaaaab", "aaaaaaaaaaaaaaabc", "abaaaaaaaaaaaaaa", "abaaaaab", "abaaaaac", "baaaaaaaaaaaaaaa"];
+    let fields = || names.map(|name| field(name, STRING)).to_vec();
+    let missing = ["aaaaaaaaaaaaaaa", "aaaaaaaaaaaaaaac", "acaaaaaaaaaaaaaa", "abaaaaabb", "bbaaaaaaaaaaaaaa", "aaaaaaab"];
+    let case = |name: &str, answer: (u32, u32)| {
+        let sheet = write_schema(&schema(holder(false, fields()), None));
+        let rule = write_rule(&rule(exists(text(&format!("$fields.{name}")))));
+        Case::new(2, 2, b"r", sheet, rule).expecting(Expect::Detail(answer.0, answer.1))
+    };
+    let there = names.map(|name| case(name, ACCEPTED));
+    there.into_iter().chain(missing.map(|name| case(name, (18, 2)))).collect()
+}
+
+/// Whether a digit of a numeral stands at a place: between it and a comma are digits alone.
+fn in_numeral(sheet: &[u8], at: usize) -> bool {
+    let before = sheet[..at].iter().rev().find(|byte| !byte.is_ascii_digit());
+    sheet[at].is_ascii_digit() && before == Some(&b',')
+}
+
+/// Both sheets with a byte beside the digits, `/` or `:`, in place of each digit of a numeral.
+fn numerals() -> Vec<Case> {
+    let schema = b"H,0,1,0,1\nF,7,0,0,1,1,-,o\nF,1,0,0,0,10,-,abcdefghij\nF,11,1,0,0,1,1,ut\n";
+    let rule = b"R,1,2,nno\nC,2,1,\nC,20,1,b\nV,5,9,$fields.o\nC,14,0,\nV,7,1,\nK,1,k\nV,4,2,-1\nV,6,0,\n";
+    let mut cases = Vec::new();
+    for (number, sheet) in [(4, schema.as_slice()), (5, rule.as_slice())] {
+        for at in (0..sheet.len()).filter(|&at| in_numeral(sheet, at)) {
+            for beside in [b'/', b':'] {
+                let mut damaged = sheet.to_vec();
+                damaged[at] = beside;
+                let (schema, rule) = if number == 4 { (damaged, rule.to_vec()) } else { (schema.to_vec(), damaged) };
+                cases.push(Case::new(2, 2, b"r", schema, rule).expecting(Expect::Number(number)));
+            }
         }
     }
     cases

@@ -24,11 +24,8 @@ returns c =
 shape-of-requires : tie.Need-shape-of-requires
 shape-of-requires c κs = search needs
 
-least-requires : tie.Need-least-requires
-least-requires c κs = search needs
-
-most-requires : tie.Need-most-requires
-most-requires c κs = search needs
+condition-row-requires : tie.Need-condition-row-requires
+condition-row-requires c κs = search needs
 
 item-requires : tie.Need-item-requires
 item-requires c κs = search needs
@@ -41,15 +38,14 @@ enum-told-2 c = search needs
 
 returns-2 : tie.Need-returns-2
 returns-2 c =
-    let first = rw (c .before .before .before .before .before .before .before .op .given .1) at (c .before .before .before .before .before .before .before .before .before .first .ensures) in
+    let first = rw (c .before .before .before .before .before .before .op .given .1) at (c .before .before .before .before .before .before .before .before .first .ensures) in
     let item = rw (c .enum-told2 .given .1) at (c .before .before .item .ensures) in
-    let shape-of = c .before .before .before .before .before .shape-of in
-    let least = c .before .before .before .before .least in
-    let most = c .before .before .before .most in
-    condition-no-number (first .0) (shapeFor (shape-of .result)) (shape-of .ensures) (least .result) (most .result) (least .ensures) (most .ensures) item
+    let shape = c .before .before .before .before .shape-of in
+    let row = c .before .before .before .condition-row in
+    condition-no-number (first .0) (shapeFor (shape .result)) (shape .ensures) (row .result) (row .ensures) item
 
-bind-len-requires : tie.Need-bind-len-requires
-bind-len-requires c κs = search needs
+text-len-requires : tie.Need-text-len-requires
+text-len-requires c κs = search needs
 
 is-last-text-requires : tie.Need-is-last-text-requires
 is-last-text-requires c κs = search needs
@@ -62,41 +58,37 @@ add-start c =
 condition-from-requires : tie.Need-condition-from-requires
 condition-from-requires c κs = search needs
 
-add-t17 : tie.Need-add-t17
-add-t17 c =
+add-t16 : tie.Need-add-t16
+add-t16 c =
     let is-last-text = rw (c .before .if1 .taken) at (c .before .before .is-last-text .ensures) in
     omega (arith, is-last-text .within)
 
-add-t18 : tie.Need-add-t18
-add-t18 c =
+add-t17 : tie.Need-add-t17
+add-t17 c =
     let is-last-text = rw (c .before .if1 .taken) at (c .before .before .is-last-text .ensures) in
     omega (arith, is-last-text .within)
 
 returns-3 : tie.Need-returns-3
 unfolding partOf
 returns-3 c =
-    let first = rw (c .before .before .before .before .before .before .before .before .before .before .before .before .op .given .1) at (c .before .before .before .before .before .before .before .before .before .before .before .before .before .before .first .ensures) in
+    let first = rw (c .before .before .before .before .before .before .before .before .before .before .before .op .given .1) at (c .before .before .before .before .before .before .before .before .before .before .before .before .before .first .ensures) in
     let item = rw (c .before .before .before .before .before .n .given .1) at (c .before .before .before .before .before .before .before .item .ensures) in
     let is-last-text = rw (c .before .if1 .taken) at (c .before .before .is-last-text .ensures) in
-    let shape-of = c .before .before .before .before .before .before .before .before .before .before .shape-of in
-    let condition-from = c .condition-from in
-    let least = c .before .before .before .before .before .before .before .before .before .least in
-    let most = c .before .before .before .before .before .before .before .before .most in
-    let bind-len = c .before .before .before .bind-len in
-    let sh = shapeFor (shape-of .result) in
-    rw (condition-from .ensures, ← condition-code)
-    (condition-reads (first .0) (shapeFor (shape-of .result)) (shape-of .ensures) (least .result) (most .result) (least .ensures) (most .ensures) (item .0) (bind-len .result) (bind-len .ensures) is-last-text, condition-counted _ _ _ sh (rw (most .ensures) at (item .2)))
+    let shape = c .before .before .before .before .before .before .before .before .before .shape-of in
+    let row = c .before .before .before .before .before .before .before .before .condition-row in
+    let len = c .before .before .before .text-len in
+    rw (c .condition-from .ensures, ← condition-code)
+    (condition-reads (first .0) (shapeFor (shape .result)) (shape .ensures) (row .result) (row .ensures) (item .0) (len .result) (len .ensures) is-last-text, condition-counted _ _ _ (shapeFor (shape .result)) (rw (row .ensures) at (item .2)))
 
 returns-4 : tie.Need-returns-4
 returns-4 c =
-    let first = rw (c .before .before .before .before .before .before .before .before .before .before .before .op .given .1) at (c .before .before .before .before .before .before .before .before .before .before .before .before .before .first .ensures) in
+    let first = rw (c .before .before .before .before .before .before .before .before .before .before .op .given .1) at (c .before .before .before .before .before .before .before .before .before .before .before .before .first .ensures) in
     let item = rw (c .before .before .before .before .n .given .1) at (c .before .before .before .before .before .before .item .ensures) in
     let is-last-text = rw (c .if1 .left) at (c .before .is-last-text .ensures) in
-    let shape-of = c .before .before .before .before .before .before .before .before .before .shape-of in
-    let least = c .before .before .before .before .before .before .before .before .least in
-    let most = c .before .before .before .before .before .before .before .most in
-    let bind-len = c .before .before .bind-len in
-    condition-no-text (first .0) (shapeFor (shape-of .result)) (shape-of .ensures) (least .result) (most .result) (least .ensures) (most .ensures) (item .0) (bind-len .result) (bind-len .ensures) is-last-text
+    let shape = c .before .before .before .before .before .before .before .before .shape-of in
+    let row = c .before .before .before .before .before .before .before .condition-row in
+    let len = c .before .before .text-len in
+    condition-no-text (first .0) (shapeFor (shape .result)) (shape .ensures) (row .result) (row .ensures) (item .0) (len .result) (len .ensures) is-last-text
 
 pub condition-head-spec : {M : Type 1} → statement M
 condition-head-spec =
@@ -107,17 +99,16 @@ condition-head-spec =
     enum-told
     returns
     shape-of-requires
-    least-requires
-    most-requires
+    condition-row-requires
     item-requires
     enum-known-n
     enum-told-2
     returns-2
-    bind-len-requires
+    text-len-requires
     is-last-text-requires
     add-start
     condition-from-requires
+    add-t16
     add-t17
-    add-t18
     returns-3
     returns-4)

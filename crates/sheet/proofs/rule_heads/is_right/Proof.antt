@@ -1,59 +1,16 @@
--- `sheet::rule_heads::is_right` meets its contract: kind by kind.
-use Rattle.sheet.specs.Pieces.{isRight}
+-- `sheet::rule_heads::is_right` meets its contract: the text of a number is tested, and no other.
 use borrow.Author.Needs.{needs}
 use Rattle.sheet.proofs.rule_heads.is_right.Statement.{statement}
 use Rattle.sheet.proofs.rule_heads.is_right.Tie as tie
 
-enum-told : tie.Need-enum-told
-enum-told c = search needs
-
-enum-told-2 : tie.Need-enum-told-2
-enum-told-2 c = search needs
-
 is-number-requires : tie.Need-is-number-requires
 is-number-requires c κs = search needs
 
-enum-told-3 : tie.Need-enum-told-3
-enum-told-3 c = search needs
-
-enum-told-4 : tie.Need-enum-told-4
-enum-told-4 c = search needs
-
-enum-told-5 : tie.Need-enum-told-5
-enum-told-5 c = search needs
-
 returns : tie.Need-returns
-unfolding isRight
-returns c = rw (c .enum-told .given .1)
+returns c = rw (c .before .if1 .taken) (c .is-number .ensures)
 
 returns-2 : tie.Need-returns-2
-unfolding isRight
-returns-2 c = rw (c .before .enum-told2 .given .1) (c .is-number .ensures)
-
-returns-3 : tie.Need-returns-3
-unfolding isRight
-returns-3 c = rw (c .enum-told3 .given .1)
-
-returns-4 : tie.Need-returns-4
-unfolding isRight
-returns-4 c = rw (c .enum-told4 .given .1)
-
-returns-5 : tie.Need-returns-5
-unfolding isRight
-returns-5 c = rw (c .enum-told5 .given .1)
+returns-2 c = search needs
 
 pub is-right-spec : {M : Type 1} → statement M
-is-right-spec =
-    tie.close
-    (tie.spec
-    enum-told
-    enum-told-2
-    is-number-requires
-    enum-told-3
-    enum-told-4
-    enum-told-5
-    returns
-    returns-2
-    returns-3
-    returns-4
-    returns-5)
+is-right-spec = tie.close (tie.spec is-number-requires returns returns-2)

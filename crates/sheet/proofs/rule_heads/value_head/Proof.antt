@@ -23,8 +23,8 @@ returns c =
 kind-of-requires : tie.Need-kind-of-requires
 kind-of-requires c κs = search needs
 
-most-of-requires : tie.Need-most-of-requires
-most-of-requires c κs = search needs
+value-row-requires : tie.Need-value-row-requires
+value-row-requires c κs = search needs
 
 item-requires : tie.Need-item-requires
 item-requires c κs = search needs
@@ -39,9 +39,9 @@ returns-2 : tie.Need-returns-2
 returns-2 c =
     let first = rw (c .before .before .before .before .before .before .number .given .1) at (c .before .before .before .before .before .before .before .before .first .ensures) in
     let item = rw (c .enum-told2 .given .1) at (c .before .before .item .ensures) in
-    let kind-of = c .before .before .before .before .kind-of in
-    let most-of = c .before .before .before .most-of in
-    value-no-number (first .0) (kind-of .result) (kind-of .ensures) (most-of .result) (most-of .ensures) item
+    let kind = c .before .before .before .before .kind-of in
+    let row = c .before .before .before .value-row in
+    value-no-number (first .0) (kind .result) (kind .ensures) (row .result) (row .ensures) item
 
 text-len-requires : tie.Need-text-len-requires
 text-len-requires c κs = search needs
@@ -79,15 +79,12 @@ returns-3 c =
     let first = rw (c .before .before .before .before .before .before .before .before .before .before .before .before .before .before .number .given .1) at (c .before .before .before .before .before .before .before .before .before .before .before .before .before .before .before .before .first .ensures) in
     let item = rw (c .before .before .before .before .before .before .before .before .n .given .1) at (c .before .before .before .before .before .before .before .before .before .before .item .ensures) in
     let is-last-text = rw (c .before .before .before .before .if1 .taken) at (c .before .before .before .before .before .is-last-text .ensures) in
-    let bytes-of = c .before .before .before .bytes-of in
-    let is-right = c .before .before .is-right in
-    let value-from = c .value-from in
-    let kind-of = c .before .before .before .before .before .before .before .before .before .before .before .before .kind-of in
-    let most-of = c .before .before .before .before .before .before .before .before .before .before .before .most-of in
-    let text-len = c .before .before .before .before .before .before .text-len in
-    let w = rw (c .before .if2 .taken, bytes-of .ensures) at (is-right .ensures) in
-    rw (value-from .ensures, ← value-code)
-    (value-reads (first .0) (kind-of .result) (kind-of .ensures) (most-of .result) (most-of .ensures) (item .0) (text-len .result) (text-len .ensures) is-last-text w, value-counted (kind-of .result) _ _ _ (rw (most-of .ensures) at (item .2)))
+    let kind = c .before .before .before .before .before .before .before .before .before .before .before .before .kind-of in
+    let row = c .before .before .before .before .before .before .before .before .before .before .before .value-row in
+    let len = c .before .before .before .before .before .before .text-len in
+    let right = rw (c .before .if2 .taken, c .before .before .before .bytes-of .ensures) at (c .before .before .is-right .ensures) in
+    rw (c .value-from .ensures, ← value-code)
+    (value-reads (first .0) (kind .result) (kind .ensures) (row .result) (row .ensures) (item .0) (len .result) (len .ensures) is-last-text right, value-counted (kind .result) _ _ _ (rw (row .ensures) at (item .2)))
 
 returns-4 : tie.Need-returns-4
 unfolding partOf
@@ -95,23 +92,21 @@ returns-4 c =
     let first = rw (c .before .before .before .before .before .before .before .before .before .before .before .before .before .number .given .1) at (c .before .before .before .before .before .before .before .before .before .before .before .before .before .before .before .first .ensures) in
     let item = rw (c .before .before .before .before .before .before .before .n .given .1) at (c .before .before .before .before .before .before .before .before .before .item .ensures) in
     let is-last-text = rw (c .before .before .before .if1 .taken) at (c .before .before .before .before .is-last-text .ensures) in
-    let bytes-of = c .before .before .bytes-of in
-    let is-right = c .before .is-right in
-    let kind-of = c .before .before .before .before .before .before .before .before .before .before .before .kind-of in
-    let most-of = c .before .before .before .before .before .before .before .before .before .before .most-of in
-    let text-len = c .before .before .before .before .before .text-len in
-    let w = rw (c .if2 .left, bytes-of .ensures) at (is-right .ensures) in
-    value-wrong (first .0) (kind-of .result) (kind-of .ensures) (most-of .result) (most-of .ensures) (item .0) (text-len .result) (text-len .ensures) is-last-text w
+    let kind = c .before .before .before .before .before .before .before .before .before .before .before .kind-of in
+    let row = c .before .before .before .before .before .before .before .before .before .before .value-row in
+    let len = c .before .before .before .before .before .text-len in
+    let wrong = rw (c .if2 .left, c .before .before .bytes-of .ensures) at (c .before .is-right .ensures) in
+    value-wrong (first .0) (kind .result) (kind .ensures) (row .result) (row .ensures) (item .0) (len .result) (len .ensures) is-last-text wrong
 
 returns-5 : tie.Need-returns-5
 returns-5 c =
     let first = rw (c .before .before .before .before .before .before .before .before .before .before .number .given .1) at (c .before .before .before .before .before .before .before .before .before .before .before .before .first .ensures) in
     let item = rw (c .before .before .before .before .n .given .1) at (c .before .before .before .before .before .before .item .ensures) in
     let is-last-text = rw (c .if1 .left) at (c .before .is-last-text .ensures) in
-    let kind-of = c .before .before .before .before .before .before .before .before .kind-of in
-    let most-of = c .before .before .before .before .before .before .before .most-of in
-    let text-len = c .before .before .text-len in
-    value-no-text (first .0) (kind-of .result) (kind-of .ensures) (most-of .result) (most-of .ensures) (item .0) (text-len .result) (text-len .ensures) is-last-text
+    let kind = c .before .before .before .before .before .before .before .before .kind-of in
+    let row = c .before .before .before .before .before .before .before .value-row in
+    let len = c .before .before .text-len in
+    value-no-text (first .0) (kind .result) (kind .ensures) (row .result) (row .ensures) (item .0) (len .result) (len .ensures) is-last-text
 
 pub value-head-spec : {M : Type 1} → statement M
 value-head-spec =
@@ -122,7 +117,7 @@ value-head-spec =
     enum-told
     returns
     kind-of-requires
-    most-of-requires
+    value-row-requires
     item-requires
     enum-known-n
     enum-told-2

@@ -1,8 +1,8 @@
--- `sheet::rule_heads::least` meets its contract: shape by shape.
-use Rattle.sheet.specs.Pieces.{leastOf, shapeFor}
+-- `sheet::rule_heads::value_row` meets its contract: kind by kind.
+use Rattle.sheet.specs.Pieces.{valueRow}
 use borrow.Author.Needs.{needs}
-use Rattle.sheet.proofs.rule_heads.least.Statement.{statement}
-use Rattle.sheet.proofs.rule_heads.least.Tie as tie
+use Rattle.sheet.proofs.rule_heads.value_row.Statement.{statement}
+use Rattle.sheet.proofs.rule_heads.value_row.Tie as tie
 
 enum-told : tie.Need-enum-told
 enum-told c = search needs
@@ -19,42 +19,28 @@ enum-told-4 c = search needs
 enum-told-5 : tie.Need-enum-told-5
 enum-told-5 c = search needs
 
-enum-told-6 : tie.Need-enum-told-6
-enum-told-6 c = search needs
-
-enum-told-7 : tie.Need-enum-told-7
-enum-told-7 c = search needs
-
 returns : tie.Need-returns
-unfolding leastOf shapeFor
+unfolding valueRow
 returns c = rw (c .enum-told .given .1)
 
 returns-2 : tie.Need-returns-2
-unfolding leastOf shapeFor
+unfolding valueRow
 returns-2 c = rw (c .enum-told2 .given .1)
 
 returns-3 : tie.Need-returns-3
-unfolding leastOf shapeFor
+unfolding valueRow
 returns-3 c = rw (c .enum-told3 .given .1)
 
 returns-4 : tie.Need-returns-4
-unfolding leastOf shapeFor
+unfolding valueRow
 returns-4 c = rw (c .enum-told4 .given .1)
 
 returns-5 : tie.Need-returns-5
-unfolding leastOf shapeFor
+unfolding valueRow
 returns-5 c = rw (c .enum-told5 .given .1)
 
-returns-6 : tie.Need-returns-6
-unfolding leastOf shapeFor
-returns-6 c = rw (c .enum-told6 .given .1)
-
-returns-7 : tie.Need-returns-7
-unfolding leastOf shapeFor
-returns-7 c = rw (c .enum-told7 .given .1)
-
-pub least-spec : {M : Type 1} → statement M
-least-spec =
+pub value-row-spec : {M : Type 1} → statement M
+value-row-spec =
     tie.close
     (tie.spec
     enum-told
@@ -62,12 +48,8 @@ least-spec =
     enum-told-3
     enum-told-4
     enum-told-5
-    enum-told-6
-    enum-told-7
     returns
     returns-2
     returns-3
     returns-4
-    returns-5
-    returns-6
-    returns-7)
+    returns-5)

@@ -1,8 +1,8 @@
--- `sheet::rule_heads::most` meets its contract: shape by shape.
-use Rattle.sheet.specs.Pieces.{mostOf, shapeFor}
+-- `sheet::rule_heads::condition_row` meets its contract: shape by shape.
+use Rattle.sheet.specs.Pieces.{conditionRow, shapeFor}
 use borrow.Author.Needs.{needs}
-use Rattle.sheet.proofs.rule_heads.most.Statement.{statement}
-use Rattle.sheet.proofs.rule_heads.most.Tie as tie
+use Rattle.sheet.proofs.rule_heads.condition_row.Statement.{statement}
+use Rattle.sheet.proofs.rule_heads.condition_row.Tie as tie
 
 enum-told : tie.Need-enum-told
 enum-told c = search needs
@@ -26,35 +26,35 @@ enum-told-7 : tie.Need-enum-told-7
 enum-told-7 c = search needs
 
 returns : tie.Need-returns
-unfolding mostOf shapeFor
+unfolding conditionRow shapeFor
 returns c = rw (c .enum-told .given .1)
 
 returns-2 : tie.Need-returns-2
-unfolding mostOf shapeFor
+unfolding conditionRow shapeFor
 returns-2 c = rw (c .enum-told2 .given .1)
 
 returns-3 : tie.Need-returns-3
-unfolding mostOf shapeFor
+unfolding conditionRow shapeFor
 returns-3 c = rw (c .enum-told3 .given .1)
 
 returns-4 : tie.Need-returns-4
-unfolding mostOf shapeFor
+unfolding conditionRow shapeFor
 returns-4 c = rw (c .enum-told4 .given .1)
 
 returns-5 : tie.Need-returns-5
-unfolding mostOf shapeFor
+unfolding conditionRow shapeFor
 returns-5 c = rw (c .enum-told5 .given .1)
 
 returns-6 : tie.Need-returns-6
-unfolding mostOf shapeFor
+unfolding conditionRow shapeFor
 returns-6 c = rw (c .enum-told6 .given .1)
 
 returns-7 : tie.Need-returns-7
-unfolding mostOf shapeFor
+unfolding conditionRow shapeFor
 returns-7 c = rw (c .enum-told7 .given .1)
 
-pub most-spec : {M : Type 1} → statement M
-most-spec =
+pub condition-row-spec : {M : Type 1} → statement M
+condition-row-spec =
     tie.close
     (tie.spec
     enum-told
