@@ -27,7 +27,7 @@ use Rattle.walk.specs.declared.answer.CollectionFault.the-variants.{NotString}
 use Rattle.validation.specs.Check.{Binder, check, failsIf, entryOf, isString, hasDot, operatorCheck, isEmpty, operand, compareSide, body, bodies, depth, depthOfConditions}
 use Rattle.validation.specs.Judge.{outcome}
 use Rattle.value_checks.specs.Nodes.{IsCondition, AreConditions, Behind}
-use Rattle.value_checks.specs.Verdicts.{numberOf, detailOf, sideDetail, failed, GoesOn, PassedOn, Failed, Required}
+use Rattle.value_checks.specs.Verdicts.{numberOf, detailOf, isDefect, sideDetail, failed, GoesOn, PassedOn, Failed, Required}
 use Rattle.scope.specs.Collections.{CollectionIs}
 use Rattle.value_checks.specs.Frames.{Frame, frame, Stands, ReferencesIn, PairJudged, side}
 use Rattle.judge.specs.Bodies.{operatorIn, OperatorJudged, CollectionOf, BodyJudged, BodiesJudged, QuantifierJudged}
@@ -36,7 +36,7 @@ use Rattle.value_checks.specs.declared.verdict.Over.{Over}
 use Rattle.value_checks.specs.declared.verdict.Side.the-variants.{Left, Right}
 use Rattle.value_checks.specs.declared.verdict.Fault.the-variants.{Operator, Empty}
 use Rattle.value_checks.specs.declared.verdict.Progress.{Progress}
-use Rattle.value_checks.proofs.Going.{goes-nothing, goes-then}
+use Rattle.value_checks.proofs.Going.{goes-nothing, goes-then, goes-absorbed}
 use Rattle.value_checks.proofs.NodeSteps.{same-head, condition-unread, tailOf, first-stands, tail-stands, none-left, none-ends}
 use Rattle.value_checks.proofs.LiteralSteps.{settled-outcome}
 use Rattle.value_checks.proofs.ReferenceSteps.{references-judged}
@@ -288,6 +288,13 @@ module _ {f : Frame} {i end next left : ℕ} {b d : Progress} (inside : i < end)
             l .onward setting tree binders env cs w r s m n
             (first-goes setting tree binders env (l .rest cs w) r (l .stand cs w) s (omega (arith, l .deep cs w)) n g);
       }
+
+pub bodies-stopped : {f : Frame} {start i end left : ℕ} {a b : Progress} → true ≡ isDefect (b .verdict) → i - start ≤ end - start → BodiesLeft f start i end left a b → BodiesJudged f start end left a b
+bodies-stopped {f} {start} {i} {end} {left} {a} {b} t m l =
+    record {
+      atMost = omega (arith, l .atMost);
+      goes = λ setting tree binders env cs s w d n. l .onward setting tree binders env cs w b s d n (goes-absorbed t);
+    }
 
 pub bodies-all : {f : Frame} {start i end left : ℕ} {a b : Progress} → end ≤ i → i - start ≤ end - start → BodiesLeft f start i end left a b → BodiesJudged f start end left a b
 unfolding bodies

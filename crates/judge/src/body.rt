@@ -22,6 +22,7 @@ use value_checks::verdict::Fault;
 use value_checks::verdict::Over;
 use value_checks::verdict::Progress;
 use value_checks::verdict::fail;
+use value_checks::verdict::has_failed;
 use value_checks::verdict::pass;
 use value_checks::verdict::require;
 use walk::answer::Collected;
@@ -169,6 +170,9 @@ fn validate_conditions(
     let mut so_far = a;
     let mut i = start;
     while i < end {
+        if has_failed(so_far) {
+            return so_far;
+        }
         let next = behind(words, i, end);
         so_far = validate_condition_body(so_far, schema, rule, words, scope, over, i, next, left);
         i = next;
