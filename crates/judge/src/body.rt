@@ -27,6 +27,8 @@ use value_checks::verdict::pass;
 use value_checks::verdict::require;
 use walk::answer::Collected;
 use walk::answer::CollectionFault;
+use walk::path::Dot;
+use walk::path::first_dot;
 ghost use mathlib.Core.Path.{_≡_};
 ghost use mathlib.Core.Bool.{_||_};
 ghost use mathlib.Core.List.{List};
@@ -76,14 +78,10 @@ fn validate_operator(
 fn has_dot(text: &[u8]) -> bool
     ensures { λ r. ⌜ r ≡ hasDot (now (text .entry)) ⌝ }
 {
-    let mut i = 0;
-    while i < text.len() {
-        if text[i] == b'.' {
-            return true;
-        }
-        i += 1;
+    match first_dot(text) {
+        Dot::At(_) => true,
+        Dot::Nowhere => false,
     }
-    false
 }
 
 fn is_wrong_bind(name: &[u8]) -> bool

@@ -17,7 +17,7 @@ ghost use Prim.Native.Nat.{_-_, _<_, _≤_};
 ghost use Rattle.value_checks.specs.Verdicts.{HasRoom};
 ghost use Rattle.value_checks.specs.Frames.{frame, IsReference, ReferencesIn};
 
-fn is_reference(text: &[u8]) -> bool
+pub fn is_reference(text: &[u8]) -> bool
     ensures { λ r. ⌜ IsReference (now (text .entry)) r ⌝ }
 {
     if text.len() == 0 {
