@@ -1,33 +1,34 @@
 -- The checks of a condition, step by step.
-use Prim.Native.Nat.{ℕ, zero, suc, _+_, _*_, _-_, _≤_, _<_}
+use Prim.Native.Nat.{ℕ, _+_, _*_, _-_, _≤_, _<_}
 use native.Mathlib.Omega.{arith}
-use native.Mathlib.Numerals.{add-one}
-use mathlib.Core.Bool.{Bool, true, false}
+use mathlib.Core.Bool.{Bool, true, false, cond, _||_}
 use mathlib.Core.List.{List, [], _∷_, append-nil}
 use mathlib.Core.Option.{none, some}
 use mathlib.Core.Path.{_≡_, refl, sym, ap, _∙_}
-use lib.ListN.{length, getD, drop}
-use lib.Seq.{drop-cons}
+use lib.ListN.{drop}
 use lib.Dec.{eqb}
-use borrow.Author.Tests.{eq-eqb, ne-eqb, le-leb, lt-leb}
+use borrow.Author.Tests.{ne-eqb, le-leb, lt-leb}
 use Rattle.sheet.specs.Entries.{ConditionHead, literalHead, manyHead, negationHead, oneHead, twoHead, comparisonHead, quantifierHead, conditionHead}
 use Rattle.sheet.specs.Places.{ReadsTo, conditionOf}
 use Rattle.sheet.specs.declared.rule_heads.ConditionHead.{ConditionHead as Head}
 use Rattle.definition.specs.Tree.{Text, Schema, Value, string, Condition, literal, many, negation, one, two, comparison, quantifier, Conditions, noConditions, condition}
 use Rattle.definition.specs.Tree as Tree
 use Rattle.reference.specs.Setting.{Setting}
+use Rattle.reference.specs.Path.{Segments, cut, extend, split}
 use Rattle.reference.specs.Walk.{refused}
 use Rattle.reference.specs.Reference.{Environment, collection}
 use Rattle.definition.specs.Within.{conditionEntries, conditionsEntries, valueEntries}
 use Rattle.rule.specs.Index.{startOf, countOfConditions, ValueAt}
 use Rattle.walk.specs.Answers.{collectionDetail, CollectedIs}
+use Rattle.walk.specs.Dots.{Cuts}
+use Rattle.walk.specs.declared.path.Dot.the-variants.{At, Nowhere}
 use Rattle.walk.specs.declared.answer.Collected.{Collected}
 use Rattle.walk.specs.declared.answer.Collected.the-variants as Collected
 use Rattle.walk.specs.declared.answer.CollectionFault.the-variants.{NotString}
 use Rattle.validation.specs.Check.{Binder, check, failsIf, entryOf, isString, hasDot, operatorCheck, isEmpty, operand, compareSide, body, bodies, depth, depthOfConditions}
 use Rattle.validation.specs.Judge.{outcome}
 use Rattle.value_checks.specs.Nodes.{IsCondition, AreConditions, Behind}
-use Rattle.value_checks.specs.Verdicts.{numberOf, detailOf, sideDetail, failed, GoesOn, PassedOn, Failed, Required}
+use Rattle.value_checks.specs.Verdicts.{numberOf, detailOf, isDefect, sideDetail, failed, GoesOn, PassedOn, Failed, Required}
 use Rattle.scope.specs.Collections.{CollectionIs}
 use Rattle.value_checks.specs.Frames.{Frame, frame, Stands, ReferencesIn, PairJudged, side}
 use Rattle.judge.specs.Bodies.{operatorIn, OperatorJudged, CollectionOf, BodyJudged, BodiesJudged, QuantifierJudged}
@@ -36,7 +37,7 @@ use Rattle.value_checks.specs.declared.verdict.Over.{Over}
 use Rattle.value_checks.specs.declared.verdict.Side.the-variants.{Left, Right}
 use Rattle.value_checks.specs.declared.verdict.Fault.the-variants.{Operator, Empty}
 use Rattle.value_checks.specs.declared.verdict.Progress.{Progress}
-use Rattle.value_checks.proofs.Going.{goes-nothing, goes-then}
+use Rattle.value_checks.proofs.Going.{goes-nothing, goes-then, goes-absorbed}
 use Rattle.value_checks.proofs.NodeSteps.{same-head, condition-unread, tailOf, first-stands, tail-stands, none-left, none-ends}
 use Rattle.value_checks.proofs.LiteralSteps.{settled-outcome}
 use Rattle.value_checks.proofs.ReferenceSteps.{references-judged}
@@ -86,23 +87,25 @@ module _ {scope : Scope} {over : Over} {h : Head} {i : ℕ} {a r : Progress} (op
 
 -- Binds.
 
-drop-behind : (t : Text) (i : ℕ) → length t ≤ i → drop i t ≡ []
-drop-behind [] zero h = refl
-drop-behind [] (suc i) h = refl
-drop-behind (b ∷ t) zero h = absurd (omega arith)
-drop-behind (b ∷ t) (suc i) h = drop-behind t i (omega arith)
+abbrev isMore : List Text → Bool
+isMore [] = false
+isMore (s ∷ others) = true
 
-pub dot-here : (t : Text) (i : ℕ) → i < length t → getD t i 0 ≡ 46 → hasDot (drop i t) ≡ true
-unfolding hasDot
-dot-here t i h e = rw (drop-cons t i 0 h, eq-eqb (getD t i 0) 46 e)
+-- text has a dot exactly if a segment follows its first
+dot-parts : (t : Text) → hasDot t ≡ isMore (split t .others)
+unfolding hasDot split cut extend
+dot-parts [] = refl
+dot-parts (b ∷ t) = by (eqb b 46) (dot-parts t)
+  where
+    by : (d : Bool) → hasDot t ≡ isMore (split t .others) → (d || hasDot t) ≡ isMore (cond d (cut (split t)) (extend b (split t)) .others)
+    by true h = refl
+    by false h = h
 
-pub dot-next : (t : Text) (i : ℕ) → i < length t → (getD t i 0 ≡ 46 → ⊥) → hasDot (drop i t) ≡ hasDot (drop (i + 1) t)
-unfolding hasDot
-dot-next t i h e = rw (drop-cons t i 0 h, ne-eqb (getD t i 0) 46 e, add-one)
+pub dot-at : (t : Text) (d : ℕ) → Cuts t (At d) → true ≡ hasDot t
+dot-at t d cuts = sym (dot-parts t ∙ ap (λ (s : Segments). isMore (s .others)) (cuts .1))
 
-pub dot-none : (t : Text) (i : ℕ) → length t ≤ i → hasDot (drop i t) ≡ false
-unfolding hasDot
-dot-none t i h = rw (drop-behind t i h)
+pub dot-nowhere : (t : Text) → Cuts t Nowhere → false ≡ hasDot t
+dot-nowhere t cuts = sym (dot-parts t ∙ ap (λ (s : Segments). isMore (s .others)) cuts)
 
 -- Collections.
 
@@ -288,6 +291,13 @@ module _ {f : Frame} {i end next left : ℕ} {b d : Progress} (inside : i < end)
             l .onward setting tree binders env cs w r s m n
             (first-goes setting tree binders env (l .rest cs w) r (l .stand cs w) s (omega (arith, l .deep cs w)) n g);
       }
+
+pub bodies-stopped : {f : Frame} {start i end left : ℕ} {a b : Progress} → true ≡ isDefect (b .verdict) → i - start ≤ end - start → BodiesLeft f start i end left a b → BodiesJudged f start end left a b
+bodies-stopped {f} {start} {i} {end} {left} {a} {b} t m l =
+    record {
+      atMost = omega (arith, l .atMost);
+      goes = λ setting tree binders env cs s w d n. l .onward setting tree binders env cs w b s d n (goes-absorbed t);
+    }
 
 pub bodies-all : {f : Frame} {start i end left : ℕ} {a b : Progress} → end ≤ i → i - start ≤ end - start → BodiesLeft f start i end left a b → BodiesJudged f start end left a b
 unfolding bodies

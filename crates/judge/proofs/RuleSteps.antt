@@ -24,7 +24,7 @@ use Rattle.scope.specs.declared.binder.Binder.{Binder}
 use Rattle.scope.specs.declared.binder.Scope.{Scope}
 use Rattle.judge.specs.Depth.{DepthIs}
 use Rattle.value_checks.specs.Shown.{overOf, shownOf, goOn}
-use Rattle.value_checks.specs.Verdicts.{numberOf, detailOf, overBy, shownWith, shownBy, failed, GoesOn, PassedOn, Failed, Required}
+use Rattle.value_checks.specs.Verdicts.{numberOf, detailOf, isDefect, overBy, shownWith, shownBy, failed, GoesOn, PassedOn, Failed, Required}
 use Rattle.value_checks.specs.Literals.{ConditionLiterals}
 use Rattle.value_checks.specs.Frames.{frame, Stands, ReferencesIn}
 use Rattle.judge.specs.Bodies.{BodyJudged}
@@ -34,7 +34,7 @@ use Rattle.value_checks.specs.declared.verdict.Fault.the-variants.{Name, Messag
 use Rattle.value_checks.specs.declared.verdict.Over.the-variants.{Outside}
 use Rattle.value_checks.specs.declared.verdict.Verdict.the-variants.{Pass}
 use Rattle.value_checks.specs.declared.verdict.Progress.{Progress}
-use Rattle.value_checks.proofs.Going.{goes-nothing, goes-then}
+use Rattle.value_checks.proofs.Going.{goes-nothing, goes-then, goes-absorbed}
 use Rattle.value_checks.proofs.NodeSteps.{same-head, condition-size}
 use Rattle.value_checks.proofs.LiteralSteps.{settled-outcome}
 use Rattle.value_checks.proofs.ReferenceSteps.{references-judged}
@@ -119,6 +119,16 @@ both-go sheet name message setting tree blank-name blank-message named told =
     (outside-required 12 0 (isBlankText (optionalOf sheet message)) setting tree told blank-message refl refl)
 
 module _ {schema sheet words : List ℕ} {scope : Scope} {name message : OptionalPart} {end : ℕ} {unnamed untold : Bool} {b c : Progress} (blank-name : unnamed ≡ isBlankText (optionalOf sheet name)) (blank-message : untold ≡ isBlankText (optionalOf sheet message)) (named : Required begin unnamed Name 1 Outside b) (told : Required b untold Message 1 Outside c) where
+  pub definition-stopped : true ≡ isDefect (c .verdict) → DefinitionJudged schema sheet words scope name message end c
+  unfolding checks
+  definition-stopped t =
+      record {
+        shows =
+            λ setting tree assert s w.
+            begin-judges setting tree _ c
+            (goes-then (both-go sheet name message setting tree blank-name blank-message named told) (goes-absorbed t));
+      }
+
   pub definition-none : end ≤ 1 → DefinitionJudged schema sheet words scope name message end c
   definition-none h =
       record { shows = λ setting tree assert s w. absurd (omega (arith, w .ends, condition-size assert)) }

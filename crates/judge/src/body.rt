@@ -22,10 +22,13 @@ use value_checks::verdict::Fault;
 use value_checks::verdict::Over;
 use value_checks::verdict::Progress;
 use value_checks::verdict::fail;
+use value_checks::verdict::has_failed;
 use value_checks::verdict::pass;
 use value_checks::verdict::require;
 use walk::answer::Collected;
 use walk::answer::CollectionFault;
+use walk::path::Dot;
+use walk::path::first_dot;
 ghost use mathlib.Core.Path.{_≡_};
 ghost use mathlib.Core.Bool.{_||_};
 ghost use mathlib.Core.List.{List};
@@ -75,14 +78,10 @@ fn validate_operator(
 fn has_dot(text: &[u8]) -> bool
     ensures { λ r. ⌜ r ≡ hasDot (now (text .entry)) ⌝ }
 {
-    let mut i = 0;
-    while i < text.len() {
-        if text[i] == b'.' {
-            return true;
-        }
-        i += 1;
+    match first_dot(text) {
+        Dot::At(_) => true,
+        Dot::Nowhere => false,
     }
-    false
 }
 
 fn is_wrong_bind(name: &[u8]) -> bool
@@ -169,6 +168,9 @@ fn validate_conditions(
     let mut so_far = a;
     let mut i = start;
     while i < end {
+        if has_failed(so_far) {
+            return so_far;
+        }
         let next = behind(words, i, end);
         so_far = validate_condition_body(so_far, schema, rule, words, scope, over, i, next, left);
         i = next;

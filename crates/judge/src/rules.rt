@@ -16,6 +16,7 @@ use value_checks::verdict::Over;
 use value_checks::verdict::Progress;
 use value_checks::verdict::Verdict;
 use value_checks::verdict::fail;
+use value_checks::verdict::has_failed;
 use value_checks::verdict::pass;
 use value_checks::verdict::require;
 ghost use mathlib.Core.Path.{_≡_};
@@ -80,6 +81,9 @@ fn validate_rule_definition(
         1,
         Over::Outside,
     );
+    if has_failed(c) {
+        return c;
+    }
     if end <= 1 {
         return c;
     }

@@ -32,7 +32,7 @@ fn behind_first(text: &[u8]) -> &[u8]
     &text[text.len()..]
 }
 
-fn begins_with_dollar(text: &[u8]) -> bool
+pub fn begins_with_dollar(text: &[u8]) -> bool
     ensures { λ r. ⌜ r ≡ beginsWithDollar (now (text .entry)) ⌝ }
 {
     if text.len() == 0 {

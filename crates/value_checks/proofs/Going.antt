@@ -9,10 +9,11 @@ use Rattle.sheet.specs.Entries.{ValueHead}
 use Rattle.validation.specs.Check.{Check}
 use Rattle.validation.specs.Judge.{CheckOutcome, allPass, decide, judgeFrom}
 use Rattle.value_checks.specs.Shown.{Shown, passes, fails, shownOf, goOn, judge-append}
-use Rattle.value_checks.specs.Verdicts.{detailOf, shownWith, shownBy, GoesOn, FailsWith, PassedOn, Failed, failed, Required}
+use Rattle.value_checks.specs.Verdicts.{detailOf, isDefect, shownWith, shownBy, GoesOn, FailsWith, PassedOn, Failed, failed, Required}
 use Rattle.value_checks.specs.Leaves.{saidIn, said-append}
 use Rattle.value_checks.specs.declared.verdict.Fault.{Fault}
 use Rattle.value_checks.specs.declared.verdict.Over.{Over}
+use Rattle.value_checks.specs.declared.verdict.Verdict.{Verdict}
 use Rattle.value_checks.specs.declared.verdict.Verdict.the-variants.{Pass, Defect}
 use Rattle.value_checks.specs.declared.verdict.Progress.{Progress}
 
@@ -45,6 +46,15 @@ pub goes-stopped : {ask : Check → CheckOutcome} {checks : List Check} {a : Pro
     → GoesOn ask a checks a
 unfolding shownBy shownWith goOn
 goes-stopped e = record { shows = rw e }
+
+-- a defect absorbs all further checks
+pub goes-absorbed : {ask : Check → CheckOutcome} {checks : List Check} {a : Progress} → true ≡ isDefect (a .verdict) → GoesOn ask a checks a
+unfolding shownBy shownWith goOn isDefect
+goes-absorbed {ask} {checks} {a} = go (a .verdict) refl
+  where
+    go : (v : Verdict) → a .verdict ≡ v → true ≡ isDefect v → GoesOn ask a checks a
+    go Pass e t = let z : _≡_ {A = ℕ} 0 1 = cc in absurd (omega arith)
+    go (Defect f place over) e t = goes-stopped e
 
 one-judged : (ask : Check → CheckOutcome) (n : ℕ) (c : Check) (o : CheckOutcome) → ask c ≡ o → judgeFrom ask n (c ∷ []) ≡ decide o n c (allPass (n + 1))
 unfolding judgeFrom
@@ -113,12 +123,13 @@ pub required-right : {a r : Progress} {wrong : Bool} {fault : Fault} {place : �
 unfolding failed
 required-right t f = record { atMost = f .atMost; goes = λ ask c w p. f .goes ask c (rw t at p) }
 
--- The entries of a value, one by one.
+-- The entries of a value up to word `i`, and `n` more.
 
-pub said-next : {A : Type 0} (says : ℕ → ValueHead → List A) (sheet words : List ℕ) {start i : ℕ}
+pub said-next : {A : Type 0} (says : ℕ → ValueHead → List A) (sheet words : List ℕ) (n : ℕ) {start i j : ℕ}
     → start ≤ i
-    → saidIn says sheet words (i + 1 - start) start ≡ saidIn says sheet words (i - start) start ++ saidIn says sheet words 1 i
-said-next says sheet words {start} {i} h =
-    let e : i + 1 - start ≡ (i - start) + 1 = omega arith in
+    → j ≡ i + n
+    → saidIn says sheet words (j - start) start ≡ saidIn says sheet words (i - start) start ++ saidIn says sheet words n i
+said-next says sheet words n {start} {i} {j} h k =
+    let e : j - start ≡ (i - start) + n = omega arith in
     let f : start + (i - start) ≡ i = omega arith in
-    rw (e, said-append says sheet words (i - start) 1 start, f)
+    rw (e, said-append says sheet words (i - start) n start, f)

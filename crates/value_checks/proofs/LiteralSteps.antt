@@ -1,5 +1,5 @@
 -- The literal pass, step by step.
-use Prim.Native.Nat.{ℕ, _+_, _-_, _≤_}
+use Prim.Native.Nat.{ℕ, _+_, _-_, _≤_, _<_}
 use native.Mathlib.Omega.{arith}
 use mathlib.Core.Bool.{Bool, true, false, not}
 use mathlib.Core.List.{List, [], append-nil}
@@ -17,12 +17,12 @@ use Rattle.validation.specs.Check.{Binder, check, failsIf, literalCheck}
 use Rattle.validation.specs.Judge.{outcome, environment, answer, answerIn}
 use Rattle.value_checks.specs.Leaves.{saysAt, saysIf, saidIn}
 use Rattle.value_checks.specs.Shown.{overOf}
-use Rattle.value_checks.specs.Verdicts.{numberOf, detailOf, overBy, failed, Required}
+use Rattle.value_checks.specs.Verdicts.{numberOf, detailOf, isDefect, overBy, failed, Required}
 use Rattle.value_checks.specs.Literals.{literalSays, LiteralsJudged}
 use Rattle.value_checks.specs.declared.verdict.Fault.the-variants.{Literal}
 use Rattle.value_checks.specs.declared.verdict.Over.the-variants.{Outside}
 use Rattle.value_checks.specs.declared.verdict.Progress.{Progress}
-use Rattle.value_checks.proofs.Going.{goes-nothing, goes-then, said-next}
+use Rattle.value_checks.proofs.Going.{goes-nothing, goes-then, goes-absorbed, said-next}
 
 fails-answer : (setting : Setting) (schema : Schema) (env : Environment) (b : Bool) (d : ℕ) → answer setting schema env (failsIf b d) ≡ failed b d
 unfolding answer failsIf failed
@@ -79,16 +79,26 @@ module _ {s words : List ℕ} {i at : ℕ} {a : Progress} (start : at ≡ startO
       }
 
 module _ {s words : List ℕ} {a : Progress} {start i : ℕ} where
-  pub literals-next : {b r : Progress}
+  pub literals-next : {n j : ℕ} {b r : Progress}
       → start ≤ i
+      → j ≡ i + n
       → LiteralsJudged s words start (i - start) a b
-      → LiteralsJudged s words i 1 b r
-      → LiteralsJudged s words start (i + 1 - start) a r
-  literals-next h p q =
+      → LiteralsJudged s words i n b r
+      → LiteralsJudged s words start (j - start) a r
+  literals-next {n} h k p q =
       record {
         atMost = omega (arith, p .atMost, q .atMost);
-        goes = λ setting schema. rw (said-next literalSays s words h) (goes-then (p .goes setting schema) (q .goes setting schema));
+        goes = λ setting schema. rw (said-next literalSays s words n h k) (goes-then (p .goes setting schema) (q .goes setting schema));
       }
+
+  pub literals-stopped : {end : ℕ} {r : Progress}
+      → start ≤ i
+      → i < end
+      → LiteralsJudged s words start (i - start) a r
+      → true ≡ isDefect (r .verdict)
+      → LiteralsJudged s words start (end - start) a r
+  literals-stopped {end} h k p t =
+      literals-next {n = end - i} h (omega arith) p (record { atMost = omega arith; goes = λ setting schema. goes-absorbed t })
 
   pub literals-all : {end : ℕ} {r : Progress}
       → end ≤ i

@@ -18,10 +18,10 @@ use Rattle.validation.specs.Check.{Check, Literal, literalCheck, numbers, numbe
 use Rattle.validation.specs.Judge.{outcome}
 use Rattle.value_checks.specs.Leaves.{leaves, leavesOfValues, leavesOfPairs, saidIn, said-append, said-value}
 use Rattle.value_checks.specs.Nodes.{IsCondition, AreConditions, Behind, childrenOf, ChildrenAt}
-use Rattle.value_checks.specs.Verdicts.{GoesOn}
+use Rattle.value_checks.specs.Verdicts.{isDefect, GoesOn}
 use Rattle.value_checks.specs.Literals.{literalSays, LiteralsJudged, isObserved, ObservedJudged, ConditionLiterals}
 use Rattle.value_checks.specs.declared.verdict.Progress.{Progress}
-use Rattle.value_checks.proofs.Going.{goes-nothing, goes-then}
+use Rattle.value_checks.proofs.Going.{goes-nothing, goes-then, goes-absorbed}
 use Rattle.value_checks.proofs.NodeSteps.{same-head, first-stands, none-left, none-ends}
 use Rattle.value_checks.proofs.Opening.{beside, opened, opened-stand, conditions-unread}
 
@@ -164,6 +164,13 @@ module _ {rule words : List ℕ} {from i end : ℕ} {a b : Progress} (l : Litera
             λ setting schema cs w.
             let f : l .rest cs w ≡ noConditions = none-left (l .rest cs w) h (l .stand cs w) in
             l .onward setting schema cs w b (rw f goes-nothing);
+      }
+
+  pub left-stopped : true ≡ isDefect (b .verdict) → i - from ≤ end - from → ConditionLiterals rule words from end a b
+  left-stopped t m =
+      record {
+        atMost = omega (arith, l .atMost);
+        goes = λ setting schema cs w. l .onward setting schema cs w b (goes-absorbed t);
       }
 
   -- where no entry is read, no condition stands

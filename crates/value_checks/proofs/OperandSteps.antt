@@ -1,13 +1,12 @@
 -- Operands, step by step.
 use Prim.Native.Nat.{ℕ, _+_, _-_, _≤_}
 use native.Mathlib.Omega.{arith}
-use mathlib.Core.Bool.{true, false, false≢true}
+use mathlib.Core.Bool.{Bool, true, false, not, cond, _&&_, false≢true}
 use mathlib.Core.List.{List, [], _∷_}
-use mathlib.Core.Option.{none, some, Option·none-ne-some}
+use mathlib.Core.Option.{Option, none, some, Option·none-ne-some}
 use mathlib.Core.Path.{_≡_, refl, sym, ap, _∙_}
-use lib.ListN.{length, getD, drop}
-use lib.Dec.{leb}
-use borrow.Author.Tests.{eq-eqb, ne-eqb}
+use lib.ListN.{drop}
+use lib.Dec.{leb, eqb}
 use Rattle.timestamp.specs.Instant.{instant}
 use Rattle.timestamp.specs.InstantLaws.{short-instant}
 use Rattle.timestamp.specs.declared.Fields.{Fields}
@@ -17,16 +16,16 @@ use Rattle.sheet.specs.Parts.{partOf}
 use Rattle.sheet.specs.declared.part.Part.{Part}
 use Rattle.definition.specs.Tree.{Text, Schema, Value, constant, number, string, array, object}
 use Rattle.reference.specs.Setting.{Setting}
-use Rattle.reference.specs.Reference.{Environment}
+use Rattle.reference.specs.Reference.{Environment, beginsWithDollar}
 use Rattle.definition.specs.Within.{valueEntries}
 use Rattle.rule.specs.Index.{startOf, endOf, ValueAt}
 use Rattle.rule.specs.IndexLaws.{value-next}
-use Rattle.validation.specs.Check.{Binder, Question, settled, Check, check, failsIf, isNone, entryOf, isString, isHolder, references, instantText, instantForm, instantOperand, affixOperand, compareSide, operand}
+use Rattle.validation.specs.Check.{Binder, Question, settled, Check, check, failsIf, isNone, entryOf, isString, isHolder, referenceText, references, instantText, instantForm, instantOperand, affixOperand, compareSide, operand}
 use Rattle.validation.specs.Constant.{literalText, literalInstant}
 use Rattle.validation.specs.Judge.{CheckOutcome, outcome, environment, answer, answerIn}
 use Rattle.value_checks.specs.Nodes.{Behind}
 use Rattle.value_checks.specs.Verdicts.{numberOf, detailOf, instantDetail, GoesOn, PassedOn, Failed}
-use Rattle.value_checks.specs.Frames.{Frame, Stands, ReferencesIn, OperandJudged, PairJudged, FormIs, formOf, literalBy, ReadAs, side}
+use Rattle.value_checks.specs.Frames.{Frame, Stands, IsReference, ReferencesIn, OperandJudged, PairJudged, FormIs, formOf, literalBy, ReadAs, side}
 use Rattle.value_checks.specs.declared.operand.Form.{Form}
 use Rattle.value_checks.specs.declared.operand.Form.the-variants as Form
 use Rattle.value_checks.specs.declared.operand.InstantRead.{InstantRead}
@@ -119,47 +118,45 @@ text-side v g = text-string v g .1
 abbrev TextReadAs : Text → InstantRead → Type 0
 TextReadAs t r = ReadAs (instantText t) (literalText t) r
 
-pub instant-empty : (t : Text) → length t ≡ 0 → TextReadAs t (Bad Other)
-unfolding instantText literalText formOf literalBy instantDetail
-instant-empty [] h = record { form = refl; fields = refl }
-instant-empty (b ∷ t) h = absurd (omega arith)
+pub instant-reference : (t : Text) → IsReference t true → TextReadAs t InstantRead.Reference
+unfolding referenceText instantText literalText formOf literalBy failsIf
+instant-reference [] h = absurd (Option·none-ne-some _ h)
+instant-reference (a ∷ []) h = by (eqb a 36) h
+  where
+    by : (d : Bool) → _≡_ {A = Option Text} (cond d (some []) none) (some []) → ReadAs (failsIf (not d) 2) (cond d none (instant (a ∷ []))) InstantRead.Reference
+    by true h = record { form = refl; fields = refl }
+    by false h = absurd (Option·none-ne-some _ h)
+instant-reference (a ∷ b ∷ t) h = by (eqb a 36) (eqb b 36) h
+  where
+    by : (d e : Bool) → _≡_ {A = Option Text} (cond (d && not e) (some (b ∷ t)) none) (some (b ∷ t))
+        → ReadAs (cond d (failsIf e 1) (failsIf (isNone (instant (a ∷ b ∷ t))) 2)) (cond d none (instant (a ∷ b ∷ t))) InstantRead.Reference
+    by true true h = absurd (Option·none-ne-some _ h)
+    by true false h = record { form = refl; fields = refl }
+    by false e h = absurd (Option·none-ne-some _ h)
 
-pub instant-dollar : (t : Text) → getD t 0 0 ≡ 36 → length t ≡ 1 → TextReadAs t InstantRead.Reference
-unfolding instantText literalText formOf literalBy failsIf
-instant-dollar [] e h = absurd (omega arith)
-instant-dollar (a ∷ []) e h = record { form = rw (eq-eqb a 36 e); fields = rw (eq-eqb a 36 e) }
-instant-dollar (a ∷ b ∷ t) e h = absurd (omega arith)
+-- text that begins with `$` and is no reference begins with `$$`
+pub instant-dollars : (t : Text) → IsReference t false → beginsWithDollar t ≡ true → TextReadAs t (Bad Dollars)
+unfolding referenceText beginsWithDollar instantText literalText formOf literalBy instantDetail failsIf
+instant-dollars [] h dollar = absurd (false≢true dollar)
+instant-dollars (a ∷ []) h dollar = absurd (Option·none-ne-some _ (sym (rw dollar at h)))
+instant-dollars (a ∷ b ∷ t) h dollar = by (eqb b 36) (rw dollar at h)
+  where
+    by : (e : Bool) → _≡_ {A = Option Text} (cond (not e) (some (b ∷ t)) none) none
+        → ReadAs (cond (eqb a 36) (failsIf e 1) (failsIf (isNone (instant (a ∷ b ∷ t))) 2)) (cond (eqb a 36) none (instant (a ∷ b ∷ t))) (Bad Dollars)
+    by true h = record { form = rw dollar; fields = rw dollar }
+    by false h = absurd (Option·none-ne-some _ (sym h))
 
-module _ (t : Text) (dollar : getD t 0 0 ≡ 36) (some-text : length t ≡ 0 → ⊥) (long : length t ≡ 1 → ⊥) where
-  pub instant-dollars : getD t 1 0 ≡ 36 → TextReadAs t (Bad Dollars)
-  unfolding instantText literalText formOf literalBy instantDetail failsIf
-  instant-dollars f = by t dollar some-text long f
-    where
-      by : (t : Text) → getD t 0 0 ≡ 36 → (length t ≡ 0 → ⊥) → (length t ≡ 1 → ⊥) → getD t 1 0 ≡ 36 → TextReadAs t (Bad Dollars)
-      by [] e h k f = absurd (h refl)
-      by (a ∷ []) e h k f = absurd (k refl)
-      by (a ∷ b ∷ t) e h k f = record { form = rw (eq-eqb a 36 e, eq-eqb b 36 f); fields = rw (eq-eqb a 36 e) }
+pub instant-unread : (t : Text) → beginsWithDollar t ≡ false → instant t ≡ none → TextReadAs t (Bad Other)
+unfolding beginsWithDollar instantText literalText formOf literalBy instantDetail failsIf isNone
+instant-unread [] e r = record { form = refl; fields = refl }
+instant-unread (a ∷ []) e r = record { form = rw e; fields = rw (e, r) }
+instant-unread (a ∷ b ∷ t) e r = record { form = rw (e, r); fields = rw (e, r) }
 
-  pub instant-reference : (getD t 1 0 ≡ 36 → ⊥) → TextReadAs t InstantRead.Reference
-  unfolding instantText literalText formOf literalBy failsIf
-  instant-reference f = by t dollar some-text long f
-    where
-      by : (t : Text) → getD t 0 0 ≡ 36 → (length t ≡ 0 → ⊥) → (length t ≡ 1 → ⊥) → (getD t 1 0 ≡ 36 → ⊥) → TextReadAs t InstantRead.Reference
-      by [] e h k f = absurd (h refl)
-      by (a ∷ []) e h k f = absurd (k refl)
-      by (a ∷ b ∷ t) e h k f = record { form = rw (eq-eqb a 36 e, ne-eqb b 36 f); fields = rw (eq-eqb a 36 e) }
-
-pub instant-unread : (t : Text) → (getD t 0 0 ≡ 36 → ⊥) → (length t ≡ 0 → ⊥) → instant t ≡ none → TextReadAs t (Bad Other)
-unfolding instantText literalText formOf literalBy instantDetail failsIf isNone
-instant-unread [] e h r = absurd (h refl)
-instant-unread (a ∷ []) e h r = record { form = rw (ne-eqb a 36 e); fields = rw (ne-eqb a 36 e, r) }
-instant-unread (a ∷ b ∷ t) e h r = record { form = rw (ne-eqb a 36 e, r); fields = rw (ne-eqb a 36 e, r) }
-
-pub instant-read : (t : Text) {f : Fields} → (getD t 0 0 ≡ 36 → ⊥) → (length t ≡ 0 → ⊥) → instant t ≡ some f → TextReadAs t (InstantRead.Literal f)
-unfolding instantText literalText formOf literalBy failsIf isNone
-instant-read [] e h r = absurd (h refl)
-instant-read (a ∷ []) {f} e h r = absurd (Option·none-ne-some f (sym (short-instant (a ∷ []) (omega arith)) ∙ r))
-instant-read (a ∷ b ∷ t) e h r = record { form = rw (ne-eqb a 36 e, r); fields = rw (ne-eqb a 36 e, r) }
+pub instant-read : (t : Text) {f : Fields} → beginsWithDollar t ≡ false → instant t ≡ some f → TextReadAs t (InstantRead.Literal f)
+unfolding beginsWithDollar instantText literalText formOf literalBy failsIf isNone
+instant-read [] {f} e r = absurd (Option·none-ne-some f (sym (short-instant [] (omega arith)) ∙ r))
+instant-read (a ∷ []) {f} e r = absurd (Option·none-ne-some f (sym (short-instant (a ∷ []) (omega arith)) ∙ r))
+instant-read (a ∷ b ∷ t) e r = record { form = rw (e, r); fields = rw (e, r) }
 
 pub form-instant : {e : ℕ} {t text : Text} {r : InstantRead} (v : Value) → v ≡ string e t → text ≡ t → TextReadAs text r
     → ReadAs (instantForm v) (literalInstant v) r

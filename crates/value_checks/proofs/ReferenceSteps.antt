@@ -1,5 +1,5 @@
 -- The references of a value, step by step.
-use Prim.Native.Nat.{ℕ, _+_, _-_, _≤_}
+use Prim.Native.Nat.{ℕ, _+_, _-_, _≤_, _<_}
 use native.Mathlib.Omega.{arith}
 use mathlib.Core.Bool.{true, false}
 use mathlib.Core.List.{List, [], _∷_, _++_}
@@ -24,12 +24,12 @@ use Rattle.validation.specs.Check.{Binder, readable, check, referenceText, refe
 use Rattle.validation.specs.Judge.{outcome, environment, verdict, answer, answerIn}
 use Rattle.value_checks.specs.Leaves.{leaves, leavesOfValues, leavesOfPairs, saidIn, said-value}
 use Rattle.value_checks.specs.Nodes.{IsValue}
-use Rattle.value_checks.specs.Verdicts.{numberOf, detailOf, GoesOn, PassedOn, Failed}
+use Rattle.value_checks.specs.Verdicts.{numberOf, detailOf, isDefect, GoesOn, PassedOn, Failed}
 use Rattle.scope.specs.References.{ReferenceReads}
 use Rattle.value_checks.specs.Frames.{Frame, Stands, IsReference, referenceSays, ReferencesIn}
 use Rattle.value_checks.specs.declared.verdict.Fault.the-variants.{Reference}
 use Rattle.value_checks.specs.declared.verdict.Progress.{Progress}
-use Rattle.value_checks.proofs.Going.{goes-nothing, goes-then, said-next}
+use Rattle.value_checks.proofs.Going.{goes-nothing, goes-then, goes-absorbed, said-next}
 use Rattle.value_checks.proofs.LiteralSteps.{says-read, says-bad}
 
 -- Texts.
@@ -156,19 +156,29 @@ module _ {f : Frame} {i at : ℕ} {a : Progress} (start : at ≡ startOf (f .wor
 -- Several words.
 
 module _ {f : Frame} {a : Progress} {start i : ℕ} where
-  pub references-next : {b r : Progress}
+  pub references-next : {n j : ℕ} {b r : Progress}
       → start ≤ i
+      → j ≡ i + n
       → ReferencesIn f start (i - start) a b
-      → ReferencesIn f i 1 b r
-      → ReferencesIn f start (i + 1 - start) a r
-  references-next h p q =
+      → ReferencesIn f i n b r
+      → ReferencesIn f start (j - start) a r
+  references-next {n} h k p q =
       record {
         atMost = omega (arith, p .atMost, q .atMost);
         goes =
             λ setting tree binders env s.
-            rw (said-next (referenceSays binders) (f .rule) (f .words) h)
+            rw (said-next (referenceSays binders) (f .rule) (f .words) n h k)
             (goes-then (p .goes setting tree binders env s) (q .goes setting tree binders env s));
       }
+
+  pub references-stopped : {end : ℕ} {r : Progress}
+      → start ≤ i
+      → i < end
+      → ReferencesIn f start (i - start) a r
+      → true ≡ isDefect (r .verdict)
+      → ReferencesIn f start (end - start) a r
+  references-stopped {end} h k p t =
+      references-next {n = end - i} h (omega arith) p (record { atMost = omega arith; goes = λ setting tree binders env s. goes-absorbed t })
 
   pub references-all : {end : ℕ} {r : Progress}
       → end ≤ i

@@ -62,6 +62,10 @@ unfoldable pub overBy : Over → Option ℕ
 overBy Outside = none
 overBy (In e) = some e
 
+unfoldable pub isDefect : Verdict → Bool
+isDefect Pass = false
+isDefect (Defect f place over) = true
+
 unfoldable pub shownWith : ℕ → Verdict → Shown
 shownWith n Pass = passes n
 shownWith n (Defect f place over) = fails n (numberOf f) place (overBy over) (detailOf f)

@@ -4,6 +4,7 @@ use crate::node::children_from;
 use crate::verdict::Fault;
 use crate::verdict::Over;
 use crate::verdict::Progress;
+use crate::verdict::has_failed;
 use crate::verdict::require;
 use rule::index::start_of;
 use sheet::part::bytes_of;
@@ -51,6 +52,9 @@ fn validate_literals(a: Progress, rule: &[u8], words: &[u32], start: usize, end:
     let mut so_far = a;
     let mut i = start;
     while i < end {
+        if has_failed(so_far) {
+            return so_far;
+        }
         so_far = validate_literal(so_far, rule, words, i);
         i += 1;
     }
@@ -110,6 +114,9 @@ pub fn unobservable_condition_literals(
     let mut so_far = a;
     let mut i = start;
     while i < end {
+        if has_failed(so_far) {
+            return so_far;
+        }
         let ConditionRead::Is(head, _) = condition_head(rule, start_of(words, i)) else {
             return so_far;
         };

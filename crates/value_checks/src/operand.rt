@@ -1,5 +1,6 @@
 // Operands: what a value is asked besides its references.
 use crate::node::behind;
+use crate::references::is_reference;
 use crate::references::validate_references;
 use crate::verdict::Fault;
 use crate::verdict::InstantFault;
@@ -10,6 +11,7 @@ use crate::verdict::fail;
 use crate::verdict::pass;
 use rule::index::start_of;
 use scope::binder::Scope;
+use scope::collections::begins_with_dollar;
 use sheet::part::Part;
 use sheet::part::bytes_of;
 use sheet::rule_heads::AFTER;
@@ -62,17 +64,11 @@ pub fn form_of(rule: &[u8], words: &[u32], i: usize) -> Form
 fn instant_text(text: &[u8]) -> InstantRead
     ensures { λ r. ⌜ ReadAs (instantText (now (text .entry))) (literalText (now (text .entry))) r ⌝ }
 {
-    if text.len() == 0 {
-        return InstantRead::Bad(InstantFault::Other);
-    }
-    if text[0] == b'$' {
-        if text.len() == 1 {
-            return InstantRead::Reference;
-        }
-        if text[1] == b'$' {
-            return InstantRead::Bad(InstantFault::Dollars);
-        }
+    if is_reference(text) {
         return InstantRead::Reference;
+    }
+    if begins_with_dollar(text) {
+        return InstantRead::Bad(InstantFault::Dollars);
     }
     let Parsed::Instant(fields) = timestamp::parse(text) else {
         return InstantRead::Bad(InstantFault::Other);

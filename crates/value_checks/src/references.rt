@@ -3,6 +3,7 @@ use crate::verdict::Fault;
 use crate::verdict::Over;
 use crate::verdict::Progress;
 use crate::verdict::fail;
+use crate::verdict::has_failed;
 use crate::verdict::pass;
 use rule::index::start_of;
 use scope::binder::Scope;
@@ -16,7 +17,7 @@ ghost use Prim.Native.Nat.{_-_, _<_, _≤_};
 ghost use Rattle.value_checks.specs.Verdicts.{HasRoom};
 ghost use Rattle.value_checks.specs.Frames.{frame, IsReference, ReferencesIn};
 
-fn is_reference(text: &[u8]) -> bool
+pub fn is_reference(text: &[u8]) -> bool
     ensures { λ r. ⌜ IsReference (now (text .entry)) r ⌝ }
 {
     if text.len() == 0 {
@@ -86,6 +87,9 @@ pub fn validate_references(
     let mut so_far = a;
     let mut i = start;
     while i < end {
+        if has_failed(so_far) {
+            return so_far;
+        }
         so_far = validate_value_reference(so_far, schema, rule, words, scope, over, i);
         i += 1;
     }

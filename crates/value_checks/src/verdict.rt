@@ -1,7 +1,8 @@
 // What judging answers, and how it goes on check by check.
 use walk::answer::CollectionFault;
 use walk::answer::ReferenceFault;
-ghost use Rattle.value_checks.specs.Verdicts.{HasRoom, PassedOn, Failed, Required};
+ghost use mathlib.Core.Path.{_≡_};
+ghost use Rattle.value_checks.specs.Verdicts.{isDefect, HasRoom, PassedOn, Failed, Required};
 
 // A side of a comparison.
 pub enum Side {
@@ -52,6 +53,17 @@ pub struct Progress {
     // The checks that passed, up to the first that does not.
     pub passed: usize,
     pub verdict: Verdict,
+}
+
+// Whether a check has failed. What is asked behind it changes nothing, so that loops end there.
+pub fn has_failed(a: Progress) -> bool
+    ensures { λ r. ⌜ r ≡ isDefect (a .verdict) ⌝ }
+{
+    let verdict = a.verdict;
+    match verdict {
+        Verdict::Pass => false,
+        Verdict::Defect(_, _, _) => true,
+    }
 }
 
 // One check more, which passes. A defect stays as it is.

@@ -74,11 +74,11 @@ fn with_call<T>(sample: &Sample, side: Side, measured: impl FnOnce(&mut dyn FnMu
     let mut buffers = Buffers::new();
     let built = rust::build(sample).expect("a measured sheet is well formed");
     let mut call = || match side {
-        Side::Library => library::check(sample, &mut buffers) == 0,
-        Side::Validating => rust::validate(sample, &built),
-        Side::Building => rust::build_and_validate(sample),
+        Side::Library => library::check(sample, &mut buffers) == sample.number,
+        Side::Validating => rust::validate(sample, &built) == (sample.number == 0),
+        Side::Building => rust::build_and_validate(sample) == (sample.number == 0),
     };
-    assert!(call(), "a measured sheet is accepted");
+    assert!(call(), "a measured sheet is answered as it was made to be");
     measured(&mut call)
 }
 

@@ -12,7 +12,7 @@ pub fn time(mut call: impl FnMut() -> bool) -> f64 {
     let round = |_| {
         let start = Instant::now();
         for _ in 0..calls {
-            assert!(black_box(call()), "a measured sheet is accepted");
+            assert!(black_box(call()), "a measured sheet is answered as it was made to be");
         }
         start.elapsed().as_nanos() as f64 / f64::from(calls)
     };
@@ -34,7 +34,7 @@ fn calls_in(round: Duration, call: &mut impl FnMut() -> bool) -> u32 {
 #[inline(never)]
 #[no_mangle]
 pub fn counted_call(call: &mut dyn FnMut() -> bool) {
-    assert!(black_box(call()), "a measured sheet is accepted");
+    assert!(black_box(call()), "a measured sheet is answered as it was made to be");
 }
 
 /// The instructions of the one call that this program makes when it is started with `words`, or none without valgrind.

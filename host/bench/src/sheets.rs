@@ -1,20 +1,26 @@
-//! The sheets that are measured, made by size. Every one of them is accepted.
+//! The sheets that are measured, made by size. All but those of early defects are accepted.
 
 use differential::model::number::bound;
 
-/// One check: settings and the two sheets.
+/// One check: settings, the two sheets, and the number that is answered.
 pub struct Sample {
     pub kind: u64,
     pub semantics: u64,
     pub schema: Vec<u8>,
     pub rule: Vec<u8>,
+    pub number: u32,
 }
 
 impl Sample {
     /// A precondition or an operation's template, under service/1.
     fn new(schema: String, rule: String) -> Self {
         let kind = if rule.starts_with('R') { 2 } else { 4 };
-        Self { kind, semantics: 2, schema: schema.into_bytes(), rule: rule.into_bytes() }
+        Self { kind, semantics: 2, schema: schema.into_bytes(), rule: rule.into_bytes(), number: 0 }
+    }
+
+    /// The same with a defect of that number.
+    fn with_defect(self, number: u32) -> Self {
+        Self { number, ..self }
     }
 
     pub fn bytes(&self) -> usize {
@@ -32,7 +38,7 @@ pub struct Group {
     pub make: fn(usize) -> Sample,
 }
 
-pub const GROUPS: [Group; 8] = [
+pub const GROUPS: [Group; 11] = [
     Group { name: "small", unit: "fields and conditions", sizes: &[1, 2, 4, 6, 8, 12, 16], listed: 4, make: small },
     Group { name: "typical", unit: "schema entries", sizes: &[51, 101, 201, 301, 401, 511, 611], listed: 611, make: typical },
     Group { name: "wide", unit: "siblings", sizes: &[100, 200, 350, 500, 650, 800, 1_000], listed: 1_000, make: wide },
@@ -58,6 +64,21 @@ pub const GROUPS: [Group; 8] = [
         sizes: &[100, 200, 400, 800, 1_200, 1_600, 2_048],
         listed: 2_048,
         make: large_rules,
+    },
+    Group { name: "templates", unit: "members", sizes: &[25, 50, 100, 200, 300, 400, 500], listed: 500, make: templates },
+    Group {
+        name: "early defect in a large rule",
+        unit: "rule entries",
+        sizes: &[100, 200, 400, 800, 1_200, 1_600, 2_048],
+        listed: 2_048,
+        make: |entries| all_forms(entries, &lost_reference()).with_defect(18),
+    },
+    Group {
+        name: "early defect among many references",
+        unit: "references",
+        sizes: &[50, 100, 200, 350, 500, 700, 900],
+        listed: 900,
+        make: |count| works_of_bars(count, "$bar.lost").with_defect(18),
     },
 ];
 
@@ -189,17 +210,31 @@ fn long_texts(texts: usize) -> Sample {
     Sample::new(long_schema(texts), format!("T\nV,6,{texts},\n{}", each(texts, |i| text(&format!("$fields.{}", long_name(i))))))
 }
 
-/// References through the inner one of two binders, in turn with ones to the record.
+/// A condition whose reference leads to no field.
+fn lost_reference() -> String {
+    format!("C,5,0,\n{}", text("$fields.lost"))
+}
+
 fn many_references(count: usize) -> Sample {
+    works_of_bars(count, "$bar.origin.works")
+}
+
+/// References through the inner one of two binders, in turn with ones to the record; the first of them is given.
+fn works_of_bars(count: usize, first: &str) -> Sample {
     let element = format!("F,7,0,0,2,0,-,\n{}F,7,0,0,1,6,-,origin\n{}", plain(1, "grade"), plain(1, "works"));
     let fields = format!("{}{element}{}", array("bars"), plain(1, "works"));
-    let exists = each(count, |i| format!("C,5,0,\n{}", text(["$bar.origin.works", "$fields.works"][i % 2])));
+    let reference = |i| if i == 0 { first } else { ["$bar.origin.works", "$fields.works"][i % 2] };
+    let exists = each(count, |i| format!("C,5,0,\n{}", text(reference(i))));
     let binders = format!("C,20,4,lots\n{}C,20,3,bar\n{}", text("$fields.bars"), text("$fields.bars"));
     Sample::new(format!("H,0,2,-,0\n{fields}"), format!("R,-,-,\n{binders}C,2,{count},\n{exists}"))
 }
 
-/// Conditions of every form, six of them in sixteen entries.
 fn large_rules(entries: usize) -> Sample {
+    all_forms(entries, "")
+}
+
+/// Conditions of every form, six of them in sixteen entries, behind a given one.
+fn all_forms(entries: usize, first: &str) -> Sample {
     let forms = [
         format!("C,6,0,\n{}{}", text("$fields.made"), text("2024-02-29")),
         format!("C,11,0,\n{}{}", text("$fields.mass"), number("12.5e1")),
@@ -208,11 +243,22 @@ fn large_rules(entries: usize) -> Sample {
         "C,1,1,\n".to_owned(),
         format!("C,4,0,\nC,19,0,\n{}", text("$fields.name")),
     ];
-    let blocks = (entries - 2) / 16;
-    let rest = (entries - 2) % 16;
-    let conditions = each(blocks, |_| forms.concat()) + &each(rest, |_| forms[4].clone());
+    let left = entries - 2 - first.lines().count();
+    let blocks = left / 16;
+    let rest = left % 16;
+    let conditions = first.to_owned() + &each(blocks, |_| forms.concat()) + &each(rest, |_| forms[4].clone());
+    let count = usize::from(!first.is_empty()) + 6 * blocks + rest;
     let fields = [plain(1, "made"), plain(3, "mass"), plain(1, "name")].concat();
-    Sample::new(format!("H,0,3,-,0\n{fields}"), format!("R,-,-,\nC,2,{},\n{conditions}", 6 * blocks + rest))
+    Sample::new(format!("H,0,3,-,0\n{fields}"), format!("R,-,-,\nC,2,{count},\n{conditions}"))
+}
+
+/// An operation's template: an object whose members are references, numbers, texts and arrays of two references, in turn.
+fn templates(count: usize) -> Sample {
+    let reference = text("$fields.lot.weight");
+    let values = [reference.clone(), number("12.5"), text("S355"), format!("V,6,2,\n{reference}{reference}")];
+    let members = each(count, |i| format!("K,2,{}\n{}", pair_name(i), values[i % values.len()]));
+    let fields = format!("{}{}", object("lot", 1), plain(2, "weight"));
+    Sample::new(format!("H,0,1,-,0\n{fields}"), format!("T\nV,7,{count},\n{members}"))
 }
 
 /// Comparisons of two numbers of 500 digits. They differ from the bound of finite numbers in the 309th digit, and stand at its place or lower, as the

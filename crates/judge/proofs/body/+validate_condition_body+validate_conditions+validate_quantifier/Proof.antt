@@ -3,7 +3,7 @@ use native.Mathlib.Omega.{arith}
 use mathlib.Core.Path.{refl}
 use Rattle.sheet.specs.Places.{conditionOf}
 use Rattle.value_checks.specs.Frames.{frame}
-use Rattle.judge.proofs.BodySteps.{body-zero, body-bad, body-judged, BodiesLeft, bodies-begin, bodies-next, bodies-all}
+use Rattle.judge.proofs.BodySteps.{body-zero, body-bad, body-judged, BodiesLeft, bodies-begin, bodies-next, bodies-stopped, bodies-all}
 use Rattle.judge.proofs.QuantifierSteps.{quantifier-known, quantifier-unknown, quantifier-refused}
 use borrow.Author.Needs.{needs}
 use Prim.Native.Nat.{ℕ, _+_, _-_, _*_, _<_, _≤_}
@@ -27,6 +27,7 @@ use Rattle.value_checks.proofs.operand.validate_pair.Reads as validate-pair-rea
 use Rattle.value_checks.proofs.references.validate_references.Reads as validate-references-reads
 use Rattle.scope.proofs.binder.bind.Reads as bind-reads
 use Rattle.value_checks.proofs.verdict.fail.Reads as fail-reads
+use Rattle.value_checks.proofs.verdict.has_failed.Reads as has-failed-reads
 use Rattle.value_checks.proofs.verdict.pass.Reads as pass-reads
 use Rattle.value_checks.proofs.verdict.require.Reads as require-reads
 use Rattle.rule.proofs.index.start_of.Reads as start-of-reads
@@ -120,6 +121,8 @@ cs-validate-condition-body t = (
 
 abbrev cs-validate-conditions : ℕ → validate-conditions-lts.Claims
 cs-validate-conditions t = (
+  has-failed-reads.Asked,
+  has-failed-reads.Learnt,
   behind-reads.Asked,
   behind-reads.Learnt,
   validate-condition-body-below t,
@@ -331,6 +334,20 @@ validate-conditions-loop-holds : (t : ℕ) → validate-conditions-lts.Need-loop
     validate-conditions-μ-loop
 validate-conditions-loop-holds t c = (omega arith, omega arith, bodies-begin)
 
+validate-conditions-has-failed-requires : (t : ℕ) → validate-conditions-lts.Need-has-failed-requires (cs-validate-conditions t)
+    (validate-conditions-at t)
+    validate-conditions.Post
+    validate-conditions-Inv-loop
+    validate-conditions-μ-loop
+validate-conditions-has-failed-requires t c κs = search needs
+
+validate-conditions-returns : (t : ℕ) → validate-conditions-lts.Need-returns (cs-validate-conditions t)
+    (validate-conditions-at t)
+    validate-conditions.Post
+    validate-conditions-Inv-loop
+    validate-conditions-μ-loop
+validate-conditions-returns t c = bodies-stopped (rw (c .if1 .taken) at (c .before .has-failed .ensures)) (c .before .before .before .loop .inv .1) (c .before .before .before .loop .inv .2)
+
 validate-conditions-behind-requires : (t : ℕ) → validate-conditions-lts.Need-behind-requires (cs-validate-conditions t)
     (validate-conditions-at t)
     validate-conditions.Post
@@ -344,28 +361,28 @@ validate-conditions-validate-condition-body-requires :
     validate-conditions.Post
     validate-conditions-Inv-loop
     validate-conditions-μ-loop
-validate-conditions-validate-condition-body-requires t c κs = (omega (arith, c .before .before .before .before .before .before .pre .0), (record { fits = omega (arith, c .before .before .loop .inv .0, c .before .before .loop .inv .2 .atMost, c .before .before .before .before .before .before .pre .1 .0 .fits, c .behind .ensures .most) }, c .behind .ensures .past (c .before .loop-test .taken), omega (arith, c .behind .ensures .most, c .before .before .before .before .before .before .pre .1 .1)))
+validate-conditions-validate-condition-body-requires t c κs = (omega (arith, c .before .before .before .before .before .before .before .before .pre .0), (record { fits = omega (arith, c .before .before .before .before .loop .inv .0, c .before .before .before .before .loop .inv .2 .atMost, c .before .before .before .before .before .before .before .before .pre .1 .0 .fits, c .behind .ensures .most) }, c .behind .ensures .past (c .before .before .before .loop-test .taken), omega (arith, c .behind .ensures .most, c .before .before .before .before .before .before .before .before .pre .1 .1)))
 
 validate-conditions-loop-less : (t : ℕ) → validate-conditions-lts.Need-loop-less (cs-validate-conditions t)
     (validate-conditions-at t)
     validate-conditions.Post
     validate-conditions-Inv-loop
     validate-conditions-μ-loop
-validate-conditions-loop-less t c = omega (arith, c .before .behind .ensures .past (c .before .before .loop-test .taken))
+validate-conditions-loop-less t c = omega (arith, c .before .behind .ensures .past (c .before .before .before .before .loop-test .taken))
 
 validate-conditions-loop-again : (t : ℕ) → validate-conditions-lts.Need-loop-again (cs-validate-conditions t)
     (validate-conditions-at t)
     validate-conditions.Post
     validate-conditions-Inv-loop
     validate-conditions-μ-loop
-validate-conditions-loop-again t c = (omega (arith, c .before .behind .ensures .past (c .before .before .loop-test .taken), c .before .before .before .loop .inv .0), omega (arith, c .before .behind .ensures .most), bodies-next (c .before .before .loop-test .taken) (c .before .behind .ensures) (c .validate-condition-body .ensures) (c .before .before .before .loop .inv .0) (c .before .before .before .loop .inv .2))
+validate-conditions-loop-again t c = (omega (arith, c .before .behind .ensures .past (c .before .before .before .before .loop-test .taken), c .before .before .before .before .before .loop .inv .0), omega (arith, c .before .behind .ensures .most), bodies-next (c .before .before .before .before .loop-test .taken) (c .before .behind .ensures) (c .validate-condition-body .ensures) (c .before .before .before .before .before .loop .inv .0) (c .before .before .before .before .before .loop .inv .2))
 
-validate-conditions-returns : (t : ℕ) → validate-conditions-lts.Need-returns (cs-validate-conditions t)
+validate-conditions-returns-2 : (t : ℕ) → validate-conditions-lts.Need-returns-2 (cs-validate-conditions t)
     (validate-conditions-at t)
     validate-conditions.Post
     validate-conditions-Inv-loop
     validate-conditions-μ-loop
-validate-conditions-returns t c = bodies-all (c .loop-test .left) (c .before .loop .inv .1) (c .before .loop .inv .2)
+validate-conditions-returns-2 t c = bodies-all (c .loop-test .left) (c .before .loop .inv .1) (c .before .loop .inv .2)
 
 validate-quantifier-add-start : (t : ℕ) → validate-quantifier-lts.Need-add-start (cs-validate-quantifier t) (validate-quantifier-at t) validate-quantifier.Post
 validate-quantifier-add-start t c = omega (arith, c .before .before .before .pre .1 .0 .fits, c .before .before .before .pre .1 .1, c .before .before .before .pre .1 .2)
@@ -494,11 +511,13 @@ pub +validate-condition-body+validate-conditions+validate-quantifier-spec :
     validate-conditions-Inv-loop
     validate-conditions-μ-loop
     (validate-conditions-loop-holds t)
+    (validate-conditions-has-failed-requires t)
+    (validate-conditions-returns t)
     (validate-conditions-behind-requires t)
     (validate-conditions-validate-condition-body-requires t)
     (validate-conditions-loop-less t)
     (validate-conditions-loop-again t)
-    (validate-conditions-returns t))
+    (validate-conditions-returns-2 t))
     λ t. validate-quantifier-lts.spec (cs-validate-quantifier t)
     (validate-quantifier-at t)
     validate-quantifier.Post
