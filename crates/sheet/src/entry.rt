@@ -90,6 +90,9 @@ pub fn is_text(s: &[u8], at: usize, len: usize) -> bool
     ensures { λ r. ⌜ TextIs len (now (s .entry)) at r ⌝ }
 {
     if len <= s.len() - at {
+        if text::is_short_ascii(s, at, len) {
+            return true;
+        }
         let end = at + len;
         return text::is_utf8(&s[at..end]);
     }

@@ -1,11 +1,12 @@
 -- Numbers whose digits are the bytes of a text: how they are put together, and what one of them says of its bytes.
 use Prim.Native.Nat.{ℕ, zero, suc, _+_, _*_, _/_, _%_, _≤_, _<_}
-use mathlib.Core.Path.{_≡_, ap, ap₂, sym, _∙_}
-use mathlib.Core.List.{List}
+use mathlib.Core.Path.{_≡_, refl, ap, ap₂, sym, _∙_}
+use mathlib.Core.List.{List, [], _∷_}
 use native.Mathlib.Omega.{arith}
 use lib.Bits.{bitAnd, and-block, and-shr, and-mask}
 use lib.ListN.{getD}
-use Rattle.text.specs.Digits.{number, Digits}
+use Rattle.text.specs.Decodes.{AsciiAt}
+use Rattle.text.specs.Digits.{number, highBits, Digits}
 
 module _ (s : List ℕ) (at : ℕ) where
   pub four-digits
@@ -67,25 +68,47 @@ lowest-apart a x y h e =
     let none : bitAnd x y * 256 + bitAnd a 0x80 ≡ 0 = sym (and-block 8 x y a 0x80 h (omega arith)) ∙ ap₂ bitAnd p q ∙ e in
     (omega arith, omega arith)
 
+-- the first `n` of `m` digits, by their highest bits
 number-ascii
-    : (n : ℕ) (f : ℕ → ℕ)
+    : (m n : ℕ) (f : ℕ → ℕ)
+    → n ≤ m
     → ((k : ℕ) → f k < 256)
-    → bitAnd (number n f) (number n (λ k. 0x80)) ≡ 0
+    → bitAnd (number m f) (number n (λ k. 0x80)) ≡ 0
     → (k : ℕ)
     → k < n
     → f k ≤ 0x7F
 unfolding number
-number-ascii zero f below e k h = absurd (omega arith)
-number-ascii (suc n) f below e zero h = byte-ascii (f 0) (below 0) (lowest-apart (f 0) _ _ (below 0) e .0)
-number-ascii (suc n) f below e (suc k) h =
-    number-ascii n (λ j. f (suc j)) (λ j. below (suc j)) (lowest-apart (f 0) _ _ (below 0) e .1) k (omega arith)
+number-ascii m zero f few below e k h = absurd (omega arith)
+number-ascii zero (suc n) f few below e k h = absurd (omega arith)
+number-ascii (suc m) (suc n) f few below e zero h = byte-ascii (f 0) (below 0) (lowest-apart (f 0) _ _ (below 0) e .0)
+number-ascii (suc m) (suc n) f few below e (suc k) h =
+    number-ascii m n (λ j. f (suc j)) (omega arith) (λ j. below (suc j)) (lowest-apart (f 0) _ _ (below 0) e .1) k (omega arith)
 
 pub digits-ascii
-    : (n : ℕ) (s : List ℕ) (at : ℕ) {v : ℕ}
-    → Digits n s at v
-    → bitAnd v (number n (λ k. 0x80)) ≡ 0
-    → (k : ℕ)
-    → k < n
-    → getD s (at + k) 0 ≤ 0x7F
-digits-ascii n s at d e =
-    number-ascii n (λ k. getD s (at + k) 0) (λ k. d .below (at + k)) (ap (λ (v : ℕ). bitAnd v (number n (λ k. 0x80))) (sym (d .value-is)) ∙ e)
+    : (m n : ℕ) (s : List ℕ) (at : ℕ) {v : ℕ}
+    → n ≤ m
+    → Digits m s at v
+    → {mask : ℕ}
+    → mask ≡ highBits n
+    → bitAnd v mask ≡ 0
+    → AsciiAt s at n
+unfolding highBits
+digits-ascii m n s at few d high e =
+    number-ascii m n (λ k. getD s (at + k) 0) few (λ k. d .below (at + k)) (sym (ap₂ bitAnd (d .value-is) high) ∙ e)
+
+-- the numbers that `high_bits` reads
+pub high-bits-listed
+    : (n : ℕ)
+    → n ≤ 8
+    → getD (0 ∷ 0x80 ∷ 0x8080 ∷ 0x808080 ∷ 0x80808080 ∷ 0x8080808080 ∷ 0x808080808080 ∷ 0x80808080808080 ∷ 0x8080808080808080 ∷ []) n 0 ≡ highBits n
+unfolding highBits number
+high-bits-listed zero h = refl
+high-bits-listed (suc zero) h = refl
+high-bits-listed (suc (suc zero)) h = refl
+high-bits-listed (suc (suc (suc zero))) h = refl
+high-bits-listed (suc (suc (suc (suc zero)))) h = refl
+high-bits-listed (suc (suc (suc (suc (suc zero))))) h = refl
+high-bits-listed (suc (suc (suc (suc (suc (suc zero)))))) h = refl
+high-bits-listed (suc (suc (suc (suc (suc (suc (suc zero))))))) h = refl
+high-bits-listed (suc (suc (suc (suc (suc (suc (suc (suc zero)))))))) h = refl
+high-bits-listed (suc (suc (suc (suc (suc (suc (suc (suc (suc n))))))))) h = absurd (omega arith)

@@ -1,23 +1,25 @@
 -- What the loops over a text keep from turn to turn: the answer for the rest is the answer for the whole.
-use Prim.Native.Nat.{ℕ, _+_, _≤_, _<_}
+use Prim.Native.Nat.{ℕ, _+_, _-_, _≤_, _<_}
 use mathlib.Core.Path.{_≡_, refl, sym, ap, _∙_}
 use mathlib.Core.Bool.{Bool, true, false}
 use mathlib.Core.List.{List}
 use mathlib.Core.Option.{none, some}
 use native.Mathlib.Omega.{arith}
-use lib.ListN.{length, getD, drop, length-drop, drop-of-length-le}
-use Rattle.text.proofs.Below.{reached}
+use native.Mathlib.Nat.{zero-add}
+use lib.ListN.{length, getD, take, drop, length-take, length-drop, drop-of-length-le}
+use lib.Seq.{getD-take, getD-drop}
+use Rattle.text.proofs.Below.{below-more, reached}
 use Rattle.text.specs.Utf8.{utf8-1, utf8-2, utf8-3, utf8-4, orElse, decodeOne, isUtf8}
 use Rattle.text.specs.WhiteSpace.{isWhiteSpace}
 use Rattle.text.specs.Blank.{isBlank, trimStart}
-use Rattle.text.specs.Decodes.{PassedTo}
+use Rattle.text.specs.Decodes.{AsciiAt, PassedTo, BehindPoint}
 use Rattle.text.proofs.Decode.{one-byte}
 use Rattle.text.proofs.Points.{utf8-empty, utf8-none, utf8-some, blank-empty, blank-none, blank-some, start-none, start-white, start-other}
 
 more-left : (s : List ℕ) (at : ℕ) → at < length s → 0 < length (drop at s)
 more-left s at h = rw (length-drop at s) (omega arith)
 
-pub ascii-step
+ascii-step
     : (s : List ℕ) (at next : ℕ)
     → next ≡ at + 1
     → at < length s
@@ -25,10 +27,10 @@ pub ascii-step
     → isUtf8 (drop next s) ≡ isUtf8 (drop at s)
 ascii-step s at next e h l = rw e (sym (utf8-some (drop at s) (one-byte s at h l refl)))
 
-pub ascii-steps
+ascii-steps
     : (s : List ℕ) (at n : ℕ)
     → at + n ≤ length s
-    → ((k : ℕ) → k < n → getD s (at + k) 0 ≤ 0x7F)
+    → AsciiAt s at n
     → isUtf8 (drop (at + n) s) ≡ isUtf8 (drop at s)
 ascii-steps s at n h l =
     let here : at + 0 ≡ at = omega arith in
@@ -38,31 +40,65 @@ ascii-steps s at n h l =
 pub passed-none : (s : List ℕ) (from : ℕ) → from ≤ length s → PassedTo s from from
 passed-none s from h = record { forward = omega arith; within = h; kept = refl }
 
-pub passed-eight
-    : (s : List ℕ) (from at : ℕ)
+pub passed-both : {s : List ℕ} {from mid to : ℕ} → PassedTo s from mid → PassedTo s mid to → PassedTo s from to
+passed-both p q = record { forward = omega (arith, p .forward, q .forward); within = q .within; kept = q .kept ∙ p .kept }
+
+pub passed-byte : (s : List ℕ) (from at : ℕ) → PassedTo s from at → at < length s → getD s at 0 ≤ 0x7F → PassedTo s from (at + 1)
+passed-byte s from at p h l = record { forward = omega (arith, p .forward); within = omega arith; kept = ascii-step s at (at + 1) refl h l ∙ p .kept }
+
+pub passed-ascii
+    : (s : List ℕ) (from at n : ℕ)
     → PassedTo s from at
-    → at + 8 ≤ length s
-    → isUtf8 (drop (at + 8) s) ≡ isUtf8 (drop at s)
-    → PassedTo s from (at + 8)
-passed-eight s from at p h e = record { forward = omega (arith, p .forward); within = h; kept = e ∙ p .kept }
+    → at + n ≤ length s
+    → AsciiAt s at n
+    → PassedTo s from (at + n)
+passed-ascii s from at n p h l = record { forward = omega (arith, p .forward); within = h; kept = ascii-steps s at n h l ∙ p .kept }
 
 module _ (s : List ℕ) (at : ℕ) where
-  module _ (kept : isUtf8 (drop at s) ≡ isUtf8 s) where
-    pub utf8-ascii : at < length s → getD s at 0 ≤ 0x7F → isUtf8 (drop (at + 1) s) ≡ isUtf8 s
-    utf8-ascii h l = ascii-step s at (at + 1) refl h l ∙ kept
+  -- one part behind the other, and two that may overlap
+  pub ascii-more : (m n : ℕ) → AsciiAt s at m → AsciiAt s (at + m) n → AsciiAt s at (m + n)
+  ascii-more m n low high =
+      below-more (λ k. getD s (at + k) 0 ≤ 0x7F) m n low
+      (λ k h. let e : at + m + k ≡ at + (m + k) = omega arith in rw e at (high k h))
 
-    pub utf8-again
-        : {c : ℕ} (next to : ℕ)
-        → decodeOne (drop at s) ≡ some (c, drop next s)
-        → PassedTo s next to
-        → isUtf8 (drop to s) ≡ isUtf8 s
-    utf8-again next to e p = p .kept ∙ sym (utf8-some (drop at s) e) ∙ kept
+  pub ascii-ends : (n len : ℕ) → n ≤ len → len ≤ n + n → AsciiAt s at n → AsciiAt s (at + len - n) n → AsciiAt s at len
+  ascii-ends n len h m low high =
+      let whole : n + (len - n) ≡ len = omega arith in
+      rw whole at
+      (ascii-more n (len - n) low
+      (λ k b. let e : at + len - n + (n + n - len + k) ≡ at + n + k = omega arith in rw e at (high (n + n - len + k) (omega arith))))
 
-    pub utf8-refused : at < length s → decodeOne (drop at s) ≡ none → false ≡ isUtf8 s
-    utf8-refused h e = sym (utf8-none (drop at s) (more-left s at h) e) ∙ kept
+  pub ascii-text : (n : ℕ) → at + n ≤ length s → AsciiAt s at n → isUtf8 (take n (drop at s)) ≡ true
+  ascii-text n h l =
+      let size : length (take n (drop at s)) ≡ n = omega (arith, length-take n (drop at s), length-drop at s) in
+      let bytes : AsciiAt (take n (drop at s)) 0 n =
+      λ k b. rw (zero-add k, getD-take n (drop at s) k 0 b, getD-drop at s k 0) (l k b) in
+      sym (ascii-steps (take n (drop at s)) 0 n (omega arith) bytes)
+      ∙ ap isUtf8 (drop-of-length-le (take n (drop at s)) {i = 0 + n} (omega arith))
+      ∙ utf8-empty
+
+  pub none-behind : at < length s → decodeOne (drop at s) ≡ none → BehindPoint s at at
+  none-behind h e =
+      record { passed = passed-none s at (omega arith); none-begins = λ same. utf8-none (drop at s) (more-left s at h) e }
+
+  pub point-behind
+      : {c : ℕ} (n : ℕ)
+      → 0 < n
+      → at + n ≤ length s
+      → decodeOne (drop at s) ≡ some (c, drop (at + n) s)
+      → BehindPoint s at (at + n)
+  point-behind n some-bytes h e =
+      record {
+        passed = record { forward = omega arith; within = h; kept = sym (utf8-some (drop at s) e) };
+        none-begins = λ same. absurd (omega arith);
+      }
+
+  module _ (p : PassedTo s 0 at) where
+    pub utf8-refused : {next : ℕ} → BehindPoint s at next → next ≡ at → false ≡ isUtf8 s
+    utf8-refused b e = sym (b .none-begins e) ∙ p .kept
 
     pub utf8-passed : length s ≤ at → true ≡ isUtf8 s
-    utf8-passed h = sym utf8-empty ∙ ap isUtf8 (sym (drop-of-length-le s h)) ∙ kept
+    utf8-passed h = sym utf8-empty ∙ ap isUtf8 (sym (drop-of-length-le s h)) ∙ p .kept
 
   module _ (kept : isBlank (drop at s) ≡ isBlank s) where
     pub blank-again

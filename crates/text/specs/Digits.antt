@@ -9,6 +9,10 @@ unfoldable pub number : ℕ → (ℕ → ℕ) → ℕ
 number zero digit = 0
 number (suc n) digit = digit 0 + 256 * number n (λ k. digit (suc k))
 
+-- the highest bits of `n` bytes
+unfoldable pub highBits : ℕ → ℕ
+highBits n = number n (λ k. 0x80)
+
 -- `n` bytes of a text, from a place on, are the digits of a number
 pub record Digits (n : ℕ) (s : List ℕ) (at value : ℕ) : Type 0 where
   pub value-is : value ≡ number n (λ k. getD s (at + k) 0)

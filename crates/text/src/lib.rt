@@ -1,14 +1,14 @@
 // Text as bytes: UTF-8, White_Space, blank text, and text trimmed at both ends. Every function takes any bytes.
 ghost use mathlib.Core.Path.{_≡_};
 ghost use mathlib.Core.Bool.{true};
-ghost use Prim.Native.Nat.{_+_, _*_, _≤_};
-ghost use lib.ListN.{length, drop};
+ghost use Prim.Native.Nat.{_+_, _*_, _≤_, _<_};
+ghost use lib.ListN.{length, getD, take, drop};
 ghost use Rattle.text.specs.Utf8.{between, isTail, isUtf8-2, isSecondOf3, isUtf8-3, isSecondOf4, isUtf8-4, isUtf8};
 ghost use Rattle.text.specs.Utf8.{codeOf2, codeOf3, codeOf4};
 ghost use Rattle.text.specs.WhiteSpace.{isWhiteSpace};
 ghost use Rattle.text.specs.Blank.{isBlank, trim};
-ghost use Rattle.text.specs.Decodes.{Decodes, PassedTo, StartsAt, EndsAt};
-ghost use Rattle.text.specs.Digits.{Digits};
+ghost use Rattle.text.specs.Decodes.{Decodes, AsciiAt, PassedTo, BehindPoint, StartsAt, EndsAt};
+ghost use Rattle.text.specs.Digits.{Digits, highBits};
 
 // What stands at an offset of a text.
 pub enum Decoded {
@@ -17,6 +17,19 @@ pub enum Decoded {
     // No code point begins there, or the text has ended.
     Malformed,
 }
+
+// The highest bits of no byte, of the first, .. of eight bytes.
+const HIGH_BITS: [u64; 9] = [
+    0,
+    0x80,
+    0x8080,
+    0x808080,
+    0x80808080,
+    0x8080808080,
+    0x808080808080,
+    0x80808080808080,
+    0x8080808080808080,
+];
 
 fn is_between(low: u8, high: u8, b: u8) -> bool
     ensures { λ r. ⌜ r ≡ between low high b ⌝ }
@@ -183,12 +196,76 @@ pub fn is_white_space(c: u32) -> bool
     }
 }
 
-// Whether eight bytes are ASCII, and so may be passed over: none of them has its highest bit set.
+// Whether eight bytes are ASCII: none of them has its highest bit set.
 fn is_ascii_8(s: &[u8], at: usize) -> bool
     requires { ⌜ at + 8 ≤ length (now s) ⌝ }
-    ensures { λ r. ⌜ (r ≡ true → isUtf8 (drop (at + 8) (now (s .entry))) ≡ isUtf8 (drop at (now (s .entry)))) ⌝ }
+    ensures { λ r. ⌜ (r ≡ true → AsciiAt (now (s .entry)) at 8) ⌝ }
 {
     eight_at(s, at) & 0x8080808080808080 == 0
+}
+
+fn is_ascii_32(s: &[u8], at: usize) -> bool
+    requires { ⌜ at + 32 ≤ length (now s) ⌝ }
+    ensures { λ r. ⌜ (r ≡ true → AsciiAt (now (s .entry)) at 32) ⌝ }
+{
+    if is_ascii_8(s, at) {
+        if is_ascii_8(s, at + 8) {
+            if is_ascii_8(s, at + 16) {
+                return is_ascii_8(s, at + 24);
+            }
+        }
+    }
+    false
+}
+
+// The highest bits of the first `n` of eight bytes.
+fn high_bits(n: usize) -> u64
+    requires { ⌜ n ≤ 8 ⌝ }
+    ensures { λ r. ⌜ r ≡ highBits n ⌝ }
+{
+    HIGH_BITS[n]
+}
+
+// Whether so many bytes, eight at most, are ASCII. All eight are read at once, and those behind are left out.
+fn is_ascii_of_8(s: &[u8], at: usize, n: usize) -> bool
+    requires { ⌜ (at + 8 ≤ length (now s)) × (n ≤ 8) ⌝ }
+    ensures { λ r. ⌜ (r ≡ true → AsciiAt (now (s .entry)) at n) ⌝ }
+{
+    eight_at(s, at) & high_bits(n) == 0
+}
+
+// Whether a text of at most 16 bytes inside others is seen to be ASCII, and so UTF-8, by reading eight bytes once or twice. False says nothing.
+pub fn is_short_ascii(s: &[u8], at: usize, len: usize) -> bool
+    requires { ⌜ at + len ≤ length (now s) ⌝ }
+    ensures { λ r. ⌜ (r ≡ true → isUtf8 (take len (drop at (now (s .entry)))) ≡ true) ⌝ }
+{
+    if s.len() - at < 8 {
+        return false;
+    }
+    if len <= 8 {
+        return is_ascii_of_8(s, at, len);
+    }
+    if len <= 16 {
+        if is_ascii_8(s, at) {
+            return is_ascii_8(s, at + len - 8);
+        }
+    }
+    false
+}
+
+// Behind the pieces of 32 ASCII bytes at the start.
+fn behind_ascii_32(s: &[u8]) -> usize
+    ensures { λ r. ⌜ PassedTo (now (s .entry)) 0 r ⌝ }
+{
+    let mut at = 0;
+    while 32 <= s.len() - at {
+        if is_ascii_32(s, at) {
+            at += 32;
+        } else {
+            return at;
+        }
+    }
+    at
 }
 
 // Behind the eights of ASCII bytes that begin at an offset.
@@ -207,20 +284,51 @@ fn behind_ascii(s: &[u8], from: usize) -> usize
     at
 }
 
+// Behind the code point that begins at an offset and is not ASCII, or the offset itself where none begins.
+fn behind_point(s: &[u8], at: usize) -> usize
+    requires { ⌜ (at < length (now s)) × (0x7F < getD (now s) at 0) ⌝ }
+    ensures { λ r. ⌜ BehindPoint (now (s .entry)) at r ⌝ }
+{
+    let left = s.len() - at;
+    if left < 2 {
+        return at;
+    }
+    let a = s[at];
+    let b = s[at + 1];
+    if is_utf8_2(a, b) {
+        return at + 2;
+    }
+    if left < 3 {
+        return at;
+    }
+    let c = s[at + 2];
+    if is_utf8_3(a, b, c) {
+        return at + 3;
+    }
+    if left < 4 {
+        return at;
+    }
+    if is_utf8_4(a, b, c, s[at + 3]) {
+        return at + 4;
+    }
+    at
+}
+
 // Whether a text is UTF-8. Eights are looked for at the start and behind each code point that is not ASCII, and not at every byte: most
 // texts are short.
 pub fn is_utf8(s: &[u8]) -> bool
     ensures { λ r. ⌜ r ≡ isUtf8 (now (s .entry)) ⌝ }
 {
-    let mut at = behind_ascii(s, 0);
+    let mut at = behind_ascii(s, behind_ascii_32(s));
     while at < s.len() {
         if s[at] <= 0x7F {
             at += 1;
             continue;
         }
-        let Decoded::CodePoint(_, next) = decode_one(s, at) else {
+        let next = behind_point(s, at);
+        if next == at {
             return false;
-        };
+        }
         at = behind_ascii(s, next);
     }
     true

@@ -3,7 +3,7 @@ use Prim.Native.Nat.{ℕ}
 use mathlib.Core.Bool.{Bool, true, false, cond, _&&_}
 use mathlib.Core.List.{List, [], _∷_}
 use mathlib.Core.Option.{Option, none}
-use mathlib.Core.Path.{_≡_, refl, sym, _∙_}
+use mathlib.Core.Path.{_≡_, refl, sym, ap, _∙_}
 use lib.Dec.{eqb}
 use lib.ListN.{length}
 use borrow.Author.Tests.{ne-eqb}
@@ -11,6 +11,8 @@ use Rattle.definition.specs.Tree as Tree
 use Rattle.definition.specs.Tree.{Text, Field, field, Items, absent, element, Members}
 use Rattle.sheet.specs.Ascii.{ascii}
 use Rattle.sheet.specs.Order.{sameBytes}
+use Rattle.sheet.specs.OrderLaws.{sameBytes-equal}
+use Rattle.sheet.specs.ReaderLaws.{by-test}
 use Rattle.reference.specs.Path.{isCount, isOrdinal}
 use Rattle.reference.specs.Setting.{Reader}
 use Rattle.reference.specs.Walk.{Step, refuse, free, lookup, memberStep, itemStep, isEmpty, arrayStep, mapStep, isTag, contentKey, unionStep, textCount, walkStep}
@@ -39,6 +41,9 @@ use Rattle.walk.specs.declared.answer.WalkStep.{WalkStep}
 use Rattle.walk.specs.declared.answer.WalkStep.the-variants.{Refuse, Leaf, Free, Into}
 
 -- Texts
+
+pub same-apart : (a b : List ℕ) → (length a ≡ length b → ⊥) → false ≡ sameBytes a b
+same-apart a b h = sym (by-test (sameBytes a b) (λ e. absurd (h (ap length (sameBytes-equal a b e)))) (λ e. e))
 
 pub same-less : (a b : List ℕ) (o : ByteOrder) → Compares a b o → o ≡ ByteOrder.Less → false ≡ sameBytes a b
 same-less a b o p e = let q : Stand a b true false false = rw e at p in sym (q .same-is)

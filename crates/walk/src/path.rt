@@ -103,6 +103,9 @@ pub fn is_ordinal(segment: &[u8]) -> bool
 pub fn same_bytes(a: &[u8], b: &[u8]) -> bool
     ensures { λ r. ⌜ r ≡ sameBytes (now (a .entry)) (now (b .entry)) ⌝ }
 {
+    if a.len() != b.len() {
+        return false;
+    }
     match compare(a, b) {
         ByteOrder::Less => false,
         ByteOrder::Same => true,

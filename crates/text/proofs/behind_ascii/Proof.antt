@@ -4,7 +4,7 @@ use lib.ListN.{length}
 use native.Mathlib.Omega.{arith}
 use borrow.Author.Needs.{needs}
 use Rattle.text.specs.Decodes.{PassedTo}
-use Rattle.text.proofs.Passes.{passed-none, passed-eight}
+use Rattle.text.proofs.Passes.{passed-none, passed-ascii}
 use Rattle.text.proofs.behind_ascii.Statement.{statement}
 use Rattle.text.proofs.behind_ascii.Tie as tie
 
@@ -31,7 +31,7 @@ loop-less c = search needs
 
 loop-again : tie.Need-loop-again Inv-loop μ-loop
 loop-again c =
-    passed-eight (c .before .before .before .before .before .args .s .now) (c .before .before .before .before .before .args .from) (c .before .before .before .loop .at) (c .before .before .before .loop .inv) (omega (arith, c .before .before .before .loop .inv .within)) (c .before .is-ascii-8 .ensures (c .if1 .taken))
+    passed-ascii (c .before .before .before .before .before .args .s .now) (c .before .before .before .before .before .args .from) (c .before .before .before .loop .at) 8 (c .before .before .before .loop .inv) (omega (arith, c .before .before .before .loop .inv .within)) (c .before .is-ascii-8 .ensures (c .if1 .taken))
 
 returns : tie.Need-returns Inv-loop μ-loop
 returns c = search needs

@@ -1,8 +1,11 @@
 -- `walk::path::same_bytes` meets its contract.
-use Rattle.walk.proofs.StepLaws.{same-greater, same-less, same-same}
+use Rattle.walk.proofs.StepLaws.{same-apart, same-greater, same-less, same-same}
 use borrow.Author.Needs.{needs}
 use Rattle.walk.proofs.path.same_bytes.Statement.{statement}
 use Rattle.walk.proofs.path.same_bytes.Tie as tie
+
+returns : tie.Need-returns
+returns c = search (same-apart, needs)
 
 compare-requires : tie.Need-compare-requires
 compare-requires c κs = search needs
@@ -16,16 +19,16 @@ enum-told-2 c = search needs
 enum-told-3 : tie.Need-enum-told-3
 enum-told-3 c = search needs
 
-returns : tie.Need-returns
-returns c = search (same-less, needs)
-
 returns-2 : tie.Need-returns-2
-returns-2 c = search (same-same, needs)
+returns-2 c = search (same-less, needs)
 
 returns-3 : tie.Need-returns-3
-returns-3 c = search (same-greater, needs)
+returns-3 c = search (same-same, needs)
+
+returns-4 : tie.Need-returns-4
+returns-4 c = search (same-greater, needs)
 
 pub same-bytes-spec : {M : Type 1} → statement M
 same-bytes-spec =
     tie.close
-    (tie.spec compare-requires enum-told enum-told-2 enum-told-3 returns returns-2 returns-3)
+    (tie.spec returns compare-requires enum-told enum-told-2 enum-told-3 returns-2 returns-3 returns-4)
