@@ -9,6 +9,13 @@ ghost use mathlib.Core.Path.{_≡_};
 ghost use Rattle.sheet.specs.Places.{RuleIs, ConditionIs, ValueIs, KeyIs};
 ghost use Rattle.lines.specs.Ends.{ruleEnd, conditionEnd, valueEnd, keyEnd};
 ghost use Rattle.lines.specs.Passed.{Passed};
+ghost use Rattle.lines.specs.Member.{MemberIs};
+
+// The heads of a key and of the value behind it.
+pub struct MemberRead {
+    pub key: KeyRead,
+    pub value: ValueRead,
+}
 
 // Where the entry behind the sheet's first entry starts; a reader that finds none stays where it is.
 fn rule_end(read: RuleHeadRead, at: usize) -> usize
@@ -116,4 +123,14 @@ pub fn key_head(sheet: &[u8], at: usize) -> KeyRead
 {
     let mut lines = new(sheet, at);
     next_key(&mut lines)
+}
+
+// The key that starts at `at`, and its value: both are read by one reader.
+pub fn member(sheet: &[u8], at: usize) -> MemberRead
+    ensures { λ r. ⌜ MemberIs (now (sheet .entry)) at r ⌝ }
+{
+    let mut lines = new(sheet, at);
+    let key = next_key(&mut lines);
+    let value = next_value(&mut lines);
+    MemberRead { key, value }
 }
