@@ -1,4 +1,4 @@
--- The readers of a value, of what it holds, of values side by side, of a key with its value and of an object's keys, which call each other.
+-- The readers of a value, of one whose head is read, of what it holds, of values side by side, of a key with its value and of an object's keys, which call each other.
 -- Each measure is four times the nesting that is left, and a little more for those that call another at the same nesting.
 -- The loops' invariant: what has been read is right for the whole if what is left is.
 use native.Mathlib.Omega.{arith}
@@ -20,30 +20,40 @@ use Rattle.rule.proofs.KeptLaws.{ready-fewer, ready-inside, kept-all, k
 use Rattle.rule.proofs.ValueLaws.{pair-keyless, pair-valueless}
 use Rattle.rule.proofs.SiblingLaws.{Passing, siblings-begin, siblings-bad, siblings-next, siblings-end}
 use Rattle.rule.proofs.SiblingKinds.{values-kind, pairs-kind, sofar, pairs-next, object-bad, object-rises, object-differs, object-repeats}
+use Rattle.rule.proofs.value.read_headed.Reads as read-headed
+use Rattle.rule.proofs.value.read_headed.Kinds as read-headed-kinds
+use Rattle.rule.proofs.value.+read_headed+read_held+read_pair+read_pairs+read_value+read_values.Lts-read_headed as read-headed-lts
 use Rattle.rule.proofs.value.read_held.Reads as read-held
 use Rattle.rule.proofs.value.read_held.Kinds as read-held-kinds
-use Rattle.rule.proofs.value.+read_held+read_pair+read_pairs+read_value+read_values.Lts-read_held as read-held-lts
+use Rattle.rule.proofs.value.+read_headed+read_held+read_pair+read_pairs+read_value+read_values.Lts-read_held as read-held-lts
 use Rattle.rule.proofs.value.read_pair.Reads as read-pair
 use Rattle.rule.proofs.value.read_pair.Kinds as read-pair-kinds
-use Rattle.rule.proofs.value.+read_held+read_pair+read_pairs+read_value+read_values.Lts-read_pair as read-pair-lts
+use Rattle.rule.proofs.value.+read_headed+read_held+read_pair+read_pairs+read_value+read_values.Lts-read_pair as read-pair-lts
 use Rattle.rule.proofs.value.read_pairs.Reads as read-pairs
 use Rattle.rule.proofs.value.read_pairs.Kinds as read-pairs-kinds
-use Rattle.rule.proofs.value.+read_held+read_pair+read_pairs+read_value+read_values.Lts-read_pairs as read-pairs-lts
+use Rattle.rule.proofs.value.+read_headed+read_held+read_pair+read_pairs+read_value+read_values.Lts-read_pairs as read-pairs-lts
 use Rattle.rule.proofs.value.read_value.Reads as read-value
 use Rattle.rule.proofs.value.read_value.Kinds as read-value-kinds
-use Rattle.rule.proofs.value.+read_held+read_pair+read_pairs+read_value+read_values.Lts-read_value as read-value-lts
+use Rattle.rule.proofs.value.+read_headed+read_held+read_pair+read_pairs+read_value+read_values.Lts-read_value as read-value-lts
 use Rattle.rule.proofs.value.read_values.Reads as read-values
 use Rattle.rule.proofs.value.read_values.Kinds as read-values-kinds
-use Rattle.rule.proofs.value.+read_held+read_pair+read_pairs+read_value+read_values.Lts-read_values as read-values-lts
+use Rattle.rule.proofs.value.+read_headed+read_held+read_pair+read_pairs+read_value+read_values.Lts-read_values as read-values-lts
+use Rattle.lines.proofs.rule_sheet.member.Reads as member-reads
+use Rattle.lines.proofs.rule_sheet.value_head.Reads as value-head-reads
 use Rattle.rule.proofs.cursor.word_of.Reads as word-of-reads
+use Rattle.rule.proofs.keys.none_twice.Reads as none-twice-reads
 use Rattle.rule.proofs.value.cost_of.Reads as cost-of-reads
 use Rattle.rule.proofs.value.held_by.Reads as held-by-reads
-use Rattle.rule.proofs.keys.none_twice.Reads as none-twice-reads
 use Rattle.rule.proofs.value.still_rise.Reads as still-rise-reads
-use Rattle.sheet.proofs.rule_heads.key_head.Reads as key-head-reads
-use Rattle.sheet.proofs.rule_heads.value_head.Reads as value-head-reads
-use Rattle.rule.proofs.value.+read_held+read_pair+read_pairs+read_value+read_values.{statement}
-use Rattle.rule.proofs.value.+read_held+read_pair+read_pairs+read_value+read_values.Tie.{close}
+use Rattle.rule.proofs.value.+read_headed+read_held+read_pair+read_pairs+read_value+read_values.{
+  statement,
+}
+use Rattle.rule.proofs.value.+read_headed+read_held+read_pair+read_pairs+read_value+read_values.Tie.{
+  close,
+}
+
+abbrev μ-read-headed : Measures 2 read-headed-kinds.ps ℕ
+μ-read-headed κs a = 4 * (a .1 .1 .0)
 
 abbrev μ-read-held : Measures 2 read-held-kinds.ps ℕ
 μ-read-held κs a = 4 * (a .1 .1 .0) + 3
@@ -55,10 +65,18 @@ abbrev μ-read-pairs : Measures 2 read-pairs-kinds.ps ℕ
 μ-read-pairs κs a = 4 * (a .1 .1 .0) + 2
 
 abbrev μ-read-value : Measures 2 read-value-kinds.ps ℕ
-μ-read-value κs a = 4 * (a .1 .1 .0)
+μ-read-value κs a = 4 * (a .1 .1 .0) + 1
 
 abbrev μ-read-values : Measures 2 read-values-kinds.ps ℕ
-μ-read-values κs a = 4 * (a .1 .1 .0) + 1
+μ-read-values κs a = 4 * (a .1 .1 .0) + 2
+
+abbrev read-headed-at : ℕ → In 2 read-headed-kinds.ps
+read-headed-at t =
+    and 2 read-headed-kinds.ps (is 2 read-headed-kinds.ps μ-read-headed t) read-headed.Pre
+
+abbrev read-headed-below : ℕ → In 2 read-headed-kinds.ps
+read-headed-below t =
+    and 2 read-headed-kinds.ps (falls 2 read-headed-kinds.ps _<_ μ-read-headed t) read-headed.Pre
 
 abbrev read-held-at : ℕ → In 2 read-held-kinds.ps
 read-held-at t = and 2 read-held-kinds.ps (is 2 read-held-kinds.ps μ-read-held t) read-held.Pre
@@ -98,6 +116,18 @@ abbrev read-values-below : ℕ → In 2 read-values-kinds.ps
 read-values-below t =
     and 2 read-values-kinds.ps (falls 2 read-values-kinds.ps _<_ μ-read-values t) read-values.Pre
 
+abbrev cs-read-headed : ℕ → read-headed-lts.Claims
+cs-read-headed t = (
+  held-by-reads.Asked,
+  held-by-reads.Learnt,
+  cost-of-reads.Asked,
+  cost-of-reads.Learnt,
+  read-held-below t,
+  read-held.Post,
+  word-of-reads.Asked,
+  word-of-reads.Learnt,
+)
+
 abbrev cs-read-held : ℕ → read-held-lts.Claims
 cs-read-held t = (
   read-values-below t,
@@ -108,10 +138,10 @@ cs-read-held t = (
 
 abbrev cs-read-pair : ℕ → read-pair-lts.Claims
 cs-read-pair t = (
-  key-head-reads.Asked,
-  key-head-reads.Learnt,
-  read-value-below t,
-  read-value.Post,
+  member-reads.Asked,
+  member-reads.Learnt,
+  read-headed-below t,
+  read-headed.Post,
   word-of-reads.Asked,
   word-of-reads.Learnt,
 )
@@ -130,18 +160,79 @@ abbrev cs-read-value : ℕ → read-value-lts.Claims
 cs-read-value t = (
   value-head-reads.Asked,
   value-head-reads.Learnt,
-  held-by-reads.Asked,
-  held-by-reads.Learnt,
-  cost-of-reads.Asked,
-  cost-of-reads.Learnt,
-  read-held-below t,
-  read-held.Post,
-  word-of-reads.Asked,
-  word-of-reads.Learnt,
+  read-headed-below t,
+  read-headed.Post,
 )
 
 abbrev cs-read-values : ℕ → read-values-lts.Claims
 cs-read-values t = (read-value-below t, read-value.Post)
+
+read-headed-returns : (t : ℕ) → read-headed-lts.Need-returns (cs-read-headed t) (read-headed-at t) read-headed.Post
+read-headed-returns t c = value-deep-answer (now (c .before .before .before .args .s)) (now (c .before .before .before .args .words)) (c .before .before .before .args .depth) (c .before .before .before .args .c) (c .if1 .taken)
+
+read-headed-enum-known-read : (t : ℕ) → read-headed-lts.Need-enum-known-read (cs-read-headed t) (read-headed-at t) read-headed.Post
+read-headed-enum-known-read t c = search needs
+
+read-headed-enum-told : (t : ℕ) → read-headed-lts.Need-enum-told (cs-read-headed t) (read-headed-at t) read-headed.Post
+read-headed-enum-told t c = search needs
+
+read-headed-returns-2 : (t : ℕ) → read-headed-lts.Need-returns-2 (cs-read-headed t) (read-headed-at t) read-headed.Post
+read-headed-returns-2 t c = value-headless-answer (now (c .before .before .before .before .before .args .s)) (now (c .before .before .before .before .before .args .words)) (c .before .before .before .before .before .args .depth) (c .before .before .before .before .before .args .c) (c .before .before .if1 .left) (rw (c .enum-told .given .1) at (c .before .before .before .before .before .pre .1 .1))
+
+read-headed-held-by-requires : (t : ℕ) → read-headed-lts.Need-held-by-requires (cs-read-headed t) (read-headed-at t) read-headed.Post
+read-headed-held-by-requires t c κs = search needs
+
+read-headed-cost-of-requires : (t : ℕ) → read-headed-lts.Need-cost-of-requires (cs-read-headed t) (read-headed-at t) read-headed.Post
+read-headed-cost-of-requires t c κs = let head = rw (c .before .before .read .given .1) at (c .before .before .before .before .before .before .before .pre .1 .1) in rw (c .held-by .ensures) (held-few (c .before .before .read .given .0 .0) (head .1))
+
+read-headed-returns-3 : (t : ℕ) → read-headed-lts.Need-returns-3 (cs-read-headed t) (read-headed-at t) read-headed.Post
+read-headed-returns-3 t c =
+    let head = rw (c .before .before .before .before .read .given .1) at (c .before .before .before .before .before .before .before .before .before .pre .1 .1) in
+    held-unpaid-answer (now (c .before .before .before .before .before .before .before .before .before .args .s)) (now (c .before .before .before .before .before .before .before .before .before .args .words)) (c .before .before .before .before .before .before .before .before .before .args .depth) (c .before .before .before .before .read .given .0 .1 .0) (c .before .before .before .before .before .before .before .before .before .args .c) (c .before .before .before .before .read .given .0 .0) (c .before .before .before .before .before .before .if1 .left) (head .0) (c .before .cost-of .result) (c .before .before .held-by .result) (c .before .before .held-by .ensures) (c .before .cost-of .ensures) (c .if2 .taken)
+
+read-headed-add-read-held : (t : ℕ) → read-headed-lts.Need-add-read-held (cs-read-headed t) (read-headed-at t) read-headed.Post
+read-headed-add-read-held t c = search needs
+
+read-headed-sub-read-held : (t : ℕ) → read-headed-lts.Need-sub-read-held (cs-read-headed t) (read-headed-at t) read-headed.Post
+read-headed-sub-read-held t c = search needs
+
+read-headed-read-held-requires : (t : ℕ) → read-headed-lts.Need-read-held-requires (cs-read-headed t) (read-headed-at t) read-headed.Post
+read-headed-read-held-requires t c κs = let head = rw (c .before .before .before .before .before .read .given .1) at (c .before .before .before .before .before .before .before .before .before .before .pre .1 .1) in (omega (arith, c .before .before .before .before .before .before .before .before .before .before .pre .0, c .before .before .before .before .before .before .before .if1 .left), rw (← c .before .before .cost-of .ensures) (ready-inside (c .before .before .before .before .before .before .before .before .before .before .pre .1 .0) (head .0 .within) (omega (arith, c .before .if2 .left))))
+
+read-headed-enum-known-next : (t : ℕ) → read-headed-lts.Need-enum-known-next (cs-read-headed t) (read-headed-at t) read-headed.Post
+read-headed-enum-known-next t c = search needs
+
+read-headed-enum-told-2 : (t : ℕ) → read-headed-lts.Need-enum-told-2 (cs-read-headed t) (read-headed-at t) read-headed.Post
+read-headed-enum-told-2 t c = search needs
+
+read-headed-same-length : (t : ℕ) → read-headed-lts.Need-same-length (cs-read-headed t) (read-headed-at t) read-headed.Post
+read-headed-same-length t c = search needs
+
+read-headed-returns-4 : (t : ℕ) → read-headed-lts.Need-returns-4 (cs-read-headed t) (read-headed-at t) read-headed.Post
+read-headed-returns-4 t c =
+    let head = rw (c .before .before .before .before .before .before .before .before .before .before .read .given .1) at (c .before .before .before .before .before .before .before .before .before .before .before .before .before .before .before .pre .1 .1) in
+    held-bad-answer (now (c .before .before .before .before .before .before .before .before .before .before .before .before .before .before .before .args .s)) (now (c .before .before .before .before .before .before .before .before .before .before .before .before .before .before .before .args .words)) (c .before .before .before .before .before .before .before .before .before .before .before .before .before .before .before .args .depth) (c .before .before .before .before .before .before .before .before .before .before .read .given .0 .1 .0) (c .before .before .before .before .before .before .before .before .before .before .before .before .before .before .before .args .c) (c .before .before .before .before .before .before .before .before .before .before .read .given .0 .0) (c .before .before .before .before .before .before .before .before .before .before .before .before .if1 .left) (head .0) (c .before .before .before .before .read-held .last .1 .0) (c .before .before .before .before .before .before .before .cost-of .result) (c .before .before .before .before .before .before .if2 .left) (c .before .before .before .before .before .before .before .before .held-by .result) (c .before .before .before .before .before .before .before .before .held-by .ensures) (c .before .before .before .before .before .before .before .cost-of .ensures) (rw (c .enum-told2 .given .1) at (c .before .before .before .before .read-held .ensures))
+
+read-headed-word-of-requires : (t : ℕ) → read-headed-lts.Need-word-of-requires (cs-read-headed t) (read-headed-at t) read-headed.Post
+read-headed-word-of-requires t c κs = (
+  omega (arith, c .before .before .before .before .before .before .before .before .before .before .before .before .before .before .before .before .pre .1 .0 .inside, c .before .before .before .before .before .before .before .before .before .before .before .before .before .before .before .before .pre .1 .0 .small),
+  let head = rw (c .before .before .before .before .before .before .before .before .before .before .before .read .given .1) at (c .before .before .before .before .before .before .before .before .before .before .before .before .before .before .before .before .pre .1 .1) in
+      held-limit (now (c .before .before .before .before .before .before .before .before .before .before .before .before .before .before .before .before .args .s)) (now (c .before .before .before .before .before .before .before .before .before .before .before .before .before .before .before .before .args .words)) (c .before .before .before .before .before .before .before .before .before .before .before .before .before .before .before .before .args .depth) (c .before .before .before .before .before .before .before .before .before .before .before .read .given .0 .1 .0) (c .before .before .before .before .before .before .before .before .before .before .before .before .before .before .before .before .args .c) (c .before .before .before .before .before .before .before .before .before .before .before .read .given .0 .0) (c .before .before .before .before .before .before .before .before .before .before .before .before .before .if1 .left) (head .0) (c .before .before .before .before .before .read-held .last .1 .0) (c .before .before .before .before .before .before .before .before .cost-of .result) (c .before .before .before .before .before .before .before .if2 .left) (c .before .next .given .0 .0) (c .before .before .before .before .before .before .before .before .before .held-by .result) (c .before .before .before .before .before .before .before .before .before .before .before .before .before .before .before .before .pre .1 .0) (c .before .before .before .before .before .before .before .before .cost-of .ensures) (rw (c .before .next .given .1) at (c .before .before .before .before .before .read-held .ensures)),
+)
+
+read-headed-mul-words : (t : ℕ) → read-headed-lts.Need-mul-words (cs-read-headed t) (read-headed-at t) read-headed.Post
+read-headed-mul-words t c = search needs
+
+read-headed-slice-write-words : (t : ℕ) → read-headed-lts.Need-slice-write-words (cs-read-headed t) (read-headed-at t) read-headed.Post
+read-headed-slice-write-words t c = search needs
+
+read-headed-same-length-2 : (t : ℕ) → read-headed-lts.Need-same-length-2 (cs-read-headed t) (read-headed-at t) read-headed.Post
+read-headed-same-length-2 t c = search needs
+
+read-headed-returns-5 : (t : ℕ) → read-headed-lts.Need-returns-5 (cs-read-headed t) (read-headed-at t) read-headed.Post
+read-headed-returns-5 t c =
+    let head = rw (c .before .before .before .before .before .before .before .before .before .before .before .before .read .given .1) at (c .before .before .before .before .before .before .before .before .before .before .before .before .before .before .before .before .before .pre .1 .1) in
+    held-answer (now (c .before .before .before .before .before .before .before .before .before .before .before .before .before .before .before .before .before .args .s)) (now (c .before .before .before .before .before .before .before .before .before .before .before .before .before .before .before .before .before .args .words)) (c .before .before .before .before .before .before .before .before .before .before .before .before .before .before .before .before .before .args .depth) (c .before .before .before .before .before .before .before .before .before .before .before .before .read .given .0 .1 .0) (c .before .before .before .before .before .before .before .before .before .before .before .before .before .before .before .before .before .args .c) (c .before .before .before .before .before .before .before .before .before .before .before .before .read .given .0 .0) (c .before .before .before .before .before .before .before .before .before .before .before .before .before .before .if1 .left) (head .0) (c .before .before .before .before .before .before .read-held .last .1 .0) (c .before .before .before .before .before .before .before .before .before .cost-of .result) (c .before .before .before .before .before .before .before .before .if2 .left) (c .before .before .next .given .0 .0) (c .before .before .before .before .before .before .before .before .before .before .held-by .result) (c .before .before .before .before .before .before .before .before .before .before .held-by .ensures) (c .before .before .before .before .before .before .before .before .before .cost-of .ensures) (c .before .before .before .before .before .before .before .before .before .before .before .before .before .before .before .before .before .pre .1 .0) (c .word-of .ensures) (rw (c .before .before .next .given .1) at (c .before .before .before .before .before .before .read-held .ensures))
 
 read-held-enum-known-held : (t : ℕ) → read-held-lts.Need-enum-known-held (cs-read-held t) (read-held-at t) read-held.Post
 read-held-enum-known-held t c = search needs
@@ -167,23 +258,23 @@ read-held-same-length-2 t c = c .before .before .read-pairs .kept .1 .0
 read-held-returns-2 : (t : ℕ) → read-held-lts.Need-returns-2 (cs-read-held t) (read-held-at t) read-held.Post
 read-held-returns-2 t c = rw (c .before .before .before .before .before .held2 .given .1) (c .before .before .read-pairs .ensures)
 
-read-pair-key-head-requires : (t : ℕ) → read-pair-lts.Need-key-head-requires (cs-read-pair t) (read-pair-at t) read-pair.Post
-read-pair-key-head-requires t c κs = search needs
+read-pair-member-requires : (t : ℕ) → read-pair-lts.Need-member-requires (cs-read-pair t) (read-pair-at t) read-pair.Post
+read-pair-member-requires t c κs = search needs
 
-read-pair-enum-known-key : (t : ℕ) → read-pair-lts.Need-enum-known-key (cs-read-pair t) (read-pair-at t) read-pair.Post
-read-pair-enum-known-key t c = search needs
+read-pair-enum-known-first : (t : ℕ) → read-pair-lts.Need-enum-known-first (cs-read-pair t) (read-pair-at t) read-pair.Post
+read-pair-enum-known-first t c = search needs
 
 read-pair-enum-told : (t : ℕ) → read-pair-lts.Need-enum-told (cs-read-pair t) (read-pair-at t) read-pair.Post
 read-pair-enum-told t c = search needs
 
 read-pair-returns : (t : ℕ) → read-pair-lts.Need-returns (cs-read-pair t) (read-pair-at t) read-pair.Post
-read-pair-returns t c = (pair-keyless (valueIn (c .before .before .before .before .before .args .depth)) (aheadOf (now (c .before .before .before .before .before .args .s)) (c .before .before .before .before .before .args .c)) (rw (c .enum-told .given .1) at (c .before .before .key-head .ensures)), kept-all)
+read-pair-returns t c = (pair-keyless (valueIn (c .before .before .before .before .before .args .depth)) (aheadOf (now (c .before .before .before .before .before .args .s)) (c .before .before .before .before .before .args .c)) (rw (c .enum-told .given .1) at (c .before .before .member .ensures .0)), kept-all)
 
 read-pair-add-words : (t : ℕ) → read-pair-lts.Need-add-words (cs-read-pair t) (read-pair-at t) read-pair.Post
-read-pair-add-words t c = omega (arith, c .before .before .before .before .before .before .pre .1 .budget)
+read-pair-add-words t c = search needs
 
-read-pair-read-value-requires : (t : ℕ) → read-pair-lts.Need-read-value-requires (cs-read-pair t) (read-pair-at t) read-pair.Post
-read-pair-read-value-requires t c κs = let head = rw (c .before .before .key .given .1) at (c .before .before .before .before .key-head .ensures) in (omega (arith, c .before .before .before .before .before .before .before .pre .0), ready-inside (c .before .before .before .before .before .before .before .pre .1) (head .within) (omega arith))
+read-pair-read-headed-requires : (t : ℕ) → read-pair-lts.Need-read-headed-requires (cs-read-pair t) (read-pair-at t) read-pair.Post
+read-pair-read-headed-requires t c κs = let heads = rw (c .before .before .first .given .1) at (c .before .before .before .before .member .ensures) in (omega (arith, c .before .before .before .before .before .before .before .pre .0), (ready-inside (c .before .before .before .before .before .before .before .pre .1) (heads .0 .within) (omega arith), heads .1))
 
 read-pair-enum-known-next : (t : ℕ) → read-pair-lts.Need-enum-known-next (cs-read-pair t) (read-pair-at t) read-pair.Post
 read-pair-enum-known-next t c = search needs
@@ -192,33 +283,33 @@ read-pair-enum-told-2 : (t : ℕ) → read-pair-lts.Need-enum-told-2 (cs-read-pa
 read-pair-enum-told-2 t c = search needs
 
 read-pair-same-length : (t : ℕ) → read-pair-lts.Need-same-length (cs-read-pair t) (read-pair-at t) read-pair.Post
-read-pair-same-length t c = c .before .before .before .before .read-value .kept .1 .0
+read-pair-same-length t c = search needs
 
 read-pair-returns-2 : (t : ℕ) → read-pair-lts.Need-returns-2 (cs-read-pair t) (read-pair-at t) read-pair.Post
 read-pair-returns-2 t c =
     let s = now (c .before .before .before .before .before .before .before .before .before .before .before .before .args .s) in
-    let head = rw (c .before .before .before .before .before .before .before .key .given .1) at (c .before .before .before .before .before .before .before .before .before .key-head .ensures) in
-    let bad = rw (c .enum-told2 .given .1) at (c .before .before .before .before .read-value .ensures) in
-    (pair-valueless (valueIn (c .before .before .before .before .before .before .before .before .before .before .before .before .args .depth)) (aheadOf s (c .before .before .before .before .before .before .before .before .before .before .before .before .args .c)) (partOf s (c .before .before .before .before .before .before .before .key .given .0 .0)) (drop (c .before .before .before .before .before .before .before .key .given .0 .1 .0) s) (head .reads) (bad .0), kept-wider (bad .1) (omega arith) (omega arith))
+    let head = rw (c .before .before .before .before .before .before .before .first .given .1) at (c .before .before .before .before .before .before .before .before .before .member .ensures .0) in
+    let bad = rw (c .enum-told2 .given .1) at (c .before .before .before .before .read-headed .ensures) in
+    (pair-valueless (valueIn (c .before .before .before .before .before .before .before .before .before .before .before .before .args .depth)) (aheadOf s (c .before .before .before .before .before .before .before .before .before .before .before .before .args .c)) (partOf s (c .before .before .before .before .before .before .before .first .given .0 .0)) (drop (c .before .before .before .before .before .before .before .first .given .0 .1 .0) s) (head .reads) (bad .0), kept-wider (bad .1) (omega arith) (omega arith))
 
 read-pair-word-of-requires : (t : ℕ) → read-pair-lts.Need-word-of-requires (cs-read-pair t) (read-pair-at t) read-pair.Post
-read-pair-word-of-requires t c κs = let inner = rw (c .before .next .given .1) at (c .before .before .before .before .before .read-value .ensures) in (omega (arith, c .before .before .before .before .before .before .before .before .before .before .before .before .before .pre .1 .inside, c .before .before .before .before .before .before .before .before .before .before .before .before .before .pre .1 .small), omega (arith, inner .budget, c .before .before .before .before .before .before .before .before .before .before .before .before .before .pre .1 .budget))
+read-pair-word-of-requires t c κs = let inner = rw (c .before .next .given .1) at (c .before .before .before .before .before .read-headed .ensures) in (omega (arith, c .before .before .before .before .before .before .before .before .before .before .before .before .before .pre .1 .inside, c .before .before .before .before .before .before .before .before .before .before .before .before .before .pre .1 .small), omega (arith, inner .budget, c .before .before .before .before .before .before .before .before .before .before .before .before .before .pre .1 .budget))
 
 read-pair-mul-words : (t : ℕ) → read-pair-lts.Need-mul-words (cs-read-pair t) (read-pair-at t) read-pair.Post
-read-pair-mul-words t c = omega (arith, c .before .before .before .before .before .before .before .before .before .before .before .before .before .before .pre .1 .budget)
+read-pair-mul-words t c = search needs
 
 read-pair-slice-write-words : (t : ℕ) → read-pair-lts.Need-slice-write-words (cs-read-pair t) (read-pair-at t) read-pair.Post
-read-pair-slice-write-words t c = omega (arith, c .before .before .before .before .before .before .read-value .kept .1 .0, c .before .before .before .before .before .before .before .before .before .before .before .before .before .before .pre .1 .room, c .before .before .before .before .before .before .before .before .before .before .before .before .before .before .pre .1 .budget)
+read-pair-slice-write-words t c = search needs
 
 read-pair-same-length-2 : (t : ℕ) → read-pair-lts.Need-same-length-2 (cs-read-pair t) (read-pair-at t) read-pair.Post
-read-pair-same-length-2 t c = length-set (c .before .before .before .before .before .before .read-value .last .1 .0) (c .before .before .before .before .before .before .before .before .before .before .before .before .before .before .args .c .word) (c .word-of .result) ∙ c .before .before .before .before .before .before .read-value .kept .1 .0
+read-pair-same-length-2 t c = search needs
 
 read-pair-returns-3 : (t : ℕ) → read-pair-lts.Need-returns-3 (cs-read-pair t) (read-pair-at t) read-pair.Post
 read-pair-returns-3 t c =
     let s = now (c .before .before .before .before .before .before .before .before .before .before .before .before .before .before .args .s) in
-    let head = rw (c .before .before .before .before .before .before .before .before .before .key .given .1) at (c .before .before .before .before .before .before .before .before .before .before .before .key-head .ensures) in
-    let inner = rw (c .before .before .next .given .1) at (c .before .before .before .before .before .before .read-value .ensures) in
-    pair-closed s (now (c .before .before .before .before .before .before .before .before .before .before .before .before .before .before .args .words)) (c .before .before .before .before .before .before .read-value .last .1 .0) (c .before .before .before .before .before .before .before .before .before .before .before .before .before .before .args .c) (c .before .before .next .given .0 .0) (c .before .before .before .before .before .before .before .before .before .before .before .before .before .before .args .depth) (c .before .before .before .before .before .before .before .before .before .key .given .0 .1 .0) (c .word-of .result) (partOf s (c .before .before .before .before .before .before .before .before .before .key .given .0 .0)) (c .before .before .before .before .before .before .before .before .before .before .before .before .before .before .pre .1) (head .reads) (c .word-of .ensures) inner
+    let head = rw (c .before .before .before .before .before .before .before .before .before .first .given .1) at (c .before .before .before .before .before .before .before .before .before .before .before .member .ensures .0) in
+    let inner = rw (c .before .before .next .given .1) at (c .before .before .before .before .before .before .read-headed .ensures) in
+    pair-closed s (now (c .before .before .before .before .before .before .before .before .before .before .before .before .before .before .args .words)) (c .before .before .before .before .before .before .read-headed .last .1 .0) (c .before .before .before .before .before .before .before .before .before .before .before .before .before .before .args .c) (c .before .before .next .given .0 .0) (c .before .before .before .before .before .before .before .before .before .before .before .before .before .before .args .depth) (c .before .before .before .before .before .before .before .before .before .first .given .0 .1 .0) (c .word-of .result) (partOf s (c .before .before .before .before .before .before .before .before .before .first .given .0 .0)) (c .before .before .before .before .before .before .before .before .before .before .before .before .before .before .pre .1) (head .reads) (c .word-of .ensures) inner
 
 abbrev read-pairs-Inv-loop : read-pairs-lts.InvT-loop
 read-pairs-Inv-loop s words₀ depth count c here₀ rise₀ previous₀ n₀ words here rise previous n =
@@ -279,75 +370,17 @@ read-pairs-same-length-4 t c = c .before .before .before .before .before .loop .
 read-pairs-returns-4 : (t : ℕ) → read-pairs-lts.Need-returns-4 (cs-read-pairs t) (read-pairs-at t) read-pairs.Post read-pairs-Inv-loop read-pairs-μ-loop
 read-pairs-returns-4 t c = object-repeats (c .before .before .before .before .before .before .before .before .args .depth) (c .before .before .before .before .before .loop .previous) (c .before .before .before .before .before .loop .inv) (omega (arith, c .before .before .before .before .loop-test .left)) (c .before .none-twice .ensures) (c .if2 .left)
 
-read-value-returns : (t : ℕ) → read-value-lts.Need-returns (cs-read-value t) (read-value-at t) read-value.Post
-read-value-returns t c = value-deep-answer (now (c .before .before .before .args .s)) (now (c .before .before .before .args .words)) (c .before .before .before .args .depth) (c .before .before .before .args .c) (c .if1 .taken)
-
 read-value-value-head-requires : (t : ℕ) → read-value-lts.Need-value-head-requires (cs-read-value t) (read-value-at t) read-value.Post
 read-value-value-head-requires t c κs = search needs
 
-read-value-enum-known-head : (t : ℕ) → read-value-lts.Need-enum-known-head (cs-read-value t) (read-value-at t) read-value.Post
-read-value-enum-known-head t c = search needs
-
-read-value-enum-told : (t : ℕ) → read-value-lts.Need-enum-told (cs-read-value t) (read-value-at t) read-value.Post
-read-value-enum-told t c = search needs
-
-read-value-returns-2 : (t : ℕ) → read-value-lts.Need-returns-2 (cs-read-value t) (read-value-at t) read-value.Post
-read-value-returns-2 t c = value-headless-answer (now (c .before .before .before .before .before .before .args .s)) (now (c .before .before .before .before .before .before .args .words)) (c .before .before .before .before .before .before .args .depth) (c .before .before .before .before .before .before .args .c) (c .before .before .before .if1 .left) (rw (c .enum-told .given .1) at (c .before .before .value-head .ensures))
-
-read-value-held-by-requires : (t : ℕ) → read-value-lts.Need-held-by-requires (cs-read-value t) (read-value-at t) read-value.Post
-read-value-held-by-requires t c κs = search needs
-
-read-value-cost-of-requires : (t : ℕ) → read-value-lts.Need-cost-of-requires (cs-read-value t) (read-value-at t) read-value.Post
-read-value-cost-of-requires t c κs = let head = rw (c .before .before .head .given .1) at (c .before .before .before .before .value-head .ensures) in rw (c .held-by .ensures) (held-few (c .before .before .head .given .0 .0) (head .1))
-
-read-value-returns-3 : (t : ℕ) → read-value-lts.Need-returns-3 (cs-read-value t) (read-value-at t) read-value.Post
-read-value-returns-3 t c =
-    let head = rw (c .before .before .before .before .head .given .1) at (c .before .before .before .before .before .before .value-head .ensures) in
-    held-unpaid-answer (now (c .before .before .before .before .before .before .before .before .before .before .args .s)) (now (c .before .before .before .before .before .before .before .before .before .before .args .words)) (c .before .before .before .before .before .before .before .before .before .before .args .depth) (c .before .before .before .before .head .given .0 .1 .0) (c .before .before .before .before .before .before .before .before .before .before .args .c) (c .before .before .before .before .head .given .0 .0) (c .before .before .before .before .before .before .before .if1 .left) (head .0) (c .before .cost-of .result) (c .before .before .held-by .result) (c .before .before .held-by .ensures) (c .before .cost-of .ensures) (c .if2 .taken)
-
-read-value-add-read-held : (t : ℕ) → read-value-lts.Need-add-read-held (cs-read-value t) (read-value-at t) read-value.Post
-read-value-add-read-held t c = omega (arith, c .before .before .before .before .before .before .before .before .before .before .pre .1 .budget)
-
-read-value-sub-read-held : (t : ℕ) → read-value-lts.Need-sub-read-held (cs-read-value t) (read-value-at t) read-value.Post
-read-value-sub-read-held t c = search needs
-
-read-value-read-held-requires : (t : ℕ) → read-value-lts.Need-read-held-requires (cs-read-value t) (read-value-at t) read-value.Post
-read-value-read-held-requires t c κs = let head = rw (c .before .before .before .before .before .head .given .1) at (c .before .before .before .before .before .before .before .value-head .ensures) in (omega (arith, c .before .before .before .before .before .before .before .before .before .before .before .pre .0, c .before .before .before .before .before .before .before .before .if1 .left), rw (← c .before .before .cost-of .ensures) (ready-inside (c .before .before .before .before .before .before .before .before .before .before .before .pre .1) (head .0 .within) (omega (arith, c .before .if2 .left))))
-
-read-value-enum-known-next : (t : ℕ) → read-value-lts.Need-enum-known-next (cs-read-value t) (read-value-at t) read-value.Post
-read-value-enum-known-next t c = search needs
-
-read-value-enum-told-2 : (t : ℕ) → read-value-lts.Need-enum-told-2 (cs-read-value t) (read-value-at t) read-value.Post
-read-value-enum-told-2 t c = search needs
+read-value-read-headed-requires : (t : ℕ) → read-value-lts.Need-read-headed-requires (cs-read-value t) (read-value-at t) read-value.Post
+read-value-read-headed-requires t c κs = search needs
 
 read-value-same-length : (t : ℕ) → read-value-lts.Need-same-length (cs-read-value t) (read-value-at t) read-value.Post
-read-value-same-length t c = c .before .before .before .before .read-held .kept .1 .0
+read-value-same-length t c = search needs
 
-read-value-returns-4 : (t : ℕ) → read-value-lts.Need-returns-4 (cs-read-value t) (read-value-at t) read-value.Post
-read-value-returns-4 t c =
-    let head = rw (c .before .before .before .before .before .before .before .before .before .before .head .given .1) at (c .before .before .before .before .before .before .before .before .before .before .before .before .value-head .ensures) in
-    held-bad-answer (now (c .before .before .before .before .before .before .before .before .before .before .before .before .before .before .before .before .args .s)) (now (c .before .before .before .before .before .before .before .before .before .before .before .before .before .before .before .before .args .words)) (c .before .before .before .before .before .before .before .before .before .before .before .before .before .before .before .before .args .depth) (c .before .before .before .before .before .before .before .before .before .before .head .given .0 .1 .0) (c .before .before .before .before .before .before .before .before .before .before .before .before .before .before .before .before .args .c) (c .before .before .before .before .before .before .before .before .before .before .head .given .0 .0) (c .before .before .before .before .before .before .before .before .before .before .before .before .before .if1 .left) (head .0) (c .before .before .before .before .read-held .last .1 .0) (c .before .before .before .before .before .before .before .cost-of .result) (c .before .before .before .before .before .before .if2 .left) (c .before .before .before .before .before .before .before .before .held-by .result) (c .before .before .before .before .before .before .before .before .held-by .ensures) (c .before .before .before .before .before .before .before .cost-of .ensures) (rw (c .enum-told2 .given .1) at (c .before .before .before .before .read-held .ensures))
-
-read-value-word-of-requires : (t : ℕ) → read-value-lts.Need-word-of-requires (cs-read-value t) (read-value-at t) read-value.Post
-read-value-word-of-requires t c κs = (
-  omega (arith, c .before .before .before .before .before .before .before .before .before .before .before .before .before .before .before .before .before .pre .1 .inside, c .before .before .before .before .before .before .before .before .before .before .before .before .before .before .before .before .before .pre .1 .small),
-  let head = rw (c .before .before .before .before .before .before .before .before .before .before .before .head .given .1) at (c .before .before .before .before .before .before .before .before .before .before .before .before .before .value-head .ensures) in
-      held-limit (now (c .before .before .before .before .before .before .before .before .before .before .before .before .before .before .before .before .before .args .s)) (now (c .before .before .before .before .before .before .before .before .before .before .before .before .before .before .before .before .before .args .words)) (c .before .before .before .before .before .before .before .before .before .before .before .before .before .before .before .before .before .args .depth) (c .before .before .before .before .before .before .before .before .before .before .before .head .given .0 .1 .0) (c .before .before .before .before .before .before .before .before .before .before .before .before .before .before .before .before .before .args .c) (c .before .before .before .before .before .before .before .before .before .before .before .head .given .0 .0) (c .before .before .before .before .before .before .before .before .before .before .before .before .before .before .if1 .left) (head .0) (c .before .before .before .before .before .read-held .last .1 .0) (c .before .before .before .before .before .before .before .before .cost-of .result) (c .before .before .before .before .before .before .before .if2 .left) (c .before .next .given .0 .0) (c .before .before .before .before .before .before .before .before .before .held-by .result) (c .before .before .before .before .before .before .before .before .before .before .before .before .before .before .before .before .before .pre .1) (c .before .before .before .before .before .before .before .before .cost-of .ensures) (rw (c .before .next .given .1) at (c .before .before .before .before .before .read-held .ensures)),
-)
-
-read-value-mul-words : (t : ℕ) → read-value-lts.Need-mul-words (cs-read-value t) (read-value-at t) read-value.Post
-read-value-mul-words t c = omega (arith, c .before .before .before .before .before .before .before .before .before .before .before .before .before .before .before .before .before .before .pre .1 .budget)
-
-read-value-slice-write-words : (t : ℕ) → read-value-lts.Need-slice-write-words (cs-read-value t) (read-value-at t) read-value.Post
-read-value-slice-write-words t c = omega (arith, c .before .before .before .before .before .before .read-held .kept .1 .0, c .before .before .before .before .before .before .before .before .before .before .before .before .before .before .before .before .before .before .pre .1 .room, c .before .before .before .before .before .before .before .before .before .before .before .before .before .before .before .before .before .before .pre .1 .budget)
-
-read-value-same-length-2 : (t : ℕ) → read-value-lts.Need-same-length-2 (cs-read-value t) (read-value-at t) read-value.Post
-read-value-same-length-2 t c = length-set (c .before .before .before .before .before .before .read-held .last .1 .0) (c .before .before .before .before .before .before .before .before .before .before .before .before .before .before .before .before .before .before .args .c .word) (c .word-of .result) ∙ c .before .before .before .before .before .before .read-held .kept .1 .0
-
-read-value-returns-5 : (t : ℕ) → read-value-lts.Need-returns-5 (cs-read-value t) (read-value-at t) read-value.Post
-read-value-returns-5 t c =
-    let head = rw (c .before .before .before .before .before .before .before .before .before .before .before .before .head .given .1) at (c .before .before .before .before .before .before .before .before .before .before .before .before .before .before .value-head .ensures) in
-    held-answer (now (c .before .before .before .before .before .before .before .before .before .before .before .before .before .before .before .before .before .before .args .s)) (now (c .before .before .before .before .before .before .before .before .before .before .before .before .before .before .before .before .before .before .args .words)) (c .before .before .before .before .before .before .before .before .before .before .before .before .before .before .before .before .before .before .args .depth) (c .before .before .before .before .before .before .before .before .before .before .before .before .head .given .0 .1 .0) (c .before .before .before .before .before .before .before .before .before .before .before .before .before .before .before .before .before .before .args .c) (c .before .before .before .before .before .before .before .before .before .before .before .before .head .given .0 .0) (c .before .before .before .before .before .before .before .before .before .before .before .before .before .before .before .if1 .left) (head .0) (c .before .before .before .before .before .before .read-held .last .1 .0) (c .before .before .before .before .before .before .before .before .before .cost-of .result) (c .before .before .before .before .before .before .before .before .if2 .left) (c .before .before .next .given .0 .0) (c .before .before .before .before .before .before .before .before .before .before .held-by .result) (c .before .before .before .before .before .before .before .before .before .before .held-by .ensures) (c .before .before .before .before .before .before .before .before .before .cost-of .ensures) (c .before .before .before .before .before .before .before .before .before .before .before .before .before .before .before .before .before .before .pre .1) (c .word-of .ensures) (rw (c .before .before .next .given .1) at (c .before .before .before .before .before .before .read-held .ensures))
+read-value-returns : (t : ℕ) → read-value-lts.Need-returns (cs-read-value t) (read-value-at t) read-value.Post
+read-value-returns t c = search needs
 
 abbrev read-values-Inv-loop : read-values-lts.InvT-loop
 read-values-Inv-loop s words₀ depth count here₀ n₀ words here n = Passing (values-kind s depth) s words₀ words tt tt count count n n here₀ here
@@ -402,9 +435,39 @@ read-values-same-length-2 t c = c .before .loop .inv .kept .len
 read-values-returns-2 : (t : ℕ) → read-values-lts.Need-returns-2 (cs-read-values t) (read-values-at t) read-values.Post read-values-Inv-loop read-values-μ-loop
 read-values-returns-2 t c = siblings-end (c .before .loop .inv) (omega (arith, c .loop-test .left)) (omega (arith, c .loop-test .left))
 
-pub +read-held+read-pair+read-pairs+read-value+read-values-spec : {M : Type 1} → statement M
-+read-held+read-pair+read-pairs+read-value+read-values-spec =
-    close μ-read-held μ-read-pair μ-read-pairs μ-read-value μ-read-values (λ t. read-held-lts.spec (cs-read-held t)
+pub +read-headed+read-held+read-pair+read-pairs+read-value+read-values-spec :
+    {M : Type 1} → statement M
++read-headed+read-held+read-pair+read-pairs+read-value+read-values-spec =
+    close
+    μ-read-headed
+    μ-read-held
+    μ-read-pair
+    μ-read-pairs
+    μ-read-value
+    μ-read-values
+    (λ t. read-headed-lts.spec (cs-read-headed t)
+    (read-headed-at t)
+    read-headed.Post
+    (read-headed-returns t)
+    (read-headed-enum-known-read t)
+    (read-headed-enum-told t)
+    (read-headed-returns-2 t)
+    (read-headed-held-by-requires t)
+    (read-headed-cost-of-requires t)
+    (read-headed-returns-3 t)
+    (read-headed-add-read-held t)
+    (read-headed-sub-read-held t)
+    (read-headed-read-held-requires t)
+    (read-headed-enum-known-next t)
+    (read-headed-enum-told-2 t)
+    (read-headed-same-length t)
+    (read-headed-returns-4 t)
+    (read-headed-word-of-requires t)
+    (read-headed-mul-words t)
+    (read-headed-slice-write-words t)
+    (read-headed-same-length-2 t)
+    (read-headed-returns-5 t))
+    (λ t. read-held-lts.spec (cs-read-held t)
     (read-held-at t)
     read-held.Post
     (read-held-enum-known-held t)
@@ -418,12 +481,12 @@ pub +read-held+read-pair+read-pairs+read-value+read-values-spec : {M : Type 1} �
     (λ t. read-pair-lts.spec (cs-read-pair t)
     (read-pair-at t)
     read-pair.Post
-    (read-pair-key-head-requires t)
-    (read-pair-enum-known-key t)
+    (read-pair-member-requires t)
+    (read-pair-enum-known-first t)
     (read-pair-enum-told t)
     (read-pair-returns t)
     (read-pair-add-words t)
-    (read-pair-read-value-requires t)
+    (read-pair-read-headed-requires t)
     (read-pair-enum-known-next t)
     (read-pair-enum-told-2 t)
     (read-pair-same-length t)
@@ -458,26 +521,10 @@ pub +read-held+read-pair+read-pairs+read-value+read-values-spec : {M : Type 1} �
     (λ t. read-value-lts.spec (cs-read-value t)
     (read-value-at t)
     read-value.Post
-    (read-value-returns t)
     (read-value-value-head-requires t)
-    (read-value-enum-known-head t)
-    (read-value-enum-told t)
-    (read-value-returns-2 t)
-    (read-value-held-by-requires t)
-    (read-value-cost-of-requires t)
-    (read-value-returns-3 t)
-    (read-value-add-read-held t)
-    (read-value-sub-read-held t)
-    (read-value-read-held-requires t)
-    (read-value-enum-known-next t)
-    (read-value-enum-told-2 t)
+    (read-value-read-headed-requires t)
     (read-value-same-length t)
-    (read-value-returns-4 t)
-    (read-value-word-of-requires t)
-    (read-value-mul-words t)
-    (read-value-slice-write-words t)
-    (read-value-same-length-2 t)
-    (read-value-returns-5 t))
+    (read-value-returns t))
     λ t. read-values-lts.spec
     (read-value-below t, read-value.Post)
     (read-values-at t)
