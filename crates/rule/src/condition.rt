@@ -8,6 +8,7 @@ use lines::rule_sheet::condition_head;
 use sheet::rule_heads::ConditionHead;
 use sheet::rule_heads::ConditionRead;
 ghost use mathlib.Core.Path.{_≡_};
+ghost use Rattle.sheet.specs.Places.{ConditionIs};
 ghost use Rattle.rule.specs.Read.{Ready, operandsOf, ConditionAnswer, ConditionsAnswer};
 
 // What follows a condition's head: so many values, then so many conditions.
@@ -52,8 +53,23 @@ fn operands_of(h: ConditionHead) -> Operands
 }
 
 // One condition. `depth` is how deep it may nest.
-pub fn read_condition(s: &[u8], words: &mut [u32], depth: usize, c: Cursor) -> TreeRead
+fn read_condition(s: &[u8], words: &mut [u32], depth: usize, c: Cursor) -> TreeRead
     requires { ⌜ Ready (now s) (now words) 1 c ⌝ }
+    ensures { λ r. ⌜ ConditionAnswer (now (s .entry)) (now (words .entry)) (now (words .exit)) depth c r ⌝ }
+{
+    let head = condition_head(s, c.at);
+    read_headed(s, words, depth, c, head)
+}
+
+// A condition whose head is read.
+pub fn read_headed(
+    s: &[u8],
+    words: &mut [u32],
+    depth: usize,
+    c: Cursor,
+    read: ConditionRead,
+) -> TreeRead
+    requires { ⌜ Ready (now s) (now words) 1 c × ConditionIs (now s) (c .at) read ⌝ }
     ensures { λ r. ⌜ ConditionAnswer (now (s .entry)) (now (words .entry)) (now (words .exit)) depth c r ⌝ }
 {
     if depth == 0 {
@@ -62,7 +78,7 @@ pub fn read_condition(s: &[u8], words: &mut [u32], depth: usize, c: Cursor) -> T
     let at = c.at;
     let word = c.word;
     let left = c.left;
-    let ConditionRead::Is(head, behind) = condition_head(s, at) else {
+    let ConditionRead::Is(head, behind) = read else {
         return TreeRead::Bad;
     };
     let operands = operands_of(head);

@@ -12,7 +12,7 @@ use Rattle.sheet.proofs.rule_heads.KeyRead.Laws as E₁′
 use Rattle.sheet.proofs.rule_heads.ValueRead as E₂
 use Rattle.sheet.proofs.rule_heads.ValueRead.Laws as E₂′
 use Rattle.lines.specs.Ends.{keyEnd, valueEnd}
-use Rattle.lines.specs.Member.{MemberIs}
+use Rattle.lines.specs.Passed.{BothRead}
 use Rattle.lines.proofs.rule_sheet.MemberRead as P
 use Rattle.lines.proofs.rule_sheet.MemberRead.Laws as P′
 use Rattle.lines.proofs.Passing.{Next}
@@ -34,7 +34,7 @@ unfolding code.routine tablesOf
 member-spec 𝓤 H 𝓜 𝓖 𝓡 =
     entered 𝓤 H (tripleOf 𝓤 H (𝓖 .A) pair.signature (pair.spec 𝓤 H (𝓖 .A) (𝓜 .mem) (𝓡 .run)))
     (tables 𝓤 H 𝓜 𝓡 code.env .C) (tables 𝓤 H 𝓜 𝓡 code.env .Λ) #pair code.function (code.unfolded 𝓤 H 𝓜 𝓡)
-    (pair-meets E₁.the-row E₂.the-row KeyIs ValueIs keyEnd valueEnd P.the-row (λ x y. record { key = x; value = y }) MemberIs (λ s n x y k v. (k, v)) 𝓤 H (𝓖 .A) (givenOf 𝓤 H 𝓜 𝓖)
+    (pair-meets E₁.the-row E₂.the-row KeyIs ValueIs keyEnd valueEnd P.the-row (λ x y. record { key = x; value = y }) (λ s n p. BothRead KeyIs keyEnd ValueIs s n (p .key) (p .value)) (λ s n x y a b. (a, b)) 𝓤 H (𝓖 .A) (givenOf 𝓤 H 𝓜 𝓖)
     (λ x y a b. made-of 𝓤 H (𝓖 .A) (givenOf 𝓤 H 𝓜 𝓖) P.the-type (x, (y, tt)) (a ∷ [], (b ∷ [], tt))) P′.mir E₁′.mir E₂′.mir
     (λ r u is. LL.lawful P.the-type P′.the-laws 𝓤 H (𝓖 .A) (givenOf 𝓤 H 𝓜 𝓖) .typed r (u ∷ []) is .0)
     (λ r u is. EL.lawful E₁.the-type E₁′.the-laws 𝓤 H (𝓖 .A) (givenOf 𝓤 H 𝓜 𝓖) tt .typed r (u ∷ []) is .0)
