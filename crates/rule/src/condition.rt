@@ -52,16 +52,7 @@ fn operands_of(h: ConditionHead) -> Operands
     }
 }
 
-// One condition. `depth` is how deep it may nest.
-fn read_condition(s: &[u8], words: &mut [u32], depth: usize, c: Cursor) -> TreeRead
-    requires { ⌜ Ready (now s) (now words) 1 c ⌝ }
-    ensures { λ r. ⌜ ConditionAnswer (now (s .entry)) (now (words .entry)) (now (words .exit)) depth c r ⌝ }
-{
-    let head = condition_head(s, c.at);
-    read_headed(s, words, depth, c, head)
-}
-
-// A condition whose head is read.
+// A condition whose head is read. `depth` is how deep it may nest.
 pub fn read_headed(
     s: &[u8],
     words: &mut [u32],
@@ -111,7 +102,8 @@ fn read_conditions(s: &[u8], words: &mut [u32], depth: usize, count: usize, c: C
     let mut here = c;
     let mut n = count;
     while 0 < n {
-        let TreeRead::Good(next) = read_condition(s, words, depth, here) else {
+        let head = condition_head(s, here.at);
+        let TreeRead::Good(next) = read_headed(s, words, depth, here, head) else {
             return TreeRead::Bad;
         };
         here = next;

@@ -143,7 +143,8 @@ pub fn read_values(s: &[u8], words: &mut [u32], depth: usize, count: usize, c: C
     let mut here = c;
     let mut n = count;
     while 0 < n {
-        let TreeRead::Good(next) = read_value(s, words, depth, here) else {
+        let head = value_head(s, here.at);
+        let TreeRead::Good(next) = read_headed(s, words, depth, here, head) else {
             return TreeRead::Bad;
         };
         here = next;

@@ -1,4 +1,4 @@
--- The readers of a value, of one whose head is read, of what it holds, of values side by side, of a key with its value and of an object's keys, which call each other.
+-- The readers of a value whose head is read, of what it holds, of values side by side, of a key with its value and of an object's keys, which call each other.
 -- Each measure is four times the nesting that is left, and a little more for those that call another at the same nesting.
 -- The loops' invariant: what has been read is right for the whole if what is left is.
 use native.Mathlib.Omega.{arith}
@@ -22,22 +22,19 @@ use Rattle.rule.proofs.SiblingLaws.{Passing, siblings-begin, siblings-b
 use Rattle.rule.proofs.SiblingKinds.{values-kind, pairs-kind, sofar, pairs-next, object-bad, object-rises, object-differs, object-repeats}
 use Rattle.rule.proofs.value.read_headed.Reads as read-headed
 use Rattle.rule.proofs.value.read_headed.Kinds as read-headed-kinds
-use Rattle.rule.proofs.value.+read_headed+read_held+read_pair+read_pairs+read_value+read_values.Lts-read_headed as read-headed-lts
+use Rattle.rule.proofs.value.+read_headed+read_held+read_pair+read_pairs+read_values.Lts-read_headed as read-headed-lts
 use Rattle.rule.proofs.value.read_held.Reads as read-held
 use Rattle.rule.proofs.value.read_held.Kinds as read-held-kinds
-use Rattle.rule.proofs.value.+read_headed+read_held+read_pair+read_pairs+read_value+read_values.Lts-read_held as read-held-lts
+use Rattle.rule.proofs.value.+read_headed+read_held+read_pair+read_pairs+read_values.Lts-read_held as read-held-lts
 use Rattle.rule.proofs.value.read_pair.Reads as read-pair
 use Rattle.rule.proofs.value.read_pair.Kinds as read-pair-kinds
-use Rattle.rule.proofs.value.+read_headed+read_held+read_pair+read_pairs+read_value+read_values.Lts-read_pair as read-pair-lts
+use Rattle.rule.proofs.value.+read_headed+read_held+read_pair+read_pairs+read_values.Lts-read_pair as read-pair-lts
 use Rattle.rule.proofs.value.read_pairs.Reads as read-pairs
 use Rattle.rule.proofs.value.read_pairs.Kinds as read-pairs-kinds
-use Rattle.rule.proofs.value.+read_headed+read_held+read_pair+read_pairs+read_value+read_values.Lts-read_pairs as read-pairs-lts
-use Rattle.rule.proofs.value.read_value.Reads as read-value
-use Rattle.rule.proofs.value.read_value.Kinds as read-value-kinds
-use Rattle.rule.proofs.value.+read_headed+read_held+read_pair+read_pairs+read_value+read_values.Lts-read_value as read-value-lts
+use Rattle.rule.proofs.value.+read_headed+read_held+read_pair+read_pairs+read_values.Lts-read_pairs as read-pairs-lts
 use Rattle.rule.proofs.value.read_values.Reads as read-values
 use Rattle.rule.proofs.value.read_values.Kinds as read-values-kinds
-use Rattle.rule.proofs.value.+read_headed+read_held+read_pair+read_pairs+read_value+read_values.Lts-read_values as read-values-lts
+use Rattle.rule.proofs.value.+read_headed+read_held+read_pair+read_pairs+read_values.Lts-read_values as read-values-lts
 use Rattle.lines.proofs.rule_sheet.member.Reads as member-reads
 use Rattle.lines.proofs.rule_sheet.value_head.Reads as value-head-reads
 use Rattle.rule.proofs.cursor.word_of.Reads as word-of-reads
@@ -45,10 +42,10 @@ use Rattle.rule.proofs.keys.none_twice.Reads as none-twice-reads
 use Rattle.rule.proofs.value.cost_of.Reads as cost-of-reads
 use Rattle.rule.proofs.value.held_by.Reads as held-by-reads
 use Rattle.rule.proofs.value.still_rise.Reads as still-rise-reads
-use Rattle.rule.proofs.value.+read_headed+read_held+read_pair+read_pairs+read_value+read_values.{
+use Rattle.rule.proofs.value.+read_headed+read_held+read_pair+read_pairs+read_values.{
   statement,
 }
-use Rattle.rule.proofs.value.+read_headed+read_held+read_pair+read_pairs+read_value+read_values.Tie.{
+use Rattle.rule.proofs.value.+read_headed+read_held+read_pair+read_pairs+read_values.Tie.{
   close,
 }
 
@@ -64,11 +61,8 @@ abbrev μ-read-pair : Measures 2 read-pair-kinds.ps ℕ
 abbrev μ-read-pairs : Measures 2 read-pairs-kinds.ps ℕ
 μ-read-pairs κs a = 4 * (a .1 .1 .0) + 2
 
-abbrev μ-read-value : Measures 2 read-value-kinds.ps ℕ
-μ-read-value κs a = 4 * (a .1 .1 .0) + 1
-
 abbrev μ-read-values : Measures 2 read-values-kinds.ps ℕ
-μ-read-values κs a = 4 * (a .1 .1 .0) + 2
+μ-read-values κs a = 4 * (a .1 .1 .0) + 1
 
 abbrev read-headed-at : ℕ → In 2 read-headed-kinds.ps
 read-headed-at t =
@@ -99,14 +93,6 @@ read-pairs-at t =
 abbrev read-pairs-below : ℕ → In 2 read-pairs-kinds.ps
 read-pairs-below t =
     and 2 read-pairs-kinds.ps (falls 2 read-pairs-kinds.ps _<_ μ-read-pairs t) read-pairs.Pre
-
-abbrev read-value-at : ℕ → In 2 read-value-kinds.ps
-read-value-at t =
-    and 2 read-value-kinds.ps (is 2 read-value-kinds.ps μ-read-value t) read-value.Pre
-
-abbrev read-value-below : ℕ → In 2 read-value-kinds.ps
-read-value-below t =
-    and 2 read-value-kinds.ps (falls 2 read-value-kinds.ps _<_ μ-read-value t) read-value.Pre
 
 abbrev read-values-at : ℕ → In 2 read-values-kinds.ps
 read-values-at t =
@@ -156,16 +142,8 @@ cs-read-pairs t = (
   none-twice-reads.Learnt,
 )
 
-abbrev cs-read-value : ℕ → read-value-lts.Claims
-cs-read-value t = (
-  value-head-reads.Asked,
-  value-head-reads.Learnt,
-  read-headed-below t,
-  read-headed.Post,
-)
-
 abbrev cs-read-values : ℕ → read-values-lts.Claims
-cs-read-values t = (read-value-below t, read-value.Post)
+cs-read-values t = (value-head-reads.Asked, value-head-reads.Learnt, read-headed-below t, read-headed.Post)
 
 read-headed-returns : (t : ℕ) → read-headed-lts.Need-returns (cs-read-headed t) (read-headed-at t) read-headed.Post
 read-headed-returns t c = value-deep-answer (now (c .before .before .before .args .s)) (now (c .before .before .before .args .words)) (c .before .before .before .args .depth) (c .before .before .before .args .c) (c .if1 .taken)
@@ -370,18 +348,6 @@ read-pairs-same-length-4 t c = c .before .before .before .before .before .loop .
 read-pairs-returns-4 : (t : ℕ) → read-pairs-lts.Need-returns-4 (cs-read-pairs t) (read-pairs-at t) read-pairs.Post read-pairs-Inv-loop read-pairs-μ-loop
 read-pairs-returns-4 t c = object-repeats (c .before .before .before .before .before .before .before .before .args .depth) (c .before .before .before .before .before .loop .previous) (c .before .before .before .before .before .loop .inv) (omega (arith, c .before .before .before .before .loop-test .left)) (c .before .none-twice .ensures) (c .if2 .left)
 
-read-value-value-head-requires : (t : ℕ) → read-value-lts.Need-value-head-requires (cs-read-value t) (read-value-at t) read-value.Post
-read-value-value-head-requires t c κs = search needs
-
-read-value-read-headed-requires : (t : ℕ) → read-value-lts.Need-read-headed-requires (cs-read-value t) (read-value-at t) read-value.Post
-read-value-read-headed-requires t c κs = search needs
-
-read-value-same-length : (t : ℕ) → read-value-lts.Need-same-length (cs-read-value t) (read-value-at t) read-value.Post
-read-value-same-length t c = search needs
-
-read-value-returns : (t : ℕ) → read-value-lts.Need-returns (cs-read-value t) (read-value-at t) read-value.Post
-read-value-returns t c = search needs
-
 abbrev read-values-Inv-loop : read-values-lts.InvT-loop
 read-values-Inv-loop s words₀ depth count here₀ n₀ words here n = Passing (values-kind s depth) s words₀ words tt tt count count n n here₀ here
 
@@ -391,8 +357,11 @@ read-values-μ-loop s words₀ depth count here₀ n₀ words here n = n
 read-values-loop-holds : (t : ℕ) → read-values-lts.Need-loop-holds (cs-read-values t) (read-values-at t) read-values.Post read-values-Inv-loop read-values-μ-loop
 read-values-loop-holds t c = siblings-begin (values-kind (now (c .before .before .args .s)) (c .before .before .args .depth)) tt (c .before .before .args .count) (c .before .before .pre .1)
 
-read-values-read-value-requires : (t : ℕ) → read-values-lts.Need-read-value-requires (cs-read-values t) (read-values-at t) read-values.Post read-values-Inv-loop read-values-μ-loop
-read-values-read-value-requires t c κs = (omega (arith, c .before .before .before .before .before .pre .0), ready-fewer (c .before .before .loop .inv .ready) (omega (arith, c .before .loop-test .taken)))
+read-values-value-head-requires : (t : ℕ) → read-values-lts.Need-value-head-requires (cs-read-values t) (read-values-at t) read-values.Post read-values-Inv-loop read-values-μ-loop
+read-values-value-head-requires t c κs = search needs
+
+read-values-read-headed-requires : (t : ℕ) → read-values-lts.Need-read-headed-requires (cs-read-values t) (read-values-at t) read-values.Post read-values-Inv-loop read-values-μ-loop
+read-values-read-headed-requires t c κs = (omega (arith, c .before .before .before .before .before .before .pre .0), (ready-fewer (c .before .before .before .loop .inv .ready) (omega (arith, c .before .before .loop-test .taken)), c .before .value-head .ensures))
 
 read-values-enum-known-next : (t : ℕ) → read-values-lts.Need-enum-known-next (cs-read-values t) (read-values-at t) read-values.Post read-values-Inv-loop read-values-μ-loop
 read-values-enum-known-next t c = search needs
@@ -401,22 +370,22 @@ read-values-enum-told : (t : ℕ) → read-values-lts.Need-enum-told (cs-read-va
 read-values-enum-told t c = search needs
 
 read-values-same-length : (t : ℕ) → read-values-lts.Need-same-length (cs-read-values t) (read-values-at t) read-values.Post read-values-Inv-loop read-values-μ-loop
-read-values-same-length t c = c .before .before .before .before .read-value .kept .1 .0 ∙ c .before .before .before .before .before .before .before .loop .inv .kept .len
+read-values-same-length t c = c .before .before .before .before .read-headed .kept .1 .0 ∙ c .before .before .before .before .before .before .before .before .loop .inv .kept .len
 
 read-values-returns :
     (t : ℕ) →
     read-values-lts.Need-returns
-    (read-value-below t, read-value.Post)
+    (value-head-reads.Asked, value-head-reads.Learnt, read-headed-below t, read-headed.Post)
     (read-values-at t)
     read-values.Post
     read-values-Inv-loop
     read-values-μ-loop
-read-values-returns t c = siblings-bad (c .before .before .before .before .before .before .before .loop .inv) (c .before .before .before .before .before .before .loop-test .taken) (rw (c .enum-told .given .1) at (c .before .before .before .before .read-value .ensures))
+read-values-returns t c = siblings-bad (c .before .before .before .before .before .before .before .before .loop .inv) (c .before .before .before .before .before .before .before .loop-test .taken) (rw (c .enum-told .given .1) at (c .before .before .before .before .read-headed .ensures))
 
 read-values-sub-n :
     (t : ℕ) →
     read-values-lts.Need-sub-n
-    (read-value-below t, read-value.Post)
+    (value-head-reads.Asked, value-head-reads.Learnt, read-headed-below t, read-headed.Post)
     (read-values-at t)
     read-values.Post
     read-values-Inv-loop
@@ -427,7 +396,7 @@ read-values-loop-less : (t : ℕ) → read-values-lts.Need-loop-less (cs-read-va
 read-values-loop-less t c = search needs
 
 read-values-loop-again : (t : ℕ) → read-values-lts.Need-loop-again (cs-read-values t) (read-values-at t) read-values.Post read-values-Inv-loop read-values-μ-loop
-read-values-loop-again t c = siblings-next (c .before .before .before .before .before .before .before .before .loop .inv) (c .before .before .before .before .before .before .before .before .loop .n - 1) (c .before .before .before .before .before .before .before .loop-test .taken) (omega (arith, c .before .before .before .before .before .before .before .loop-test .taken)) (rw (c .before .next .given .1) at (c .before .before .before .before .before .read-value .ensures))
+read-values-loop-again t c = siblings-next (c .before .before .before .before .before .before .before .before .before .loop .inv) (c .before .before .before .before .before .before .before .before .before .loop .n - 1) (c .before .before .before .before .before .before .before .before .loop-test .taken) (omega (arith, c .before .before .before .before .before .before .before .before .loop-test .taken)) (rw (c .before .next .given .1) at (c .before .before .before .before .before .read-headed .ensures))
 
 read-values-same-length-2 : (t : ℕ) → read-values-lts.Need-same-length-2 (cs-read-values t) (read-values-at t) read-values.Post read-values-Inv-loop read-values-μ-loop
 read-values-same-length-2 t c = c .before .loop .inv .kept .len
@@ -435,15 +404,14 @@ read-values-same-length-2 t c = c .before .loop .inv .kept .len
 read-values-returns-2 : (t : ℕ) → read-values-lts.Need-returns-2 (cs-read-values t) (read-values-at t) read-values.Post read-values-Inv-loop read-values-μ-loop
 read-values-returns-2 t c = siblings-end (c .before .loop .inv) (omega (arith, c .loop-test .left)) (omega (arith, c .loop-test .left))
 
-pub +read-headed+read-held+read-pair+read-pairs+read-value+read-values-spec :
+pub +read-headed+read-held+read-pair+read-pairs+read-values-spec :
     {M : Type 1} → statement M
-+read-headed+read-held+read-pair+read-pairs+read-value+read-values-spec =
++read-headed+read-held+read-pair+read-pairs+read-values-spec =
     close
     μ-read-headed
     μ-read-held
     μ-read-pair
     μ-read-pairs
-    μ-read-value
     μ-read-values
     (λ t. read-headed-lts.spec (cs-read-headed t)
     (read-headed-at t)
@@ -518,21 +486,15 @@ pub +read-headed+read-held+read-pair+read-pairs+read-value+read-values-spec :
     (read-pairs-returns-3 t)
     (read-pairs-same-length-4 t)
     (read-pairs-returns-4 t))
-    (λ t. read-value-lts.spec (cs-read-value t)
-    (read-value-at t)
-    read-value.Post
-    (read-value-value-head-requires t)
-    (read-value-read-headed-requires t)
-    (read-value-same-length t)
-    (read-value-returns t))
     λ t. read-values-lts.spec
-    (read-value-below t, read-value.Post)
+    (value-head-reads.Asked, value-head-reads.Learnt, read-headed-below t, read-headed.Post)
     (read-values-at t)
     read-values.Post
     read-values-Inv-loop
     read-values-μ-loop
     (read-values-loop-holds t)
-    (read-values-read-value-requires t)
+    (read-values-value-head-requires t)
+    (read-values-read-headed-requires t)
     (read-values-enum-known-next t)
     (read-values-enum-told t)
     (read-values-same-length t)

@@ -1,4 +1,4 @@
--- The readers of a condition, of one whose head is read and of conditions side by side, which call each other: the nesting that is left falls.
+-- The readers of a condition whose head is read and of conditions side by side, which call each other: the nesting that is left falls.
 -- The loop's invariant: what has been read is right for the whole if what is left is.
 use native.Mathlib.Omega.{arith}
 use borrow.Author.Needs.{needs}
@@ -12,46 +12,24 @@ use Rattle.rule.proofs.SiblingKinds.{conditions-kind}
 use Rattle.rule.proofs.ConditionAnswers.{condition-deep-answer, condition-headless-answer, operands-few, operands-unpaid-answer, operands-valueless-answer, operands-ready, operands-conditionless-answer, operands-answer}
 use borrow.Fn.Kinds.{In}
 use borrow.Fn.PlainCycle.{Measures, is, falls, and}
-use Rattle.rule.proofs.condition.read_condition.Reads as read-condition
-use Rattle.rule.proofs.condition.read_condition.Kinds as read-condition-kinds
-use Rattle.rule.proofs.condition.+read_condition+read_conditions+read_headed.Lts-read_condition as read-condition-lts
 use Rattle.rule.proofs.condition.read_conditions.Reads as read-conditions
 use Rattle.rule.proofs.condition.read_conditions.Kinds as read-conditions-kinds
-use Rattle.rule.proofs.condition.+read_condition+read_conditions+read_headed.Lts-read_conditions as read-conditions-lts
+use Rattle.rule.proofs.condition.+read_conditions+read_headed.Lts-read_conditions as read-conditions-lts
 use Rattle.rule.proofs.condition.read_headed.Reads as read-headed
 use Rattle.rule.proofs.condition.read_headed.Kinds as read-headed-kinds
-use Rattle.rule.proofs.condition.+read_condition+read_conditions+read_headed.Lts-read_headed as read-headed-lts
+use Rattle.rule.proofs.condition.+read_conditions+read_headed.Lts-read_headed as read-headed-lts
 use Rattle.lines.proofs.rule_sheet.condition_head.Reads as condition-head-reads
 use Rattle.rule.proofs.condition.operands_of.Reads as operands-of-reads
 use Rattle.rule.proofs.cursor.word_of.Reads as word-of-reads
 use Rattle.rule.proofs.value.read_values.Reads as read-values-reads
-use Rattle.rule.proofs.condition.+read_condition+read_conditions+read_headed.{statement}
-use Rattle.rule.proofs.condition.+read_condition+read_conditions+read_headed.Tie.{close}
-
-abbrev μ-read-condition : Measures 2 read-condition-kinds.ps ℕ
-μ-read-condition κs a = 3 * (a .1 .1 .0) + 1
+use Rattle.rule.proofs.condition.+read_conditions+read_headed.{statement}
+use Rattle.rule.proofs.condition.+read_conditions+read_headed.Tie.{close}
 
 abbrev μ-read-conditions : Measures 2 read-conditions-kinds.ps ℕ
-μ-read-conditions κs a = 3 * (a .1 .1 .0) + 2
+μ-read-conditions κs a = 2 * (a .1 .1 .0) + 1
 
 abbrev μ-read-headed : Measures 2 read-headed-kinds.ps ℕ
-μ-read-headed κs a = 3 * (a .1 .1 .0)
-
-abbrev read-condition-at : ℕ → In 2 read-condition-kinds.ps
-read-condition-at t =
-    and
-    2
-    read-condition-kinds.ps
-    (is 2 read-condition-kinds.ps μ-read-condition t)
-    read-condition.Pre
-
-abbrev read-condition-below : ℕ → In 2 read-condition-kinds.ps
-read-condition-below t =
-    and
-    2
-    read-condition-kinds.ps
-    (falls 2 read-condition-kinds.ps _<_ μ-read-condition t)
-    read-condition.Pre
+μ-read-headed κs a = 2 * (a .1 .1 .0)
 
 abbrev read-conditions-at : ℕ → In 2 read-conditions-kinds.ps
 read-conditions-at t =
@@ -77,16 +55,8 @@ abbrev read-headed-below : ℕ → In 2 read-headed-kinds.ps
 read-headed-below t =
     and 2 read-headed-kinds.ps (falls 2 read-headed-kinds.ps _<_ μ-read-headed t) read-headed.Pre
 
-abbrev cs-read-condition : ℕ → read-condition-lts.Claims
-cs-read-condition t = (
-  condition-head-reads.Asked,
-  condition-head-reads.Learnt,
-  read-headed-below t,
-  read-headed.Post,
-)
-
 abbrev cs-read-conditions : ℕ → read-conditions-lts.Claims
-cs-read-conditions t = (read-condition-below t, read-condition.Post)
+cs-read-conditions t = (condition-head-reads.Asked, condition-head-reads.Learnt, read-headed-below t, read-headed.Post)
 
 abbrev cs-read-headed : ℕ → read-headed-lts.Claims
 cs-read-headed t = (
@@ -100,18 +70,6 @@ cs-read-headed t = (
   word-of-reads.Learnt,
 )
 
-read-condition-condition-head-requires : (t : ℕ) → read-condition-lts.Need-condition-head-requires (cs-read-condition t) (read-condition-at t) read-condition.Post
-read-condition-condition-head-requires t c κs = search needs
-
-read-condition-read-headed-requires : (t : ℕ) → read-condition-lts.Need-read-headed-requires (cs-read-condition t) (read-condition-at t) read-condition.Post
-read-condition-read-headed-requires t c κs = search needs
-
-read-condition-same-length : (t : ℕ) → read-condition-lts.Need-same-length (cs-read-condition t) (read-condition-at t) read-condition.Post
-read-condition-same-length t c = search needs
-
-read-condition-returns : (t : ℕ) → read-condition-lts.Need-returns (cs-read-condition t) (read-condition-at t) read-condition.Post
-read-condition-returns t c = search needs
-
 abbrev read-conditions-Inv-loop : read-conditions-lts.InvT-loop
 read-conditions-Inv-loop s words₀ depth count here₀ n₀ words here n = Passing (conditions-kind s depth) s words₀ words tt tt count count n n here₀ here
 
@@ -121,9 +79,12 @@ read-conditions-μ-loop s words₀ depth count here₀ n₀ words here n = n
 read-conditions-loop-holds : (t : ℕ) → read-conditions-lts.Need-loop-holds (cs-read-conditions t) (read-conditions-at t) read-conditions.Post read-conditions-Inv-loop read-conditions-μ-loop
 read-conditions-loop-holds t c = siblings-begin (conditions-kind (now (c .before .before .args .s)) (c .before .before .args .depth)) tt (c .before .before .args .count) (c .before .before .pre .1)
 
-read-conditions-read-condition-requires :
-    (t : ℕ) → read-conditions-lts.Need-read-condition-requires (cs-read-conditions t) (read-conditions-at t) read-conditions.Post read-conditions-Inv-loop read-conditions-μ-loop
-read-conditions-read-condition-requires t c κs = (omega (arith, c .before .before .before .before .before .pre .0), ready-fewer (c .before .before .loop .inv .ready) (omega (arith, c .before .loop-test .taken)))
+read-conditions-condition-head-requires : (t : ℕ) → read-conditions-lts.Need-condition-head-requires (cs-read-conditions t) (read-conditions-at t) read-conditions.Post read-conditions-Inv-loop read-conditions-μ-loop
+read-conditions-condition-head-requires t c κs = search needs
+
+read-conditions-read-headed-requires :
+    (t : ℕ) → read-conditions-lts.Need-read-headed-requires (cs-read-conditions t) (read-conditions-at t) read-conditions.Post read-conditions-Inv-loop read-conditions-μ-loop
+read-conditions-read-headed-requires t c κs = (omega (arith, c .before .before .before .before .before .before .pre .0), (ready-fewer (c .before .before .before .loop .inv .ready) (omega (arith, c .before .before .loop-test .taken)), c .before .condition-head .ensures))
 
 read-conditions-enum-known-next : (t : ℕ) → read-conditions-lts.Need-enum-known-next (cs-read-conditions t) (read-conditions-at t) read-conditions.Post read-conditions-Inv-loop read-conditions-μ-loop
 read-conditions-enum-known-next t c = search needs
@@ -132,10 +93,10 @@ read-conditions-enum-told : (t : ℕ) → read-conditions-lts.Need-enum-told (cs
 read-conditions-enum-told t c = search needs
 
 read-conditions-same-length : (t : ℕ) → read-conditions-lts.Need-same-length (cs-read-conditions t) (read-conditions-at t) read-conditions.Post read-conditions-Inv-loop read-conditions-μ-loop
-read-conditions-same-length t c = c .before .before .before .before .read-condition .kept .1 .0 ∙ c .before .before .before .before .before .before .before .loop .inv .kept .len
+read-conditions-same-length t c = c .before .before .before .before .read-headed .kept .1 .0 ∙ c .before .before .before .before .before .before .before .before .loop .inv .kept .len
 
 read-conditions-returns : (t : ℕ) → read-conditions-lts.Need-returns (cs-read-conditions t) (read-conditions-at t) read-conditions.Post read-conditions-Inv-loop read-conditions-μ-loop
-read-conditions-returns t c = siblings-bad (c .before .before .before .before .before .before .before .loop .inv) (c .before .before .before .before .before .before .loop-test .taken) (rw (c .enum-told .given .1) at (c .before .before .before .before .read-condition .ensures))
+read-conditions-returns t c = siblings-bad (c .before .before .before .before .before .before .before .before .loop .inv) (c .before .before .before .before .before .before .before .loop-test .taken) (rw (c .enum-told .given .1) at (c .before .before .before .before .read-headed .ensures))
 
 read-conditions-sub-n : (t : ℕ) → read-conditions-lts.Need-sub-n (cs-read-conditions t) (read-conditions-at t) read-conditions.Post read-conditions-Inv-loop read-conditions-μ-loop
 read-conditions-sub-n t c = search needs
@@ -144,7 +105,7 @@ read-conditions-loop-less : (t : ℕ) → read-conditions-lts.Need-loop-less (cs
 read-conditions-loop-less t c = search needs
 
 read-conditions-loop-again : (t : ℕ) → read-conditions-lts.Need-loop-again (cs-read-conditions t) (read-conditions-at t) read-conditions.Post read-conditions-Inv-loop read-conditions-μ-loop
-read-conditions-loop-again t c = siblings-next (c .before .before .before .before .before .before .before .before .loop .inv) (c .before .before .before .before .before .before .before .before .loop .n - 1) (c .before .before .before .before .before .before .before .loop-test .taken) (omega (arith, c .before .before .before .before .before .before .before .loop-test .taken)) (rw (c .before .next .given .1) at (c .before .before .before .before .before .read-condition .ensures))
+read-conditions-loop-again t c = siblings-next (c .before .before .before .before .before .before .before .before .before .loop .inv) (c .before .before .before .before .before .before .before .before .before .loop .n - 1) (c .before .before .before .before .before .before .before .before .loop-test .taken) (omega (arith, c .before .before .before .before .before .before .before .before .loop-test .taken)) (rw (c .before .next .given .1) at (c .before .before .before .before .before .read-headed .ensures))
 
 read-conditions-same-length-2 : (t : ℕ) → read-conditions-lts.Need-same-length-2 (cs-read-conditions t) (read-conditions-at t) read-conditions.Post read-conditions-Inv-loop read-conditions-μ-loop
 read-conditions-same-length-2 t c = c .before .loop .inv .kept .len
@@ -242,23 +203,17 @@ read-headed-returns-6 t c =
     let operands = c .before .before .before .before .before .before .before .before .before .before .before .before .before .before .before .before .before .operands-of .result in
     operands-answer (now (c .before .before .before .before .before .before .before .before .before .before .before .before .before .before .before .before .before .before .before .before .before .before .before .before .args .s)) (now (c .before .before .before .before .before .before .before .before .before .before .before .before .before .before .before .before .before .before .before .before .before .before .before .before .args .words)) (c .before .before .before .before .before .before .before .before .before .before .before .before .before .before .before .before .before .before .before .before .before .before .before .before .args .depth) (c .before .before .before .before .before .before .before .before .before .before .before .before .before .before .before .before .before .before .before .read .given .0 .1 .0) (operands .values) (operands .conditions) (c .before .before .before .before .before .before .before .before .before .before .before .before .before .before .before .before .before .before .before .before .before .before .before .before .args .c) (c .before .before .before .before .before .before .before .before .before .before .before .before .before .before .before .before .before .before .before .read .given .0 .0) (c .before .before .before .before .before .before .before .before .before .before .before .before .before .before .before .before .before .before .before .before .before .if1 .left) (head .0) (ap (λ o. o .values) (c .before .before .before .before .before .before .before .before .before .before .before .before .before .before .before .before .before .operands-of .ensures)) (ap (λ o. o .conditions) (c .before .before .before .before .before .before .before .before .before .before .before .before .before .before .before .before .before .operands-of .ensures)) (c .before .before .before .before .before .before .before .before .before .before .before .before .before .before .before .if2 .left) (c .before .before .before .before .before .before .before .before .before .before .before .before .before .before .before .before .before .before .before .before .before .before .before .before .pre .1 .0) (rw (c .before .before .before .before .before .before .before .before .before .middle .given .1) at (c .before .before .before .before .before .before .before .before .before .before .before .before .before .read-values .ensures)) (c .word-of .ensures) (rw (c .before .before .next .given .1) at (c .before .before .before .before .before .before .read-conditions .ensures))
 
-pub +read-condition+read-conditions+read-headed-spec : {M : Type 1} → statement M
-+read-condition+read-conditions+read-headed-spec =
-    close μ-read-condition μ-read-conditions μ-read-headed (λ t. read-condition-lts.spec (cs-read-condition t)
-    (read-condition-at t)
-    read-condition.Post
-    (read-condition-condition-head-requires t)
-    (read-condition-read-headed-requires t)
-    (read-condition-same-length t)
-    (read-condition-returns t))
-    (λ t. read-conditions-lts.spec
-    (read-condition-below t, read-condition.Post)
+pub +read-conditions+read-headed-spec : {M : Type 1} → statement M
++read-conditions+read-headed-spec =
+    close μ-read-conditions μ-read-headed (λ t. read-conditions-lts.spec
+    (condition-head-reads.Asked, condition-head-reads.Learnt, read-headed-below t, read-headed.Post)
     (read-conditions-at t)
     read-conditions.Post
     read-conditions-Inv-loop
     read-conditions-μ-loop
     (read-conditions-loop-holds t)
-    (read-conditions-read-condition-requires t)
+    (read-conditions-condition-head-requires t)
+    (read-conditions-read-headed-requires t)
     (read-conditions-enum-known-next t)
     (read-conditions-enum-told t)
     (read-conditions-same-length t)
