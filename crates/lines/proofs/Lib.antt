@@ -1,2 +1,4 @@
 pub mod Passing
+pub mod Loan
 pub mod Lending
+pub mod Pairing

@@ -85,8 +85,8 @@ nextFn τ #head #end = record {
       (seq (assign (place 0 []) (rvOpd (copy (place 2 [])))) return))))));
 }
 
-module _ (E : RattleType) (Reads : List ℕ → ℕ → E .Denot → Type 0) (stands : E .Denot → ℕ → ℕ) where
-  -- the three contracts
+-- the contracts of the three
+module _ (E : RattleType) (Reads : List ℕ → ℕ → E .Denot → Type 0) where
   abbrev pub headEnded : Ended
   headEnded = record {
     signature = record { lifetimes = 1; outlives = []; params = shrSlice 0 tt (λ _. u8) ∷ plain (λ _. usize) ∷ []; result = plain (λ _. E) };
@@ -96,6 +96,7 @@ module _ (E : RattleType) (Reads : List ℕ → ℕ → E .Denot → Type 0) (st
   abbrev pub headClauses : {M : Type 1} (𝓤 : URA M) → Clauses 𝓤 headEnded
   headClauses 𝓤 κs a = record { ghost = Unit {0}; requires = λ _. emp 𝓤; ensures = λ _ r _. fact 𝓤 (Reads (now (a .0)) (a .1 .0) r) }
 
+module _ (E : RattleType) (Reads : List ℕ → ℕ → E .Denot → Type 0) (stands : E .Denot → ℕ → ℕ) where
   abbrev pub endEnded : Ended
   endEnded = record {
     signature = record { lifetimes = 0; outlives = []; params = plain (λ _. E) ∷ plain (λ _. usize) ∷ []; result = plain (λ _. usize) };
@@ -121,7 +122,7 @@ module _ (E : RattleType) (Reads : List ℕ → ℕ → E .Denot → Type 0) (st
 
   module _ {M : Type 1} (𝓤 : URA M) (H : Heap 𝓤) (A : Atoms 𝓤) where
     abbrev pub Head : Contract 𝓤
-    Head = tripleOf 𝓤 H A (headEnded .signature) (closing 𝓤 H A headEnded (headClauses 𝓤))
+    Head = tripleOf 𝓤 H A (headEnded E Reads .signature) (closing 𝓤 H A (headEnded E Reads) (headClauses E Reads 𝓤))
 
     abbrev pub End : Contract 𝓤
     End = tripleOf 𝓤 H A (endEnded .signature) (closing 𝓤 H A endEnded (endClauses 𝓤))
@@ -171,13 +172,13 @@ module _ (E : RattleType) (Reads : List ℕ → ℕ → E .Denot → Type 0) (st
     Said r = Reads (now (h .sheet)) (h .at) r
 
     -- what `head` is passed
-    abbrev passed : Vals (headEnded .signature) (κ′, tt)
+    abbrev passed : Vals (headEnded E Reads .signature) (κ′, tt)
     passed = (v ∷ [], (vint w64 (h .at) ∷ [], tt))
 
     abbrev to-head : Head 𝓤 H A .Ghost
     to-head = (((κ′, tt), (q′, tt), tt, (h .sheet, (h .at, tt)), passed), tt)
 
-    asked : ent 𝓤 (onEntry 𝓤 H A (headEnded .signature) (κ′, tt) (q′, tt) (h .sheet, (h .at, tt)) passed) (Head 𝓤 H A .pre to-head)
+    asked : ent 𝓤 (onEntry 𝓤 H A (headEnded E Reads .signature) (κ′, tt) (q′, tt) (h .sheet, (h .at, tt)) passed) (Head 𝓤 H A .pre to-head)
     asked = qed W ((‵ (flft κ′ q′) ⊛ ‵ ftrue) ∷ ‵ (owns (ShrSlice (named 0) κ′ u8 ∷ usize ∷ []) (h .sheet, (h .at, tt)) passed) ∷ []) ∵ join ! $ frame ! $ done !
 
     -- what the struct owns gives what the callee asks, and is kept
@@ -190,8 +191,8 @@ module _ (E : RattleType) (Reads : List ℕ → ℕ → E .Denot → Type 0) (st
         move ! (1 ∷ []) $ drop ! $ nothing ! $ owned ! usize (Is usize) (uint-makes 𝓤 H A W w64) (h .at) _ (refl, fits) $ fjoin ! $ move ! (1 ∷ 0 ∷ []) $ fjoin ! $
         move ! (2 ∷ 0 ∷ []) $ use2 W (raw (Head 𝓤 H A .pre to-head)) asked $ frame ! $ done !)
 
-    head-said : (r : E .Denot) → ent 𝓤 (ensured 𝓤 H A headEnded (headClauses 𝓤) (κ′, tt) (h .sheet, (h .at, tt)) tt r) (fact 𝓤 (Said r))
-    head-said r = exE 𝓤 _ (λ ws. snd∗ 𝓤 (sem 𝓤 H A (lasts headEnded (κ′, tt) (h .sheet, (h .at, tt)) ws)) (fact 𝓤 (Said r)))
+    head-said : (r : E .Denot) → ent 𝓤 (ensured 𝓤 H A (headEnded E Reads) (headClauses E Reads 𝓤) (κ′, tt) (h .sheet, (h .at, tt)) tt r) (fact 𝓤 (Said r))
+    head-said r = exE 𝓤 _ (λ ws. snd∗ 𝓤 (sem 𝓤 H A (lasts (headEnded E Reads) (κ′, tt) (h .sheet, (h .at, tt)) ws)) (fact 𝓤 (Said r)))
 
     -- what `end` is passed
     abbrev to-end : E .Denot → Val → End 𝓤 H A .Ghost
@@ -229,7 +230,7 @@ module _ (E : RattleType) (Reads : List ℕ → ℕ → E .Denot → Type 0) (st
           assigns ! (of-opd ! (load ! (from ! (hop ! (look ! 15 refl) (fld ! refl (stop !)))) (look-in ! 1 (sub ! 1 refl (whole !))))) (from ! (stop !)) (init ! 9 refl (tt, LL.lawful D L 𝓤 H A W .typed h _ was .0 .1 .1 .0)) $
           move ! (5 ∷ 0 ∷ []) $ use2 W (raw (Head 𝓤 H A .pre to-head) ⊛ ‵ Own) (apart (LL.lawful D L 𝓤 H A W .typed h _ was .0 .1 .1 .0 .fits)) $ split ! $
           calls-at ! fm (Head 𝓤 H A) known-head to-head (and-then ! (load ! (from ! (stop !)) (look ! 11 refl)) (and-then ! (load ! (from ! (stop !)) (look ! 9 refl)) (no-more !))) (λ u.
-          use1 W (later (some (λ (r : E .Denot). ((‵ (flft κ′ q′) ⊛ ‵ ftrue) ⊛ ‵ (E .own r (u ∷ []))) ⊛ raw (ensured 𝓤 H A headEnded (headClauses 𝓤) (κ′, tt) (h .sheet, (h .at, tt)) tt r)))) (id⊢ 𝓤 _) $ await ! tt $ pick ! (λ r.
+          use1 W (later (some (λ (r : E .Denot). ((‵ (flft κ′ q′) ⊛ ‵ ftrue) ⊛ ‵ (E .own r (u ∷ []))) ⊛ raw (ensured 𝓤 H A (headEnded E Reads) (headClauses E Reads 𝓤) (κ′, tt) (h .sheet, (h .at, tt)) tt r)))) (id⊢ 𝓤 _) $ await ! tt $ pick ! (λ r.
           split ! $ move ! (1 ∷ []) $ use1 W (raw (fact 𝓤 (Said r))) (head-said r) $ heard ! (Said r) (λ e. split ! $ move ! (1 ∷ []) $
           -- [what was read; 'a's token; what the struct owns; its cell; the open borrow; obs; auth; …; _5; …; _4; …; _3; …; room for _2; …; _1; …; room for _0; …]
           peeks ! E (Is E) (shows 𝓤 H A E) r (u ∷ []) (λ is.

@@ -8,7 +8,19 @@ use sheet::rule_heads::ValueRead;
 ghost use mathlib.Core.Path.{_≡_};
 ghost use Rattle.sheet.specs.Places.{RuleIs, ConditionIs, ValueIs, KeyIs};
 ghost use Rattle.lines.specs.Ends.{ruleEnd, conditionEnd, valueEnd, keyEnd};
-ghost use Rattle.lines.specs.Passed.{Passed};
+ghost use Rattle.lines.specs.Passed.{Passed, BothRead};
+
+// The heads of the sheet's first entry and of a condition behind it.
+pub struct OpeningRead {
+    pub head: RuleHeadRead,
+    pub condition: ConditionRead,
+}
+
+// The heads of a key and of the value behind it.
+pub struct MemberRead {
+    pub key: KeyRead,
+    pub value: ValueRead,
+}
 
 // Where the entry behind the sheet's first entry starts; a reader that finds none stays where it is.
 fn rule_end(read: RuleHeadRead, at: usize) -> usize
@@ -27,14 +39,6 @@ pub fn next_rule<'s, 'a>(lines: &'s mut Lines<'a>) -> RuleHeadRead
     let read = sheet::rule_heads::rule_head(lines.sheet, lines.at);
     lines.at = rule_end(read, lines.at);
     read
-}
-
-// The head of the entry that starts at `at`, for callers without a reader.
-pub fn rule_head(sheet: &[u8], at: usize) -> RuleHeadRead
-    ensures { λ r. ⌜ RuleIs (now (sheet .entry)) at r ⌝ }
-{
-    let mut lines = new(sheet, at);
-    next_rule(&mut lines)
 }
 
 // Where the entry behind a condition's entry starts; a reader that finds none stays where it is.
@@ -116,4 +120,24 @@ pub fn key_head(sheet: &[u8], at: usize) -> KeyRead
 {
     let mut lines = new(sheet, at);
     next_key(&mut lines)
+}
+
+// The sheet's first entry and the condition behind it, read by one reader. Behind a template's there is none.
+pub fn opening(sheet: &[u8], at: usize) -> OpeningRead
+    ensures { λ r. ⌜ BothRead RuleIs ruleEnd ConditionIs (now (sheet .entry)) at (r .head) (r .condition) ⌝ }
+{
+    let mut lines = new(sheet, at);
+    let head = next_rule(&mut lines);
+    let condition = next_condition(&mut lines);
+    OpeningRead { head, condition }
+}
+
+// A key and its value, read by one reader.
+pub fn member(sheet: &[u8], at: usize) -> MemberRead
+    ensures { λ r. ⌜ BothRead KeyIs keyEnd ValueIs (now (sheet .entry)) at (r .key) (r .value) ⌝ }
+{
+    let mut lines = new(sheet, at);
+    let key = next_key(&mut lines);
+    let value = next_value(&mut lines);
+    MemberRead { key, value }
 }

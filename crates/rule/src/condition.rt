@@ -8,6 +8,7 @@ use lines::rule_sheet::condition_head;
 use sheet::rule_heads::ConditionHead;
 use sheet::rule_heads::ConditionRead;
 ghost use mathlib.Core.Path.{_≡_};
+ghost use Rattle.sheet.specs.Places.{ConditionIs};
 ghost use Rattle.rule.specs.Read.{Ready, operandsOf, ConditionAnswer, ConditionsAnswer};
 
 // What follows a condition's head: so many values, then so many conditions.
@@ -51,9 +52,15 @@ fn operands_of(h: ConditionHead) -> Operands
     }
 }
 
-// One condition. `depth` is how deep it may nest.
-pub fn read_condition(s: &[u8], words: &mut [u32], depth: usize, c: Cursor) -> TreeRead
-    requires { ⌜ Ready (now s) (now words) 1 c ⌝ }
+// A condition whose head is read. `depth` is how deep it may nest.
+pub fn read_headed(
+    s: &[u8],
+    words: &mut [u32],
+    depth: usize,
+    c: Cursor,
+    read: ConditionRead,
+) -> TreeRead
+    requires { ⌜ Ready (now s) (now words) 1 c × ConditionIs (now s) (c .at) read ⌝ }
     ensures { λ r. ⌜ ConditionAnswer (now (s .entry)) (now (words .entry)) (now (words .exit)) depth c r ⌝ }
 {
     if depth == 0 {
@@ -62,7 +69,7 @@ pub fn read_condition(s: &[u8], words: &mut [u32], depth: usize, c: Cursor) -> T
     let at = c.at;
     let word = c.word;
     let left = c.left;
-    let ConditionRead::Is(head, behind) = condition_head(s, at) else {
+    let ConditionRead::Is(head, behind) = read else {
         return TreeRead::Bad;
     };
     let operands = operands_of(head);
@@ -95,7 +102,8 @@ fn read_conditions(s: &[u8], words: &mut [u32], depth: usize, count: usize, c: C
     let mut here = c;
     let mut n = count;
     while 0 < n {
-        let TreeRead::Good(next) = read_condition(s, words, depth, here) else {
+        let head = condition_head(s, here.at);
+        let TreeRead::Good(next) = read_headed(s, words, depth, here, head) else {
             return TreeRead::Bad;
         };
         here = next;

@@ -5,7 +5,6 @@ mod keys; // keys.rt: the keys of an object
 mod value; // value.rt: values, with all that they hold
 mod condition; // condition.rt: conditions, with all that they hold
 
-use condition::read_condition;
 use cursor::Cursor;
 use cursor::TreeRead;
 use cursor::word_of;
@@ -13,13 +12,16 @@ use definition::limits::MAX_CONDITION_NESTING;
 use definition::limits::MAX_RULE_ENTRIES;
 use definition::limits::MAX_SHEET_BYTES;
 use definition::limits::MAX_VALUE_NESTING;
-use lines::rule_sheet::rule_head;
+use lines::rule_sheet::opening;
+use sheet::rule_heads::ConditionRead;
 use sheet::rule_heads::RuleHead;
+use sheet::rule_heads::RuleHeadRead;
 use value::read_value;
 ghost use mathlib.Core.Path.{_≡_};
 ghost use Prim.Native.Nat.{_≤_};
 ghost use lib.ListN.{length};
 ghost use Rattle.definition.specs.Limits.{maxRuleEntries};
+ghost use Rattle.sheet.specs.Places.{ConditionIs};
 ghost use Rattle.rule.specs.Read.{Ready};
 ghost use Rattle.rule.specs.Rule.{isTemplateHead, TreeAnswer, RuleAnswer};
 
@@ -44,15 +46,21 @@ fn is_template(h: RuleHead) -> bool
     }
 }
 
-// What follows the first entry: a value under `T`, a condition under `R`.
-fn read_tree(s: &[u8], words: &mut [u32], is_template: bool, c: Cursor) -> TreeRead
-    requires { ⌜ Ready (now s) (now words) 1 c ⌝ }
+// What follows the first entry: a value under `T`, a condition under `R`. The condition's head is read, if there is one.
+fn read_tree(
+    s: &[u8],
+    words: &mut [u32],
+    is_template: bool,
+    c: Cursor,
+    read: ConditionRead,
+) -> TreeRead
+    requires { ⌜ Ready (now s) (now words) 1 c × ConditionIs (now s) (c .at) read ⌝ }
     ensures { λ r. ⌜ TreeAnswer (now (s .entry)) (now (words .entry)) (now (words .exit)) «is_template» c r ⌝ }
 {
     if is_template {
         return read_value(s, words, MAX_VALUE_NESTING, c);
     }
-    read_condition(s, words, MAX_CONDITION_NESTING, c)
+    condition::read_headed(s, words, MAX_CONDITION_NESTING, c, read)
 }
 
 // The words of the index are written, and no others.
@@ -63,7 +71,9 @@ pub fn read_rule(s: &[u8], scratch: &mut [u32]) -> RuleRead
     if MAX_SHEET_BYTES < s.len() {
         return RuleRead::Bad;
     }
-    let sheet::rule_heads::RuleHeadRead::Is(head, behind) = rule_head(s, 0) else {
+    let heads = opening(s, 0);
+    let first = heads.head;
+    let RuleHeadRead::Is(head, behind) = first else {
         return RuleRead::Bad;
     };
     let template = is_template(head);
@@ -73,7 +83,8 @@ pub fn read_rule(s: &[u8], scratch: &mut [u32]) -> RuleRead
         word: 1,
         left: MAX_RULE_ENTRIES - 2,
     };
-    let TreeRead::Good(next) = read_tree(s, scratch, template, inner) else {
+    let condition = heads.condition;
+    let TreeRead::Good(next) = read_tree(s, scratch, template, inner, condition) else {
         return RuleRead::Bad;
     };
     let end = next.at;

@@ -3,7 +3,7 @@ use crate::cursor::Cursor;
 use crate::cursor::TreeRead;
 use crate::cursor::word_of;
 use crate::keys::none_twice;
-use lines::rule_sheet::key_head;
+use lines::rule_sheet::member;
 use lines::rule_sheet::value_head;
 use sheet::order::ByteOrder;
 use sheet::part::OptionalPart;
@@ -18,6 +18,7 @@ ghost use Prim.Native.Nat.{_*_, _≤_};
 ghost use Rattle.sheet.specs.Entries.{maxCount};
 ghost use Rattle.sheet.specs.Order.{follows};
 ghost use Rattle.sheet.specs.Parts.{partOf, optionalOf};
+ghost use Rattle.sheet.specs.Places.{ValueIs};
 ghost use Rattle.rule.specs.Read.{Ready, heldBy, countOf, costOf, HeldAnswer, ValueAnswer, ValuesAnswer, PairAnswer, PairsAnswer};
 
 // What a value holds.
@@ -88,13 +89,22 @@ pub fn read_value(s: &[u8], words: &mut [u32], depth: usize, c: Cursor) -> TreeR
     requires { ⌜ Ready (now s) (now words) 1 c ⌝ }
     ensures { λ r. ⌜ ValueAnswer (now (s .entry)) (now (words .entry)) (now (words .exit)) depth c r ⌝ }
 {
+    let head = value_head(s, c.at);
+    read_headed(s, words, depth, c, head)
+}
+
+// A value whose head is read.
+fn read_headed(s: &[u8], words: &mut [u32], depth: usize, c: Cursor, read: ValueRead) -> TreeRead
+    requires { ⌜ Ready (now s) (now words) 1 c × ValueIs (now s) (c .at) read ⌝ }
+    ensures { λ r. ⌜ ValueAnswer (now (s .entry)) (now (words .entry)) (now (words .exit)) depth c r ⌝ }
+{
     if depth == 0 {
         return TreeRead::Bad;
     }
     let at = c.at;
     let word = c.word;
     let left = c.left;
-    let ValueRead::Is(head, behind) = value_head(s, at) else {
+    let ValueRead::Is(head, behind) = read else {
         return TreeRead::Bad;
     };
     let held = held_by(head);
@@ -133,7 +143,8 @@ pub fn read_values(s: &[u8], words: &mut [u32], depth: usize, count: usize, c: C
     let mut here = c;
     let mut n = count;
     while 0 < n {
-        let TreeRead::Good(next) = read_value(s, words, depth, here) else {
+        let head = value_head(s, here.at);
+        let TreeRead::Good(next) = read_headed(s, words, depth, here, head) else {
             return TreeRead::Bad;
         };
         here = next;
@@ -149,7 +160,9 @@ fn read_pair(s: &[u8], words: &mut [u32], depth: usize, c: Cursor) -> PairRead
 {
     let at = c.at;
     let word = c.word;
-    let KeyRead::Is(key, behind) = key_head(s, at) else {
+    let heads = member(s, at);
+    let first = heads.key;
+    let KeyRead::Is(key, behind) = first else {
         return PairRead::Bad;
     };
     let inner = Cursor {
@@ -157,7 +170,8 @@ fn read_pair(s: &[u8], words: &mut [u32], depth: usize, c: Cursor) -> PairRead
         word: word + 1,
         left: c.left,
     };
-    let TreeRead::Good(next) = read_value(s, words, depth, inner) else {
+    let head = heads.value;
+    let TreeRead::Good(next) = read_headed(s, words, depth, inner, head) else {
         return PairRead::Bad;
     };
     words[word] = word_of(at, next.word);

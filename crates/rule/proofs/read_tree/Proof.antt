@@ -12,14 +12,14 @@ same-length c = search needs
 returns : tie.Need-returns
 returns c = rw (c .before .before .before .before .if1 .taken) (c .before .before .read-value .ensures)
 
-read-condition-requires : tie.Need-read-condition-requires
-read-condition-requires c κs = search needs
+read-headed-requires : tie.Need-read-headed-requires
+read-headed-requires c κs = search needs
 
 same-length-2 : tie.Need-same-length-2
 same-length-2 c = search needs
 
 returns-2 : tie.Need-returns-2
-returns-2 c = rw (c .before .before .before .before .if1 .left) (c .before .before .read-condition .ensures)
+returns-2 c = rw (c .before .before .before .before .if1 .left) (c .before .before .read-headed .ensures)
 
 pub read-tree-spec : {M : Type 1} → statement M
 read-tree-spec =
@@ -28,6 +28,6 @@ read-tree-spec =
     read-value-requires
     same-length
     returns
-    read-condition-requires
+    read-headed-requires
     same-length-2
     returns-2)

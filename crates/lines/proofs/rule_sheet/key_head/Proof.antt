@@ -10,7 +10,8 @@ use Rattle.sheet.proofs.rule_heads.KeyRead as E
 use Rattle.sheet.proofs.rule_heads.KeyRead.Laws as E′
 use Rattle.lines.specs.Ends.{keyEnd}
 use Rattle.lines.proofs.Passing.{Next}
-use Rattle.lines.proofs.Lending.{New, head-meets}
+use Rattle.lines.proofs.Loan.{New}
+use Rattle.lines.proofs.Lending.{head-meets}
 use Rattle.lines.proofs.new.Symbol as new
 use Rattle.lines.proofs.new.Met as new-thm
 use Rattle.lines.proofs.rule_sheet.next_key.Symbol as next

@@ -10,7 +10,8 @@ use Rattle.sheet.proofs.schema_heads.FieldRead as E
 use Rattle.sheet.proofs.schema_heads.FieldRead.Laws as E′
 use Rattle.lines.specs.Ends.{fieldEnd}
 use Rattle.lines.proofs.Passing.{Next}
-use Rattle.lines.proofs.Lending.{New, head-meets}
+use Rattle.lines.proofs.Loan.{New}
+use Rattle.lines.proofs.Lending.{head-meets}
 use Rattle.lines.proofs.new.Symbol as new
 use Rattle.lines.proofs.new.Met as new-thm
 use Rattle.lines.proofs.schema_sheet.next_field.Symbol as next
