@@ -1,12 +1,15 @@
 //! One rule, key path or instant, checked, with what a person wants to know about the answer.
 
 use crate::arguments::{Arguments, Asked};
+use crate::blame::{self, Blame, Readable};
 use crate::hint::{hint, no_member};
+use crate::outline::reached;
+use crate::widened::Tree;
 use entity_rules::entries::{Content, Entry, Malformed, read_rule, read_schema};
 use entity_rules::limits::{MAX_SHEET_BYTES, MAX_TEXT_BYTES, TABLE_BYTES};
 use entity_rules::{
-    Check, Defect, Instant, Kind, PathVerdict, Reader, ReferenceFault, Refusal, Table, TableError,
-    Verdict, check_path, instant,
+    Check, Defect, Detail, Instant, Kind, PathVerdict, Reader, ReferenceFault, Refusal, Semantics,
+    Table, TableError, Verdict, check_path, instant,
 };
 use std::ffi::{OsStr, OsString};
 use std::fs::File;
@@ -80,11 +83,13 @@ pub enum Outcome {
         defect: Defect,
         at: Option<Spot>,
         over: Option<Spot>,
+        blame: Option<Box<Blame>>,
         hint: Option<String>,
     },
     /// A key path that cannot be read; no check passed before that one.
     KeyDefect {
         fault: ReferenceFault,
+        blame: Option<Box<Blame>>,
         hint: Option<String>,
     },
     /// The fields of an instant.
@@ -326,9 +331,12 @@ fn rule_outcome(
     match check.run(schema, rule).map(|checked| checked.verdict) {
         Ok(Verdict::Accepted { passed }) => Outcome::Accepted { passed },
         Ok(Verdict::Defect(defect)) => {
-            let (semantics, detail) = (arguments.semantics, defect.detail);
-            let hint = |text: &str| hint(kind, semantics, &names.table, detail, text);
-            located(defect, rule, hint)
+            let readable = Readable {
+                kind,
+                semantics: arguments.semantics,
+                table: &names.table,
+            };
+            located(defect, schema, rule, &readable)
         }
         Err(refusal @ Refusal::RuleSheet) => Outcome::Refused {
             refusal,
@@ -343,10 +351,21 @@ fn key_outcome(arguments: &Arguments, schema: &[u8], path: &OsStr, reader: Reade
         Ok(PathVerdict::Accepted) => Outcome::Accepted { passed: 1 },
         Ok(PathVerdict::Defect(fault)) => Outcome::KeyDefect {
             fault,
+            blame: key_blame(arguments.semantics, schema, path, fault).map(Box::new),
             hint: no_member(arguments.semantics, fault),
         },
         Err(refusal) => refused(arguments, schema, refusal),
     }
+}
+
+/// The part of a key path that is at fault.
+fn key_blame(
+    semantics: Semantics,
+    schema: &[u8],
+    path: &OsStr,
+    fault: ReferenceFault,
+) -> Option<Blame> {
+    blame::key(&Tree::new(schema)?, semantics, fault, path.to_str()?)
 }
 
 /// A refusal that is not the rule's, with the schema's fault if it is that one.
@@ -358,8 +377,8 @@ fn refused(arguments: &Arguments, schema: &[u8], refusal: Refusal) -> Outcome {
     Outcome::Refused { refusal, fault }
 }
 
-/// A defect with the entries that it names, and the hint for its text.
-fn located(defect: Defect, rule: &[u8], hint: impl Fn(&str) -> Option<String>) -> Outcome {
+/// A defect with the entries that it names, the part of a reference that is at fault, and a hint.
+fn located(defect: Defect, schema: &[u8], rule: &[u8], readable: &Readable<'_>) -> Outcome {
     let entries = read_rule(rule).unwrap_or_default();
     let entry = |place: u32| entries.get(usize::try_from(place).ok()?.checked_sub(1)?);
     let spot = |place: u32| {
@@ -374,10 +393,17 @@ fn located(defect: Defect, rule: &[u8], hint: impl Fn(&str) -> Option<String>) -
         Some(Content::String(text)) => text,
         _ => "",
     };
+    let blame = match defect.detail {
+        Detail::Reference(fault) => Tree::new(schema)
+            .zip(reached(&entries, defect.place))
+            .and_then(|(schema, reached)| readable.blame(&schema, &reached.binders, fault, text)),
+        _ => None,
+    };
     Outcome::Defect {
         at: spot(defect.place),
         over: defect.over_place.and_then(spot),
-        hint: hint(text),
+        blame: blame.map(Box::new),
+        hint: hint(readable, defect.detail, text),
         defect,
     }
 }

@@ -1,8 +1,9 @@
 //! Outcomes as JSON (RFC 8259), one object on one line.
 
+use crate::blame::{Blame, Help};
 use crate::checked::{Checked, Fault, Outcome, Spot, Subject, Unreadable};
 use crate::hint::INSTANT;
-use crate::report::{NO_INSTANT, instant_fields, not_read, refused};
+use crate::report::{NO_INSTANT, explained, instant_fields, not_read, refused};
 use entity_rules::{Defect, DefectNumber, PathVerdict, Refusal};
 
 /// The line for one rule, path or text.
@@ -34,21 +35,25 @@ pub fn outcome_members(object: &mut Object, outcome: &Outcome) {
             defect,
             at,
             over,
+            blame,
             hint,
         } => {
-            defect_members(object, defect, at.as_ref(), over.as_ref());
+            let spots = [at, over].map(Option::as_ref);
+            defect_members(object, defect, spots, blame.as_deref());
             if let Some(hint) = hint {
                 object.text("hint", hint);
             }
         }
-        Outcome::KeyDefect { fault, hint } => {
+        Outcome::KeyDefect { fault, blame, hint } => {
             let number = DefectNumber::Reference;
             object.text("verdict", "defect");
             object.number("number", number.number());
             object.text("word", number.word());
-            object.text("explanation", &PathVerdict::Defect(*fault).to_string());
+            let told = PathVerdict::Defect(*fault).to_string();
+            object.text("explanation", &explained(told, blame.as_deref()));
             object.number("detail", fault.number());
             object.number("passed", 0);
+            blame_members(object, blame.as_deref());
             if let Some(hint) = hint {
                 object.text("hint", hint);
             }
@@ -92,11 +97,29 @@ pub fn unreadable_members(object: &mut Object, unreadable: &Unreadable) {
     object.text("fault_file", &unreadable.file.to_string_lossy());
 }
 
-fn defect_members(object: &mut Object, defect: &Defect, at: Option<&Spot>, over: Option<&Spot>) {
+/// The part of a reference that is at fault.
+fn blame_members(object: &mut Object, blame: Option<&Blame>) {
+    let Some(blame) = blame else {
+        return;
+    };
+    object.text("segment", &blame.part);
+    object.number("segment_byte", blame.before.len());
+    if let Some(Help::Meant(name)) = &blame.help {
+        object.text("suggestion", name);
+    }
+}
+
+fn defect_members(
+    object: &mut Object,
+    defect: &Defect,
+    [at, over]: [Option<&Spot>; 2],
+    blame: Option<&Blame>,
+) {
     object.text("verdict", "defect");
     object.number("number", defect.number.number());
     object.text("word", defect.number.word());
-    object.text("explanation", &defect.explanation());
+    let explanation = explained(defect.explanation(), blame);
+    object.text("explanation", &explanation);
     object.number("family", defect.family.number());
     object.text("family_name", defect.family.name());
     object.number("detail", defect.detail.number());
@@ -111,6 +134,7 @@ fn defect_members(object: &mut Object, defect: &Defect, at: Option<&Spot>, over:
     if let Some(spot) = over {
         object.text("over_entry", &spot.text);
     }
+    blame_members(object, blame);
 }
 
 /// An object that is being written.

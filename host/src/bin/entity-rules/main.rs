@@ -13,9 +13,12 @@
 )]
 
 mod arguments;
+mod blame;
 mod checked;
 mod hint;
 mod json;
+mod near;
+mod outline;
 mod progress;
 mod report;
 mod terminal;
