@@ -1,5 +1,6 @@
 //! The command line.
 
+use crate::explain;
 use entity_rules::{Kind, Reader, Semantics};
 use std::ffi::OsString;
 use std::path::PathBuf;
@@ -14,6 +15,7 @@ usage: entity-rules check SCHEMA RULE.. --kind KIND --semantics SEMANTICS [OPTIO
        entity-rules widens OLD NEW [--json] [--quiet]
        entity-rules upgrade OLD NEW RULE.. --kind KIND --semantics SEMANTICS [OPTION..]
        entity-rules instant TEXT.. [--json] [--quiet]
+       entity-rules explain NUMBER
        entity-rules table
 
   check    whether rules and templates are accepted, or their first defect
@@ -24,6 +26,7 @@ usage: entity-rules check SCHEMA RULE.. --kind KIND --semantics SEMANTICS [OPTIO
            accepted stay so by the theorem and are not checked again; all others are checked
            under both
   instant  whether texts are instants, and their fields
+  explain  what a number of an answer means, as 18 or, with a detail, 18.3; with an example
   table    prints the stock name table
 
   SCHEMA, OLD, NEW    files that hold a schema sheet; one of all files may be -, which is standard
@@ -65,7 +68,8 @@ Colours and a progress bar appear on a terminal only. NO_COLOR, set to anything,
 colours off; TERM=dumb switches off both.
 ";
 
-const COMMANDS: &str = "the command `check`, `path`, `widens`, `upgrade`, `instant` or `table`";
+const COMMANDS: &str =
+    "the command `check`, `path`, `widens`, `upgrade`, `instant`, `explain` or `table`";
 
 /// What the command line asks for.
 #[derive(Debug, PartialEq)]
@@ -74,6 +78,8 @@ pub enum Command {
     Version,
     /// Prints the stock table.
     Table,
+    /// Says what a number means.
+    Explain(explain::Asked),
     Check(Arguments),
     Widens(Pair),
     Upgrade(Upgrade),
@@ -181,6 +187,10 @@ pub fn parse(words: impl IntoIterator<Item = OsString>) -> Result<Command, Strin
         Some(command) if command == "widens" => options(words)?.widens().map(Command::Widens),
         Some(command) if command == "upgrade" => options(words)?.upgrade().map(Command::Upgrade),
         Some(command) if command == "instant" => options(words)?.instant().map(Command::Instants),
+        Some(command) if command == "explain" => {
+            let words: Vec<OsString> = words.collect();
+            explain::parse(&words).map(Command::Explain)
+        }
         Some(command) if command == "table" => match words.next() {
             None => Ok(Command::Table),
             Some(word) => Err(format!("table: expected nothing after it, not {word:?}")),
@@ -521,8 +531,7 @@ mod tests {
 
     #[test]
     fn errors_say_what_was_expected() {
-        let commands =
-            "expected the command `check`, `path`, `widens`, `upgrade`, `instant` or `table`";
+        let commands = "expected the command `check`, `path`, `widens`, `upgrade`, `instant`, `explain` or `table`";
         assert_eq!(error(""), commands);
         assert_eq!(error("chekc"), format!("{commands}, not \"chekc\""));
         assert_eq!(

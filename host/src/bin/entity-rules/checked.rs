@@ -1,6 +1,6 @@
 //! One rule, key path or instant, checked, with what a person wants to know about the answer.
 
-use crate::arguments::{Arguments, Asked};
+use crate::arguments::{Arguments, Asked, Output};
 use crate::blame::{self, Blame, Readable};
 use crate::hint::{hint, no_member};
 use crate::outline::reached;
@@ -173,6 +173,15 @@ struct Names {
     table: Table,
 }
 
+impl Names {
+    fn stock() -> Self {
+        Self {
+            lent: Vec::new(),
+            table: Table::stock(),
+        }
+    }
+}
+
 /// Why there is no table.
 enum NoTable {
     Unreadable(Unreadable),
@@ -188,10 +197,7 @@ impl Shared {
             Asked::Rules {
                 table: Some(file), ..
             } => load(file),
-            _ => Ok(Names {
-                lent: Vec::new(),
-                table: Table::stock(),
-            }),
+            _ => Ok(Names::stock()),
         };
         Self {
             schema: read_sheet(&arguments.schema, Sheet::Schema),
@@ -356,6 +362,25 @@ fn key_outcome(arguments: &Arguments, schema: &[u8], path: &OsStr, reader: Reade
         },
         Err(refusal) => refused(arguments, schema, refusal),
     }
+}
+
+/// What comes of two sheets that are not read from their files.
+pub fn sheets_outcome(
+    kind: Kind,
+    semantics: Semantics,
+    [(schema_file, schema), rule]: [(&Path, &[u8]); 2],
+) -> Outcome {
+    let names = Names::stock();
+    let arguments = Arguments {
+        schema: schema_file.to_owned(),
+        asked: Asked::Keys {
+            paths: Vec::new(),
+            reader: Reader::Kernel,
+        },
+        semantics,
+        output: Output::default(),
+    };
+    rule_outcome(&arguments, &names, schema, rule, kind, None)
 }
 
 /// The part of a key path that is at fault.

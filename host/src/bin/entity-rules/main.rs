@@ -1,6 +1,6 @@
 //! The command-line tool: `entity-rules check SCHEMA RULE.. --kind KIND --semantics SEMANTICS`, `entity-rules path SCHEMA PATH..` for keys,
 //! `entity-rules widens OLD NEW` and `entity-rules upgrade OLD NEW RULE..` for schemas that change, `entity-rules instant TEXT..`, which prints the
-//! fields of instants, and `entity-rules table`, which prints the stock table.
+//! fields of instants, `entity-rules explain NUMBER`, which says what a number of an answer means, and `entity-rules table`, which prints the stock table.
 
 #![forbid(unsafe_code)]
 #![deny(
@@ -15,6 +15,7 @@
 mod arguments;
 mod blame;
 mod checked;
+mod explain;
 mod hint;
 mod json;
 mod near;
@@ -67,6 +68,7 @@ fn run(command: &Command) -> io::Result<u8> {
             Ok(sheet) => out.write_all(&sheet)?,
             Err(error) => return Ok(complain(&error.to_string())),
         },
+        Command::Explain(asked) => out.write_all(asked.text().as_bytes())?,
         Command::Check(arguments) => return check(arguments, &mut out),
         Command::Widens(pair) => return widens(pair, &mut out),
         Command::Upgrade(asked) => return upgrade(asked, &mut out),
