@@ -24,6 +24,7 @@ mod progress;
 mod report;
 mod terminal;
 mod upgraded;
+mod version;
 mod widened;
 
 use arguments::{Arguments, Command, Instants, Output, Pair, Upgrade};
@@ -63,7 +64,11 @@ fn run(command: &Command) -> io::Result<u8> {
     let mut out = io::stdout().lock();
     match command {
         Command::Help => out.write_all(arguments::HELP.as_bytes())?,
-        Command::Version => writeln!(out, "entity-rules {}", env!("CARGO_PKG_VERSION"))?,
+        Command::Version => {
+            let (text, is_right) = version::text();
+            out.write_all(text.as_bytes())?;
+            return Ok(if is_right { 0 } else { REFUSED });
+        }
         Command::Table => match Table::stock().sheet() {
             Ok(sheet) => out.write_all(&sheet)?,
             Err(error) => return Ok(complain(&error.to_string())),
