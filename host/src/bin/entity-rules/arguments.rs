@@ -36,7 +36,7 @@ usage: entity-rules check SCHEMA RULE.. --kind KIND --semantics SEMANTICS [OPTIO
   TEXT                a text that may be an instant
   --kind KIND         check, upgrade: invariant, precondition, create_template,
                       operation_template, outcome_selector, create_selector, create_set or
-                      create_outcome_template
+                      create_outcome_template, or as the format spells them (CreateSet)
   --semantics SEMANTICS
                       kernel/1, service/1, service/2 or service/3
   --reader READER     path: kernel or projection, who will read the path (default: kernel)
@@ -48,7 +48,8 @@ usage: entity-rules check SCHEMA RULE.. --kind KIND --semantics SEMANTICS [OPTIO
   --quiet             print nothing for what is accepted, for a widening and for a rule that fares
                       as before, and no summary if that is all
   --                  all words after this are files, paths or texts
-  --help, --version
+  -h, --help          prints this
+  -V, --version       prints which library is linked, too
 
 Examples, in the crate's folder examples/mill:
   entity-rules check pattern.schema release.rule --kind precondition --semantics service/1
@@ -64,8 +65,8 @@ Exit status: 0 all are accepted, NEW is a widening, every rule fares as before; 
 or is no instant, NEW is none, a rule's answer has changed; 2 one is refused or cannot be read, or
 the command line is wrong.
 
-Colours and a progress bar appear on a terminal only. NO_COLOR, set to anything, switches the
-colours off; TERM=dumb switches off both.
+Colours and a progress bar appear on a terminal only. NO_COLOR, set to anything that is not empty,
+switches the colours off; TERM=dumb switches off both.
 ";
 
 const COMMANDS: &str =
@@ -205,8 +206,11 @@ fn options(mut words: impl Iterator<Item = OsString>) -> Result<Options, String>
     while let Some(word) = words.next() {
         if word == "--" {
             options.words.extend(words.by_ref());
-        } else if word != "-" && word.to_string_lossy().starts_with('-') {
-            options.take(&word.to_string_lossy(), &mut words)?;
+        } else if word != "-" && word.as_encoded_bytes().starts_with(b"-") {
+            let option = word.to_str();
+            let option =
+                option.ok_or_else(|| format!("expected an option that is text, not {word:?}"))?;
+            options.take(option, &mut words)?;
         } else {
             options.words.push(word);
         }
@@ -230,15 +234,17 @@ impl Options {
             return Err(format!("{name} takes no value"));
         }
         let mut word = || given.take().or_else(|| words.next());
-        let mut value = || text(name, word());
         match name {
             "--json" => self.output.json = true,
             "--quiet" => self.output.quiet = true,
-            "--kind" => self.kind = Some(named(name, &value()?)?),
-            "--semantics" => self.semantics = Some(named(name, &value()?)?),
-            "--reader" => self.reader = Some(named(name, &value()?)?),
-            "--label" => self.label = Some(value()?),
-            "--table" => self.table = Some(value()?.into()),
+            "--kind" => self.kind = Some(named(name, &text(name, word())?)?),
+            "--semantics" => self.semantics = Some(named(name, &text(name, word())?)?),
+            "--reader" => self.reader = Some(named(name, &text(name, word())?)?),
+            "--label" => self.label = Some(text(name, word())?),
+            "--table" => {
+                let file = word().ok_or_else(|| after(name))?;
+                self.table = Some(file.into());
+            }
             _ => return Err(format!("unknown option {name:?}")),
         }
         Ok(())
@@ -388,8 +394,13 @@ fn missing(command: &str, option: &str, all: &[impl ToString]) -> String {
     format!("{command}: expected {option}, one of {}", names.join(", "))
 }
 
+/// That an option's value is missing.
+fn after(option: &str) -> String {
+    format!("{option}: expected a value after it")
+}
+
 fn text(option: &str, value: Option<OsString>) -> Result<String, String> {
-    let value = value.ok_or_else(|| format!("{option}: expected a value after it"))?;
+    let value = value.ok_or_else(|| after(option))?;
     value
         .into_string()
         .map_err(|value| format!("{option}: expected text, not {value:?}"))

@@ -331,8 +331,9 @@ fn rule_outcome(
     kind: Kind,
     label: Option<&str>,
 ) -> Outcome {
-    let stem = file.file_stem().unwrap_or_default().to_string_lossy();
-    let label = label.unwrap_or(&stem);
+    // A name that is no UTF-8 is no label, which is the library's to say.
+    let stem = file.file_stem().unwrap_or_default().as_encoded_bytes();
+    let label = label.map_or(stem, str::as_bytes);
     let check = Check::new(kind, arguments.semantics, label).table(&names.lent);
     match check.run(schema, rule).map(|checked| checked.verdict) {
         Ok(Verdict::Accepted { passed }) => Outcome::Accepted { passed },

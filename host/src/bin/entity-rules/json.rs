@@ -3,8 +3,9 @@
 use crate::blame::{Blame, Help};
 use crate::checked::{Checked, Fault, Outcome, Spot, Subject, Unreadable};
 use crate::hint::INSTANT;
-use crate::report::{NO_INSTANT, explained, instant_fields, not_read, refused};
+use crate::report::{NO_INSTANT, explained, instant_fields, name, not_read, refused};
 use entity_rules::{Defect, DefectNumber, PathVerdict, Refusal};
+use std::ffi::OsStr;
 
 /// The line for one rule, path or text.
 pub fn line(checked: &Checked) -> String {
@@ -17,9 +18,9 @@ pub fn line(checked: &Checked) -> String {
 /// What an outcome is about.
 pub fn subject_member(object: &mut Object, subject: Subject<'_>) {
     match subject {
-        Subject::File(file) => object.text("file", &file.to_string_lossy()),
-        Subject::Key(path) => object.text("key", &path.to_string_lossy()),
-        Subject::Text(text) => object.text("text", &text.to_string_lossy()),
+        Subject::File(file) => object.given("file", file.as_os_str()),
+        Subject::Key(path) => object.given("key", path),
+        Subject::Text(text) => object.given("text", text),
     }
 }
 
@@ -84,7 +85,7 @@ pub fn refused_members(object: &mut Object, refusal: Refusal, fault: Option<&Fau
     object.text("word", refusal.word());
     object.text("explanation", &refused(refusal, fault));
     if let Some(fault) = fault {
-        object.text("fault_file", &fault.file.to_string_lossy());
+        object.given("fault_file", fault.file.as_os_str());
         object.number("line", fault.line);
         object.number("place", fault.malformed.entry);
         object.number("byte", fault.malformed.byte);
@@ -94,7 +95,7 @@ pub fn refused_members(object: &mut Object, refusal: Refusal, fault: Option<&Fau
 pub fn unreadable_members(object: &mut Object, unreadable: &Unreadable) {
     object.text("verdict", "unreadable");
     object.text("explanation", &not_read(unreadable));
-    object.text("fault_file", &unreadable.file.to_string_lossy());
+    object.given("fault_file", unreadable.file.as_os_str());
 }
 
 /// The part of a reference that is at fault.
@@ -156,6 +157,19 @@ impl Object {
     pub fn text(&mut self, key: &str, text: &str) {
         self.key(key);
         self.string(text);
+    }
+
+    /// A word of the command line. Where it is no UTF-8, its bytes follow in hexadecimal, since JSON has no room for them.
+    pub fn given(&mut self, key: &str, word: &OsStr) {
+        match word.to_str() {
+            Some(text) => self.text(key, text),
+            None => {
+                let bytes = word.as_encoded_bytes().iter();
+                let bytes: String = bytes.map(|byte| format!("{byte:02x}")).collect();
+                self.text(key, &name(word));
+                self.text(&format!("{key}_bytes"), &bytes);
+            }
+        }
     }
 
     pub fn number(&mut self, key: &str, number: impl std::fmt::Display) {

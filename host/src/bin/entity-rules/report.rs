@@ -130,7 +130,14 @@ pub fn subject(subject: Subject<'_>) -> String {
 
 /// A file's name, a path or a text, as it is printed.
 pub fn name(given: &OsStr) -> String {
-    visible(&given.to_string_lossy())
+    let mut shown = String::new();
+    for chunk in given.as_encoded_bytes().utf8_chunks() {
+        shown.push_str(&visible(chunk.valid()));
+        for byte in chunk.invalid() {
+            shown.push_str(&format!("\\x{byte:02x}"));
+        }
+    }
+    shown
 }
 
 /// The fields of an instant by their names.
@@ -234,7 +241,7 @@ fn string_marks(spot: &Spot, blame: &Blame) -> String {
 pub fn refused(refusal: Refusal, fault: Option<&Fault>) -> String {
     match (refusal, fault) {
         (_, Some(fault)) => fault.malformed.to_string(),
-        (Refusal::Label, None) => format!("{refusal}; expected a shorter one, as by --label"),
+        (Refusal::Label, None) => format!("{refusal}; expected another, as by --label"),
         (refusal, None) => refusal.to_string(),
     }
 }
