@@ -45,6 +45,8 @@ usage: entity-rules check SCHEMA RULE.. --kind KIND --semantics SEMANTICS [OPTIO
   --label TEXT        check, upgrade: what each path begins with (default: the rule's file name
                       without its end)
   --json              one line of JSON for each rule, path, text or pair of schemas, and no summary
+  --sarif             check: one SARIF 2.1.0 log, by which editors and code hosts show defects
+                      where they stand
   --quiet             print nothing for what is accepted, for a widening and for a rule that fares
                       as before, and no summary if that is all
   --                  all words after this are files, paths or texts
@@ -123,6 +125,7 @@ pub struct Arguments {
 pub struct Output {
     pub json: bool,
     pub quiet: bool,
+    pub sarif: bool,
 }
 
 /// What is checked against the schema.
@@ -229,7 +232,7 @@ impl Options {
             Some((name, value)) => (name, Some(OsString::from(value))),
             None => (word, None),
         };
-        let is_flag = matches!(name, "--json" | "--quiet");
+        let is_flag = matches!(name, "--json" | "--quiet" | "--sarif");
         if is_flag && given.is_some() {
             return Err(format!("{name} takes no value"));
         }
@@ -237,6 +240,7 @@ impl Options {
         match name {
             "--json" => self.output.json = true,
             "--quiet" => self.output.quiet = true,
+            "--sarif" => self.output.sarif = true,
             "--kind" => self.kind = Some(named(name, &text(name, word())?)?),
             "--semantics" => self.semantics = Some(named(name, &text(name, word())?)?),
             "--reader" => self.reader = Some(named(name, &text(name, word())?)?),
@@ -252,6 +256,9 @@ impl Options {
 
     fn check(self) -> Result<Arguments, String> {
         self.once("check")?;
+        if self.output.json && self.output.sarif {
+            return Err("check: expected --json or --sarif, not both".to_owned());
+        }
         let (schema, rules) = self.split("check", "files SCHEMA and RULE", "file RULE")?;
         self.rules("check", schema, &rules)
     }
@@ -271,6 +278,7 @@ impl Options {
 
     fn upgrade(self) -> Result<Upgrade, String> {
         self.once("upgrade")?;
+        not_for("upgrade", &[("--sarif", self.output.sarif)])?;
         match self.words.clone().as_slice() {
             [] | [_] => Err("upgrade: expected the files OLD, NEW and RULE".to_owned()),
             [_, new] => Err(format!(
@@ -320,6 +328,7 @@ impl Options {
             ("--kind", self.kind.is_some()),
             ("--label", self.label.is_some()),
             ("--table", self.table.is_some()),
+            ("--sarif", self.output.sarif),
         ];
         not_for("path", &given)?;
         let (schema, paths) = self.split("path", "file SCHEMA and a PATH", "PATH")?;
@@ -346,6 +355,7 @@ impl Options {
             ("--reader", self.reader.is_some()),
             ("--label", self.label.is_some()),
             ("--table", self.table.is_some()),
+            ("--sarif", self.output.sarif),
         ];
         not_for(command, &given)
     }
@@ -439,7 +449,7 @@ mod tests {
             semantics: Semantics::Service1,
             output: Output {
                 json: true,
-                quiet: false,
+                ..Output::default()
             },
         });
         for line in [
@@ -505,7 +515,10 @@ mod tests {
         let expected = |texts: &[&str], json| {
             Ok(Command::Instants(Instants {
                 texts: texts.iter().map(OsString::from).collect(),
-                output: Output { json, quiet: false },
+                output: Output {
+                    json,
+                    ..Output::default()
+                },
             }))
         };
         assert_eq!(
@@ -592,7 +605,10 @@ mod tests {
         let pair = |quiet| Pair {
             old: "o".into(),
             new: "n".into(),
-            output: Output { json: false, quiet },
+            output: Output {
+                quiet,
+                ..Output::default()
+            },
         };
         assert_eq!(parsed("widens o n"), Ok(Command::Widens(pair(false))));
         assert_eq!(

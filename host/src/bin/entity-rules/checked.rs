@@ -4,6 +4,7 @@ use crate::arguments::{Arguments, Asked, Output};
 use crate::blame::{self, Blame, Readable};
 use crate::hint::{hint, no_member};
 use crate::outline::reached;
+use crate::region::{Position, Region};
 use crate::widened::Tree;
 use entity_rules::entries::{Content, Entry, Malformed, read_rule, read_schema};
 use entity_rules::limits::{MAX_SHEET_BYTES, MAX_TEXT_BYTES, TABLE_BYTES};
@@ -107,6 +108,8 @@ pub struct Spot {
     pub place: u32,
     /// The line of the file on which the entry begins, from 1.
     pub line: usize,
+    /// The entry, or the part of its text that is at fault.
+    pub region: Box<Region>,
     pub text: String,
 }
 
@@ -115,6 +118,8 @@ pub struct Spot {
 pub struct Fault {
     pub file: PathBuf,
     pub line: usize,
+    /// The character of the line, from 1.
+    pub column: usize,
     pub malformed: Malformed,
 }
 
@@ -214,6 +219,7 @@ fn load(file: &Path) -> Result<Names, NoTable> {
         fault: error.fault().map(|malformed| Fault {
             file: file.to_owned(),
             line: line_of(&sheet, malformed.byte),
+            column: Position::new(&sheet, malformed.byte).column,
             malformed,
         }),
     };
@@ -407,14 +413,6 @@ fn refused(arguments: &Arguments, schema: &[u8], refusal: Refusal) -> Outcome {
 fn located(defect: Defect, schema: &[u8], rule: &[u8], readable: &Readable<'_>) -> Outcome {
     let entries = read_rule(rule).unwrap_or_default();
     let entry = |place: u32| entries.get(usize::try_from(place).ok()?.checked_sub(1)?);
-    let spot = |place: u32| {
-        let entry = entry(place)?;
-        Some(Spot {
-            place,
-            line: line_of(rule, entry.byte),
-            text: entry.to_string(),
-        })
-    };
     let text = match entry(defect.place).map(|entry| entry.content) {
         Some(Content::String(text)) => text,
         _ => "",
@@ -425,9 +423,21 @@ fn located(defect: Defect, schema: &[u8], rule: &[u8], readable: &Readable<'_>) 
             .and_then(|(schema, reached)| readable.blame(&schema, &reached.binders, fault, text)),
         _ => None,
     };
+    let spot = |place: u32, part: Option<(usize, usize)>| {
+        let entry = entry(place)?;
+        Some(Spot {
+            place,
+            line: line_of(rule, entry.byte),
+            region: Box::new(Region::of_entry(rule, entry.byte, part)),
+            text: entry.to_string(),
+        })
+    };
+    let part = blame
+        .as_ref()
+        .map(|blame| (blame.before.len(), blame.part.len()));
     Outcome::Defect {
-        at: spot(defect.place),
-        over: defect.over_place.and_then(spot),
+        at: spot(defect.place, part),
+        over: defect.over_place.and_then(|place| spot(place, None)),
         blame: blame.map(Box::new),
         hint: hint(readable, defect.detail, text),
         defect,
@@ -442,6 +452,7 @@ pub fn fault(file: &Path, sheet: &[u8], read: SheetReader) -> Option<Fault> {
     Some(Fault {
         file: file.to_owned(),
         line: line_of(sheet, malformed.byte),
+        column: Position::new(sheet, malformed.byte).column,
         malformed,
     })
 }

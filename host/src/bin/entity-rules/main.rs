@@ -21,7 +21,9 @@ mod json;
 mod near;
 mod outline;
 mod progress;
+mod region;
 mod report;
+mod sarif;
 mod terminal;
 mod upgraded;
 mod version;
@@ -32,6 +34,7 @@ use checked::{Checked, Shared, Sheet, read_sheet};
 use entity_rules::Table;
 use progress::Progress;
 use report::{Palette, Tally};
+use sarif::Log;
 use std::env;
 use std::io::{self, ErrorKind, IsTerminal, Write};
 use std::path::Path;
@@ -108,9 +111,12 @@ fn print<'a>(
     let has_bar = io::stderr().is_terminal() && !terminal::is_dumb();
     let mut progress = Progress::new(io::stderr(), has_bar, total, noun);
     let mut tally = Tally::default();
+    let mut log = output.sarif.then(Log::default);
     for checked in all {
         tally.count(&checked.outcome);
-        if !(output.quiet && checked.outcome.is_accepted()) {
+        if let Some(log) = &mut log {
+            log.add(&checked);
+        } else if !(output.quiet && checked.outcome.is_accepted()) {
             progress.clear();
             out.write_all(show(output, &palette, &checked).as_bytes())?;
         }
@@ -121,7 +127,11 @@ fn print<'a>(
     }
     progress.clear();
     let status = tally.status();
-    if !output.json && total > 1 && !(output.quiet && status == 0) {
+    let is_for_people = !output.json && log.is_none();
+    if let Some(log) = log {
+        out.write_all(log.text().as_bytes())?;
+    }
+    if is_for_people && total > 1 && !(output.quiet && status == 0) {
         writeln!(out, "{}", tally.summary(total, noun))?;
     }
     out.flush()?;
