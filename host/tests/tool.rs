@@ -906,3 +906,22 @@ fn bad_usage_goes_to_standard_error() {
     let expected = "entity-rules: unknown option \"--sematics\"\nTry `entity-rules --help`.\n";
     assert_eq!(err, expected);
 }
+
+#[test]
+fn the_readme_shows_a_tree() {
+    let readme = include_str!("../README.md");
+    let (_, example) = readme
+        .split_once("$ entity-rules show ")
+        .expect("an example");
+    let (words, rest) = example.split_once('\n').expect("a command");
+    let (shown, _) = rest.split_once("```").expect("the end of the example");
+    let output = run(&mill(), &format!("show {words}"));
+    assert_eq!(String::from_utf8_lossy(&output.stdout), shown);
+    let output = run(&mill(), "show release.rule sheets.rs none");
+    let out = String::from_utf8_lossy(&output.stdout).into_owned();
+    assert_eq!(output.status.code(), Some(2));
+    assert!(out.starts_with("release.rule\n 1  rule"));
+    assert!(out.contains("\nsheets.rs:1: refused 5 (rule sheet): "));
+    assert!(out.contains("\nnone: unreadable: expected a file that holds a sheet: "));
+    assert_eq!(run(&mill(), "show").status.code(), Some(2));
+}

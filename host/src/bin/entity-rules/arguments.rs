@@ -15,6 +15,7 @@ usage: entity-rules check SCHEMA RULE.. --kind KIND --semantics SEMANTICS [OPTIO
        entity-rules widens OLD NEW [--json] [--quiet]
        entity-rules upgrade OLD NEW RULE.. --kind KIND --semantics SEMANTICS [OPTION..]
        entity-rules instant TEXT.. [--json] [--quiet]
+       entity-rules show FILE..
        entity-rules explain NUMBER
        entity-rules table
 
@@ -26,6 +27,8 @@ usage: entity-rules check SCHEMA RULE.. --kind KIND --semantics SEMANTICS [OPTIO
            accepted stay so by the theorem and are not checked again; all others are checked
            under both
   instant  whether texts are instants, and their fields
+  show     prints schema sheets, rules, templates and name tables as trees, each entry with its
+           number
   explain  what a number of an answer means, as 18 or, with a detail, 18.3; with an example
   table    prints the stock name table
 
@@ -72,7 +75,7 @@ switches the colours off; TERM=dumb switches off both.
 ";
 
 const COMMANDS: &str =
-    "the command `check`, `path`, `widens`, `upgrade`, `instant`, `explain` or `table`";
+    "the command `check`, `path`, `widens`, `upgrade`, `instant`, `show`, `explain` or `table`";
 
 /// What the command line asks for.
 #[derive(Debug, PartialEq)]
@@ -81,6 +84,8 @@ pub enum Command {
     Version,
     /// Prints the stock table.
     Table,
+    /// Prints sheets as trees.
+    Show(Vec<PathBuf>),
     /// Says what a number means.
     Explain(explain::Asked),
     Check(Arguments),
@@ -191,6 +196,7 @@ pub fn parse(words: impl IntoIterator<Item = OsString>) -> Result<Command, Strin
         Some(command) if command == "widens" => options(words)?.widens().map(Command::Widens),
         Some(command) if command == "upgrade" => options(words)?.upgrade().map(Command::Upgrade),
         Some(command) if command == "instant" => options(words)?.instant().map(Command::Instants),
+        Some(command) if command == "show" => options(words)?.show().map(Command::Show),
         Some(command) if command == "explain" => {
             let words: Vec<OsString> = words.collect();
             explain::parse(&words).map(Command::Explain)
@@ -334,6 +340,17 @@ impl Options {
         let (schema, paths) = self.split("path", "file SCHEMA and a PATH", "PATH")?;
         let reader = self.reader.unwrap_or(Reader::Kernel);
         self.arguments("path", schema, Asked::Keys { paths, reader })
+    }
+
+    fn show(self) -> Result<Vec<PathBuf>, String> {
+        self.only_output("show")?;
+        let given = [("--json", self.output.json), ("--quiet", self.output.quiet)];
+        not_for("show", &given)?;
+        self.once("show")?;
+        match self.words.is_empty() {
+            true => Err("show: expected at least one file".to_owned()),
+            false => Ok(self.words.iter().map(PathBuf::from).collect()),
+        }
     }
 
     fn instant(self) -> Result<Instants, String> {
@@ -555,7 +572,7 @@ mod tests {
 
     #[test]
     fn errors_say_what_was_expected() {
-        let commands = "expected the command `check`, `path`, `widens`, `upgrade`, `instant`, `explain` or `table`";
+        let commands = "expected the command `check`, `path`, `widens`, `upgrade`, `instant`, `show`, `explain` or `table`";
         assert_eq!(error(""), commands);
         assert_eq!(error("chekc"), format!("{commands}, not \"chekc\""));
         assert_eq!(

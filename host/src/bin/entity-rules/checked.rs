@@ -137,6 +137,8 @@ pub enum Sheet {
     Schema,
     Rule,
     Table,
+    /// Any of these.
+    Any,
 }
 
 impl Outcome {
@@ -444,7 +446,8 @@ fn located(defect: Defect, schema: &[u8], rule: &[u8], readable: &Readable<'_>) 
     }
 }
 
-type SheetReader = for<'a> fn(&'a [u8]) -> Result<Vec<Entry<'a>>, Malformed>;
+/// What reads the entries of a sheet.
+pub type SheetReader = for<'a> fn(&'a [u8]) -> Result<Vec<Entry<'a>>, Malformed>;
 
 /// Where a file's sheet stops being one.
 pub fn fault(file: &Path, sheet: &[u8], read: SheetReader) -> Option<Fault> {

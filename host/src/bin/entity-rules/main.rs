@@ -1,6 +1,6 @@
 //! The command-line tool: `entity-rules check SCHEMA RULE.. --kind KIND --semantics SEMANTICS`, `entity-rules path SCHEMA PATH..` for keys,
 //! `entity-rules widens OLD NEW` and `entity-rules upgrade OLD NEW RULE..` for schemas that change, `entity-rules instant TEXT..`, which prints the
-//! fields of instants, `entity-rules explain NUMBER`, which says what a number of an answer means, and `entity-rules table`, which prints the stock table.
+//! fields of instants, `entity-rules show FILE..`, which prints sheets as trees, `entity-rules explain NUMBER`, which says what a number of an answer means, and `entity-rules table`, which prints the stock table.
 
 #![forbid(unsafe_code)]
 #![deny(
@@ -24,20 +24,21 @@ mod progress;
 mod region;
 mod report;
 mod sarif;
+mod show;
 mod terminal;
 mod upgraded;
 mod version;
 mod widened;
 
 use arguments::{Arguments, Command, Instants, Output, Pair, Upgrade};
-use checked::{Checked, Shared, Sheet, read_sheet};
+use checked::{Checked, Shared, Sheet, Subject, read_sheet};
 use entity_rules::Table;
 use progress::Progress;
 use report::{Palette, Tally};
 use sarif::Log;
 use std::env;
 use std::io::{self, ErrorKind, IsTerminal, Write};
-use std::path::Path;
+use std::path::{Path, PathBuf};
 use std::process::ExitCode;
 use upgraded::{Fates, Upgraded};
 use widened::{Compared, Comparison};
@@ -76,6 +77,7 @@ fn run(command: &Command) -> io::Result<u8> {
             Ok(sheet) => out.write_all(&sheet)?,
             Err(error) => return Ok(complain(&error.to_string())),
         },
+        Command::Show(files) => return show_sheets(files, &mut out),
         Command::Explain(asked) => out.write_all(asked.text().as_bytes())?,
         Command::Check(arguments) => return check(arguments, &mut out),
         Command::Widens(pair) => return widens(pair, &mut out),
@@ -83,6 +85,27 @@ fn run(command: &Command) -> io::Result<u8> {
         Command::Instants(asked) => return instants(asked, &mut out),
     }
     Ok(0)
+}
+
+/// Prints every sheet as a tree.
+fn show_sheets(files: &[PathBuf], out: &mut impl Write) -> io::Result<u8> {
+    let palette = Palette::new(io::stdout().is_terminal());
+    let mut status = 0;
+    for file in files {
+        match show::text(file, files.len() > 1) {
+            Ok(text) => out.write_all(text.as_bytes())?,
+            Err(outcome) => {
+                let checked = Checked {
+                    subject: Subject::File(file),
+                    outcome: *outcome,
+                };
+                out.write_all(report::text(&palette, &checked).as_bytes())?;
+                status = REFUSED;
+            }
+        }
+    }
+    out.flush()?;
+    Ok(status)
 }
 
 /// Checks every rule or path, and prints what comes of it.

@@ -1,4 +1,4 @@
-//! A rule sheet as a tree, read for people: how an entry is reached, and which binds can be read there.
+//! A sheet as a tree, read for people: where an entry stands, how it is reached, and which binds can be read there.
 
 use entity_rules::Operator;
 use entity_rules::entries::{Content, Entry};
@@ -28,29 +28,57 @@ struct Frame<'a> {
     over: &'a str,
 }
 
+/// Where an entry stands.
+pub struct Standing<'a> {
+    /// How many entries it lies below.
+    pub depth: usize,
+    /// The entry that it belongs to, and which of those it is, from 0.
+    pub parent: Option<(Content<'a>, usize)>,
+}
+
 /// How the entry of that place is reached, in a sheet that is well formed.
 pub fn reached<'a>(entries: &[Entry<'a>], place: u32) -> Option<Reached<'a>> {
     let place = usize::try_from(place).ok()?;
     let mut frames: Vec<Frame<'a>> = Vec::new();
     for entry in entries.iter().take(place) {
-        while frames.last().is_some_and(Frame::is_full) {
-            frames.pop();
-        }
-        let step = frames.last().map(|frame| step(frame.content, frame.met));
-        if let Some(frame) = frames.last_mut() {
-            frame.meet(entry.content);
-        }
-        frames.push(Frame {
-            content: entry.content,
-            step: step.unwrap_or_default(),
-            met: 0,
-            over: "",
-        });
+        enter(&mut frames, entry.content);
     }
     (entries.len() >= place && place > 0).then(|| Reached {
         path: frames.iter().map(|frame| frame.step.as_str()).collect(),
         binders: frames.iter().filter_map(Frame::binder).collect(),
     })
+}
+
+/// Where each entry stands, in a sheet that is well formed.
+pub fn standings<'a>(entries: &[Entry<'a>]) -> Vec<Standing<'a>> {
+    let mut frames: Vec<Frame<'a>> = Vec::new();
+    let standing = |entry: &Entry<'a>| {
+        enter(&mut frames, entry.content);
+        let depth = frames.len().saturating_sub(1);
+        let parent = depth.checked_sub(1).and_then(|at| frames.get(at));
+        Standing {
+            depth,
+            parent: parent.map(|frame| (frame.content, frame.met.saturating_sub(1))),
+        }
+    };
+    entries.iter().map(standing).collect()
+}
+
+/// Goes on to the next entry: leaves those to which nothing more belongs.
+fn enter<'a>(frames: &mut Vec<Frame<'a>>, content: Content<'a>) {
+    while frames.last().is_some_and(Frame::is_full) {
+        frames.pop();
+    }
+    let step = frames.last().map(|frame| step(frame.content, frame.met));
+    if let Some(frame) = frames.last_mut() {
+        frame.meet(content);
+    }
+    frames.push(Frame {
+        content,
+        step: step.unwrap_or_default(),
+        met: 0,
+        over: "",
+    });
 }
 
 impl<'a> Frame<'a> {
@@ -86,6 +114,12 @@ fn held(content: Content<'_>) -> usize {
         Content::Condition(Operator::Not | Operator::Exists | Operator::Truthy, _) => 1,
         Content::Condition(..) | Content::Compare(_) | Content::Quantifier(..) => 2,
         Content::Array(count) | Content::Object(count) => count,
+        Content::Head {
+            fields, arguments, ..
+        } => fields.saturating_add(arguments.map_or(0, |(_, count)| count)),
+        Content::Field {
+            items, properties, ..
+        } => properties.saturating_add(usize::from(items)),
         _ => 0,
     }
 }

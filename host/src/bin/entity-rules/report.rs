@@ -252,6 +252,7 @@ pub fn not_read(unreadable: &Unreadable) -> String {
         Sheet::Schema => "schema sheet",
         Sheet::Rule => "rule sheet",
         Sheet::Table => "name table",
+        Sheet::Any => "sheet",
     };
     let reason = &unreadable.reason;
     format!("expected a file that holds a {sheet}: {reason}")
