@@ -16,6 +16,7 @@
 //! # Ok::<(), entity_rules::entries::Malformed>(())
 //! ```
 
+mod mended;
 mod number;
 mod reader;
 mod rule;

@@ -18,6 +18,7 @@ mod build;
 mod checks;
 pub mod entries;
 mod finite;
+mod identity;
 mod instant;
 pub mod limits;
 mod numbered;
@@ -34,6 +35,7 @@ pub use build::{
 pub use checks::{Check, Checked};
 pub use entries::Operator;
 pub use finite::{Finite, finite};
+pub use identity::{Identity, Packed, identity};
 pub use instant::{Instant, instant};
 pub use settings::{Kind, Name, Reader, Semantics, UnknownName};
 pub use table::{Table, TableError};

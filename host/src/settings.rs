@@ -16,6 +16,7 @@ numbered! {
     /// let kind: Kind = "create_selector".parse()?;
     /// assert_eq!(kind, Kind::CreateSelector);
     /// assert_eq!(kind.number(), 6);
+    /// assert_eq!("CreateSelector".parse(), Ok(kind));
     /// assert!(kind.is_rule());
     /// assert!("selector".parse::<Kind>().is_err());
     /// # Ok::<(), entity_rules::UnknownName>(())
@@ -228,10 +229,11 @@ impl std::error::Error for UnknownName {}
 impl FromStr for Kind {
     type Err = UnknownName;
 
-    /// Reads a kind's name, with `_` or `-` between its words.
+    /// Reads a kind's name, with `_` or `-` between its words, or as docs/FORMAT.md spells it: `CreateSelector`.
     fn from_str(given: &str) -> Result<Self, UnknownName> {
         let spelled = given.replace('-', "_");
-        let found = Self::ALL.iter().find(|kind| kind.text() == spelled);
+        let is_it = |kind: &&Self| kind.text() == spelled || kind.name() == given;
+        let found = Self::ALL.iter().find(is_it);
         found.copied().ok_or_else(|| UnknownName {
             what: "kind",
             given: given.to_owned(),
@@ -271,8 +273,10 @@ impl FromStr for Semantics {
 impl FromStr for Reader {
     type Err = UnknownName;
 
+    /// Reads a reader's name, or as docs/FORMAT.md spells it: `Projection`.
     fn from_str(given: &str) -> Result<Self, UnknownName> {
-        let found = Self::ALL.iter().find(|reader| reader.text() == given);
+        let is_it = |reader: &&Self| reader.text() == given || reader.name() == given;
+        let found = Self::ALL.iter().find(is_it);
         found.copied().ok_or_else(|| UnknownName {
             what: "reader",
             given: given.to_owned(),

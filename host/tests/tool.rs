@@ -221,13 +221,9 @@ fn hints_help_to_mend_a_defect() {
         (
             "$args.a",
             "--kind create_selector --semantics service/1",
-            Some("the schema has no arguments"),
+            None,
         ),
-        (
-            "$state.a",
-            "--kind invariant --semantics service/1",
-            Some("no path may follow $state"),
-        ),
+        ("$state.a", "--kind invariant --semantics service/1", None),
         (
             "$fields.a.count",
             "--kind invariant --semantics kernel/1",
@@ -313,9 +309,11 @@ fn paths_are_read_by_the_kernel_unless_said_otherwise() {
         (Some(0), String::new())
     );
     let (status, text) = out("--semantics service/3 --reader projection");
-    let told = "a reference cannot be read: a projection cannot read the length of a text";
+    let told = "a reference cannot be read: a projection cannot read the length of the text `$fields.name`";
+    let marks = "  at      name.count\n               ^^^^^\n";
     assert_eq!(status, Some(1));
-    assert_eq!(text, format!("name.count: defect 18 (reference): {told}\n"));
+    let expected = format!("name.count: defect 18 (reference): {told}\n{marks}");
+    assert_eq!(text, expected);
     for reader in ["kernel", "projection"] {
         let (status, text) = out(&format!("--semantics kernel/1 --reader {reader}"));
         assert_eq!(status, Some(1));
@@ -378,7 +376,7 @@ fn machines_read_json_of_paths() {
         concat!(
             r#"{"key":"name","verdict":"accepted","number":0,"passed":1}"#,
             "\n",
-            r#"{"key":"name.count","verdict":"defect","number":18,"word":"reference","explanation":"a reference cannot be read: a projection cannot read the length of a text","detail":13,"passed":0}"#,
+            r#"{"key":"name.count","verdict":"defect","number":18,"word":"reference","explanation":"a reference cannot be read: a projection cannot read the length of the text `$fields.name`","detail":13,"passed":0,"segment":"count","segment_byte":5}"#,
             "\n"
         )
     );
@@ -502,7 +500,7 @@ fn machines_read_json() {
     );
     assert_eq!(
         lines[1],
-        r#"{"file":"misspelt.rule","verdict":"defect","number":18,"word":"reference","explanation":"a reference cannot be read: the closed object has no property of that name","family":8,"family_name":"QuantifierBodyScope","detail":3,"place":5,"over_place":3,"passed":8,"path":"misspelt.assert.for_all.that.eq[0]","line":5,"entry":"string \"$bar.threded\"","over_entry":"string \"$fields.bars\""}"#
+        r#"{"file":"misspelt.rule","verdict":"defect","number":18,"word":"reference","explanation":"a reference cannot be read: the closed object `$fields.bars[]` has no property `threded`","family":8,"family_name":"QuantifierBodyScope","detail":3,"place":5,"over_place":3,"passed":8,"path":"misspelt.assert.for_all.that.eq[0]","line":5,"entry":"string \"$bar.threded\"","over_entry":"string \"$fields.bars\"","segment":"threded","segment_byte":5,"suggestion":"threaded"}"#
     );
     assert!(
         lines[2].starts_with(r#"{"file":"missing.rule","verdict":"unreadable","explanation":""#)
@@ -907,4 +905,23 @@ fn bad_usage_goes_to_standard_error() {
     assert_eq!((status, out.as_str()), (Some(2), ""));
     let expected = "entity-rules: unknown option \"--sematics\"\nTry `entity-rules --help`.\n";
     assert_eq!(err, expected);
+}
+
+#[test]
+fn the_readme_shows_a_tree() {
+    let readme = include_str!("../README.md");
+    let (_, example) = readme
+        .split_once("$ entity-rules show ")
+        .expect("an example");
+    let (words, rest) = example.split_once('\n').expect("a command");
+    let (shown, _) = rest.split_once("```").expect("the end of the example");
+    let output = run(&mill(), &format!("show {words}"));
+    assert_eq!(String::from_utf8_lossy(&output.stdout), shown);
+    let output = run(&mill(), "show release.rule sheets.rs none");
+    let out = String::from_utf8_lossy(&output.stdout).into_owned();
+    assert_eq!(output.status.code(), Some(2));
+    assert!(out.starts_with("release.rule\n 1  rule"));
+    assert!(out.contains("\nsheets.rs:1: refused 5 (rule sheet): "));
+    assert!(out.contains("\nnone: unreadable: expected a file that holds a sheet: "));
+    assert_eq!(run(&mill(), "show").status.code(), Some(2));
 }

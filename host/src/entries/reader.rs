@@ -1,5 +1,6 @@
 //! The parts that entries are made of, read one after the other.
 
+use super::mended::{Given, explained};
 use super::{Content, Entry, Malformed};
 use crate::build::Nesting;
 use crate::limits::{MAX_SHEET_BYTES, MAX_TEXT_BYTES};
@@ -7,16 +8,25 @@ use std::collections::HashSet;
 
 pub type Read<T> = Result<T, Malformed>;
 
-/// The entries of a sheet, as one of these readers reads it.
-pub type Entries = for<'a> fn(Reader<'a>) -> Read<Vec<Entry<'a>>>;
+/// Reads all entries of a sheet.
+pub type Entries = for<'a> fn(&mut Reader<'a>) -> Read<()>;
 
 /// Reads a sheet of so many entries at most. One that is too long is at fault where it passes the limit, unless it stops being a sheet before
 /// that.
 pub fn read(sheet: &[u8], limit: usize, entries: Entries) -> Read<Vec<Entry<'_>>> {
-    let whole = entries(Reader::new(sheet, limit));
+    let mut reader = Reader::new(sheet, limit);
+    let whole = entries(&mut reader);
     let start = match sheet.split_at_checked(MAX_SHEET_BYTES) {
-        Some((start, [_, ..])) => entries(Reader::new(start, limit)),
-        _ => return whole,
+        Some((start, [_, ..])) => {
+            let mut reader = Reader::new(start, limit);
+            entries(&mut reader).map(|()| reader.entries)
+        }
+        _ => {
+            return match whole {
+                Ok(()) => Ok(reader.entries),
+                Err(fault) => Err(not_a_sheet(sheet, explained(&reader, fault, entries))),
+            };
+        }
     };
     match (start, whole) {
         (Err(first), Err(same)) if first == same => Err(first),
@@ -31,6 +41,20 @@ pub fn read(sheet: &[u8], limit: usize, entries: Entries) -> Read<Vec<Entry<'_>>
     }
 }
 
+/// The fault, with a word on bytes that are something else than a sheet from their beginning.
+fn not_a_sheet(sheet: &[u8], fault: Malformed) -> Malformed {
+    let other = match sheet.trim_ascii_start() {
+        _ if fault.byte > 0 => return fault,
+        [b'{' | b'[', ..] => "this looks like JSON; sheets are what the builders write",
+        [0xEF, 0xBB, 0xBF, ..] => "a sheet has no byte order mark",
+        _ => return fault,
+    };
+    Malformed {
+        expected: format!("{}; {other} (docs/FORMAT.md, \"Sheets\")", fault.expected),
+        ..fault
+    }
+}
+
 /// What is left of a sheet, and the entries before it.
 pub struct Reader<'a> {
     sheet: &'a [u8],
@@ -40,18 +64,35 @@ pub struct Reader<'a> {
     limit: usize,
     /// The byte at which the entry begins that is being read.
     begun: Option<usize>,
+    /// The lengths that it gives for its texts.
+    given: Option<Given>,
+    /// Those of the entries before it whose texts have a line end.
+    suspects: Vec<Given>,
 }
 
 /// Each of these takes what it reads off the sheet.
 impl<'a> Reader<'a> {
-    fn new(sheet: &'a [u8], limit: usize) -> Self {
+    pub fn new(sheet: &'a [u8], limit: usize) -> Self {
         Self {
             sheet,
             rest: sheet,
             entries: Vec::new(),
             limit,
             begun: None,
+            given: None,
+            suspects: Vec::new(),
         }
+    }
+
+    /// The whole sheet, and how many entries it may have.
+    pub fn sheet(&self) -> (&'a [u8], usize) {
+        (self.sheet, self.limit)
+    }
+
+    /// The lengths that may be wrong, the latest first: those of the entry that is being read, and of texts that go past a line's end.
+    pub fn lengths(&self) -> impl Iterator<Item = Given> {
+        let suspects = self.suspects.iter().rev();
+        self.given.iter().chain(suspects).copied()
     }
 
     /// The first byte of the sheet.
@@ -116,12 +157,17 @@ impl<'a> Reader<'a> {
         }
         let byte = self.begun.take().unwrap_or_default();
         self.entries.push(Entry { byte, content });
+        if let Some(given) = self.given.take() {
+            let texts = self.sheet.get(given.start..).unwrap_or_default();
+            let has_end = texts.iter().take(given.total).any(|&byte| byte == b'\n');
+            self.suspects.extend(has_end.then_some(given));
+        }
         Ok(())
     }
 
-    pub fn end_of_sheet(self) -> Read<Vec<Entry<'a>>> {
+    pub fn end_of_sheet(&self) -> Read<()> {
         match self.rest.is_empty() {
-            true => Ok(self.entries),
+            true => Ok(()),
             false => self.fail("the end of the sheet"),
         }
     }
@@ -162,16 +208,44 @@ impl<'a> Reader<'a> {
         self.numeral(0, most, &format!("how many {what}, a numeral up to {most}"))
     }
 
-    pub fn length(&mut self, what: &str) -> Read<usize> {
-        self.numeral(0, MAX_TEXT_BYTES, &length_of(what))
+    pub fn length(&mut self, what: &'static str) -> Read<usize> {
+        let byte = self.byte().saturating_add(1);
+        let length = self.numeral(0, MAX_TEXT_BYTES, &length_of(what))?;
+        self.give(what, byte, length);
+        Ok(length)
     }
 
-    pub fn length_or_dash(&mut self, what: &str) -> Read<Option<usize>> {
+    pub fn length_or_dash(&mut self, what: &'static str) -> Read<Option<usize>> {
         let expected = format!("{}, or `-`", length_of(what));
-        self.numeral_or_dash(MAX_TEXT_BYTES, &expected)
+        let byte = self.byte().saturating_add(1);
+        let length = self.numeral_or_dash(MAX_TEXT_BYTES, &expected)?;
+        if let Some(length) = length {
+            self.give(what, byte, length);
+        }
+        Ok(length)
+    }
+
+    /// Notes a length and where it stands.
+    fn give(&mut self, what: &'static str, byte: usize, last: usize) {
+        let (texts, total) = self
+            .given
+            .map_or((0, 0), |given| (given.texts, given.total));
+        self.given = Some(Given {
+            entry: self.entries.len().saturating_add(1),
+            what,
+            byte,
+            last,
+            texts: texts.saturating_add(1),
+            total: total.saturating_add(last),
+            start: usize::MAX,
+        });
     }
 
     pub fn text(&mut self, length: usize, what: &str) -> Read<&'a str> {
+        let byte = self.byte();
+        if let Some(given) = &mut self.given {
+            given.start = given.start.min(byte);
+        }
         let Some((bytes, rest)) = self.rest.split_at_checked(length) else {
             return self.fail(format!("{what} of {length} bytes, but the sheet ends"));
         };

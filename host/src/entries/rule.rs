@@ -27,7 +27,7 @@ pub fn read_rule(sheet: &[u8]) -> Result<Vec<Entry<'_>>, Malformed> {
     read(sheet, MAX_RULE_ENTRIES, entries)
 }
 
-fn entries(mut reader: Reader<'_>) -> Read<Vec<Entry<'_>>> {
+fn entries(reader: &mut Reader<'_>) -> Read<()> {
     let mut tasks = vec![match reader.first() {
         Some(b'T') => reader.template()?,
         _ => reader.rule()?,

@@ -22,7 +22,7 @@ pub fn read_schema(sheet: &[u8]) -> Result<Vec<Entry<'_>>, Malformed> {
     read(sheet, MAX_SCHEMA_ENTRIES, entries)
 }
 
-fn entries(mut reader: Reader<'_>) -> Read<Vec<Entry<'_>>> {
+fn entries(reader: &mut Reader<'_>) -> Read<()> {
     let mut tasks = reader.schema()?;
     while let Some(task) = tasks.pop() {
         match task {

@@ -25,7 +25,7 @@ pub fn read_table(sheet: &[u8]) -> Result<Vec<Entry<'_>>, Malformed> {
     read(sheet, Kind::ALL.len(), entries)
 }
 
-fn entries(mut reader: Reader<'_>) -> Read<Vec<Entry<'_>>> {
+fn entries(reader: &mut Reader<'_>) -> Read<()> {
     for (number, &kind) in (1..).zip(Kind::ALL) {
         reader.begin("N", &format!("which begins the row of {kind}"))?;
         reader.numeral(number, number, &format!("{number}, the number of {kind}"))?;

@@ -1,5 +1,6 @@
 //! The command line.
 
+use crate::explain;
 use entity_rules::{Kind, Reader, Semantics};
 use std::ffi::OsString;
 use std::path::PathBuf;
@@ -14,6 +15,8 @@ usage: entity-rules check SCHEMA RULE.. --kind KIND --semantics SEMANTICS [OPTIO
        entity-rules widens OLD NEW [--json] [--quiet]
        entity-rules upgrade OLD NEW RULE.. --kind KIND --semantics SEMANTICS [OPTION..]
        entity-rules instant TEXT.. [--json] [--quiet]
+       entity-rules show FILE..
+       entity-rules explain NUMBER
        entity-rules table
 
   check    whether rules and templates are accepted, or their first defect
@@ -24,6 +27,9 @@ usage: entity-rules check SCHEMA RULE.. --kind KIND --semantics SEMANTICS [OPTIO
            accepted stay so by the theorem and are not checked again; all others are checked
            under both
   instant  whether texts are instants, and their fields
+  show     prints schema sheets, rules, templates and name tables as trees, each entry with its
+           number
+  explain  what a number of an answer means, as 18 or, with a detail, 18.3; with an example
   table    prints the stock name table
 
   SCHEMA, OLD, NEW    files that hold a schema sheet; one of all files may be -, which is standard
@@ -33,7 +39,7 @@ usage: entity-rules check SCHEMA RULE.. --kind KIND --semantics SEMANTICS [OPTIO
   TEXT                a text that may be an instant
   --kind KIND         check, upgrade: invariant, precondition, create_template,
                       operation_template, outcome_selector, create_selector, create_set or
-                      create_outcome_template
+                      create_outcome_template, or as the format spells them (CreateSet)
   --semantics SEMANTICS
                       kernel/1, service/1, service/2 or service/3
   --reader READER     path: kernel or projection, who will read the path (default: kernel)
@@ -42,10 +48,13 @@ usage: entity-rules check SCHEMA RULE.. --kind KIND --semantics SEMANTICS [OPTIO
   --label TEXT        check, upgrade: what each path begins with (default: the rule's file name
                       without its end)
   --json              one line of JSON for each rule, path, text or pair of schemas, and no summary
+  --sarif             check: one SARIF 2.1.0 log, by which editors and code hosts show defects
+                      where they stand
   --quiet             print nothing for what is accepted, for a widening and for a rule that fares
                       as before, and no summary if that is all
   --                  all words after this are files, paths or texts
-  --help, --version
+  -h, --help          prints this
+  -V, --version       prints which library is linked, too
 
 Examples, in the crate's folder examples/mill:
   entity-rules check pattern.schema release.rule --kind precondition --semantics service/1
@@ -61,11 +70,12 @@ Exit status: 0 all are accepted, NEW is a widening, every rule fares as before; 
 or is no instant, NEW is none, a rule's answer has changed; 2 one is refused or cannot be read, or
 the command line is wrong.
 
-Colours and a progress bar appear on a terminal only. NO_COLOR, set to anything, switches the
-colours off; TERM=dumb switches off both.
+Colours and a progress bar appear on a terminal only. NO_COLOR, set to anything that is not empty,
+switches the colours off; TERM=dumb switches off both.
 ";
 
-const COMMANDS: &str = "the command `check`, `path`, `widens`, `upgrade`, `instant` or `table`";
+const COMMANDS: &str =
+    "the command `check`, `path`, `widens`, `upgrade`, `instant`, `show`, `explain` or `table`";
 
 /// What the command line asks for.
 #[derive(Debug, PartialEq)]
@@ -74,6 +84,10 @@ pub enum Command {
     Version,
     /// Prints the stock table.
     Table,
+    /// Prints sheets as trees.
+    Show(Vec<PathBuf>),
+    /// Says what a number means.
+    Explain(explain::Asked),
     Check(Arguments),
     Widens(Pair),
     Upgrade(Upgrade),
@@ -116,6 +130,7 @@ pub struct Arguments {
 pub struct Output {
     pub json: bool,
     pub quiet: bool,
+    pub sarif: bool,
 }
 
 /// What is checked against the schema.
@@ -181,6 +196,11 @@ pub fn parse(words: impl IntoIterator<Item = OsString>) -> Result<Command, Strin
         Some(command) if command == "widens" => options(words)?.widens().map(Command::Widens),
         Some(command) if command == "upgrade" => options(words)?.upgrade().map(Command::Upgrade),
         Some(command) if command == "instant" => options(words)?.instant().map(Command::Instants),
+        Some(command) if command == "show" => options(words)?.show().map(Command::Show),
+        Some(command) if command == "explain" => {
+            let words: Vec<OsString> = words.collect();
+            explain::parse(&words).map(Command::Explain)
+        }
         Some(command) if command == "table" => match words.next() {
             None => Ok(Command::Table),
             Some(word) => Err(format!("table: expected nothing after it, not {word:?}")),
@@ -195,8 +215,11 @@ fn options(mut words: impl Iterator<Item = OsString>) -> Result<Options, String>
     while let Some(word) = words.next() {
         if word == "--" {
             options.words.extend(words.by_ref());
-        } else if word != "-" && word.to_string_lossy().starts_with('-') {
-            options.take(&word.to_string_lossy(), &mut words)?;
+        } else if word != "-" && word.as_encoded_bytes().starts_with(b"-") {
+            let option = word.to_str();
+            let option =
+                option.ok_or_else(|| format!("expected an option that is text, not {word:?}"))?;
+            options.take(option, &mut words)?;
         } else {
             options.words.push(word);
         }
@@ -215,20 +238,23 @@ impl Options {
             Some((name, value)) => (name, Some(OsString::from(value))),
             None => (word, None),
         };
-        let is_flag = matches!(name, "--json" | "--quiet");
+        let is_flag = matches!(name, "--json" | "--quiet" | "--sarif");
         if is_flag && given.is_some() {
             return Err(format!("{name} takes no value"));
         }
         let mut word = || given.take().or_else(|| words.next());
-        let mut value = || text(name, word());
         match name {
             "--json" => self.output.json = true,
             "--quiet" => self.output.quiet = true,
-            "--kind" => self.kind = Some(named(name, &value()?)?),
-            "--semantics" => self.semantics = Some(named(name, &value()?)?),
-            "--reader" => self.reader = Some(named(name, &value()?)?),
-            "--label" => self.label = Some(value()?),
-            "--table" => self.table = Some(value()?.into()),
+            "--sarif" => self.output.sarif = true,
+            "--kind" => self.kind = Some(named(name, &text(name, word())?)?),
+            "--semantics" => self.semantics = Some(named(name, &text(name, word())?)?),
+            "--reader" => self.reader = Some(named(name, &text(name, word())?)?),
+            "--label" => self.label = Some(text(name, word())?),
+            "--table" => {
+                let file = word().ok_or_else(|| after(name))?;
+                self.table = Some(file.into());
+            }
             _ => return Err(format!("unknown option {name:?}")),
         }
         Ok(())
@@ -236,6 +262,9 @@ impl Options {
 
     fn check(self) -> Result<Arguments, String> {
         self.once("check")?;
+        if self.output.json && self.output.sarif {
+            return Err("check: expected --json or --sarif, not both".to_owned());
+        }
         let (schema, rules) = self.split("check", "files SCHEMA and RULE", "file RULE")?;
         self.rules("check", schema, &rules)
     }
@@ -255,6 +284,7 @@ impl Options {
 
     fn upgrade(self) -> Result<Upgrade, String> {
         self.once("upgrade")?;
+        not_for("upgrade", &[("--sarif", self.output.sarif)])?;
         match self.words.clone().as_slice() {
             [] | [_] => Err("upgrade: expected the files OLD, NEW and RULE".to_owned()),
             [_, new] => Err(format!(
@@ -304,11 +334,23 @@ impl Options {
             ("--kind", self.kind.is_some()),
             ("--label", self.label.is_some()),
             ("--table", self.table.is_some()),
+            ("--sarif", self.output.sarif),
         ];
         not_for("path", &given)?;
         let (schema, paths) = self.split("path", "file SCHEMA and a PATH", "PATH")?;
         let reader = self.reader.unwrap_or(Reader::Kernel);
         self.arguments("path", schema, Asked::Keys { paths, reader })
+    }
+
+    fn show(self) -> Result<Vec<PathBuf>, String> {
+        self.only_output("show")?;
+        let given = [("--json", self.output.json), ("--quiet", self.output.quiet)];
+        not_for("show", &given)?;
+        self.once("show")?;
+        match self.words.is_empty() {
+            true => Err("show: expected at least one file".to_owned()),
+            false => Ok(self.words.iter().map(PathBuf::from).collect()),
+        }
     }
 
     fn instant(self) -> Result<Instants, String> {
@@ -330,6 +372,7 @@ impl Options {
             ("--reader", self.reader.is_some()),
             ("--label", self.label.is_some()),
             ("--table", self.table.is_some()),
+            ("--sarif", self.output.sarif),
         ];
         not_for(command, &given)
     }
@@ -378,8 +421,13 @@ fn missing(command: &str, option: &str, all: &[impl ToString]) -> String {
     format!("{command}: expected {option}, one of {}", names.join(", "))
 }
 
+/// That an option's value is missing.
+fn after(option: &str) -> String {
+    format!("{option}: expected a value after it")
+}
+
 fn text(option: &str, value: Option<OsString>) -> Result<String, String> {
-    let value = value.ok_or_else(|| format!("{option}: expected a value after it"))?;
+    let value = value.ok_or_else(|| after(option))?;
     value
         .into_string()
         .map_err(|value| format!("{option}: expected text, not {value:?}"))
@@ -418,7 +466,7 @@ mod tests {
             semantics: Semantics::Service1,
             output: Output {
                 json: true,
-                quiet: false,
+                ..Output::default()
             },
         });
         for line in [
@@ -484,7 +532,10 @@ mod tests {
         let expected = |texts: &[&str], json| {
             Ok(Command::Instants(Instants {
                 texts: texts.iter().map(OsString::from).collect(),
-                output: Output { json, quiet: false },
+                output: Output {
+                    json,
+                    ..Output::default()
+                },
             }))
         };
         assert_eq!(
@@ -521,8 +572,7 @@ mod tests {
 
     #[test]
     fn errors_say_what_was_expected() {
-        let commands =
-            "expected the command `check`, `path`, `widens`, `upgrade`, `instant` or `table`";
+        let commands = "expected the command `check`, `path`, `widens`, `upgrade`, `instant`, `show`, `explain` or `table`";
         assert_eq!(error(""), commands);
         assert_eq!(error("chekc"), format!("{commands}, not \"chekc\""));
         assert_eq!(
@@ -572,7 +622,10 @@ mod tests {
         let pair = |quiet| Pair {
             old: "o".into(),
             new: "n".into(),
-            output: Output { json: false, quiet },
+            output: Output {
+                quiet,
+                ..Output::default()
+            },
         };
         assert_eq!(parsed("widens o n"), Ok(Command::Widens(pair(false))));
         assert_eq!(

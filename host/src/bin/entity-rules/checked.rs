@@ -1,12 +1,16 @@
 //! One rule, key path or instant, checked, with what a person wants to know about the answer.
 
-use crate::arguments::{Arguments, Asked};
+use crate::arguments::{Arguments, Asked, Output};
+use crate::blame::{self, Blame, Readable};
 use crate::hint::{hint, no_member};
+use crate::outline::reached;
+use crate::region::{Position, Region};
+use crate::widened::Tree;
 use entity_rules::entries::{Content, Entry, Malformed, read_rule, read_schema};
 use entity_rules::limits::{MAX_SHEET_BYTES, MAX_TEXT_BYTES, TABLE_BYTES};
 use entity_rules::{
-    Check, Defect, Instant, Kind, PathVerdict, Reader, ReferenceFault, Refusal, Table, TableError,
-    Verdict, check_path, instant,
+    Check, Defect, Detail, Instant, Kind, PathVerdict, Reader, ReferenceFault, Refusal, Semantics,
+    Table, TableError, Verdict, check_path, instant,
 };
 use std::ffi::{OsStr, OsString};
 use std::fs::File;
@@ -80,11 +84,13 @@ pub enum Outcome {
         defect: Defect,
         at: Option<Spot>,
         over: Option<Spot>,
+        blame: Option<Box<Blame>>,
         hint: Option<String>,
     },
     /// A key path that cannot be read; no check passed before that one.
     KeyDefect {
         fault: ReferenceFault,
+        blame: Option<Box<Blame>>,
         hint: Option<String>,
     },
     /// The fields of an instant.
@@ -102,6 +108,8 @@ pub struct Spot {
     pub place: u32,
     /// The line of the file on which the entry begins, from 1.
     pub line: usize,
+    /// The entry, or the part of its text that is at fault.
+    pub region: Box<Region>,
     pub text: String,
 }
 
@@ -110,6 +118,8 @@ pub struct Spot {
 pub struct Fault {
     pub file: PathBuf,
     pub line: usize,
+    /// The character of the line, from 1.
+    pub column: usize,
     pub malformed: Malformed,
 }
 
@@ -127,6 +137,8 @@ pub enum Sheet {
     Schema,
     Rule,
     Table,
+    /// Any of these.
+    Any,
 }
 
 impl Outcome {
@@ -168,6 +180,15 @@ struct Names {
     table: Table,
 }
 
+impl Names {
+    fn stock() -> Self {
+        Self {
+            lent: Vec::new(),
+            table: Table::stock(),
+        }
+    }
+}
+
 /// Why there is no table.
 enum NoTable {
     Unreadable(Unreadable),
@@ -183,10 +204,7 @@ impl Shared {
             Asked::Rules {
                 table: Some(file), ..
             } => load(file),
-            _ => Ok(Names {
-                lent: Vec::new(),
-                table: Table::stock(),
-            }),
+            _ => Ok(Names::stock()),
         };
         Self {
             schema: read_sheet(&arguments.schema, Sheet::Schema),
@@ -203,6 +221,7 @@ fn load(file: &Path) -> Result<Names, NoTable> {
         fault: error.fault().map(|malformed| Fault {
             file: file.to_owned(),
             line: line_of(&sheet, malformed.byte),
+            column: Position::new(&sheet, malformed.byte).column,
             malformed,
         }),
     };
@@ -320,15 +339,19 @@ fn rule_outcome(
     kind: Kind,
     label: Option<&str>,
 ) -> Outcome {
-    let stem = file.file_stem().unwrap_or_default().to_string_lossy();
-    let label = label.unwrap_or(&stem);
+    // A name that is no UTF-8 is no label, which is the library's to say.
+    let stem = file.file_stem().unwrap_or_default().as_encoded_bytes();
+    let label = label.map_or(stem, str::as_bytes);
     let check = Check::new(kind, arguments.semantics, label).table(&names.lent);
     match check.run(schema, rule).map(|checked| checked.verdict) {
         Ok(Verdict::Accepted { passed }) => Outcome::Accepted { passed },
         Ok(Verdict::Defect(defect)) => {
-            let (semantics, detail) = (arguments.semantics, defect.detail);
-            let hint = |text: &str| hint(kind, semantics, &names.table, detail, text);
-            located(defect, rule, hint)
+            let readable = Readable {
+                kind,
+                semantics: arguments.semantics,
+                table: &names.table,
+            };
+            located(defect, schema, rule, &readable)
         }
         Err(refusal @ Refusal::RuleSheet) => Outcome::Refused {
             refusal,
@@ -343,10 +366,40 @@ fn key_outcome(arguments: &Arguments, schema: &[u8], path: &OsStr, reader: Reade
         Ok(PathVerdict::Accepted) => Outcome::Accepted { passed: 1 },
         Ok(PathVerdict::Defect(fault)) => Outcome::KeyDefect {
             fault,
+            blame: key_blame(arguments.semantics, schema, path, fault).map(Box::new),
             hint: no_member(arguments.semantics, fault),
         },
         Err(refusal) => refused(arguments, schema, refusal),
     }
+}
+
+/// What comes of two sheets that are not read from their files.
+pub fn sheets_outcome(
+    kind: Kind,
+    semantics: Semantics,
+    [(schema_file, schema), rule]: [(&Path, &[u8]); 2],
+) -> Outcome {
+    let names = Names::stock();
+    let arguments = Arguments {
+        schema: schema_file.to_owned(),
+        asked: Asked::Keys {
+            paths: Vec::new(),
+            reader: Reader::Kernel,
+        },
+        semantics,
+        output: Output::default(),
+    };
+    rule_outcome(&arguments, &names, schema, rule, kind, None)
+}
+
+/// The part of a key path that is at fault.
+fn key_blame(
+    semantics: Semantics,
+    schema: &[u8],
+    path: &OsStr,
+    fault: ReferenceFault,
+) -> Option<Blame> {
+    blame::key(&Tree::new(schema)?, semantics, fault, path.to_str()?)
 }
 
 /// A refusal that is not the rule's, with the schema's fault if it is that one.
@@ -358,31 +411,43 @@ fn refused(arguments: &Arguments, schema: &[u8], refusal: Refusal) -> Outcome {
     Outcome::Refused { refusal, fault }
 }
 
-/// A defect with the entries that it names, and the hint for its text.
-fn located(defect: Defect, rule: &[u8], hint: impl Fn(&str) -> Option<String>) -> Outcome {
+/// A defect with the entries that it names, the part of a reference that is at fault, and a hint.
+fn located(defect: Defect, schema: &[u8], rule: &[u8], readable: &Readable<'_>) -> Outcome {
     let entries = read_rule(rule).unwrap_or_default();
     let entry = |place: u32| entries.get(usize::try_from(place).ok()?.checked_sub(1)?);
-    let spot = |place: u32| {
-        let entry = entry(place)?;
-        Some(Spot {
-            place,
-            line: line_of(rule, entry.byte),
-            text: entry.to_string(),
-        })
-    };
     let text = match entry(defect.place).map(|entry| entry.content) {
         Some(Content::String(text)) => text,
         _ => "",
     };
+    let blame = match defect.detail {
+        Detail::Reference(fault) => Tree::new(schema)
+            .zip(reached(&entries, defect.place))
+            .and_then(|(schema, reached)| readable.blame(&schema, &reached.binders, fault, text)),
+        _ => None,
+    };
+    let spot = |place: u32, part: Option<(usize, usize)>| {
+        let entry = entry(place)?;
+        Some(Spot {
+            place,
+            line: line_of(rule, entry.byte),
+            region: Box::new(Region::of_entry(rule, entry.byte, part)),
+            text: entry.to_string(),
+        })
+    };
+    let part = blame
+        .as_ref()
+        .map(|blame| (blame.before.len(), blame.part.len()));
     Outcome::Defect {
-        at: spot(defect.place),
-        over: defect.over_place.and_then(spot),
-        hint: hint(text),
+        at: spot(defect.place, part),
+        over: defect.over_place.and_then(|place| spot(place, None)),
+        blame: blame.map(Box::new),
+        hint: hint(readable, defect.detail, text),
         defect,
     }
 }
 
-type SheetReader = for<'a> fn(&'a [u8]) -> Result<Vec<Entry<'a>>, Malformed>;
+/// What reads the entries of a sheet.
+pub type SheetReader = for<'a> fn(&'a [u8]) -> Result<Vec<Entry<'a>>, Malformed>;
 
 /// Where a file's sheet stops being one.
 pub fn fault(file: &Path, sheet: &[u8], read: SheetReader) -> Option<Fault> {
@@ -390,6 +455,7 @@ pub fn fault(file: &Path, sheet: &[u8], read: SheetReader) -> Option<Fault> {
     Some(Fault {
         file: file.to_owned(),
         line: line_of(sheet, malformed.byte),
+        column: Position::new(sheet, malformed.byte).column,
         malformed,
     })
 }

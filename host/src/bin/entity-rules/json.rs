@@ -1,9 +1,11 @@
 //! Outcomes as JSON (RFC 8259), one object on one line.
 
+use crate::blame::{Blame, Help};
 use crate::checked::{Checked, Fault, Outcome, Spot, Subject, Unreadable};
 use crate::hint::INSTANT;
-use crate::report::{NO_INSTANT, instant_fields, not_read, refused};
+use crate::report::{NO_INSTANT, explained, instant_fields, name, not_read, refused};
 use entity_rules::{Defect, DefectNumber, PathVerdict, Refusal};
+use std::ffi::OsStr;
 
 /// The line for one rule, path or text.
 pub fn line(checked: &Checked) -> String {
@@ -16,9 +18,9 @@ pub fn line(checked: &Checked) -> String {
 /// What an outcome is about.
 pub fn subject_member(object: &mut Object, subject: Subject<'_>) {
     match subject {
-        Subject::File(file) => object.text("file", &file.to_string_lossy()),
-        Subject::Key(path) => object.text("key", &path.to_string_lossy()),
-        Subject::Text(text) => object.text("text", &text.to_string_lossy()),
+        Subject::File(file) => object.given("file", file.as_os_str()),
+        Subject::Key(path) => object.given("key", path),
+        Subject::Text(text) => object.given("text", text),
     }
 }
 
@@ -34,21 +36,25 @@ pub fn outcome_members(object: &mut Object, outcome: &Outcome) {
             defect,
             at,
             over,
+            blame,
             hint,
         } => {
-            defect_members(object, defect, at.as_ref(), over.as_ref());
+            let spots = [at, over].map(Option::as_ref);
+            defect_members(object, defect, spots, blame.as_deref());
             if let Some(hint) = hint {
                 object.text("hint", hint);
             }
         }
-        Outcome::KeyDefect { fault, hint } => {
+        Outcome::KeyDefect { fault, blame, hint } => {
             let number = DefectNumber::Reference;
             object.text("verdict", "defect");
             object.number("number", number.number());
             object.text("word", number.word());
-            object.text("explanation", &PathVerdict::Defect(*fault).to_string());
+            let told = PathVerdict::Defect(*fault).to_string();
+            object.text("explanation", &explained(told, blame.as_deref()));
             object.number("detail", fault.number());
             object.number("passed", 0);
+            blame_members(object, blame.as_deref());
             if let Some(hint) = hint {
                 object.text("hint", hint);
             }
@@ -79,7 +85,7 @@ pub fn refused_members(object: &mut Object, refusal: Refusal, fault: Option<&Fau
     object.text("word", refusal.word());
     object.text("explanation", &refused(refusal, fault));
     if let Some(fault) = fault {
-        object.text("fault_file", &fault.file.to_string_lossy());
+        object.given("fault_file", fault.file.as_os_str());
         object.number("line", fault.line);
         object.number("place", fault.malformed.entry);
         object.number("byte", fault.malformed.byte);
@@ -89,14 +95,32 @@ pub fn refused_members(object: &mut Object, refusal: Refusal, fault: Option<&Fau
 pub fn unreadable_members(object: &mut Object, unreadable: &Unreadable) {
     object.text("verdict", "unreadable");
     object.text("explanation", &not_read(unreadable));
-    object.text("fault_file", &unreadable.file.to_string_lossy());
+    object.given("fault_file", unreadable.file.as_os_str());
 }
 
-fn defect_members(object: &mut Object, defect: &Defect, at: Option<&Spot>, over: Option<&Spot>) {
+/// The part of a reference that is at fault.
+fn blame_members(object: &mut Object, blame: Option<&Blame>) {
+    let Some(blame) = blame else {
+        return;
+    };
+    object.text("segment", &blame.part);
+    object.number("segment_byte", blame.before.len());
+    if let Some(Help::Meant(name)) = &blame.help {
+        object.text("suggestion", name);
+    }
+}
+
+fn defect_members(
+    object: &mut Object,
+    defect: &Defect,
+    [at, over]: [Option<&Spot>; 2],
+    blame: Option<&Blame>,
+) {
     object.text("verdict", "defect");
     object.number("number", defect.number.number());
     object.text("word", defect.number.word());
-    object.text("explanation", &defect.explanation());
+    let explanation = explained(defect.explanation(), blame);
+    object.text("explanation", &explanation);
     object.number("family", defect.family.number());
     object.text("family_name", defect.family.name());
     object.number("detail", defect.detail.number());
@@ -111,6 +135,7 @@ fn defect_members(object: &mut Object, defect: &Defect, at: Option<&Spot>, over:
     if let Some(spot) = over {
         object.text("over_entry", &spot.text);
     }
+    blame_members(object, blame);
 }
 
 /// An object that is being written.
@@ -132,6 +157,19 @@ impl Object {
     pub fn text(&mut self, key: &str, text: &str) {
         self.key(key);
         self.string(text);
+    }
+
+    /// A word of the command line. Where it is no UTF-8, its bytes follow in hexadecimal, since JSON has no room for them.
+    pub fn given(&mut self, key: &str, word: &OsStr) {
+        match word.to_str() {
+            Some(text) => self.text(key, text),
+            None => {
+                let bytes = word.as_encoded_bytes().iter();
+                let bytes: String = bytes.map(|byte| format!("{byte:02x}")).collect();
+                self.text(key, &name(word));
+                self.text(&format!("{key}_bytes"), &bytes);
+            }
+        }
     }
 
     pub fn number(&mut self, key: &str, number: impl std::fmt::Display) {

@@ -1,6 +1,6 @@
 //! The command-line tool: `entity-rules check SCHEMA RULE.. --kind KIND --semantics SEMANTICS`, `entity-rules path SCHEMA PATH..` for keys,
 //! `entity-rules widens OLD NEW` and `entity-rules upgrade OLD NEW RULE..` for schemas that change, `entity-rules instant TEXT..`, which prints the
-//! fields of instants, and `entity-rules table`, which prints the stock table.
+//! fields of instants, `entity-rules show FILE..`, which prints sheets as trees, `entity-rules explain NUMBER`, which says what a number of an answer means, and `entity-rules table`, which prints the stock table.
 
 #![forbid(unsafe_code)]
 #![deny(
@@ -13,23 +13,32 @@
 )]
 
 mod arguments;
+mod blame;
 mod checked;
+mod explain;
 mod hint;
 mod json;
+mod near;
+mod outline;
 mod progress;
+mod region;
 mod report;
+mod sarif;
+mod show;
 mod terminal;
 mod upgraded;
+mod version;
 mod widened;
 
 use arguments::{Arguments, Command, Instants, Output, Pair, Upgrade};
-use checked::{Checked, Shared, Sheet, read_sheet};
+use checked::{Checked, Shared, Sheet, Subject, read_sheet};
 use entity_rules::Table;
 use progress::Progress;
 use report::{Palette, Tally};
+use sarif::Log;
 use std::env;
 use std::io::{self, ErrorKind, IsTerminal, Write};
-use std::path::Path;
+use std::path::{Path, PathBuf};
 use std::process::ExitCode;
 use upgraded::{Fates, Upgraded};
 use widened::{Compared, Comparison};
@@ -59,17 +68,44 @@ fn run(command: &Command) -> io::Result<u8> {
     let mut out = io::stdout().lock();
     match command {
         Command::Help => out.write_all(arguments::HELP.as_bytes())?,
-        Command::Version => writeln!(out, "entity-rules {}", env!("CARGO_PKG_VERSION"))?,
+        Command::Version => {
+            let (text, is_right) = version::text();
+            out.write_all(text.as_bytes())?;
+            return Ok(if is_right { 0 } else { REFUSED });
+        }
         Command::Table => match Table::stock().sheet() {
             Ok(sheet) => out.write_all(&sheet)?,
             Err(error) => return Ok(complain(&error.to_string())),
         },
+        Command::Show(files) => return show_sheets(files, &mut out),
+        Command::Explain(asked) => out.write_all(asked.text().as_bytes())?,
         Command::Check(arguments) => return check(arguments, &mut out),
         Command::Widens(pair) => return widens(pair, &mut out),
         Command::Upgrade(asked) => return upgrade(asked, &mut out),
         Command::Instants(asked) => return instants(asked, &mut out),
     }
     Ok(0)
+}
+
+/// Prints every sheet as a tree.
+fn show_sheets(files: &[PathBuf], out: &mut impl Write) -> io::Result<u8> {
+    let palette = Palette::new(io::stdout().is_terminal());
+    let mut status = 0;
+    for file in files {
+        match show::text(file, files.len() > 1) {
+            Ok(text) => out.write_all(text.as_bytes())?,
+            Err(outcome) => {
+                let checked = Checked {
+                    subject: Subject::File(file),
+                    outcome: *outcome,
+                };
+                out.write_all(report::text(&palette, &checked).as_bytes())?;
+                status = REFUSED;
+            }
+        }
+    }
+    out.flush()?;
+    Ok(status)
 }
 
 /// Checks every rule or path, and prints what comes of it.
@@ -98,9 +134,12 @@ fn print<'a>(
     let has_bar = io::stderr().is_terminal() && !terminal::is_dumb();
     let mut progress = Progress::new(io::stderr(), has_bar, total, noun);
     let mut tally = Tally::default();
+    let mut log = output.sarif.then(Log::default);
     for checked in all {
         tally.count(&checked.outcome);
-        if !(output.quiet && checked.outcome.is_accepted()) {
+        if let Some(log) = &mut log {
+            log.add(&checked);
+        } else if !(output.quiet && checked.outcome.is_accepted()) {
             progress.clear();
             out.write_all(show(output, &palette, &checked).as_bytes())?;
         }
@@ -111,7 +150,11 @@ fn print<'a>(
     }
     progress.clear();
     let status = tally.status();
-    if !output.json && total > 1 && !(output.quiet && status == 0) {
+    let is_for_people = !output.json && log.is_none();
+    if let Some(log) = log {
+        out.write_all(log.text().as_bytes())?;
+    }
+    if is_for_people && total > 1 && !(output.quiet && status == 0) {
         writeln!(out, "{}", tally.summary(total, noun))?;
     }
     out.flush()?;

@@ -9,6 +9,10 @@ const WIDTH: usize = 30;
 /// The bar is not drawn before, nor more often than, this.
 const PAUSE: Duration = Duration::from_millis(100);
 
+/// A terminal that is narrower than the bar cuts it off, where it would go on in the next line and could not be cleared.
+const NO_WRAP: &str = "\x1b[?7l";
+const WRAP: &str = "\x1b[?7h";
+
 pub struct Progress<W: Write> {
     out: W,
     is_on: bool,
@@ -54,7 +58,7 @@ impl<W: Write> Progress<W> {
 
     fn draw(&mut self) {
         let line = bar(self.done, self.total, self.noun);
-        let _ = write!(self.out, "\r{line}\x1b[K");
+        let _ = write!(self.out, "\r{NO_WRAP}{line}\x1b[K{WRAP}");
         let _ = self.out.flush();
         self.is_drawn = true;
     }
@@ -69,7 +73,7 @@ fn bar(done: usize, total: usize, noun: &str) -> String {
         .unwrap_or(WIDTH);
     let empty = WIDTH.saturating_sub(filled);
     format!(
-        "[{}{}] {done} of {total} {noun}",
+        "{done} of {total} {noun} [{}{}]",
         "#".repeat(filled),
         ".".repeat(empty)
     )
@@ -83,19 +87,19 @@ mod tests {
     fn the_bar_fills() {
         assert_eq!(
             bar(0, 4, "rules"),
-            format!("[{}] 0 of 4 rules", ".".repeat(30))
+            format!("0 of 4 rules [{}]", ".".repeat(30))
         );
         assert_eq!(
             bar(2, 4, "rules"),
-            format!("[{}{}] 2 of 4 rules", "#".repeat(15), ".".repeat(15))
+            format!("2 of 4 rules [{}{}]", "#".repeat(15), ".".repeat(15))
         );
         assert_eq!(
             bar(4, 4, "rules"),
-            format!("[{}] 4 of 4 rules", "#".repeat(30))
+            format!("4 of 4 rules [{}]", "#".repeat(30))
         );
         assert_eq!(
             bar(0, 0, "rules"),
-            format!("[{}] 0 of 0 rules", "#".repeat(30))
+            format!("0 of 0 rules [{}]", "#".repeat(30))
         );
     }
 
@@ -111,7 +115,8 @@ mod tests {
 
     #[test]
     fn it_is_drawn_and_cleared_only_on_a_terminal() {
-        let line = format!("\r{}\x1b[K\r\x1b[K", bar(1, 2, "rules"));
+        let bar = bar(1, 2, "rules");
+        let line = format!("\r{NO_WRAP}{bar}\x1b[K{WRAP}\r\x1b[K");
         assert_eq!(drawn(true, 2), line.as_bytes());
         assert_eq!(drawn(false, 2), b"");
         assert_eq!(drawn(true, 1), b"");

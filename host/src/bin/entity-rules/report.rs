@@ -1,8 +1,9 @@
 //! Outcomes in words.
 
+use crate::blame::Blame;
 use crate::checked::{Checked, Fault, Outcome, Sheet, Spot, Subject, Unreadable};
 use crate::hint::INSTANT;
-use crate::terminal::{is_dumb, is_plain};
+use crate::terminal::{columns, is_dumb, is_plain};
 use entity_rules::{Defect, DefectNumber, Instant, PathVerdict, Refusal};
 use std::ffi::OsStr;
 
@@ -50,19 +51,36 @@ pub fn text(palette: &Palette, checked: &Checked) -> String {
             defect,
             at,
             over,
+            blame,
             hint,
         } => {
-            let rows = rows(defect, at.as_ref(), over.as_ref(), hint.as_deref());
+            let rows = rows(
+                defect,
+                [at, over].map(Option::as_ref),
+                blame.as_deref(),
+                hint,
+            );
             let line = at.as_ref().map(|spot| format!(":{}", spot.line));
             let place = format!("{subject}{}", line.unwrap_or_default());
-            let explanation = defect.explanation();
+            let explanation = explained(defect.explanation(), blame.as_deref());
             defect_text(palette, &place, defect.number, &explanation, &rows)
         }
-        Outcome::KeyDefect { fault, hint } => {
-            let rows: Vec<_> = hint.iter().map(|hint| ("hint", hint.clone())).collect();
-            let explanation = PathVerdict::Defect(*fault).to_string();
-            let number = DefectNumber::Reference;
-            defect_text(palette, &subject, number, &explanation, &rows)
+        Outcome::KeyDefect { fault, blame, hint } => {
+            let shown = blame.iter().flat_map(|blame| {
+                let marks = marks(&visible(&blame.before), &visible(&blame.part), blame);
+                [("at", subject.clone()), ("", marks)]
+            });
+            let hint = hint.iter().map(|hint| ("hint", hint.clone()));
+            let rows: Vec<_> = shown.chain(hint).collect();
+            let told = PathVerdict::Defect(*fault).to_string();
+            let explanation = explained(told, blame.as_deref());
+            defect_text(
+                palette,
+                &subject,
+                DefectNumber::Reference,
+                &explanation,
+                &rows,
+            )
         }
         Outcome::Instant(instant) => {
             let word = palette.paint(Colour::Green, "accepted");
@@ -112,7 +130,14 @@ pub fn subject(subject: Subject<'_>) -> String {
 
 /// A file's name, a path or a text, as it is printed.
 pub fn name(given: &OsStr) -> String {
-    visible(&given.to_string_lossy())
+    let mut shown = String::new();
+    for chunk in given.as_encoded_bytes().utf8_chunks() {
+        shown.push_str(&visible(chunk.valid()));
+        for byte in chunk.invalid() {
+            shown.push_str(&format!("\\x{byte:02x}"));
+        }
+    }
+    shown
 }
 
 /// The fields of an instant by their names.
@@ -137,6 +162,21 @@ pub fn accepted(passed: u32) -> String {
     }
 }
 
+/// What is wrong, with the names of the part at fault where there is one.
+pub fn explained(explanation: String, blame: Option<&Blame>) -> String {
+    blame.map_or(explanation, |blame| {
+        format!("{}: {}", DefectNumber::Reference, blame.what)
+    })
+}
+
+/// Marks under the part at fault, behind what is printed before it, and what helps.
+fn marks(before: &str, part: &str, blame: &Blame) -> String {
+    let marks = "^".repeat(columns(part).max(1));
+    let help = blame.help.as_ref().map(|help| format!(" {}", help.text()));
+    let space = " ".repeat(columns(before));
+    format!("{space}{marks}{}", help.unwrap_or_default())
+}
+
 fn defect_text(
     palette: &Palette,
     place: &str,
@@ -156,15 +196,18 @@ fn defect_text(
 /// The rows under a defect: their names and what they say.
 fn rows(
     defect: &Defect,
-    at: Option<&Spot>,
-    over: Option<&Spot>,
-    hint: Option<&str>,
+    [at, over]: [Option<&Spot>; 2],
+    blame: Option<&Blame>,
+    hint: &Option<String>,
 ) -> Vec<(&'static str, String)> {
     let family = defect.family;
     let mut rows = vec![("path", visible(&defect.path))];
-    rows.extend(at.map(|spot| ("at", spot_text(spot))));
+    if let Some(spot) = at {
+        rows.push(("at", spot_text(spot)));
+        rows.extend(blame.map(|blame| ("", string_marks(spot, blame))));
+    }
     rows.extend(over.map(|spot| ("over", spot_text(spot))));
-    rows.extend(hint.map(|hint| ("hint", hint.to_owned())));
+    rows.extend(hint.iter().map(|hint| ("hint", hint.clone())));
     rows.push((
         "family",
         format!("{} {}, {family}", family.number(), family.name()),
@@ -183,11 +226,22 @@ fn spot_text(spot: &Spot) -> String {
     format!("entry {}, {}", spot.place, spot.text)
 }
 
+/// Marks under a part of an entry that is a string, which is printed in quotes.
+fn string_marks(spot: &Spot, blame: &Blame) -> String {
+    let escaped = |text: &str| {
+        let quoted = format!("{text:?}");
+        let open = quoted.strip_suffix('"').unwrap_or(&quoted);
+        open.strip_prefix('"').unwrap_or(open).to_owned()
+    };
+    let before = format!("entry {}, string \"{}", spot.place, escaped(&blame.before));
+    marks(&before, &escaped(&blame.part), blame)
+}
+
 /// Why a call was refused.
 pub fn refused(refusal: Refusal, fault: Option<&Fault>) -> String {
     match (refusal, fault) {
         (_, Some(fault)) => fault.malformed.to_string(),
-        (Refusal::Label, None) => format!("{refusal}; expected a shorter one, as by --label"),
+        (Refusal::Label, None) => format!("{refusal}; expected another, as by --label"),
         (refusal, None) => refusal.to_string(),
     }
 }
@@ -198,6 +252,7 @@ pub fn not_read(unreadable: &Unreadable) -> String {
         Sheet::Schema => "schema sheet",
         Sheet::Rule => "rule sheet",
         Sheet::Table => "name table",
+        Sheet::Any => "sheet",
     };
     let reason = &unreadable.reason;
     format!("expected a file that holds a {sheet}: {reason}")

@@ -6,8 +6,8 @@ use crate::json::{Object, refused_members, unreadable_members};
 /// The line for two schemas.
 pub fn line(compared: &Compared) -> String {
     let mut object = Object::new();
-    object.text("old", &compared.old.to_string_lossy());
-    object.text("new", &compared.new.to_string_lossy());
+    object.given("old", compared.old.as_os_str());
+    object.given("new", compared.new.as_os_str());
     match &compared.comparison {
         Comparison::Widening { only_marks, grown } => {
             object.text("verdict", "widening");

@@ -1,8 +1,8 @@
 //! Two schema sheets side by side, read for people: what an entry is called, and what has grown. Whether one is a widening of the other is the library's to say.
 
 use crate::checked::line_of;
-use entity_rules::FieldKind;
 use entity_rules::entries::{Content, Entry, read_schema};
+use entity_rules::{FieldKind, Name};
 
 /// An entry of a schema sheet.
 #[derive(Clone, Debug, PartialEq, Eq)]
@@ -37,13 +37,14 @@ pub struct Tree {
 }
 
 /// Whatever can have fields under it: the record, the arguments, a field, an element.
-struct Holder {
-    member: Member,
+pub struct Holder {
+    pub member: Member,
     /// Its name among its siblings; empty for the record, the arguments and elements.
-    name: String,
+    pub name: String,
+    pub tag: Option<String>,
     is_open: bool,
-    element: Option<Box<Holder>>,
-    properties: Vec<Holder>,
+    pub element: Option<Box<Holder>>,
+    pub properties: Vec<Holder>,
 }
 
 impl Tree {
@@ -69,6 +70,15 @@ impl Tree {
             None => None,
         };
         Some(Self { record, arguments })
+    }
+
+    /// What a path behind `$fields`, `$old_fields` or `$args` begins at.
+    pub fn root(&self, name: Name) -> Option<&Holder> {
+        match name {
+            Name::Fields | Name::OldFields => Some(&self.record),
+            Name::Args => self.arguments.as_ref(),
+            _ => None,
+        }
     }
 
     /// The record, then the arguments.
@@ -114,6 +124,10 @@ pub fn grown(old: &Tree, new: &Tree) -> Vec<Growth> {
 }
 
 impl Holder {
+    pub fn property(&self, name: &str) -> Option<&Self> {
+        self.properties.iter().find(|holder| holder.name == name)
+    }
+
     /// The member of an entry below it.
     fn below(&self, place: usize) -> Option<&Member> {
         let held = self.element.as_deref().into_iter().chain(&self.properties);
@@ -198,6 +212,7 @@ impl<'a, I: Iterator<Item = (&'a Entry<'a>, usize)>> Reading<'a, I> {
         Some(Holder {
             member: self.member(head, path, text),
             name: String::new(),
+            tag: None,
             is_open,
             element: None,
             properties,
@@ -244,6 +259,7 @@ impl<'a, I: Iterator<Item = (&'a Entry<'a>, usize)>> Reading<'a, I> {
                 ..self.member((entry, place), &path, text)
             },
             name: name.to_owned(),
+            tag: tag.map(str::to_owned),
             is_open: open,
             element,
             properties: self.fields(&path, properties)?,

@@ -9,8 +9,8 @@ use entity_rules::entries::read_schema;
 use entity_rules::{Breach, BreachReason, FieldKind, Refusal, Widening, widens};
 use std::path::Path;
 
-pub use members::{Growth, Member};
-use members::{Tree, grown};
+use members::grown;
+pub use members::{Growth, Holder, Member, Tree};
 
 /// Two files and what came of them.
 pub struct Compared<'a> {

@@ -1,0 +1,430 @@
+//! `explain`: what a number of an answer means, with an example that is checked on the spot.
+
+use crate::checked::{Checked, Subject, sheets_outcome};
+use crate::report::{self, Palette};
+use entity_rules::limits::TABLE_BYTES;
+use entity_rules::{
+    Check, DefectNumber, Detail, Kind, PathVerdict, Reader, ReferenceFault, Refusal, Semantics,
+    Table, Verdict, check_path,
+};
+use std::path::Path;
+
+/// A number of an answer, and a detail where one is asked for.
+#[derive(Clone, Copy, Debug, PartialEq, Eq)]
+pub struct Asked {
+    number: u32,
+    detail: Option<u32>,
+}
+
+/// The numbers that can be asked for.
+const EXPECTED: &str = "explain: expected a number of an answer, 0 to 5, 11 to 22, 37 or 38, or one of these with a detail, as 18.3";
+
+/// Reads `18` or `18.3`.
+pub fn parse(words: &[std::ffi::OsString]) -> Result<Asked, String> {
+    let [word] = words else {
+        return Err(EXPECTED.to_owned());
+    };
+    let word = word.to_str().ok_or(EXPECTED)?;
+    let (number, detail) = word
+        .split_once('.')
+        .map_or((word, None), |(number, detail)| (number, Some(detail)));
+    let numeral = |text: &str| text.parse::<u32>().map_err(|_| EXPECTED.to_owned());
+    let asked = Asked {
+        number: numeral(number)?,
+        detail: detail.map(numeral).transpose()?,
+    };
+    match asked.headline() {
+        Some(_) => Ok(asked),
+        None => Err(EXPECTED.to_owned()),
+    }
+}
+
+impl Asked {
+    /// What is printed.
+    pub fn text(self) -> String {
+        let headline = self.headline().unwrap_or_default();
+        let mend = mend(self.number);
+        let details = match self.detail {
+            None => details(self.number),
+            Some(_) => String::new(),
+        };
+        let shown = self.example().map(Example::text).unwrap_or_default();
+        format!("{headline}\n{details}\n{mend}\n{shown}")
+    }
+
+    /// The number, its word, and what it says; none where there is no such number or detail.
+    fn headline(self) -> Option<String> {
+        let Self { number, detail } = self;
+        match (DefectNumber::from_number(number), detail) {
+            (Some(defect), None) => Some(format!("{number} ({}): {defect}", defect.word())),
+            (Some(defect), Some(shown)) => {
+                let detail = Detail::from_numbers(defect, shown).filter(|_| shown > 0)?;
+                let word = defect.word();
+                Some(format!("{number}.{shown} ({word}): {defect}: {detail}"))
+            }
+            (None, None) if number == 0 => Some("0: accepted, every check passed".to_owned()),
+            (None, None) => {
+                let refusal = refusal(number)?;
+                Some(format!("{number} ({}): refused, {refusal}", refusal.word()))
+            }
+            (None, Some(_)) => None,
+        }
+    }
+
+    fn example(self) -> Option<&'static Example> {
+        let is_asked = |(number, detail, _): &&(u32, u32, Example)| {
+            *number == self.number && self.detail.is_none_or(|asked| asked == *detail)
+        };
+        EXAMPLES
+            .iter()
+            .find(is_asked)
+            .map(|(_, _, example)| example)
+    }
+}
+
+fn refusal(number: u32) -> Option<Refusal> {
+    let all = [
+        Refusal::Setting,
+        Refusal::Label,
+        Refusal::Width,
+        Refusal::SchemaSheet,
+        Refusal::RuleSheet,
+        Refusal::TableForm,
+        Refusal::TableMark,
+    ];
+    all.into_iter().find(|refusal| refusal.number() == number)
+}
+
+/// A line for each detail of a number.
+fn details(number: u32) -> String {
+    let Some(defect) = DefectNumber::from_number(number) else {
+        return String::new();
+    };
+    let details = (1..).map_while(|detail| Detail::from_numbers(defect, detail));
+    details
+        .filter(|detail| *detail != Detail::None)
+        .map(|detail| format!("  {number}.{:<4}{detail}\n", detail.number()))
+        .collect()
+}
+
+/// What it comes from, or what mends it.
+fn mend(number: u32) -> &'static str {
+    match number {
+        0 => "The passed count says how many checks there were.",
+        1 => "Kinds go from 1 to 8, semantics from 1 to 4, readers are 1 and 2.",
+        2 => "A label has at most 256 bytes, a key path 512; both are UTF-8.",
+        3 => {
+            "A call is lent a path buffer of 32,768 bytes and a result of 28; only a program can meet this."
+        }
+        4 => "The tool names the line, the entry and the byte, and what was expected there.",
+        5 => {
+            "The tool names the line, the entry and the byte, and what was expected there. rulecheck_rule refuses templates so, and rulecheck_template rules."
+        }
+        11 => "Give the rule a name that is not all white space, or none.",
+        12 => "Give the rule a message that is not all white space, or none.",
+        13 => {
+            "Conditions may stand 32 deep in one another; `all` and `any` take many side by side."
+        }
+        14 => "A number must be below 2^1024 - 2^970 in magnitude, so that it can be a binary64.",
+        15 => {
+            "`compare`, `truthy`, `for_all` and `for_any` need service/1, service/2 or service/3."
+        }
+        16 => "Give it a condition, or put a literal in its place.",
+        17 => {
+            "Compare something that is neither an array nor an object, such as one of its members."
+        }
+        18 => {
+            "Read a name that the kind may read, and behind it what the schema declares. `entity-rules table` prints which kind may read which name."
+        }
+        19 => "Both operands must be strings; references are.",
+        20 => {
+            "An instant is YYYY-MM-DD or YYYY-MM-DDTHH:MM:SS, with up to 9 digits of a second and a Z if wanted."
+        }
+        21 => "A bind is a name that is not all white space and has no dot.",
+        22 => {
+            "Name an array or a map of `$fields`, `$old_fields` or `$args`, or something below a bind."
+        }
+        37 => {
+            "A name table is eight rows of 22 bytes; `entity-rules table` prints the stock table."
+        }
+        _ => {
+            "Every kind reads $id, $entity and $version, and $old_fields only where it reads $fields."
+        }
+    }
+}
+
+/// What shows a number.
+enum Example {
+    Sheets {
+        semantics: Semantics,
+        schema: &'static str,
+        rule: &'static str,
+    },
+    Key(&'static str),
+    Table(&'static str),
+}
+
+/// An array `a` of objects without properties, an integer `i`, a map `m`, an object `o` with a string `p`, and a union `u` whose tag is `kind`.
+const SCHEMA: &str = "H,0,5,-,0\nF,6,0,1,0,1,-,a\nF,7,0,0,0,0,-,\nF,2,0,0,0,1,-,i\nF,10,0,0,0,1,-,m\n\
+     F,7,0,0,1,1,-,o\nF,1,0,0,0,1,-,p\nF,11,0,0,0,1,4,ukind\n";
+
+const fn service(rule: &'static str) -> Example {
+    Example::Sheets {
+        semantics: Semantics::Service1,
+        schema: SCHEMA,
+        rule,
+    }
+}
+
+/// Each number and detail with its example.
+const EXAMPLES: &[(u32, u32, Example)] = &[
+    (0, 0, service("R,-,-,\nC,5,0,\nV,5,11,$fields.o.p\n")),
+    (
+        4,
+        0,
+        Example::Sheets {
+            semantics: Semantics::Service1,
+            schema: "H,0,1,-,0\nF,13,0,0,0,1,-,a\n",
+            rule: "R,-,-,\nC,1,1,\n",
+        },
+    ),
+    (5, 0, service("R,-,-,\nC,4,0,\n")),
+    (11, 0, service("R,1,-, \nC,1,1,\n")),
+    (12, 0, service("R,-,1, \nC,1,1,\n")),
+    (
+        13,
+        0,
+        service(concat!(
+            "R,-,-,\n",
+            "C,4,0,\nC,4,0,\nC,4,0,\nC,4,0,\nC,4,0,\nC,4,0,\nC,4,0,\nC,4,0,\n",
+            "C,4,0,\nC,4,0,\nC,4,0,\nC,4,0,\nC,4,0,\nC,4,0,\nC,4,0,\nC,4,0,\n",
+            "C,4,0,\nC,4,0,\nC,4,0,\nC,4,0,\nC,4,0,\nC,4,0,\nC,4,0,\nC,4,0,\n",
+            "C,4,0,\nC,4,0,\nC,4,0,\nC,4,0,\nC,4,0,\nC,4,0,\nC,4,0,\nC,4,0,\n",
+            "C,1,1,\n"
+        )),
+    ),
+    (
+        14,
+        0,
+        service("R,-,-,\nC,8,0,\nV,5,9,$fields.i\nV,4,5,1e309\n"),
+    ),
+    (
+        15,
+        0,
+        Example::Sheets {
+            semantics: Semantics::Kernel1,
+            schema: SCHEMA,
+            rule: "R,-,-,\nC,19,0,\nV,5,9,$fields.i\n",
+        },
+    ),
+    (16, 0, service("R,-,-,\nC,2,0,\n")),
+    (17, 1, service("R,-,-,\nC,18,1,\nV,6,0,\nV,5,9,$fields.i\n")),
+    (17, 2, service("R,-,-,\nC,18,1,\nV,5,9,$fields.i\nV,7,0,\n")),
+    (18, 1, service("R,-,-,\nC,5,0,\nV,5,8,$fields.\n")),
+    (18, 2, service("R,-,-,\nC,5,0,\nV,5,9,$fields.b\n")),
+    (18, 3, service("R,-,-,\nC,5,0,\nV,5,11,$fields.o.q\n")),
+    (18, 4, service("R,-,-,\nC,5,0,\nV,5,15,$fields.a.first\n")),
+    (18, 5, service("R,-,-,\nC,5,0,\nV,5,13,$fields.m.key\n")),
+    (18, 6, service("R,-,-,\nC,5,0,\nV,5,17,$fields.a.count.x\n")),
+    (18, 7, service("R,-,-,\nC,5,0,\nV,5,16,$fields.u.kind.x\n")),
+    (18, 8, service("R,-,-,\nC,5,0,\nV,5,11,$fields.u.x\n")),
+    (18, 9, service("R,-,-,\nC,5,0,\nV,5,15,$fields.i.count\n")),
+    (18, 10, service("R,-,-,\nC,5,0,\nV,5,11,$fields.i.x\n")),
+    (18, 11, service("R,-,-,\nC,5,0,\nV,5,8,$args.on\n")),
+    (18, 12, service("R,-,-,\nC,5,0,\nV,5,6,$state\n")),
+    (18, 13, Example::Key("o.p.count")),
+    (
+        19,
+        0,
+        service("R,-,-,\nC,16,0,\nV,5,11,$fields.o.p\nV,4,1,7\n"),
+    ),
+    (
+        20,
+        1,
+        service("R,-,-,\nC,6,0,\nV,5,12,$$2024-01-01\nV,5,11,$fields.o.p\n"),
+    ),
+    (
+        20,
+        2,
+        service("R,-,-,\nC,6,0,\nV,5,10,2023-02-29\nV,5,11,$fields.o.p\n"),
+    ),
+    (
+        21,
+        0,
+        service("R,-,-,\nC,20,3,a.b\nV,5,9,$fields.a\nC,1,1,\n"),
+    ),
+    (22, 1, service("R,-,-,\nC,20,1,b\nV,4,1,7\nC,1,1,\n")),
+    (
+        22,
+        2,
+        service("R,-,-,\nC,20,1,b\nV,5,9,$fields.a\nC,20,1,c\nV,5,4,xb.q\nC,1,1,\n"),
+    ),
+    (
+        22,
+        3,
+        service("R,-,-,\nC,20,1,b\nV,5,17,$fields.o.p.count\nC,1,1,\n"),
+    ),
+    (
+        22,
+        4,
+        service("R,-,-,\nC,20,1,b\nV,5,9,$fields.i\nC,1,1,\n"),
+    ),
+    (22, 5, service("R,-,-,\nC,20,1,b\nV,5,3,$id\nC,1,1,\n")),
+    (37, 0, Example::Table("N,1,1,1,1,1,1,0,0,0\n")),
+    (
+        38,
+        0,
+        Example::Table(
+            "N,1,1,1,0,1,1,0,0,0,0\nN,2,1,1,1,1,0,1,1,1,1\nN,3,1,1,1,1,1,1,0,0,0\nN,4,1,1,1,1,1,1,1,1,1\n\
+             N,5,1,1,1,1,0,0,1,1,0\nN,6,1,1,1,0,0,0,0,1,0\nN,7,1,1,1,0,1,1,0,1,0\nN,8,1,1,1,1,1,1,0,1,0\n",
+        ),
+    ),
+];
+
+const FILES: [&str; 2] = ["example.schema", "example.rule"];
+
+impl Example {
+    /// The example and what comes of it.
+    fn text(&self) -> String {
+        match self {
+            Self::Sheets {
+                semantics,
+                schema,
+                rule,
+            } => {
+                let answer = told(self);
+                let (schema, rule, answer) = (indented(schema), indented(rule), indented(&answer));
+                format!(
+                    "\nFor example, a schema\n\n{schema}\nand a rule, checked as a precondition under {semantics},\n\n{rule}\ngive\n\n{answer}"
+                )
+            }
+            Self::Key(path) => {
+                let (schema, answer) = (indented(SCHEMA), indented(&told(self)));
+                format!(
+                    "\nFor example, a schema\n\n{schema}\nand the key path {path}, read by a projection under service/1, give\n\n{answer}"
+                )
+            }
+            Self::Table(table) => {
+                let (table, answer) = (indented(table), indented(&told(self)));
+                format!("\nFor example, a name table\n\n{table}\ngives\n\n{answer}")
+            }
+        }
+    }
+}
+
+/// What the tool says of an example.
+fn told(example: &Example) -> String {
+    let [schema_file, rule_file] = FILES.map(Path::new);
+    match example {
+        Example::Sheets {
+            semantics,
+            schema,
+            rule,
+        } => {
+            let sheets = [
+                (schema_file, schema.as_bytes()),
+                (rule_file, rule.as_bytes()),
+            ];
+            let outcome = sheets_outcome(Kind::Precondition, *semantics, sheets);
+            let subject = Subject::File(rule_file);
+            report::text(&Palette::new(false), &Checked { subject, outcome })
+        }
+        Example::Key(path) => {
+            let (semantics, reader) = (Semantics::Service1, Reader::Projection);
+            let verdict = check_path(semantics, reader, path, SCHEMA.as_bytes());
+            let fault = verdict.ok().and_then(PathVerdict::fault);
+            let number = ReferenceFault::TextCount;
+            format!("{path}: {}\n", fault.unwrap_or(number))
+        }
+        Example::Table(table) => match Table::read(table.as_bytes()) {
+            Ok(_) => String::new(),
+            Err(error) => format!("refused {}: {error}\n", error.number()),
+        },
+    }
+}
+
+/// How many examples there are, and the numbers of those that the library answers otherwise than it must.
+pub fn replayed() -> (usize, Vec<String>) {
+    let differ = |(number, detail, example): &&(u32, u32, Example)| {
+        answered(example) != Some((*number, *detail))
+    };
+    let differing = EXAMPLES.iter().filter(differ);
+    let named = differing.map(|(number, detail, _)| format!("{number}.{detail}"));
+    (EXAMPLES.len(), named.collect())
+}
+
+/// The number and detail that the library gives for an example.
+fn answered(example: &Example) -> Option<(u32, u32)> {
+    match example {
+        Example::Sheets {
+            semantics,
+            schema,
+            rule,
+        } => {
+            let check = Check::new(Kind::Precondition, *semantics, "example");
+            match check.run(schema.as_bytes(), rule.as_bytes()) {
+                Err(refusal) => Some((refusal.number(), 0)),
+                Ok(checked) => Some(match checked.verdict {
+                    Verdict::Accepted { .. } => (0, 0),
+                    Verdict::Defect(defect) => (defect.number.number(), defect.detail.number()),
+                }),
+            }
+        }
+        Example::Key(path) => {
+            let (semantics, reader) = (Semantics::Service1, Reader::Projection);
+            let verdict = check_path(semantics, reader, path, SCHEMA.as_bytes()).ok()?;
+            Some((DefectNumber::Reference.number(), verdict.fault()?.number()))
+        }
+        Example::Table(table) => {
+            let refused = Table::load(table.as_bytes(), &mut [0; TABLE_BYTES]).err()?;
+            Some((refused.number(), 0))
+        }
+    }
+}
+
+fn indented(text: &str) -> String {
+    text.lines().map(|line| format!("    {line}\n")).collect()
+}
+
+#[cfg(test)]
+#[allow(clippy::unwrap_used, clippy::panic)]
+mod tests {
+    use super::*;
+
+    fn asked(word: &str) -> Result<Asked, String> {
+        parse(&[word.into()])
+    }
+
+    #[test]
+    fn examples_show_what_they_are_for() {
+        assert_eq!(replayed(), (EXAMPLES.len(), Vec::new()));
+    }
+
+    #[test]
+    fn every_number_and_detail_is_explained() {
+        for &defect in DefectNumber::ALL {
+            let number = defect.number();
+            assert!(asked(&number.to_string()).unwrap().example().is_some());
+            let details = (1..).map_while(|detail| Detail::from_numbers(defect, detail));
+            for detail in details {
+                let one = asked(&format!("{number}.{}", detail.number())).unwrap();
+                assert!(one.text().contains(detail.text()));
+                assert!(one.example().is_some(), "{one:?}");
+            }
+        }
+        for number in [0, 1, 2, 3, 4, 5, 37, 38] {
+            assert!(asked(&number.to_string()).unwrap().text().lines().count() > 2);
+        }
+    }
+
+    #[test]
+    fn other_numbers_are_not() {
+        for word in [
+            "", "6", "18.0", "18.14", "13.1", "4.1", "18.", ".3", "x", "0.0", "99",
+        ] {
+            assert_eq!(asked(word), Err(EXPECTED.to_owned()), "{word}");
+        }
+        assert!(parse(&[]).is_err());
+        assert!(parse(&["18".into(), "19".into()]).is_err());
+    }
+}
