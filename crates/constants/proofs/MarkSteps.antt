@@ -22,7 +22,8 @@ use Rattle.validation.specs.Constant.{constantOf, markOf, markIf, marksOf, mark
 use Rattle.value_checks.specs.Nodes.{AreConditions, Behind, childrenOf, ChildrenFrom}
 use Rattle.value_checks.proofs.NodeSteps.{same-head, none-left, none-ends}
 use Rattle.value_checks.proofs.Opening.{beside, opened, opened-stand, conditions-unread}
-use Rattle.constants.specs.Marks.{truthBy, PairIs, ConstantBy, ConstantAt, MarkedOn, MarksAre, ConditionsMarked, RuleMarked}
+use Rattle.validation.specs.Marking.{MarksAre}
+use Rattle.constants.specs.Marks.{truthBy, PairIs, ConstantBy, ConstantAt, MarkedOn, ConditionsMarked, RuleMarked}
 use Rattle.constants.specs.declared.Constant.{Constant}
 use Rattle.constants.specs.declared.Constant.the-variants as Constant
 

@@ -15,6 +15,7 @@ use Rattle.definition.specs.Within.{valueEntries}
 use Rattle.rule.specs.Index.{ValueAt, RuleAt}
 use Rattle.buffer.specs.Bytes.{bytesOf}
 use Rattle.validation.specs.Constant.{literalInstant, constantOf, markIf, marksOfConditions, marksIn}
+use Rattle.validation.specs.Marking.{MarksAre}
 use Rattle.value_checks.specs.Nodes.{AreConditions}
 use Rattle.constants.specs.declared.Literal.{Literal}
 use Rattle.constants.specs.declared.Literal.the-variants as Literal
@@ -56,11 +57,6 @@ pub record MarkedOn (count entry : ℕ) (constant : Constant) (before after : Li
   pub most : r ≤ count + 1
   pub counted : r ≡ count + length (markIf entry (truthBy constant))
   pub written : after ≡ sets before (4 * count) (bytesOf (markIf entry (truthBy constant)))
-
--- these marks stand at the start, and so many they are
-pub record MarksAre (ms before after : List ℕ) (count : ℕ) : Type 0 where
-  pub counted : count ≡ length ms
-  pub written : after ≡ sets before 0 (bytesOf ms)
 
 -- the marks of the conditions that stand there
 pub record ConditionsMarked (rule words : List ℕ) (start end : ℕ) (before after : List ℕ) (count : ℕ) : Type 0 where

@@ -33,6 +33,7 @@ pub record SameButScratch (r r′ : Run) : Type 0 where
   pub table : r .table ≡ r′ .table
   pub schema : r .schema ≡ r′ .schema
   pub pathBefore : r .pathBefore ≡ r′ .pathBefore
+  pub marksLent : r .marksLent ≡ r′ .marksLent
 
 -- whether the scratch is long enough
 abbrev pub hasRoom : Run → Bool
@@ -69,7 +70,7 @@ demand-1 r m =
 
 same-answer : (r r′ : Run) → SameButScratch r r′ → hasRoom r ≡ hasRoom r′ → resultOf (callOf r) ≡ resultOf (callOf r′)
 unfolding callOf lentOf resultOf refusals early ofSettings ofSheets
-same-answer r r′ s room = rw (s .asked, s .table, s .schema, s .pathBefore, room) refl
+same-answer r r′ s room = rw (s .asked, s .table, s .schema, s .pathBefore, s .marksLent, room) refl
 
 pub demand-1-scratch : (r r′ : Run) → SameButScratch r r′ → hasRoom r ≡ hasRoom r′ → Meets r → Meets r′ → Demand1Scratch r r′
 demand-1-scratch r r′ s room m m′ =
