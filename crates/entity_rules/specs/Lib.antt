@@ -6,5 +6,7 @@ pub mod KeyEntryLaws
 pub mod WidensEntry
 pub mod WidensEntryLaws
 pub mod InstantEntry
+pub mod CheckEntry
+pub mod CheckEntryLaws
 pub mod BookEntry
 pub mod BookEntryLaws
