@@ -68,7 +68,7 @@ demand-1 r m =
       spares = λ l h. spares-scratch (heard (callOf r)) (m .scratch) (rw (m .result) at l) (rw (m .result) at h);
     }
 
-same-answer : (r r′ : Run) → SameButScratch r r′ → hasRoom r ≡ hasRoom r′ → resultOf (callOf r) ≡ resultOf (callOf r′)
+pub same-answer : (r r′ : Run) → SameButScratch r r′ → hasRoom r ≡ hasRoom r′ → resultOf (callOf r) ≡ resultOf (callOf r′)
 unfolding callOf lentOf resultOf refusals early ofSettings ofSheets
 same-answer r r′ s room = rw (s .asked, s .table, s .schema, s .pathBefore, s .marksLent, room) refl
 

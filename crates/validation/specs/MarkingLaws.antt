@@ -1,5 +1,5 @@
 -- What is promised of a mark list, for every run: a rule that isn't accepted gets no marks, one that is accepted gets its own, each of which is read back
--- as it was written, and under a widened schema it gets the same.
+-- as it was written; what the scratch held before never matters to them, and under a widened schema they are the same.
 use Prim.Native.Nat.{ℕ, _*_, _≤_, _<_}
 use native.Mathlib.Omega.{arith}
 use mathlib.Core.Bool.{true, false≢true}
@@ -18,14 +18,16 @@ use Rattle.validation.specs.Result.{Takes, Asked, Call, markBytes, Answe
 use Rattle.validation.specs.RefusalLaws.{is-set, none-due, none-of-either}
 use Rattle.validation.specs.Growth.{Widens}
 use Rattle.validation.specs.DemandLaws.{heard, number-accepted}
-use Rattle.validation.specs.Demands.{SameButSchema, demand-3}
+use Rattle.validation.specs.Demands.{SameButScratch, hasRoom, same-answer, SameButSchema, demand-3}
 use Rattle.validation.specs.ServiceCallLaws.{accepted-unrefused}
 use Rattle.validation.specs.Constant.{marksIn, marksIf, marksHeard}
-use Rattle.validation.specs.ConstantLaws.{marks-few, marks-small, marks-same}
+use Rattle.validation.specs.Marked.{Rises}
+use Rattle.validation.specs.ConstantLaws.{marks-rise, marks-few, marks-small, marks-same}
 use Rattle.validation.specs.Marking.{marksBy, MarksAre, MarkedRun, MeetsMarked, SameMarks}
 
--- an accepted rule's marks: so many are counted, each is read back from its four bytes, and all bytes behind them keep their values
+-- an accepted rule's marks: they rise, so many are counted, each is read back from its four bytes, and all bytes behind them keep their values
 pub record MarksStand (r : Rule) (m : MarkedRun) : Type 0 where
+  pub rise : Rises 0 (marksIn r)
   pub count : m .count ≡ length (marksIn r)
   pub reads : (i : ℕ) → i < m .count → fieldAt i (m .marks) ≡ getD (marksIn r) i 0
   pub past : drop (4 * m .count) (m .marks) ≡ drop (4 * m .count) (m .marksBefore)
@@ -89,19 +91,41 @@ module _ (m : MarkedRun) (meets : MeetsMarked m) where
         let due = none-due (early (callOf (m .run))) (none-of-either (callOf (m .run)) unrefused .0) in
         rw (meets .lent) at (leb-true markBytes (m .run .marksLent) (is-set _ (due .1 .1 .1 .0)))
 
-    pub accepted-stand : (r : Rule) → decodeRule (m .run .asked .rule) ≡ some r → MarksStand r m
+    marks-stand : (r : Rule) → decodeRule (m .run .asked .rule) ≡ some r → MarksStand r m
     unfolding callOf
-    accepted-stand r decodes =
+    marks-stand r decodes =
         let same = accepted-marks (callOf (m .run)) (acceptance .0) r (acceptance .1) decodes in
         let counted : m .count ≡ length (marksIn r) = meets .marks .counted ∙ ap length same in
         let written : m .marks ≡ sets (m .marksBefore) 0 (bytesOf (marksIn r)) = rw same at (meets .marks .written) in
         let few = marks-few (m .run .asked .rule) r decodes in
         let room : 4 * length (marksIn r) ≤ length (m .marksBefore) = omega (arith, roomy) in
         record {
+          rise = marks-rise (m .run .asked .rule) r decodes;
           count = counted;
           reads = λ i less. rw written (field-written (marksIn r) (m .marksBefore) room i (omega arith) (marks-small (m .run .asked .rule) r decodes));
           past = rw (counted, written) (past-written (marksIn r) (m .marksBefore) room);
         }
+
+    pub accepted-stand : (r : Rule) × (decodeRule (m .run .asked .rule) ≡ some r) × MarksStand r m
+    unfolding callOf
+    accepted-stand =
+        let (r, decodes) = accepted-rule (callOf (m .run)) (acceptance .0) (acceptance .1) in
+        (r, decodes, marks-stand r decodes)
+
+-- Demand 1's companion: what the scratch held before never matters to the marks.
+pub scratch-marks : (m m′ : MarkedRun)
+    → MeetsMarked m
+    → MeetsMarked m′
+    → SameButScratch (m .run) (m′ .run)
+    → hasRoom (m .run) ≡ hasRoom (m′ .run)
+    → m .marksBefore ≡ m′ .marksBefore
+    → (m .count ≡ m′ .count) × (m .marks ≡ m′ .marks)
+unfolding marksBy callOf
+scratch-marks m m′ meets meets′ s room before =
+    let same : marksBy (callOf (m .run)) ≡ marksBy (callOf (m′ .run)) = λ i. marksHeard (same-answer (m .run) (m′ .run) s room i) (decodeRule (s .asked i .rule)) in (
+      meets .marks .counted ∙ ap length same ∙ sym (meets′ .marks .counted),
+      meets .marks .written ∙ (λ i. sets (before i) 0 (bytesOf (same i))) ∙ sym (meets′ .marks .written),
+    )
 
 -- Two calls that accept one rule hand back the same marks, whatever their schemas, settings and tables are.
 pub accepting-same : (m m′ : MarkedRun)

@@ -1,4 +1,4 @@
-// The seven numbers of a result.
+// The seven numbers of a result, and the count of marks beside them.
 ghost use mathlib.Core.Path.{_≡_};
 ghost use Rattle.validation.specs.Result.{Answer, numbersOf};
 ghost use Rattle.validation.specs.Result as Result;

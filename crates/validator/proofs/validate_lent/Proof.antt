@@ -20,7 +20,7 @@ refused-requires-2 c κs = search needs
 
 returns-2 : tie.Need-returns-2
 returns-2 c =
-    meets-marks _ _ _ _ _ _ _ _ _ _ (c .before .before .before .refused-settings .ensures) (c .before .before .if1 .left) (c .before .if2 .taken) (c .refused2 .ensures)
+    meets-marks _ _ _ _ _ _ _ _ _ _ (c .before .before .before .refused-settings .ensures) (c .before .before .if1 .left) (omega (arith, c .before .if2 .taken)) (c .refused2 .ensures)
 
 settle-requires : tie.Need-settle-requires
 settle-requires c κs = search needs
@@ -44,7 +44,7 @@ check-sheet-requires c κs =
 
 returns-3 : tie.Need-returns-3
 returns-3 c =
-    meets-table _ _ _ _ _ _ _ _ _ _ (c .before .before .before .before .before .before .before .refused-settings .ensures) (c .before .before .before .before .before .before .if1 .left) (c .before .before .before .before .before .if2 .left) (rw (c .before .before .number .given .1) at (c .before .before .before .before .settle .ensures)) (c .refused3 .ensures)
+    meets-table _ _ _ _ _ _ _ _ _ _ (c .before .before .before .before .before .before .before .refused-settings .ensures) (c .before .before .before .before .before .before .if1 .left) (omega (arith, c .before .before .before .before .before .if2 .left)) (rw (c .before .before .number .given .1) at (c .before .before .before .before .settle .ensures)) (c .refused3 .ensures)
 
 same-length : tie.Need-same-length
 same-length c = search needs
@@ -54,7 +54,7 @@ same-length-2 c = search needs
 
 returns-4 : tie.Need-returns-4
 returns-4 c =
-    meets-sheets _ _ _ _ _ _ _ _ _ _ (c .before .before .before .before .before .before .before .before .before .before .before .before .before .before .before .before .before .refused-settings .ensures) (c .before .before .before .before .before .before .before .before .before .before .before .before .before .before .before .before .if1 .left) (c .before .before .before .before .before .before .before .before .before .before .before .before .before .before .before .if2 .left) _ (rw (c .before .before .before .before .before .before .before .before .before .before .before .before .setting .given .1) at (c .before .before .before .before .before .before .before .before .before .before .before .before .before .before .settle .ensures)) (c .before .before .before .before .before .before .before .before .before .read-schema .ensures) (c .before .before .before .before .check-sheet .ensures)
+    meets-sheets _ _ _ _ _ _ _ _ _ _ (c .before .before .before .before .before .before .before .before .before .before .before .before .before .before .before .before .before .refused-settings .ensures) (c .before .before .before .before .before .before .before .before .before .before .before .before .before .before .before .before .if1 .left) (omega (arith, c .before .before .before .before .before .before .before .before .before .before .before .before .before .before .before .if2 .left)) _ (rw (c .before .before .before .before .before .before .before .before .before .before .before .before .setting .given .1) at (c .before .before .before .before .before .before .before .before .before .before .before .before .before .before .settle .ensures)) (c .before .before .before .before .before .before .before .before .before .read-schema .ensures) (c .before .before .before .before .check-sheet .ensures)
 
 pub validate-lent-spec : {M : Type 1} → statement M
 validate-lent-spec =

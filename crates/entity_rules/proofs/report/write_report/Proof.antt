@@ -24,7 +24,7 @@ returns-2 : tie.Need-returns-2
 unfolding reportFields fieldsOf
 returns-2 c =
     record {
-      stands = report-written (c .before .before .before .before .before .before .before .before .args .report) (c .before .before .before .before .before .before .if1 .left) refl (c .before .before .put-numbers .ensures);
+      stands = report-written (c .before .before .before .before .before .before .before .before .args .report) (omega (arith, c .before .before .before .before .before .before .if1 .left)) refl (c .before .before .put-numbers .ensures);
       small = search (small-report, needs);
     }
 
