@@ -10,6 +10,9 @@
 #ifndef ENTITY_RULES_H
 #define ENTITY_RULES_H
 
+/* The version of this header and of the crate. */
+#define ENTITY_RULES_VERSION "0.1.0"
+
 #include <stddef.h>
 #include <stdint.h>
 
@@ -77,6 +80,44 @@ enum entity_rules_family {
   ENTITY_RULES_QUANTIFIER_BIND_INVALID = 6,
   ENTITY_RULES_QUANTIFIER_OVER_NOT_COLLECTION = 7,
   ENTITY_RULES_QUANTIFIER_BODY_SCOPE = 8
+};
+
+/* The detail of a defect 17. */
+enum entity_rules_side {
+  ENTITY_RULES_SIDE_LEFT = 1,
+  ENTITY_RULES_SIDE_RIGHT = 2
+};
+
+/* The detail of a defect 18: why a reference cannot be read. The last one is a key path's alone. */
+enum entity_rules_reference_fault {
+  ENTITY_RULES_REFERENCE_EMPTY_PATH = 1,
+  ENTITY_RULES_REFERENCE_UNKNOWN_ROOT = 2,
+  ENTITY_RULES_REFERENCE_UNKNOWN_PROPERTY = 3,
+  ENTITY_RULES_REFERENCE_ARRAY_MEMBER = 4,
+  ENTITY_RULES_REFERENCE_MAP_MEMBER = 5,
+  ENTITY_RULES_REFERENCE_AFTER_COUNT = 6,
+  ENTITY_RULES_REFERENCE_AFTER_TAG = 7,
+  ENTITY_RULES_REFERENCE_UNION_MEMBER = 8,
+  ENTITY_RULES_REFERENCE_NO_COUNT = 9,
+  ENTITY_RULES_REFERENCE_NO_MEMBER = 10,
+  ENTITY_RULES_REFERENCE_ROOT_NOT_AVAILABLE = 11,
+  ENTITY_RULES_REFERENCE_NO_SUCH_REFERENCE = 12,
+  ENTITY_RULES_REFERENCE_TEXT_COUNT = 13
+};
+
+/* The detail of a defect 20: why an operand is no instant. */
+enum entity_rules_instant_fault {
+  ENTITY_RULES_INSTANT_ESCAPED = 1,
+  ENTITY_RULES_INSTANT_UNREADABLE = 2
+};
+
+/* The detail of a defect 22: why that which a quantifier goes over is no collection. */
+enum entity_rules_collection_fault {
+  ENTITY_RULES_OVER_NOT_A_STRING = 1,
+  ENTITY_RULES_OVER_UNKNOWN_PROPERTY = 2,
+  ENTITY_RULES_OVER_NO_MEMBER = 3,
+  ENTITY_RULES_OVER_NOT_A_COLLECTION = 4,
+  ENTITY_RULES_OVER_NO_NAME = 5
 };
 
 /* The numbers of a result, by their index. */

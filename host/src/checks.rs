@@ -2,6 +2,7 @@
 
 use crate::limits::{PATH_BYTES, RESULT_BYTES};
 use crate::settings::{Kind, Semantics};
+use crate::sheets::{RuleBytes, SchemaBytes};
 use crate::verdict::{self, Refusal, Verdict};
 use crate::{numbers, raw};
 
@@ -75,7 +76,12 @@ impl<'a> Check<'a> {
     /// # Errors
     ///
     /// If the label, the table or one of the sheets is refused.
-    pub fn run(&self, schema: &[u8], rule: &[u8]) -> Result<Checked, Refusal> {
+    pub fn run<'s>(
+        &self,
+        schema: impl Into<SchemaBytes<'s>>,
+        rule: impl Into<RuleBytes<'s>>,
+    ) -> Result<Checked, Refusal> {
+        let (schema, rule) = (schema.into().0, rule.into().0);
         let mut path = vec![0; PATH_BYTES];
         let mut result = [0; RESULT_BYTES];
         let (kind, semantics) = (self.kind.number().into(), self.semantics.number().into());

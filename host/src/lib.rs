@@ -25,6 +25,7 @@ mod numbered;
 #[allow(unsafe_code)]
 pub mod raw;
 mod settings;
+mod sheets;
 mod table;
 mod verdict;
 mod widening;
@@ -38,6 +39,7 @@ pub use finite::{Finite, finite};
 pub use identity::{Identity, Packed, identity};
 pub use instant::{Instant, instant};
 pub use settings::{Kind, Name, Reader, Semantics, UnknownName};
+pub use sheets::{RuleBytes, RuleSheet, SchemaBytes, SchemaSheet};
 pub use table::{Table, TableError};
 pub use verdict::{
     CollectionFault, Defect, DefectNumber, Detail, Family, InstantFault, PathVerdict,
@@ -66,14 +68,15 @@ use limits::{PATH_BYTES, RESULT_BYTES};
 /// # Errors
 ///
 /// If the label or one of the sheets is refused.
-pub fn check(
+pub fn check<'a>(
     kind: Kind,
     semantics: Semantics,
     label: impl AsRef<[u8]>,
-    schema: &[u8],
-    rule: &[u8],
+    schema: impl Into<SchemaBytes<'a>>,
+    rule: impl Into<RuleBytes<'a>>,
 ) -> Result<Verdict, Refusal> {
-    match rule.first() {
+    let rule = rule.into();
+    match rule.0.first() {
         Some(b'T') => check_template(kind, semantics, label, schema, rule),
         _ => check_rule(kind, semantics, label, schema, rule),
     }
@@ -96,13 +99,14 @@ pub fn check(
 /// # Errors
 ///
 /// If the label or one of the sheets is refused; a template's sheet is.
-pub fn check_rule(
+pub fn check_rule<'a>(
     kind: Kind,
     semantics: Semantics,
     label: impl AsRef<[u8]>,
-    schema: &[u8],
-    rule: &[u8],
+    schema: impl Into<SchemaBytes<'a>>,
+    rule: impl Into<RuleBytes<'a>>,
 ) -> Result<Verdict, Refusal> {
+    let (schema, rule) = (schema.into().0, rule.into().0);
     call(raw::rule, kind, semantics, label.as_ref(), schema, rule)
 }
 
@@ -122,13 +126,14 @@ pub fn check_rule(
 /// # Errors
 ///
 /// If the label or one of the sheets is refused; a rule's sheet is.
-pub fn check_template(
+pub fn check_template<'a>(
     kind: Kind,
     semantics: Semantics,
     label: impl AsRef<[u8]>,
-    schema: &[u8],
-    rule: &[u8],
+    schema: impl Into<SchemaBytes<'a>>,
+    rule: impl Into<RuleBytes<'a>>,
 ) -> Result<Verdict, Refusal> {
+    let (schema, rule) = (schema.into().0, rule.into().0);
     call(raw::template, kind, semantics, label.as_ref(), schema, rule)
 }
 
@@ -155,12 +160,13 @@ pub fn check_template(
 /// # Errors
 ///
 /// If the path or the schema sheet is refused.
-pub fn check_path(
+pub fn check_path<'a>(
     semantics: Semantics,
     reader: Reader,
     path: impl AsRef<[u8]>,
-    schema: &[u8],
+    schema: impl Into<SchemaBytes<'a>>,
 ) -> Result<PathVerdict, Refusal> {
+    let schema = schema.into().0;
     let mut result = [0; RESULT_BYTES];
     let (semantics, reader) = (semantics.number().into(), reader.number().into());
     raw::path(semantics, reader, path.as_ref(), schema, &mut result);

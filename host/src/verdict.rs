@@ -1,6 +1,8 @@
 //! What a check answers (docs/FORMAT.md, "Answers", "Families", "Details").
 
+use crate::entries::{Malformed, read_rule, read_schema};
 use crate::numbered::numbered;
+use crate::sheets::{RuleBytes, SchemaBytes};
 use std::fmt;
 
 numbered! {
@@ -12,6 +14,7 @@ numbered! {
     /// assert_eq!(DefectNumber::from_number(18), Some(DefectNumber::Reference));
     /// assert_eq!(DefectNumber::Instant.word(), "instant");
     /// ```
+    #[non_exhaustive]
     DefectNumber {
         /// The rule's name.
         Name = 11, "the rule's name is blank";
@@ -74,6 +77,7 @@ numbered! {
     /// assert_eq!(Family::QuantifierBodyScope.name(), "QuantifierBodyScope");
     /// assert_eq!(Family::QuantifierBodyScope.to_string(), "a fault in the body of a quantifier");
     /// ```
+    #[non_exhaustive]
     Family {
         /// Name, message, literals, and faults of a rule outside quantifiers.
         InvalidRule = 1, "a fault of the rule";
@@ -116,6 +120,7 @@ numbered! {
     ///
     /// assert_eq!(ReferenceFault::NoCount.to_string(), "`count` of a field that has none");
     /// ```
+    #[non_exhaustive]
     ReferenceFault {
         /// As in `$fields.` or `$fields.a..b`.
         EmptyPath = 1, "the path, or the next segment of it, is empty";
@@ -152,6 +157,7 @@ numbered! {
     /// ```
     /// assert_eq!(entity_rules::InstantFault::Escaped.number(), 1);
     /// ```
+    #[non_exhaustive]
     InstantFault {
         /// A text that is kept from being a reference.
         Escaped = 1, "a text that begins with `$$` is no instant";
@@ -166,6 +172,7 @@ numbered! {
     /// ```
     /// assert_eq!(entity_rules::CollectionFault::NotAString.number(), 1);
     /// ```
+    #[non_exhaustive]
     CollectionFault {
         /// Another value.
         NotAString = 1, "`in` is not a string";
@@ -190,6 +197,7 @@ numbered! {
 /// assert_eq!(Detail::from_numbers(DefectNumber::Name, 9), None);
 /// ```
 #[derive(Clone, Copy, Debug, PartialEq, Eq, Hash)]
+#[non_exhaustive]
 pub enum Detail {
     /// The number says it all.
     None,
@@ -476,6 +484,7 @@ impl fmt::Display for PathVerdict {
 /// assert_eq!(Refusal::SchemaSheet.number(), 4);
 /// ```
 #[derive(Clone, Copy, Debug, PartialEq, Eq, Hash)]
+#[non_exhaustive]
 pub enum Refusal {
     /// 1: the kind, the semantics or the reader is not among the known ones.
     Setting,
@@ -536,6 +545,31 @@ impl Refusal {
             Self::TableForm => "table form",
             Self::TableMark => "table mark",
             Self::Unknown(_) => "unknown",
+        }
+    }
+
+    /// Where the sheet that was refused stops being one; none if it was not for a sheet of these.
+    ///
+    /// ```
+    /// use entity_rules::{check, Kind, Semantics};
+    ///
+    /// let (schema, rule) = (b"H,0,0,-,0\n", b"R,-,-,\nC,22,0,\n");
+    /// let refused = check(Kind::Invariant, Semantics::Kernel1, "r", schema, rule).unwrap_err();
+    /// let fault = refused.fault(schema, rule).ok_or("a fault")?;
+    /// assert_eq!((fault.entry, fault.byte), (2, 9));
+    /// assert_eq!(fault.to_string(), "entry 2, byte 9: expected an operator, 1 to 21");
+    /// # Ok::<(), Box<dyn std::error::Error>>(())
+    /// ```
+    #[must_use]
+    pub fn fault<'a>(
+        self,
+        schema: impl Into<SchemaBytes<'a>>,
+        rule: impl Into<RuleBytes<'a>>,
+    ) -> Option<Malformed> {
+        match self {
+            Self::SchemaSheet => read_schema(schema.into().0).err(),
+            Self::RuleSheet => read_rule(rule.into().0).err(),
+            _ => None,
         }
     }
 

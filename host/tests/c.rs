@@ -2,7 +2,8 @@
 
 use entity_rules::limits::{MAX_KEY_BYTES, PATH_BYTES, RESULT_BYTES, TABLE_BYTES};
 use entity_rules::{
-    BreachReason, DefectNumber, Family, Kind, Reader, ReferenceFault, Refusal, Semantics, Widening,
+    BreachReason, CollectionFault, DefectNumber, Family, InstantFault, Kind, Reader,
+    ReferenceFault, Refusal, Semantics, Side, Widening,
 };
 use std::path::{Path, PathBuf};
 use std::process::Command;
@@ -139,10 +140,30 @@ fn the_header_has_the_numbers_of_the_crate() {
         "NANOSECONDS",
     ];
     let fields = fields.into_iter().map(str::to_owned).zip(0..);
+    let named = |prefix: &str, all: Vec<(&str, u32)>| {
+        let named = |(name, number)| (format!("{prefix}_{}", spelled(name)), number);
+        all.into_iter().map(named).collect::<Vec<_>>()
+    };
+    let sides = Side::ALL.iter().map(|one| (one.name(), one.number()));
+    let references = ReferenceFault::ALL
+        .iter()
+        .map(|one| (one.name(), one.number()));
+    let instants = InstantFault::ALL
+        .iter()
+        .map(|one| (one.name(), one.number()));
+    let overs = CollectionFault::ALL
+        .iter()
+        .map(|one| (one.name(), one.number()));
+    let details = [
+        named("SIDE", sides.collect()),
+        named("REFERENCE", references.collect()),
+        named("INSTANT", instants.collect()),
+        named("OVER", overs.collect()),
+    ];
     let settings = kinds.chain(semantics).chain(readers);
     let answers = defects.chain(families).chain(refusals);
     let answers = answers.chain(reasons).chain(widenings).chain(fields);
-    for (name, number) in settings.chain(answers) {
+    for (name, number) in settings.chain(answers).chain(details.concat()) {
         let line = format!("  ENTITY_RULES_{name} = {number}");
         assert!(
             HEADER
@@ -161,4 +182,13 @@ fn the_header_has_the_numbers_of_the_crate() {
         let line = format!("\n#define ENTITY_RULES_{name} {number}\n");
         assert!(HEADER.contains(&line), "{line}");
     }
+}
+
+#[test]
+fn the_header_has_the_version_of_the_crate() {
+    let line = format!(
+        "\n#define ENTITY_RULES_VERSION \"{}\"\n",
+        env!("CARGO_PKG_VERSION")
+    );
+    assert!(HEADER.contains(&line), "{line}");
 }

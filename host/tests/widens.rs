@@ -4,8 +4,8 @@ mod support;
 
 use entity_rules::limits::RESULT_BYTES;
 use entity_rules::{
-    Breach, BreachReason, Condition, Field, FieldKind, Kind, Refusal, Rule, Schema, Semantics,
-    Widening, check_rule, raw, widens,
+    Breach, BreachReason, Condition, Field, FieldKind, Kind, Refusal, Rule, Schema, SchemaSheet,
+    Semantics, Widening, check_rule, raw, widens,
 };
 use std::collections::BTreeSet;
 use support::{Random, line, take};
@@ -105,7 +105,7 @@ fn every_schema_is_a_widening_of_itself() {
     });
 }
 
-fn sheet(schema: Schema) -> Vec<u8> {
+fn sheet(schema: Schema) -> SchemaSheet {
     schema.sheet().expect("a small schema")
 }
 
@@ -284,7 +284,7 @@ fn no_bytes_upset_it() {
     let good = sheet(old());
     let mut random = Random(7);
     for _ in 0..20_000 {
-        let mut bad = good.clone();
+        let mut bad = Vec::from(good.clone());
         let (at, byte) = (random.below(bad.len()), random.next() as u8);
         bad[at] = byte;
         bad.truncate(random.below(bad.len()) + 1 + 4 * at);

@@ -78,12 +78,12 @@ pub type File = (&'static str, Vec<u8>);
 /// All files of this folder.
 pub fn files() -> Result<[File; 7], Box<dyn Error>> {
     Ok([
-        ("pattern.schema", pattern().sheet()?),
-        ("wider.schema", wider().sheet()?),
-        ("release.rule", release().sheet()?),
-        ("misspelt.rule", misspelt().sheet()?),
-        ("fits.rule", fits().sheet()?),
-        ("branch.rule", branch().sheet()?),
+        ("pattern.schema", pattern().sheet()?.into()),
+        ("wider.schema", wider().sheet()?.into()),
+        ("release.rule", release().sheet()?.into()),
+        ("misspelt.rule", misspelt().sheet()?.into()),
+        ("fits.rule", fits().sheet()?.into()),
+        ("branch.rule", branch().sheet()?.into()),
         ("own.table", own().sheet()?),
     ])
 }
