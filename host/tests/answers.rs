@@ -109,7 +109,7 @@ fn for_each_case(mut look: impl FnMut(&Case)) {
         look(&Case::new(file, take(&mut rest, counts.1)));
         count += 1;
     }
-    assert_eq!(count, 5_332);
+    assert_eq!(count, 5_427);
 }
 
 #[test]

@@ -1,10 +1,12 @@
 -- Numbers as bytes: one list behind the other, how long they are, and each number read back as it was written.
-use Prim.Native.Nat.{ℕ, zero, suc, _+_, _*_, _/_, _%_, _^_, _<_}
+use Prim.Native.Nat.{ℕ, zero, suc, _+_, _*_, _/_, _%_, _^_, _≤_, _<_}
 use native.Mathlib.Omega.{arith}
 use mathlib.Core.List.{List, [], _∷_, _++_, append-assoc, append-nil}
-use mathlib.Core.Path.{_≡_, refl, _∙_}
-use lib.ListN.{length, getD}
-use Rattle.buffer.specs.Bytes.{littleEndian, bytesOf, InFourBytes, no-more, one-more, numberAt}
+use mathlib.Core.Path.{_≡_, refl, sym, _∙_}
+use lib.ListN.{length, drop, getD}
+use lib.Seq.{sets, sets-eq, length-sets, drop-append-seam}
+use borrow.Author.Tests.{le-leb}
+use Rattle.buffer.specs.Bytes.{littleEndian, bytesOf, InFourBytes, no-more, one-more, numberAt, fieldAt}
 
 pub bytes-append : (xs ys : List ℕ) → bytesOf (xs ++ ys) ≡ bytesOf xs ++ bytesOf ys
 unfolding bytesOf
@@ -55,3 +57,22 @@ number-of-bytes [] i rest less no-more = absurd (omega arith)
 number-of-bytes (n ∷ ns) zero rest less (one-more h hs) = rw append-assoc (number-first n (bytesOf ns ++ rest) h)
 number-of-bytes (n ∷ ns) (suc i) rest less (one-more h hs) =
     rw append-assoc (number-later n i (bytesOf ns ++ rest) ∙ number-of-bytes ns i rest (omega arith) hs)
+
+-- Numbers written to the start of a buffer that has room for them: each is read back, and the bytes behind them keep their values.
+module _ (ns before : List ℕ) (room : 4 * length ns ≤ length before) where
+  spelt : sets before 0 (bytesOf ns) ≡ bytesOf ns ++ drop (4 * length ns) before
+  spelt =
+      let size = bytes-length ns in
+      let behind : 0 + length (bytesOf ns) ≡ 4 * length ns = omega arith in
+      rw behind at (sets-eq (bytesOf ns) before 0 (omega arith))
+
+  pub field-written : (i : ℕ) → i < length ns → InFourBytes ns → fieldAt i (sets before 0 (bytesOf ns)) ≡ getD ns i 0
+  unfolding fieldAt
+  field-written i less small =
+      let size = length-sets before 0 (bytesOf ns) in
+      rw (le-leb (4 * i + 4) (length (sets before 0 (bytesOf ns))) (omega arith), spelt) (number-of-bytes ns i _ less small)
+
+  pub past-written : drop (4 * length ns) (sets before 0 (bytesOf ns)) ≡ drop (4 * length ns) before
+  past-written =
+      let size : 4 * length ns ≡ length (bytesOf ns) = sym (bytes-length ns) in
+      rw spelt (rw size (drop-append-seam (bytesOf ns) (drop (length (bytesOf ns)) before)))

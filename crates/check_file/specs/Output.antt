@@ -2,7 +2,7 @@
 use Prim.Native.Nat.{ℕ}
 use mathlib.Core.List.{List, []}
 use mathlib.Core.Option.{Option, none, some}
-use Rattle.validation.specs.Result.{Call, any, Answer, refused, accepted, defect, pathBytes, scratchWords, resultOf, numbersOf}
+use Rattle.validation.specs.Result.{Call, any, Answer, refused, accepted, defect, pathBytes, scratchWords, markBytes, resultOf, numbersOf}
 use Rattle.check_file.specs.File.{Parts, takenApart}
 use Rattle.check_file.specs.Line.{lineOf}
 
@@ -13,7 +13,7 @@ callFor p =
       asked = record { takes = any; kind = p .kind; semantics = p .semantics; label = p .label; rule = p .rule };
       table = [];
       schema = p .schema;
-      lent = record { path = pathBytes; scratch = scratchWords };
+      lent = record { widths = record { path = pathBytes; scratch = scratchWords }; marks = markBytes };
     }
 
 unfoldable pub pathIn : Answer → List ℕ

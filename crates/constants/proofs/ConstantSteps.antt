@@ -1,9 +1,10 @@
 -- Which conditions are constant, step by step.
-use Prim.Native.Nat.{ℕ, _+_}
+use Prim.Native.Nat.{ℕ, _+_, _<_}
+use native.Mathlib.Omega.{arith}
 use mathlib.Core.Bool.{Bool}
 use mathlib.Core.List.{List}
 use mathlib.Core.Option.{Option, none, some, Option·none-ne-some}
-use mathlib.Core.Path.{_≡_, refl, sym, _∙_}
+use mathlib.Core.Path.{_≡_, refl, _∙_}
 use borrow.Author.Tests.{ne-eqb}
 use Rattle.timestamp.specs.Order.{isEarlier}
 use Rattle.timestamp.specs.declared.Fields.{Fields}
@@ -50,6 +51,13 @@ one-entry (number e digits) f h = refl
 one-entry (string e t) f h = refl
 one-entry (array e values) f h = absurd (Option·none-ne-some f h)
 one-entry (object e pairs) f h = absurd (Option·none-ne-some f h)
+
+-- an operator behind `after` makes no condition constant
+pub other-none : (op : ℕ) → 7 < op → (o p : Option Fields) → truthIn op o p ≡ none
+unfolding truthIn truthBy
+other-none op more none p = refl
+other-none op more (some f) none = refl
+other-none op more (some f) (some g) = truth-none op f g (λ e. omega arith) (λ e. omega arith)
 
 right-none : (op : ℕ) (o : Option Fields) → truthIn op o none ≡ none
 unfolding truthIn

@@ -1,2 +1,3 @@
 pub mod ConstantSteps
+pub mod PlainSteps
 pub mod MarkSteps

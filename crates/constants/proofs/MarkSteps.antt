@@ -22,7 +22,8 @@ use Rattle.validation.specs.Constant.{constantOf, markOf, markIf, marksOf, mark
 use Rattle.value_checks.specs.Nodes.{AreConditions, Behind, childrenOf, ChildrenFrom}
 use Rattle.value_checks.proofs.NodeSteps.{same-head, none-left, none-ends}
 use Rattle.value_checks.proofs.Opening.{beside, opened, opened-stand, conditions-unread}
-use Rattle.constants.specs.Marks.{truthBy, PairIs, ConstantBy, ConstantAt, MarkedOn, MarksAre, ConditionsMarked, RuleMarked}
+use Rattle.validation.specs.Marking.{MarksAre}
+use Rattle.constants.specs.Marks.{truthBy, PairIs, ConstantBy, ConstantAt, MarkedOn, Unmarked, ConditionsMarked, RuleMarked}
 use Rattle.constants.specs.declared.Constant.{Constant}
 use Rattle.constants.specs.declared.Constant.the-variants as Constant
 
@@ -134,6 +135,20 @@ module _ {rule words : List ℕ} {i end own at behind next : ℕ} {h : Head} {k 
             ∙ sym (append-assoc (l .done cs w) (markIf (i + 1) (truthBy k)) (marksOfConditions (opened (l .rest cs w))));
         marks = λ cs w. marks-then (l .marks cs w) m;
       }
+
+-- conditions without a mark are passed over
+pub left-unmarked : {rule words : List ℕ} {from i next end count : ℕ} {before now : List ℕ}
+    → MarksLeft rule words from i end before now count
+    → Unmarked rule words i end next
+    → MarksLeft rule words from next end before now count
+left-unmarked l u =
+    record {
+      rest = λ cs w. u .rest (l .rest cs w) (l .stand cs w);
+      stand = λ cs w. u .stand (l .rest cs w) (l .stand cs w);
+      done = l .done;
+      whole = λ cs w. l .whole cs w ∙ ap (λ (ms : List ℕ). l .done cs w ++ ms) (u .same (l .rest cs w) (l .stand cs w));
+      marks = l .marks;
+    }
 
 module _ {rule words : List ℕ} {from i end count : ℕ} {before now : List ℕ} (l : MarksLeft rule words from i end before now count) where
   pub left-all : end ≤ i → ConditionsMarked rule words from end before now count

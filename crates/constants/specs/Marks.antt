@@ -1,10 +1,10 @@
 -- What the mark pass answers for the words of an index.
 use Prim.Native.Nat.{ℕ, _+_, _*_, _≤_}
-use mathlib.Core.Bool.{Bool}
+use mathlib.Core.Bool.{Bool, true, false}
 use mathlib.Core.List.{List}
 use mathlib.Core.Option.{Option, none, some}
 use mathlib.Core.Path.{_≡_}
-use lib.ListN.{length}
+use lib.ListN.{length, getD}
 use lib.Seq.{sets}
 use Rattle.timestamp.specs.declared.Fields.{Fields}
 use Rattle.sheet.specs.Entries.{ConditionHead, literalHead, manyHead, negationHead, oneHead, twoHead, comparisonHead, quantifierHead}
@@ -15,6 +15,7 @@ use Rattle.definition.specs.Within.{valueEntries}
 use Rattle.rule.specs.Index.{ValueAt, RuleAt}
 use Rattle.buffer.specs.Bytes.{bytesOf}
 use Rattle.validation.specs.Constant.{literalInstant, constantOf, markIf, marksOfConditions, marksIn}
+use Rattle.validation.specs.Marking.{MarksAre}
 use Rattle.value_checks.specs.Nodes.{AreConditions}
 use Rattle.constants.specs.declared.Literal.{Literal}
 use Rattle.constants.specs.declared.Literal.the-variants as Literal
@@ -57,10 +58,22 @@ pub record MarkedOn (count entry : ℕ) (constant : Constant) (before after : Li
   pub counted : r ≡ count + length (markIf entry (truthBy constant))
   pub written : after ≡ sets before (4 * count) (bytesOf (markIf entry (truthBy constant)))
 
--- these marks stand at the start, and so many they are
-pub record MarksAre (ms before after : List ℕ) (count : ℕ) : Type 0 where
-  pub counted : count ≡ length ms
-  pub written : after ≡ sets before 0 (bytesOf ms)
+-- the first digit of an operator that holds no condition and is neither `before` nor `after`: not 2, 3 or 4, with which 20 and 21 begin too, and not 6 or 7
+pub record PlainDigit (b : ℕ) : Type 0 where
+  pub holdsNone : 50 ≤ b → b ≤ 52 → ⊥
+  pub comparesNone : 54 ≤ b → b ≤ 55 → ⊥
+
+-- what is told of the entry at `at` by the first digit of its operator
+abbrev pub PlainAt : (rule : List ℕ) (at : ℕ) (r : Bool) → Type 0
+PlainAt rule at true = PlainDigit (getD rule (at + 2) 0)
+PlainAt rule at false = Unit {0}
+
+-- the conditions from word `start` up to word `i` have no mark: those that are left have all
+pub record Unmarked (rule words : List ℕ) (start end i : ℕ) : Type 0 where
+  pub forth : start ≤ i
+  pub rest : (cs : Conditions) → AreConditions rule words start end cs → Conditions
+  pub stand : (cs : Conditions) (w : AreConditions rule words start end cs) → AreConditions rule words i end (rest cs w)
+  pub same : (cs : Conditions) (w : AreConditions rule words start end cs) → marksOfConditions cs ≡ marksOfConditions (rest cs w)
 
 -- the marks of the conditions that stand there
 pub record ConditionsMarked (rule words : List ℕ) (start end : ℕ) (before after : List ℕ) (count : ℕ) : Type 0 where

@@ -18,7 +18,7 @@ use value_checks::operand::instant_form;
 ghost use mathlib.Core.Path.{_≡_};
 ghost use Prim.Native.Nat.{_+_, _<_, _≤_};
 ghost use Rattle.validation.specs.Constant.{truthOf, markOf};
-ghost use Rattle.constants.specs.Marks.{truthBy, LiteralAt, PairIs, ConstantAt, MarkedOn, ConditionsMarked, RuleMarked};
+ghost use Rattle.constants.specs.Marks.{truthBy, LiteralAt, PairIs, ConstantAt, MarkedOn, PlainAt, Unmarked, ConditionsMarked, RuleMarked};
 
 // The operator's number, as AFTER is.
 const BEFORE: usize = 6;
@@ -107,19 +107,62 @@ fn mark(count: usize, entry: usize, constant: Constant, marks: &mut [u8]) -> usi
     count + 1
 }
 
+// Whether the entry at `at`, if it is a condition's, holds no condition and is neither `before` nor `after`. Its operator's first digit tells: such
+// conditions have the operators 1, 5, and 8 to 19.
+fn is_plain(rule: &[u8], at: usize) -> bool
+    ensures { λ r. ⌜ PlainAt (now (rule .entry)) at r ⌝ }
+{
+    if rule.len() <= 2 {
+        return false;
+    }
+    if rule.len() - 2 <= at {
+        return false;
+    }
+    let digit = rule[at + 2];
+    if digit < b'2' {
+        return true;
+    }
+    if digit <= b'4' {
+        return false;
+    }
+    if digit == b'6' {
+        return false;
+    }
+    if digit == b'7' {
+        return false;
+    }
+    true
+}
+
+// Passes over conditions from word `start` on that have no mark, without reading them.
+fn behind_plain(rule: &[u8], words: &[u32], start: usize, end: usize) -> usize
+    ensures { λ r. ⌜ Unmarked (now (rule .entry)) (now (words .entry)) start end r ⌝ }
+{
+    let mut i = start;
+    while i < end {
+        if is_plain(rule, start_of(words, i)) {
+            i = behind(words, i, end);
+        } else {
+            return i;
+        }
+    }
+    i
+}
+
 // The conditions from word `start` up to word `end`, and all that these hold, in the order of the sheet.
 fn mark_conditions(rule: &[u8], words: &[u32], start: usize, end: usize, marks: &mut [u8]) -> usize
     requires { ⌜ end < 4096 ⌝ }
     ensures { λ r. ⌜ ConditionsMarked (now (rule .entry)) (now (words .entry)) start end (now (marks .entry)) (now (marks .exit)) r ⌝ }
 {
     let mut count = 0;
-    let mut i = start;
+    let mut i = behind_plain(rule, words, start, end);
     while i < end {
         let ConditionRead::Is(head, _) = condition_head(rule, start_of(words, i)) else {
             return count;
         };
         count = mark(count, i + 1, constant_at(rule, words, head, i), marks);
-        i = children_from(words, head, i, behind(words, i, end));
+        let next = children_from(words, head, i, behind(words, i, end));
+        i = behind_plain(rule, words, next, end);
     }
     count
 }

@@ -24,5 +24,7 @@ pub const PATH_BYTES: usize = 32768;
 
 pub const SCRATCH_WORDS: usize = 4096;
 
+pub const MARK_BYTES: usize = 8192;
+
 // The longest file that the program reads.
 pub const MAX_FILE_BYTES: usize = 65536;

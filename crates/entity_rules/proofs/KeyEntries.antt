@@ -11,7 +11,7 @@ use Rattle.validation.specs.KeyLaws.{key-heard, keyCapped, key-capped-same}
 use Rattle.validator.specs.Outcomes.{numbersBy}
 use Rattle.validator.specs.declared.outcome.Outcome.{Outcome}
 use Rattle.key_path.specs.Keys.{keyRunOf}
-use Rattle.entity_rules.specs.Entry.{pathLent, resultAfter, EntryAnswered, Written}
+use Rattle.entity_rules.specs.Entry.{resultBytes, pathLent, resultAfter, EntryAnswered, Written}
 use Rattle.entity_rules.specs.KeyEntry.{keyEntryCall, keyEntryAnswer}
 use Rattle.entity_rules.proofs.Entries.{lent-within}
 
@@ -26,20 +26,20 @@ module _ (semantics reader : ℕ) (path schema result : List ℕ) where
   made : (s k lent : ℕ) (r : Outcome) (last : List ℕ)
       → s ≡ min semantics 9
       → k ≡ min reader 9
-      → lent ≡ pathLent scratchWords (length result)
+      → lent ≡ pathLent resultBytes scratchWords (length result)
       → keyResultOf (keyCallOf (keyRunOf s k path schema (take (lent - 0) (replicate scratchWords 0)) r last))
       ≡ keyEntryAnswer semantics reader path schema (length result)
   unfolding keyCallOf keyEntryAnswer keyEntryCall keyCapped
   made s k lent r last es ek el =
       let part : length (take (lent - 0) (replicate {A = ℕ} scratchWords 0)) ≡ lent =
-      simp (length-take, length-replicate) (omega (arith, lent-within scratchWords (length result)))
+      simp (length-take, length-replicate) (omega (arith, lent-within resultBytes scratchWords (length result)))
       in
       rw (part, es, ek, el) (key-capped-same 9 (keyEntryCall semantics reader path schema (length result)) (omega arith))
 
   pub key-answered : {s k lent : ℕ} (r : Outcome) (last : List ℕ) {resultNow : List ℕ}
       → s ≡ min semantics 9
       → k ≡ min reader 9
-      → lent ≡ pathLent scratchWords (length result)
+      → lent ≡ pathLent resultBytes scratchWords (length result)
       → MeetsKey (keyRunOf s k path schema (take (lent - 0) (replicate scratchWords 0)) r last)
       → Written r result resultNow
       → EntryAnswered (keyEntryAnswer semantics reader path schema (length result)) [] [] result resultNow (r .number)

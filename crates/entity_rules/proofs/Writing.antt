@@ -9,7 +9,9 @@ use Rattle.buffer.specs.Wrote.{Wrote}
 use Rattle.buffer.specs.Bytes.{bytesOf, InFourBytes, no-more, one-more, numberAt, fieldAt}
 use Rattle.validator.specs.Outcomes.{numbersBy}
 use Rattle.validator.specs.declared.outcome.Outcome.{Outcome}
+use Rattle.validator.specs.declared.outcome.Report.{Report}
 use Rattle.entity_rules.specs.Entry.{resultBytes, fieldsOf, resultAfter}
+use Rattle.entity_rules.specs.CheckEntry.{reportBytes, reportFields, reportAfter}
 
 pub result-short : (o : Outcome) (l : List ℕ) → length l < resultBytes → l ≡ resultAfter (numbersBy o) l
 unfolding resultAfter
@@ -21,6 +23,17 @@ pub result-written : (o : Outcome) {ns before after : List ℕ} {next : ℕ} →
     → after ≡ resultAfter (numbersBy o) before
 unfolding resultAfter
 result-written o {before = before} room e w = rw (le-leb resultBytes (length before) room, ← e) (w .stands)
+
+pub report-short : (r : Report) (l : List ℕ) → length l < reportBytes → l ≡ reportAfter (numbersBy (r .outcome)) (r .marks) l
+unfolding reportAfter
+report-short r l short = rw (lt-leb reportBytes (length l) short)
+
+pub report-written : (r : Report) {ns before after : List ℕ} {next : ℕ} → reportBytes ≤ length before
+    → ns ≡ reportFields (numbersBy (r .outcome)) (r .marks)
+    → Wrote before after 0 (bytesOf ns) next
+    → after ≡ reportAfter (numbersBy (r .outcome)) (r .marks) before
+unfolding reportAfter
+report-written r {before = before} room e w = rw (le-leb reportBytes (length before) room, ← e) (w .stands)
 
 pub field-missing : (index : ℕ) (l : List ℕ) → length l < index * 4 + 4 → 0 ≡ fieldAt index l
 unfolding fieldAt
@@ -38,3 +51,10 @@ pub small-numbers : (o : Outcome) → o .number < 2 ^ 32 → o .family < 2 ^ 32 
 unfolding fieldsOf
 small-numbers o number family detail place over passed size =
     one-more number (one-more family (one-more detail (one-more place (one-more over (one-more passed (one-more size no-more))))))
+
+pub small-report : (r : Report) → r .outcome .number < 2 ^ 32 → r .outcome .family < 2 ^ 32 → r .outcome .detail < 2 ^ 32 → r .outcome .place < 2 ^ 32
+    → r .outcome .«over_place» < 2 ^ 32 → r .outcome .passed < 2 ^ 32 → r .outcome .«path_length» < 2 ^ 32 → r .marks < 2 ^ 32
+    → InFourBytes (reportFields (numbersBy (r .outcome)) (r .marks))
+unfolding reportFields fieldsOf
+small-report r number family detail place over passed size count =
+    one-more number (one-more family (one-more detail (one-more place (one-more over (one-more passed (one-more size (one-more count no-more)))))))

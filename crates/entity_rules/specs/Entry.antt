@@ -7,7 +7,7 @@ use lib.Dec.{leb}
 use lib.ListN.{length, replicate}
 use lib.Seq.{sets}
 use Rattle.buffer.specs.Bytes.{bytesOf, InFourBytes, fieldAt}
-use Rattle.validation.specs.Result.{Takes, Call, Answer, Numbers, resultOf, numbersOf, pathAfter, scratchWords, Run}
+use Rattle.validation.specs.Result.{Takes, Call, Answer, Numbers, resultOf, numbersOf, pathAfter, scratchWords, markBytes, Run}
 use Rattle.validator.specs.declared.outcome.Outcome.{Outcome}
 use Rattle.validator.specs.Outcomes.{numbersBy}
 
@@ -31,24 +31,29 @@ fieldsOf n =
 unfoldable pub resultAfter : Numbers → List ℕ → List ℕ
 resultAfter n before = cond (leb resultBytes (length before)) (sets before 0 (bytesOf (fieldsOf n))) before
 
--- A result buffer under 28 bytes is refusal 3, as a path buffer under 32,768 bytes is. So the path buffer counts as empty there:
+-- A result buffer with too few bytes is refusal 3, as a path buffer under 32,768 bytes is. So the path buffer counts as empty there:
 -- 3 then falls due in its place, after 1 and 2 and before the sheets.
-unfoldable pub pathLent : (pathLength resultLength : ℕ) → ℕ
-pathLent pathLength resultLength = cond (leb resultBytes resultLength) pathLength 0
+unfoldable pub pathLent : (need pathLength resultLength : ℕ) → ℕ
+pathLent need pathLength resultLength = cond (leb need resultLength) pathLength 0
 
--- the call that a C function makes, with a scratch of its own
-unfoldable pub entryCall : Takes → (kind semantics : ℕ) (label table schema rule : List ℕ) (pathLength resultLength : ℕ) → Call
-entryCall takes kind semantics label table schema rule pathLength resultLength =
+-- the call that a C function makes whose result needs so many bytes, with a scratch of its own
+unfoldable pub entryCall : Takes → (kind semantics : ℕ) (label table schema rule : List ℕ) (need pathLength marksLength resultLength : ℕ) → Call
+entryCall takes kind semantics label table schema rule need pathLength marksLength resultLength =
     record {
       asked = record { takes = takes; kind = kind; semantics = semantics; label = label; rule = rule };
       table = table;
       schema = schema;
-      lent = record { path = pathLent pathLength resultLength; scratch = scratchWords };
+      lent =
+          record {
+            widths = record { path = pathLent need pathLength resultLength; scratch = scratchWords };
+            marks = marksLength;
+          };
     }
 
-unfoldable pub entryAnswer : Takes → (kind semantics : ℕ) (label table schema rule : List ℕ) (pathLength resultLength : ℕ) → Answer
-entryAnswer takes kind semantics label table schema rule pathLength resultLength =
-    resultOf (entryCall takes kind semantics label table schema rule pathLength resultLength)
+-- the answer of one that is lent neither a name table nor a mark list
+unfoldable pub entryAnswer : Takes → (kind semantics : ℕ) (label schema rule : List ℕ) (pathLength resultLength : ℕ) → Answer
+entryAnswer takes kind semantics label schema rule pathLength resultLength =
+    resultOf (entryCall takes kind semantics label [] schema rule resultBytes pathLength markBytes resultLength)
 
 -- what is returned, and both buffers; since the numbers are small, they can be read back (EntryLaws, `field-of-answer`)
 pub record EntryAnswered (answer : Answer) (pathBefore pathNow resultBefore resultNow : List ℕ) (r : ℕ) : Type 0 where
@@ -72,14 +77,15 @@ numbersIn bytes =
 
 -- What a host hands over and what it has after the call, as a run. The scratch is the function's own: nobody sees what it holds, so it
 -- counts as unchanged.
-unfoldable pub entryRun : Takes → (kind semantics : ℕ) (label table schema rule pathBefore pathNow resultNow : List ℕ) → Run
-entryRun takes kind semantics label table schema rule pathBefore pathNow resultNow =
+unfoldable pub entryRun : Takes → (kind semantics : ℕ) (label table schema rule pathBefore : List ℕ) (marksLength : ℕ) (pathNow resultNow : List ℕ) → Run
+entryRun takes kind semantics label table schema rule pathBefore marksLength pathNow resultNow =
     record {
       asked = record { takes = takes; kind = kind; semantics = semantics; label = label; rule = rule };
       table = table;
       schema = schema;
       pathBefore = pathBefore;
       scratchBefore = replicate scratchWords 0;
+      marksLent = marksLength;
       result = numbersIn resultNow;
       path = pathNow;
       scratch = replicate scratchWords 0;

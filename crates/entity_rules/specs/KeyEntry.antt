@@ -4,7 +4,7 @@ use mathlib.Core.List.{List}
 use lib.ListN.{replicate}
 use Rattle.validation.specs.Result.{Answer, scratchWords}
 use Rattle.validation.specs.KeyPath.{KeyCall, keyResultOf, KeyRun}
-use Rattle.entity_rules.specs.Entry.{pathLent, numbersIn}
+use Rattle.entity_rules.specs.Entry.{resultBytes, pathLent, numbersIn}
 
 -- the call that it makes, with a scratch of its own, which counts as empty where the result has no room
 unfoldable pub keyEntryCall : (semantics reader : ℕ) (path schema : List ℕ) (resultLength : ℕ) → KeyCall
@@ -14,7 +14,7 @@ keyEntryCall semantics reader path schema resultLength =
       reader = reader;
       path = path;
       schema = schema;
-      scratchLength = pathLent scratchWords resultLength;
+      scratchLength = pathLent resultBytes scratchWords resultLength;
     }
 
 unfoldable pub keyEntryAnswer : (semantics reader : ℕ) (path schema : List ℕ) (resultLength : ℕ) → Answer

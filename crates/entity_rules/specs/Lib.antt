@@ -6,5 +6,9 @@ pub mod KeyEntryLaws
 pub mod WidensEntry
 pub mod WidensEntryLaws
 pub mod InstantEntry
+pub mod CheckEntry
+pub mod CheckEntryLaws
+pub mod Exchange
+pub mod EntryDemands
 pub mod BookEntry
 pub mod BookEntryLaws

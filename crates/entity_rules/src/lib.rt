@@ -1,5 +1,6 @@
 // The checker as C functions for a host. Each call brings a scratch of its own.
 mod result; // result.rt: the seven numbers as bytes
+mod report; // report.rt: a check with a name table and a mark list
 mod change; // change.rt: what is answered about two schema sheets
 mod book; // book.rt: a whole rule book
 
@@ -20,7 +21,7 @@ ghost use Prim.Native.Nat.{min};
 ghost use lib.ListN.{length};
 ghost use Rattle.buffer.specs.Bytes.{fieldAt};
 ghost use Rattle.validation.specs.Loading.{loadNumber, loadAfter};
-ghost use Rattle.validation.specs.Result.{any, rules, templates};
+ghost use Rattle.validation.specs.Result.{rules, templates};
 ghost use Rattle.validator.specs.Sheets.{takesOf};
 ghost use Rattle.entity_rules.specs.Entry.{pathLent, entryAnswer, EntryAnswered};
 ghost use Rattle.entity_rules.specs.KeyEntry.{keyEntryAnswer};
@@ -36,10 +37,10 @@ fn setting(n: u64) -> u32
 }
 
 // How much of a buffer is lent: nothing where the result would have no room, so that both are refused as width.
-fn path_lent(path: usize, result: usize) -> usize
-    ensures { λ r. ⌜ r ≡ pathLent path result ⌝ }
+fn path_lent(need: usize, path: usize, result: usize) -> usize
+    ensures { λ r. ⌜ r ≡ pathLent need path result ⌝ }
 {
-    if result < RESULT_BYTES { 0 } else { path }
+    if result < need { 0 } else { path }
 }
 
 fn check(
@@ -47,22 +48,21 @@ fn check(
     kind: u64,
     semantics: u64,
     label: &[u8],
-    table: &[u8],
     schema: &[u8],
     rule: &[u8],
     path: &mut [u8],
     result: &mut [u8],
 ) -> u32
-    ensures { λ r. ⌜ EntryAnswered (entryAnswer (takesOf takes) kind semantics (now (label .entry)) (now (table .entry)) (now (schema .entry)) (now (rule .entry)) (length (now (path .entry))) (length (now (result .entry)))) (now (path .entry)) (now (path .exit)) (now (result .entry)) (now (result .exit)) r ⌝ }
+    ensures { λ r. ⌜ EntryAnswered (entryAnswer (takesOf takes) kind semantics (now (label .entry)) (now (schema .entry)) (now (rule .entry)) (length (now (path .entry))) (length (now (result .entry)))) (now (path .entry)) (now (path .exit)) (now (result .entry)) (now (result .exit)) r ⌝ }
 {
     let mut scratch = [0u32; SCRATCH_WORDS];
-    let lent = path_lent(path.len(), result.len());
+    let lent = path_lent(RESULT_BYTES, path.len(), result.len());
     let outcome = validate_under(
         takes,
         setting(kind),
         setting(semantics),
         label,
-        table,
+        b"",
         schema,
         rule,
         &mut path[0..lent],
@@ -83,14 +83,13 @@ pub extern "C" fn rulecheck_rule(
     path: &mut [u8],
     result: &mut [u8],
 ) -> u32
-    ensures { λ r. ⌜ EntryAnswered (entryAnswer rules kind semantics (now (label .entry)) [] (now (schema .entry)) (now (rule .entry)) (length (now (path .entry))) (length (now (result .entry)))) (now (path .entry)) (now (path .exit)) (now (result .entry)) (now (result .exit)) r ⌝ }
+    ensures { λ r. ⌜ EntryAnswered (entryAnswer rules kind semantics (now (label .entry)) (now (schema .entry)) (now (rule .entry)) (length (now (path .entry))) (length (now (result .entry)))) (now (path .entry)) (now (path .exit)) (now (result .entry)) (now (result .exit)) r ⌝ }
 {
     check(
         Takes::Rules,
         kind,
         semantics,
         label,
-        b"",
         schema,
         rule,
         path,
@@ -109,41 +108,13 @@ pub extern "C" fn rulecheck_template(
     path: &mut [u8],
     result: &mut [u8],
 ) -> u32
-    ensures { λ r. ⌜ EntryAnswered (entryAnswer templates kind semantics (now (label .entry)) [] (now (schema .entry)) (now (rule .entry)) (length (now (path .entry))) (length (now (result .entry)))) (now (path .entry)) (now (path .exit)) (now (result .entry)) (now (result .exit)) r ⌝ }
+    ensures { λ r. ⌜ EntryAnswered (entryAnswer templates kind semantics (now (label .entry)) (now (schema .entry)) (now (rule .entry)) (length (now (path .entry))) (length (now (result .entry)))) (now (path .entry)) (now (path .exit)) (now (result .entry)) (now (result .exit)) r ⌝ }
 {
     check(
         Takes::Templates,
         kind,
         semantics,
         label,
-        b"",
-        schema,
-        rule,
-        path,
-        result,
-    )
-}
-
-// Checks a rule or template under a name table; 0 bytes stand for the stock table. Other buffers as for a rule.
-#[no_mangle]
-pub extern "C" fn rulecheck_check(
-    kind: u64,
-    semantics: u64,
-    label: &[u8],
-    table: &[u8],
-    schema: &[u8],
-    rule: &[u8],
-    path: &mut [u8],
-    result: &mut [u8],
-) -> u32
-    ensures { λ r. ⌜ EntryAnswered (entryAnswer any kind semantics (now (label .entry)) (now (table .entry)) (now (schema .entry)) (now (rule .entry)) (length (now (path .entry))) (length (now (result .entry)))) (now (path .entry)) (now (path .exit)) (now (result .entry)) (now (result .exit)) r ⌝ }
-{
-    check(
-        Takes::Any,
-        kind,
-        semantics,
-        label,
-        table,
         schema,
         rule,
         path,
@@ -172,7 +143,7 @@ pub extern "C" fn rulecheck_path(
     ensures { λ r. ⌜ EntryAnswered (keyEntryAnswer semantics reader (now (path .entry)) (now (schema .entry)) (length (now (result .entry)))) [] [] (now (result .entry)) (now (result .exit)) r ⌝ }
 {
     let mut scratch = [0u32; SCRATCH_WORDS];
-    let lent = path_lent(SCRATCH_WORDS, result.len());
+    let lent = path_lent(RESULT_BYTES, SCRATCH_WORDS, result.len());
     let key = validate_path(
         setting(semantics),
         setting(reader),

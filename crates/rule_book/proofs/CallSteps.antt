@@ -9,7 +9,7 @@ use Rattle.schema.specs.Read.{SchemaAnswer}
 use Rattle.schema.specs.declared.read.SchemaRead.{SchemaRead}
 use Rattle.validation.specs.Result.{any, Answer, accepted, ofSettings, firstRefusal, keptScratch, resultOf}
 use Rattle.validation.specs.RefusalLaws.{number-some, settings-none, table-decides}
-use Rattle.validator.specs.Settings.{settingBy, askedBy, lentBy, EarlyIs, SettledIs}
+use Rattle.validator.specs.Settings.{settingBy, askedBy, widthsBy, EarlyIs, SettledIs}
 use Rattle.validator.specs.Sheets.{sheetAnswer}
 use Rattle.validator.specs.SheetLaws.{roomy, front-schema, front-both, front-scratch, sheets-decide}
 use Rattle.validator.specs.declared.settings.Setting.{Setting as CodeSetting}
@@ -34,7 +34,7 @@ module _ (kind semantics : ℕ) (label table schema book pathBefore before : Lis
         table = table;
         schema = schema;
         book = book;
-        lent = lentBy (length pathBefore) (length before);
+        lent = widthsBy (length pathBefore) (length before);
       }
 
   meets-refused : {n : ℕ} {r : List ℕ} → bookAnswer call ≡ bookRefused n → r ≡ tallyNumbers (bookRefused n)
@@ -54,7 +54,7 @@ module _ (kind semantics : ℕ) (label table schema book pathBefore before : Lis
   meets-settings {n} e h q = meets-refused (settings-first call n (number-some n _ (e .first any []) h)) q
 
   module _ {n : ℕ} (e : EarlyIs kind semantics label (length pathBefore) (length before) n) (z : n ≡ 0) where
-    not-due : (sheet : List ℕ) → firstRefusal (ofSettings (askedBy any kind semantics label sheet) (lentBy (length pathBefore) (length before))) ≡ none
+    not-due : (sheet : List ℕ) → firstRefusal (ofSettings (askedBy any kind semantics label sheet) (widthsBy (length pathBefore) (length before))) ≡ none
     not-due sheet = settings-none _ _ (sym z ∙ e .first any sheet)
 
     settings-pass : settingRefusal call ≡ none
@@ -90,7 +90,7 @@ module _ (kind semantics : ℕ) (label table schema book pathBefore before : Lis
         same-answer : (sheet : List ℕ) → resultOf (single call sheet) ≡ sheetAnswer any (settingBy s) label schema sheet
         unfolding single askedOf
         same-answer sheet =
-            rw (t .1) (sheets-decide (single call sheet) (table-decides (single call sheet) (not-due sheet) ∙ t .0))
+            rw (t .1) (sheets-decide (single call sheet) (table-decides (single call sheet) (not-due sheet) (omega arith) ∙ t .0))
 
         same-answers : (sheets : List (List ℕ)) → answersOf call sheets ≡ answersIn (settingBy s) label schema sheets
         unfolding answersOf answersIn

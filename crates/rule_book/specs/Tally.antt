@@ -7,7 +7,7 @@ use mathlib.Core.Path.{_≡_}
 use lib.ListN.{length, drop, replicate}
 use lib.Dec.{eqb}
 use Rattle.validation.specs.Check.{isNone}
-use Rattle.validation.specs.Result.{any, Asked, Lent, Call, Answer, Refusal, ofTable, ofSettings, firstRefusal, numbersOf, resultOf, pathBytes, scratchWords}
+use Rattle.validation.specs.Result.{any, Asked, Widths, Call, Answer, Refusal, ofTable, ofSettings, firstRefusal, numbersOf, resultOf, pathBytes, scratchWords, markBytes}
 use Rattle.rule_book.specs.Book.{sheetsOf}
 
 pub record BookCall : Type 0 where
@@ -17,15 +17,21 @@ pub record BookCall : Type 0 where
   pub table : List ℕ
   pub schema : List ℕ
   pub book : List ℕ
-  pub lent : Lent
+  pub lent : Widths
 
 -- one of its sheets, whether a rule or a template
 unfoldable pub askedOf : BookCall → (sheet : List ℕ) → Asked
 askedOf c sheet = record { takes = any; kind = c .kind; semantics = c .semantics; label = c .label; rule = sheet }
 
--- the call that checks that sheet alone
+-- the call that checks that sheet alone; no mark list is lent, so none is too short
 unfoldable pub single : BookCall → (sheet : List ℕ) → Call
-single c sheet = record { asked = askedOf c sheet; table = c .table; schema = c .schema; lent = c .lent }
+single c sheet =
+    record {
+      asked = askedOf c sheet;
+      table = c .table;
+      schema = c .schema;
+      lent = record { widths = c .lent; marks = markBytes };
+    }
 
 -- of a file that is not of the form
 abbrev pub ofForm : (book : List ℕ) → Refusal

@@ -46,7 +46,7 @@ is-tallied c t e =
       sheets = sheets;
       form = form;
       tally = sym same ∙ ap (λ (o : Option (List (List ℕ))). tallyOf (answersOf c (orNoSheets o))) form;
-      unrefused = λ sheet. first-none (early (single c sheet)) (settings, (label, (widths, table)));
+      unrefused = λ sheet. first-none (early (single c sheet)) (settings, (label, (widths, (refl, table))));
     }
 
 -- Every sheet is counted once.

@@ -13,7 +13,7 @@ lending label path scratch kind semantics schema rule =
       asked = record { takes = any; kind = kind; semantics = semantics; label = label; rule = rule };
       table = [];
       schema = schema;
-      lent = record { path = path; scratch = scratch };
+      lent = record { widths = record { path = path; scratch = scratch }; marks = 8192 };
     }
 
 -- a call with the label `r` and buffers of the least lengths

@@ -11,3 +11,4 @@ pub mod Moves
 pub mod TableEdges
 mod MemberOrder
 pub mod ConstantEdges
+pub mod MarkEdges

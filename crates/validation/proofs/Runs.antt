@@ -12,11 +12,12 @@ runWith result path c =
       asked = c .asked;
       table = c .table;
       schema = c .schema;
-      pathBefore = replicate (c .lent .path) 0;
-      scratchBefore = replicate (c .lent .scratch) 0;
+      pathBefore = replicate (c .lent .widths .path) 0;
+      scratchBefore = replicate (c .lent .widths .scratch) 0;
+      marksLent = c .lent .marks;
       result = result;
       path = path;
-      scratch = replicate (c .lent .scratch) 0;
+      scratch = replicate (c .lent .widths .scratch) 0;
     }
 
 pub call-of-run : (result : Numbers) (path : List ℕ) (c : Call) → callOf (runWith result path c) ≡ c
@@ -27,24 +28,31 @@ call-of-run result path c = λ i.
       table = c .table;
       schema = c .schema;
       lent =
-          record { path = length-replicate {A = ℕ} (c .lent .path) 0 i; scratch = length-replicate {A = ℕ} (c .lent .scratch) 0 i };
+          record {
+            widths =
+                record {
+                  path = length-replicate {A = ℕ} (c .lent .widths .path) 0 i;
+                  scratch = length-replicate {A = ℕ} (c .lent .widths .scratch) 0 i;
+                };
+            marks = c .lent .marks;
+          };
     }
 
 -- the run that gives what the definitions say
 unfoldable pub exactRun : Call → Run
 unfolding runWith
-exactRun c = runWith (numbersOf (resultOf c)) (pathAfter (resultOf c) (replicate (c .lent .path) 0)) c
+exactRun c = runWith (numbersOf (resultOf c)) (pathAfter (resultOf c) (replicate (c .lent .widths .path) 0)) c
 
 pub run-meets : (c : Call) → Meets (exactRun c)
 unfolding exactRun
 run-meets c =
-    let same : c ≡ callOf (exactRun c) = sym (call-of-run (numbersOf (resultOf c)) (pathAfter (resultOf c) (replicate (c .lent .path) 0)) c) in
+    let same : c ≡ callOf (exactRun c) = sym (call-of-run (numbersOf (resultOf c)) (pathAfter (resultOf c) (replicate (c .lent .widths .path) 0)) c) in
     record {
       result = ap (λ (d : Call). numbersOf (resultOf d)) same;
-      path = ap (λ (d : Call). pathAfter (resultOf d) (replicate (c .lent .path) 0)) same;
+      path = ap (λ (d : Call). pathAfter (resultOf d) (replicate (c .lent .widths .path) 0)) same;
       scratch = record { size = refl; kept = refl };
     }
 
 pub run-unrefused : (c : Call) → Unrefused c → Unrefused (callOf (exactRun c))
 unfolding exactRun
-run-unrefused c n = rw (call-of-run (numbersOf (resultOf c)) (pathAfter (resultOf c) (replicate (c .lent .path) 0)) c) n
+run-unrefused c n = rw (call-of-run (numbersOf (resultOf c)) (pathAfter (resultOf c) (replicate (c .lent .widths .path) 0)) c) n

@@ -36,7 +36,7 @@ unfolding runWith
 breaks p c h =
     record {
       call = c;
-      run = (runWith (p c) (replicate (c .lent .path) 0) c, call-of-run (p c) (replicate (c .lent .path) 0) c, refl);
+      run = (runWith (p c) (replicate (c .lent .widths .path) 0) c, call-of-run (p c) (replicate (c .lent .widths .path) 0) c, refl);
       broken = λ r same its m. h (sym its ∙ m .result ∙ ap (λ (c : Call). numbersOf (resultOf c)) same);
     }
 

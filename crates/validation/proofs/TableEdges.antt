@@ -18,7 +18,7 @@ underTable table scratch c =
       asked = c .asked;
       table = table;
       schema = c .schema;
-      lent = record { path = c .lent .path; scratch = scratch };
+      lent = record { widths = record { path = c .lent .widths .path; scratch = scratch }; marks = c .lent .marks };
     }
 
 -- the stock table with another entry for that kind

@@ -15,7 +15,7 @@ use Rattle.validation.proofs.Runs.{exactRun, run-meets, run-unrefused}
 
 -- more than has to be lent
 unfoldable pub roomy : Lent
-roomy = record { path = 40000; scratch = 9000 }
+roomy = record { widths = record { path = 40000; scratch = 9000 }; marks = 9000 }
 
 -- a call, and the same with other buffers against a widening of its schema: what is heard of the two, and the demand on them
 pub record Shows (l : Level) (c : Call) (schema′ : List ℕ) (first second : Numbers × Text) : Type 0 where

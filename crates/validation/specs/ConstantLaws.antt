@@ -1,6 +1,6 @@
 -- Laws of constant marks: which entries are marked, that marks rise and have room in a list of 2,048, that equal instants are neither before nor
 -- after one another, and that the marks of an accepted rule depend on its sheet alone.
-use Prim.Native.Nat.{ℕ, _+_, _*_, _/_, _≤_, _<_}
+use Prim.Native.Nat.{ℕ, _+_, _*_, _/_, _^_, _≤_, _<_}
 use native.Mathlib.Omega.{arith}
 use mathlib.Core.Bool.{Bool, true, false, _||_, false≢true}
 use mathlib.Core.List.{List, [], _∷_, _++_}
@@ -20,8 +20,9 @@ use Rattle.definition.specs.Within.{valueEntries, conditionEntries, conditionsE
 use Rattle.definition.specs.ValueLaws.{value-takes}
 use Rattle.definition.specs.Decode.{decodeRule}
 use Rattle.definition.specs.RoundTrip.{rule-round-trip}
+use Rattle.buffer.specs.Bytes.{InFourBytes, no-more, one-more}
 use Rattle.reference.specs.Setting.{oneOf}
-use Rattle.validation.specs.Result.{Answer, accepted}
+use Rattle.validation.specs.Result.{markBytes, Answer, accepted}
 use Rattle.validation.specs.Constant.{literalInstant, truthOf, truthIn, constantOf, markOf, markIf, marksOf, marksOfConditions, marksIn, marksHeard}
 use Rattle.validation.specs.Marked.{StandsIn, StandsAmong, StandsInRule, IsConstant, Rises}
 
@@ -248,6 +249,15 @@ lie-once low high e (m ∷ ms) h t f =
     (λ q. lie-once (m / 2 + 1) high e ms (h .1) p q) f)
     t
 
+lie-high : (low high : ℕ) (ms : List ℕ) → MarksLie low high ms → low ≤ high
+lie-high low high [] h = h
+lie-high low high (m ∷ ms) h = omega (arith, h .0, lie-high (m / 2 + 1) high ms (h .1))
+
+lie-small : (low high : ℕ) (ms : List ℕ) → 2 * high < 2 ^ 32 → MarksLie low high ms → InFourBytes ms
+lie-small low high [] s h = no-more
+lie-small low high (m ∷ ms) s h =
+    one-more {n = m} {ns = ms} (omega (arith, lie-high (m / 2 + 1) high ms (h .1))) (lie-small (m / 2 + 1) high ms s (h .1))
+
 -- How many marks there are: a constant condition takes three entries.
 
 one-mark : (e : ℕ) (o : Option Bool) → length (markIf e o) ≤ 1
@@ -296,9 +306,12 @@ module _ (sheet : List ℕ) (r : Rule) (decodes : decodeRule sheet ≡ some r) w
   pub marks-once : (e : ℕ) → oneOf (markOf e true) (marksIn r) ≡ true → oneOf (markOf e false) (marksIn r) ≡ true → ⊥
   marks-once e = lie-once 1 (1 + ruleEntries r) e (marksIn r) lies
 
-  -- four bytes for each have room in 8,192
-  pub marks-few : 4 * length (marksIn r) ≤ 8192
+  -- four bytes for each have room in a list that is not refused
+  pub marks-few : 4 * length (marksIn r) ≤ markBytes
   marks-few = omega (arith, rule-third r, rule-round-trip sheet r .0 decodes .1 .entries)
+
+  pub marks-small : InFourBytes (marksIn r)
+  marks-small = lie-small 1 (1 + ruleEntries r) (marksIn r) (omega (arith, rule-round-trip sheet r .0 decodes .1 .entries)) lies
 
 -- equal instants are neither before nor after one another
 pub equal-is-neither : (left right : Value) (f : Fields) → literalInstant left ≡ some f → literalInstant right ≡ some f

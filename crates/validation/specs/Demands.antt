@@ -33,6 +33,7 @@ pub record SameButScratch (r r′ : Run) : Type 0 where
   pub table : r .table ≡ r′ .table
   pub schema : r .schema ≡ r′ .schema
   pub pathBefore : r .pathBefore ≡ r′ .pathBefore
+  pub marksLent : r .marksLent ≡ r′ .marksLent
 
 -- whether the scratch is long enough
 abbrev pub hasRoom : Run → Bool
@@ -42,7 +43,7 @@ pub record Demand1Scratch (r r′ : Run) : Type 0 where
   pub result : r .result ≡ r′ .result
   pub path : r .path ≡ r′ .path
 
-keeps-path : {a : Answer} (before : List ℕ) → Heard a → (IsDefect (numbersOf a .number) → ⊥) → pathAfter a before ≡ before
+pub keeps-path : {a : Answer} (before : List ℕ) → Heard a → (IsDefect (numbersOf a .number) → ⊥) → pathAfter a before ≡ before
 unfolding numbersOf pathAfter
 keeps-path before (refusal p) h = refl
 keeps-path before acceptance h = refl
@@ -67,9 +68,9 @@ demand-1 r m =
       spares = λ l h. spares-scratch (heard (callOf r)) (m .scratch) (rw (m .result) at l) (rw (m .result) at h);
     }
 
-same-answer : (r r′ : Run) → SameButScratch r r′ → hasRoom r ≡ hasRoom r′ → resultOf (callOf r) ≡ resultOf (callOf r′)
+pub same-answer : (r r′ : Run) → SameButScratch r r′ → hasRoom r ≡ hasRoom r′ → resultOf (callOf r) ≡ resultOf (callOf r′)
 unfolding callOf lentOf resultOf refusals early ofSettings ofSheets
-same-answer r r′ s room = rw (s .asked, s .table, s .schema, s .pathBefore, room) refl
+same-answer r r′ s room = rw (s .asked, s .table, s .schema, s .pathBefore, s .marksLent, room) refl
 
 pub demand-1-scratch : (r r′ : Run) → SameButScratch r r′ → hasRoom r ≡ hasRoom r′ → Meets r → Meets r′ → Demand1Scratch r r′
 demand-1-scratch r r′ s room m m′ =
@@ -88,6 +89,9 @@ pub lean-scratch : (r r′ : Run)
     → Meets r′
     → Demand1Scratch r r′
 lean-scratch r r′ s enough enough′ = demand-1-scratch r r′ s (le-leb _ _ enough ∙ sym (le-leb _ _ enough′))
+
+-- The path of every defect has room in a buffer that is not refused, and every check of the list has a way from the root to its place, so that no defect
+-- goes by the label alone for want of one: `path-length` and `checks-have-paths` (crate `location`, specs/LengthLaws and specs/PathLaws).
 
 -- Demand 2, its proved half: for two sheets that meet none of the refusals the answer is that of the check list (specs/Check.antt,
 -- specs/Judge.antt), its numbers and its path. That acceptance, family, detail and path are the Rust's is shown by the differential runs.

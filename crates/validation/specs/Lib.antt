@@ -24,3 +24,5 @@ pub mod Computing
 pub mod Constant
 pub mod Marked
 pub mod ConstantLaws
+pub mod Marking
+pub mod MarkingLaws

@@ -1,17 +1,17 @@
 -- Refusals: which number is heard first, and what is known of it by the lists alone.
-use Prim.Native.Nat.{ℕ, _<_, min}
+use Prim.Native.Nat.{ℕ, _<_, _≤_, min}
 use native.Mathlib.Omega.{arith}
 use mathlib.Core.Bool.{Bool, true, false, not, cond, _&&_, _||_, and-false, false≢true}
 use mathlib.Core.List.{List, [], _∷_, _++_}
 use mathlib.Core.Option.{Option, none, some, orElse, Option·some-injective, Option·none-ne-some, Option·some-ne-none}
 use mathlib.Core.Path.{_≡_, refl, ap, sym, _∙_}
 use lib.Dec.{leb, eqb}
-use borrow.Author.Tests.{eqb-true, eqb-false, leb-true, leb-false, lt-leb}
+use borrow.Author.Tests.{eqb-true, eqb-false, leb-true, leb-false, le-leb, lt-leb}
 use Rattle.text.proofs.Bools.{and-true-0, and-true-1, or-true-cases}
 use Rattle.sheet.specs.ReaderLaws.{by-test}
 use Rattle.reference.specs.Setting.{oneOf}
 use Rattle.validation.specs.Check.{isNone, IsDefect}
-use Rattle.validation.specs.Result.{Asked, Lent, Call, refused, refusalNumbers, IsRefusal, isOfSheets, isWithin, Refusal, ofTable, ofSettings, early, ofSheets, refusals, firstRefusal, numberIn, refusedOr, resultOf}
+use Rattle.validation.specs.Result.{Asked, Widths, Call, refused, refusalNumbers, IsRefusal, isOfSheets, isWithin, markBytes, Refusal, ofMarks, ofTable, ofSettings, early, ofSheets, refusals, firstRefusal, numberIn, refusedOr, resultOf}
 
 -- What a test says.
 
@@ -147,21 +147,35 @@ pub early-refused : (c : Call) (n : ℕ) → firstRefusal (early c) ≡ some n �
 unfolding resultOf refusals refusedOr orElse
 early-refused c n e = rw (first-append (early c) (ofSheets c), e)
 
-pub settings-refused : (c : Call) (n : ℕ) → n ≡ numberIn (firstRefusal (ofSettings (c .asked) (c .lent))) → (n ≡ 0 → ⊥) → resultOf c ≡ refused n
+-- behind settings, label and widths
+abbrev furtherOf : Call → List Refusal
+furtherOf c = ofMarks (c .lent .marks) ∷ ofTable (c .table)
+
+pub settings-refused : (c : Call) (n : ℕ) → n ≡ numberIn (firstRefusal (ofSettings (c .asked) (c .lent .widths))) → (n ≡ 0 → ⊥) → resultOf c ≡ refused n
 unfolding early orElse
 settings-refused c n e h =
-    early-refused c n (rw (first-append (ofSettings (c .asked) (c .lent)) (ofTable (c .table)), number-some n _ e h))
+    early-refused c n (rw (first-append (ofSettings (c .asked) (c .lent .widths)) (furtherOf c), number-some n _ e h))
 
-some-number : (a : Asked) (l : Lent) (n : ℕ) → firstRefusal (ofSettings a l) ≡ some n → n ≡ 0 → ⊥
+some-number : (a : Asked) (w : Widths) (n : ℕ) → firstRefusal (ofSettings a w) ≡ some n → n ≡ 0 → ⊥
 unfolding ofSettings every
-some-number a l n e z = eqb-false n 0 (unset (eqb n 0) (of-first (λ m. not (eqb m 0)) n (ofSettings a l) refl e)) z
+some-number a w n e z = eqb-false n 0 (unset (eqb n 0) (of-first (λ m. not (eqb m 0)) n (ofSettings a w) refl e)) z
 
-pub settings-none : (a : Asked) (l : Lent) → 0 ≡ numberIn (firstRefusal (ofSettings a l)) → firstRefusal (ofSettings a l) ≡ none
-settings-none a l = number-none (firstRefusal (ofSettings a l)) (some-number a l)
+pub settings-none : (a : Asked) (w : Widths) → 0 ≡ numberIn (firstRefusal (ofSettings a w)) → firstRefusal (ofSettings a w) ≡ none
+settings-none a w = number-none (firstRefusal (ofSettings a w)) (some-number a w)
 
-pub table-decides : (c : Call) → firstRefusal (ofSettings (c .asked) (c .lent)) ≡ none → firstRefusal (early c) ≡ firstRefusal (ofTable (c .table))
+further-decide : (c : Call) → firstRefusal (ofSettings (c .asked) (c .lent .widths)) ≡ none → firstRefusal (early c) ≡ firstRefusal (furtherOf c)
 unfolding early orElse
-table-decides c e = rw (first-append (ofSettings (c .asked) (c .lent)) (ofTable (c .table)), e)
+further-decide c e = rw (first-append (ofSettings (c .asked) (c .lent .widths)) (furtherOf c), e)
+
+-- then the mark list
+pub marks-refused : (c : Call) → firstRefusal (ofSettings (c .asked) (c .lent .widths)) ≡ none → c .lent .marks < markBytes → resultOf c ≡ refused 35
+unfolding firstRefusal
+marks-refused c e short = early-refused c 35 (further-decide c e ∙ rw (lt-leb markBytes (c .lent .marks) short))
+
+-- then the table
+pub table-decides : (c : Call) → firstRefusal (ofSettings (c .asked) (c .lent .widths)) ≡ none → markBytes ≤ c .lent .marks → firstRefusal (early c) ≡ firstRefusal (ofTable (c .table))
+unfolding firstRefusal
+table-decides c e enough = further-decide c e ∙ rw (le-leb markBytes (c .lent .marks) enough)
 
 -- then the sheets decide
 pub sheets-first : (c : Call) → firstRefusal (early c) ≡ none → firstRefusal (refusals c) ≡ firstRefusal (ofSheets c)
@@ -183,10 +197,10 @@ unfolding refusals
 none-of-either c e =
     neither (firstRefusal (early c)) (firstRefusal (ofSheets c)) (sym (first-append (early c) (ofSheets c)) ∙ e)
 
-pub no-setting-due : (c : Call) → firstRefusal (early c) ≡ none → firstRefusal (ofSettings (c .asked) (c .lent)) ≡ none
+pub no-setting-due : (c : Call) → firstRefusal (early c) ≡ none → firstRefusal (ofSettings (c .asked) (c .lent .widths)) ≡ none
 unfolding early
 no-setting-due c e =
-    neither _ _ (sym (first-append (ofSettings (c .asked) (c .lent)) (ofTable (c .table))) ∙ e) .0
+    neither _ _ (sym (first-append (ofSettings (c .asked) (c .lent .widths)) (furtherOf c)) ∙ e) .0
 
 -- a refusal of a sheet is due among the sheets'
 pub sheet-refused : (c : Call) (n : ℕ) → isOfSheets n ≡ true → firstRefusal (refusals c) ≡ some n → firstRefusal (ofSheets c) ≡ some n

@@ -28,10 +28,15 @@ pub record Asked : Type 0 where
   pub label : List ℕ
   pub rule : List ℕ
 
--- how many elements the lent buffers have
-pub record Lent : Type 0 where
+-- how many elements path buffer and scratch have
+pub record Widths : Type 0 where
   pub path : ℕ
   pub scratch : ℕ
+
+-- all that is lent to a call; the mark list is counted in bytes, four for each element
+pub record Lent : Type 0 where
+  pub widths : Widths
+  pub marks : ℕ
 
 pub record Call : Type 0 where
   pub asked : Asked
@@ -56,7 +61,7 @@ pub data Answer : Type 0 where
 
 -- the refusals that stand for a verdict
 unfoldable pub refusalNumbers : List ℕ
-refusalNumbers = 1 ∷ 2 ∷ 3 ∷ 4 ∷ 5 ∷ 37 ∷ 38 ∷ []
+refusalNumbers = 1 ∷ 2 ∷ 3 ∷ 4 ∷ 5 ∷ 35 ∷ 37 ∷ 38 ∷ []
 
 pub record IsRefusal (n : ℕ) : Type 0 where
   pub listed : oneOf n refusalNumbers ≡ true
@@ -116,6 +121,9 @@ pathBytes = 32768
 abbrev pub scratchWords : ℕ
 scratchWords = 4096
 
+abbrev pub markBytes : ℕ
+markBytes = 8192
+
 unfoldable pub isWithin : ℕ → ℕ → ℕ → Bool
 isWithin low high n = leb low n && leb n high
 
@@ -135,9 +143,17 @@ pub record Refusal : Type 0 where
   pub number : ℕ
   pub isDue : Bool
 
--- of the lent buffers
+-- of path buffer and scratch
+abbrev pub ofWidths : Widths → Refusal
+ofWidths w = record { number = 3; isDue = not (leb pathBytes (w .path) && leb scratchWords (w .scratch)) }
+
+-- of the mark list
+abbrev pub ofMarks : (marks : ℕ) → Refusal
+ofMarks marks = record { number = 35; isDue = not (leb markBytes marks) }
+
+-- of all that is lent
 abbrev pub ofBuffers : Lent → List Refusal
-ofBuffers l = record { number = 3; isDue = not (leb pathBytes (l .path) && leb scratchWords (l .scratch)) } ∷ []
+ofBuffers l = ofWidths (l .widths) ∷ ofMarks (l .marks) ∷ []
 
 -- of the name table
 abbrev pub ofTable : List ℕ → List Refusal
@@ -147,15 +163,16 @@ ofTable table =
     ∷ []
 
 -- of settings, label and widths
-unfoldable pub ofSettings : Asked → Lent → List Refusal
-ofSettings a l =
+unfoldable pub ofSettings : Asked → Widths → List Refusal
+ofSettings a w =
     record { number = 1; isDue = not (isWithin 1 8 (a .kind) && isWithin 1 4 (a .semantics)) }
     ∷ record { number = 2; isDue = not (leb (length (a .label)) maxLabelBytes && isUtf8 (a .label)) }
-    ∷ ofBuffers l
+    ∷ ofWidths w
+    ∷ []
 
 -- tried before a sheet is read
 unfoldable pub early : Call → List Refusal
-early c = ofSettings (c .asked) (c .lent) ++ ofTable (c .table)
+early c = ofSettings (c .asked) (c .lent .widths) ++ (ofMarks (c .lent .marks) ∷ ofTable (c .table))
 
 unfoldable pub ofSheets : Call → List Refusal
 ofSheets c =
@@ -249,12 +266,18 @@ pub record Run : Type 0 where
   pub schema : List ℕ
   pub pathBefore : List ℕ
   pub scratchBefore : List ℕ
+  -- how many bytes of a mark list; a function that is lent none counts as one that is lent enough
+  pub marksLent : ℕ
   pub result : Numbers
   pub path : List ℕ
   pub scratch : List ℕ
 
 unfoldable pub lentOf : Run → Lent
-lentOf r = record { path = length (r .pathBefore); scratch = length (r .scratchBefore) }
+lentOf r =
+    record {
+      widths = record { path = length (r .pathBefore); scratch = length (r .scratchBefore) };
+      marks = r .marksLent;
+    }
 
 unfoldable pub callOf : Run → Call
 unfolding lentOf

@@ -25,7 +25,7 @@ unfolding refusedOr
 or-accepted none a n e = refl
 or-accepted (some k) a n e = let z : _≡_ {A = ℕ} 0 1 = cc in absurd (omega arith)
 
-accepted-unrefused : (c : Call) (n : ℕ) → resultOf c ≡ accepted n → Unrefused c
+pub accepted-unrefused : (c : Call) (n : ℕ) → resultOf c ≡ accepted n → Unrefused c
 unfolding resultOf
 accepted-unrefused c n e = or-accepted (firstRefusal (refusals c)) _ n e
 
@@ -46,7 +46,8 @@ unrefused-moved c semantics table lent low high n same room =
     let settings = none-due (early c) before in
     let kind = and-true-0 (isWithin 1 8 (c .asked .kind)) (isWithin 1 4 (c .asked .semantics)) (is-set _ (settings .0)) in
     let both : (isWithin 1 8 (c .asked .kind) && isWithin 1 4 semantics) ≡ true = rw (kind, service-semantics semantics low high) in
-    let now = first-none (early (under c semantics table lent)) (ap not both, (settings .1 .0, (none-due (ofBuffers lent) room .0, rw same at (settings .1 .1 .1)))) in
+    let lends = none-due (ofBuffers lent) room in
+    let now = first-none (early (under c semantics table lent)) (ap not both, (settings .1 .0, (lends .0, (lends .1 .0, rw same at (settings .1 .1 .1 .1))))) in
     first-append (early (under c semantics table lent)) (ofSheets c) ∙ rw now after
 
 pub service-call : (c : Call) (semantics : ℕ) (table : List ℕ) (lent : Lent) (t : Rule) (n : ℕ)

@@ -8,7 +8,7 @@ use Rattle.reference.specs.Setting.{settingWith}
 use Rattle.reference.specs.Table.{tableIn, settingUnder, orStock}
 use Rattle.scope.specs.Names.{mayReadBy}
 use Rattle.scope.specs.declared.name.Row.{Row}
-use Rattle.validation.specs.Result.{Takes, Asked, Lent, Call, ofTable, ofSettings, firstRefusal, numberIn}
+use Rattle.validation.specs.Result.{Takes, Asked, Widths, Call, ofTable, ofSettings, firstRefusal, numberIn}
 use Rattle.validator.specs.declared.settings.Setting.{Setting}
 use Rattle.validator.specs.declared.settings.Settled.{Settled}
 use Rattle.validator.specs.declared.settings.Settled.the-variants.{Set, Refused}
@@ -24,16 +24,21 @@ settingIn row kind semantics = settingWith (mayReadBy row) kind semantics
 abbrev pub askedBy : (takes : Takes) (kind semantics : ℕ) (label rule : List ℕ) → Asked
 askedBy takes kind semantics label rule = record { takes = takes; kind = kind; semantics = semantics; label = label; rule = rule }
 
-abbrev pub lentBy : (path scratch : ℕ) → Lent
-lentBy path scratch = record { path = path; scratch = scratch }
+abbrev pub widthsBy : (path scratch : ℕ) → Widths
+widthsBy path scratch = record { path = path; scratch = scratch }
 
-abbrev pub callBy : (takes : Takes) (kind semantics : ℕ) (label table schema rule : List ℕ) (path scratch : ℕ) → Call
-callBy takes kind semantics label table schema rule path scratch =
-    record { asked = askedBy takes kind semantics label rule; table = table; schema = schema; lent = lentBy path scratch }
+abbrev pub callBy : (takes : Takes) (kind semantics : ℕ) (label table schema rule : List ℕ) (path marks scratch : ℕ) → Call
+callBy takes kind semantics label table schema rule path marks scratch =
+    record {
+      asked = askedBy takes kind semantics label rule;
+      table = table;
+      schema = schema;
+      lent = record { widths = widthsBy path scratch; marks = marks };
+    }
 
 -- the number of the first refusal that is due there, or 0; settings, label and widths decide, whatever the rule is
 pub record EarlyIs (kind semantics : ℕ) (label : List ℕ) (path scratch number : ℕ) : Type 0 where
-  pub first : (takes : Takes) (rule : List ℕ) → number ≡ numberIn (firstRefusal (ofSettings (askedBy takes kind semantics label rule) (lentBy path scratch)))
+  pub first : (takes : Takes) (rule : List ℕ) → number ≡ numberIn (firstRefusal (ofSettings (askedBy takes kind semantics label rule) (widthsBy path scratch)))
 
 -- a refusal of the table, or the setting of a call under it
 abbrev pub SettledIs : (kind semantics : ℕ) (table : List ℕ) → Settled → Type 0

@@ -25,7 +25,7 @@ use Rattle.rule.specs.Read as RuleKept
 use Rattle.validation.specs.Check.{isNone, checks}
 use Rattle.validation.specs.Judge.{Verdict, allPass, failsAt, judge}
 use Rattle.validation.specs.Result as Result
-use Rattle.validation.specs.Result.{Asked, Lent, Call, Answer, maxLabelBytes, pathBytes, scratchWords, isTaken, settingFor, isOfSheets, ofSettings, early, ofSheets, firstRefusal, answerOf, checked, judged, refusedOr, resultOf, keptScratch, ScratchAfter}
+use Rattle.validation.specs.Result.{Asked, Widths, Call, Answer, maxLabelBytes, pathBytes, scratchWords, isTaken, settingFor, isOfSheets, ofSettings, early, ofSheets, firstRefusal, answerOf, checked, judged, refusedOr, resultOf, keptScratch, ScratchAfter}
 use Rattle.validation.specs.RefusalLaws.{is-set, none-due, no-setting-due, sheets-first}
 use Rattle.validator.specs.Answers.{Tells}
 use Rattle.validator.specs.Sheets.{takesOf, takenOf, sheetAnswer, FrontOnly, SheetChecked}
@@ -88,21 +88,21 @@ sheet-scratch takes setting label schema sheet f =
 
 -- The whole call: where nothing is refused before the sheets are read, there is room, and the sheets decide.
 
-pub record Roomy (a : Asked) (l : Lent) : Type 0 where
+pub record Roomy (a : Asked) (w : Widths) : Type 0 where
   pub small : length (a .label) ≤ maxLabelBytes
-  pub room : pathBytes ≤ l .path
-  pub words : scratchWords ≤ l .scratch
+  pub room : pathBytes ≤ w .path
+  pub words : scratchWords ≤ w .scratch
 
-pub roomy : (a : Asked) (l : Lent) → firstRefusal (ofSettings a l) ≡ none → Roomy a l
+pub roomy : (a : Asked) (w : Widths) → firstRefusal (ofSettings a w) ≡ none → Roomy a w
 unfolding ofSettings
-roomy a l h =
-    let due = none-due (ofSettings a l) h in
+roomy a w h =
+    let due = none-due (ofSettings a w) h in
     let labelled = is-set (leb (length (a .label)) maxLabelBytes && isUtf8 (a .label)) (due .1 .0) in
-    let lent = is-set (leb pathBytes (l .path) && leb scratchWords (l .scratch)) (due .1 .1 .0) in
+    let lent = is-set (leb pathBytes (w .path) && leb scratchWords (w .scratch)) (due .1 .1 .0) in
     record {
       small = leb-true (length (a .label)) maxLabelBytes (and-true-0 (leb (length (a .label)) maxLabelBytes) (isUtf8 (a .label)) labelled);
-      room = leb-true pathBytes (l .path) (and-true-0 (leb pathBytes (l .path)) (leb scratchWords (l .scratch)) lent);
-      words = leb-true scratchWords (l .scratch) (and-true-1 (leb pathBytes (l .path)) (leb scratchWords (l .scratch)) lent);
+      room = leb-true pathBytes (w .path) (and-true-0 (leb pathBytes (w .path)) (leb scratchWords (w .scratch)) lent);
+      words = leb-true scratchWords (w .scratch) (and-true-1 (leb pathBytes (w .path)) (leb scratchWords (w .scratch)) lent);
     }
 
 by-sheets : (takes : Result.Takes) (setting : Setting) (label : List ℕ) (t : Option Tree.Schema) (x : Option Rule)
@@ -129,10 +129,10 @@ sheets-decide c h =
 pub single-told : {takes : Takes} {pathBefore path before after : List ℕ} {read : SchemaRead} {r : Outcome} (c : Call)
     → firstRefusal (early c) ≡ none
     → c .asked .takes ≡ takesOf takes
-    → c .lent .path ≡ length pathBefore
+    → c .lent .widths .path ≡ length pathBefore
     → SchemaIs (c .schema) before read
     → SheetChecked takes (settingFor c) (c .asked .label) (c .schema) read (c .asked .rule) pathBefore path before after r
     → Tells (resultOf c) pathBefore path r
 single-told c h takes-so lent is s =
-    let room = roomy (c .asked) (c .lent) (no-setting-due c h) in
+    let room = roomy (c .asked) (c .lent .widths) (no-setting-due c h) in
     rw (sheets-decide c h, takes-so) (s .tells is (room .small) (rw lent at (room .room)))

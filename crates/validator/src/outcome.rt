@@ -1,11 +1,11 @@
-// The seven numbers of a result.
+// The seven numbers of a result, and the count of marks beside them.
 ghost use mathlib.Core.Path.{_≡_};
 ghost use Rattle.validation.specs.Result.{Answer, numbersOf};
 ghost use Rattle.validation.specs.Result as Result;
 ghost use Rattle.validator.specs.Outcomes.{numbersBy};
 
 pub struct Outcome {
-    // 0 accepted, 1 to 5 refused, from 11 on a defect.
+    // 0 accepted, 11 to 22 a defect, else refused.
     pub number: u32,
     pub family: u32,
     pub detail: u32,
@@ -13,6 +13,12 @@ pub struct Outcome {
     pub over_place: u32,
     pub passed: u32,
     pub path_length: u32,
+}
+
+// What a check with a mark list answers: the seven numbers, and how many marks were written.
+pub struct Report {
+    pub outcome: Outcome,
+    pub marks: u32,
 }
 
 pub fn refused(number: u32) -> Outcome

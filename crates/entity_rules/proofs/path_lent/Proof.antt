@@ -5,10 +5,10 @@ use Rattle.entity_rules.proofs.path_lent.Statement.{statement}
 use Rattle.entity_rules.proofs.path_lent.Tie as tie
 
 returns : tie.Need-returns
-returns c = lent-nothing _ _ (omega arith)
+returns c = lent-nothing _ _ _ (omega arith)
 
 returns-2 : tie.Need-returns-2
-returns-2 c = lent-all _ _ (omega arith)
+returns-2 c = lent-all _ _ _ (omega arith)
 
 pub path-lent-spec : {M : Type 1} → statement M
 path-lent-spec = tie.close (tie.spec returns returns-2)

@@ -21,7 +21,7 @@ part-scratch-start : tie.Need-part-scratch-start
 part-scratch-start c = search needs
 
 part-scratch-end : tie.Need-part-scratch-end
-part-scratch-end c = rw (c .before .before .path-lent .ensures) (lent-within _ _)
+part-scratch-end c = rw (c .before .before .path-lent .ensures) (lent-within _ _ _)
 
 validate-path-requires : tie.Need-validate-path-requires
 validate-path-requires c κs = search needs

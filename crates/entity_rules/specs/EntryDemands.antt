@@ -1,0 +1,175 @@
+-- The three demands (crate `validation`, specs/Demands) at the C functions: of every call of `rulecheck_rule`, `rulecheck_template` and `rulecheck_check`.
+-- Each brings a scratch of its own, so that nothing has to be said about what one held before.
+use Prim.Native.Nat.{ℕ, _≤_, _<_}
+use native.Mathlib.Omega.{arith}
+use mathlib.Core.Bool.{Bool, true, false, cond, _&&_}
+use mathlib.Core.List.{List, []}
+use mathlib.Core.Option.{some}
+use mathlib.Core.Path.{_≡_, refl, ap, sym, _∙_}
+use lib.Dec.{leb}
+use lib.ListN.{length}
+use borrow.Author.Tests.{leb-true, lt-leb}
+use Rattle.text.specs.Utf8.{isUtf8}
+use Rattle.sheet.specs.ReaderLaws.{by-test}
+use Rattle.definition.specs.Tree.{Schema, Rule}
+use Rattle.definition.specs.Decode.{decodeSchema, decodeRule}
+use Rattle.reference.specs.Setting.{oneOf}
+use Rattle.widening.specs.Widening.{Level}
+use Rattle.validation.specs.Check.{IsDefect}
+use Rattle.validation.specs.Result.{Takes, any, Call, refused, refusalNumbers, IsRefusal, isWithin, maxLabelBytes, pathBytes, markBytes, ofSettings, early, Unrefused, resultOf, numbersOf, pathAfter, callOf, Meets}
+use Rattle.validation.specs.RefusalLaws.{refusal-no-defect, is-set, none-due, none-of-either}
+use Rattle.validation.specs.Growth.{Widens}
+use Rattle.validation.specs.DemandLaws.{heard}
+use Rattle.validation.specs.Demands.{keeps-path, Demand2, demand-2, SameButSchema, Demand3, demand-3}
+use Rattle.entity_rules.specs.Entry.{resultBytes, resultAfter, pathLent, entryCall, entryAnswer, EntryAnswered, entryRun}
+use Rattle.entity_rules.specs.EntryLaws.{numbers-of-answer, entry-call, short-result-refused}
+use Rattle.entity_rules.specs.CheckEntry.{reportBytes, reportAfter, checkCall, CheckAnswered}
+use Rattle.entity_rules.specs.CheckEntryLaws.{numbers-of-check}
+use Rattle.entity_rules.specs.Exchange.{Exchange, callBy, runBy, Answered, EntryDemand1}
+
+-- What the contracts of the three functions say of an exchange.
+
+module _ (takes : Takes) (kind semantics : ℕ) (label schema rule pathBefore path resultBefore result : List ℕ) (returned : ℕ) where
+  -- `rulecheck_rule` takes rules, `rulecheck_template` templates
+  unfoldable pub entryExchange : Exchange
+  entryExchange =
+      record {
+        takes = takes;
+        kind = kind;
+        semantics = semantics;
+        label = label;
+        table = [];
+        schema = schema;
+        rule = rule;
+        marksLent = markBytes;
+        need = resultBytes;
+        pathBefore = pathBefore;
+        resultBefore = resultBefore;
+        path = path;
+        result = result;
+        returned = returned;
+      }
+
+  pub entry-answered : EntryAnswered (entryAnswer takes kind semantics label schema rule (length pathBefore) (length resultBefore)) pathBefore path resultBefore result returned
+      → Answered entryExchange
+  unfolding entryExchange callBy entryAnswer resultAfter
+  entry-answered a =
+      record {
+        number = a .number;
+        path = a .path;
+        numbers = λ room. numbers-of-answer a room;
+        unwritten = λ short. a .result ∙ rw (lt-leb resultBytes (length resultBefore) short) refl;
+      }
+
+module _ (kind semantics : ℕ) (label table schema rule pathBefore path marksBefore marks resultBefore result : List ℕ) (returned : ℕ) where
+  unfoldable pub checkExchange : Exchange
+  checkExchange =
+      record {
+        takes = any;
+        kind = kind;
+        semantics = semantics;
+        label = label;
+        table = table;
+        schema = schema;
+        rule = rule;
+        marksLent = length marksBefore;
+        need = reportBytes;
+        pathBefore = pathBefore;
+        resultBefore = resultBefore;
+        path = path;
+        result = result;
+        returned = returned;
+      }
+
+  pub check-answered : CheckAnswered (checkCall kind semantics label table schema rule (length pathBefore) (length marksBefore) (length resultBefore)) pathBefore path marksBefore marks resultBefore result returned
+      → Answered checkExchange
+  unfolding checkExchange callBy checkCall reportAfter
+  check-answered a =
+      record {
+        number = a .number;
+        path = a .path;
+        numbers = λ room. numbers-of-check a room;
+        unwritten = λ short. a .result ∙ rw (lt-leb reportBytes (length resultBefore) short) refl;
+      }
+
+-- Demand 1
+
+refusal-123 : (a b : Bool) → IsRefusal (numbersOf (refused (cond a (cond b 3 2) 1)) .number)
+unfolding numbersOf refusalNumbers oneOf
+refusal-123 true true = record { listed = refl }
+refusal-123 true false = record { listed = refl }
+refusal-123 false b = record { listed = refl }
+
+module _ (e : Exchange) (a : Answered e) where
+  keeps : (IsDefect (e .returned) → ⊥) → e .path ≡ e .pathBefore
+  keeps h = a .path ∙ keeps-path (e .pathBefore) (heard (callBy e)) (rw (a .number) at h)
+
+  short : length (e .resultBefore) < e .need → IsRefusal (e .returned) × (e .path ≡ e .pathBefore) × (e .result ≡ e .resultBefore)
+  unfolding callBy
+  short few =
+      let is-refused = short-result-refused (e .takes) (e .kind) (e .semantics) (e .label) (e .table) (e .schema) (e .rule) (e .need) (length (e .pathBefore)) (e .marksLent) (length (e .resultBefore)) few in
+      let refusal : IsRefusal (e .returned) = rw (a .number, is-refused)
+      (refusal-123 (isWithin 1 8 (e .kind) && isWithin 1 4 (e .semantics)) (leb (length (e .label)) maxLabelBytes && isUtf8 (e .label)))
+      in
+      (refusal, keeps (λ d. refusal-no-defect (e .returned) refusal d), a .unwritten few)
+
+  pub entry-demand-1 : EntryDemand1 e
+  entry-demand-1 = record { hears = (resultOf (callBy e), heard (callBy e), a .number, a .numbers); keeps = keeps; short = short }
+
+-- where nothing is refused, the result had room
+and-left : (a b : Bool) → (a && b) ≡ true → a ≡ true
+and-left true b e = refl
+and-left false b e = e
+
+lent-room : (need path result : ℕ) → pathBytes ≤ pathLent need path result → need ≤ result
+unfolding pathLent
+lent-room need path result enough = by-test (leb need result) (λ t. leb-true need result t) (λ t. absurd (omega (arith, rw t at enough)))
+
+pub unrefused-room : (e : Exchange) → Unrefused (callBy e) → e .need ≤ length (e .resultBefore)
+unfolding callBy entryCall early ofSettings
+unrefused-room e n =
+    let due = none-due (early (callBy e)) (none-of-either (callBy e) n .0) in
+    let wide = and-left _ _ (is-set _ (due .1 .1 .0)) in
+    lent-room (e .need) (length (e .pathBefore)) (length (e .resultBefore)) (leb-true pathBytes _ wide)
+
+module _ (e : Exchange) (a : Answered e) (n : Unrefused (callBy e)) where
+  same-call : callOf (runBy e) ≡ callBy e
+  unfolding runBy callBy
+  same-call =
+      entry-call (e .takes) (e .kind) (e .semantics) (e .label) (e .table) (e .schema) (e .rule) (e .need) (e .pathBefore) (e .marksLent) (e .path) (e .resultBefore) (e .result) (unrefused-room e n)
+
+  unrefused-run : Unrefused (callOf (runBy e))
+  unrefused-run = rw same-call n
+
+  exchange-meets : Meets (runBy e)
+  unfolding runBy entryRun
+  exchange-meets =
+      let same = sym same-call in
+      record {
+        result = a .numbers (unrefused-room e n) ∙ ap (λ (c : Call). numbersOf (resultOf c)) same;
+        path = a .path ∙ ap (λ (c : Call). pathAfter (resultOf c) (e .pathBefore)) same;
+        scratch = record { size = refl; kept = refl };
+      }
+
+-- Demand 2, its proved half
+pub entry-demand-2 : (e : Exchange) (s : Schema) (t : Rule)
+    → Answered e
+    → decodeSchema (e .schema) ≡ some s
+    → decodeRule (e .rule) ≡ some t
+    → Unrefused (callBy e)
+    → Demand2 (runBy e) s t
+unfolding runBy entryRun
+entry-demand-2 e s t a schema rule n = demand-2 (runBy e) s t (exchange-meets e a n) schema rule (unrefused-run e a n)
+
+-- Demand 3
+pub entry-demand-3 : {l : Level} (e e′ : Exchange)
+    → Answered e
+    → Answered e′
+    → SameButSchema (runBy e) (runBy e′)
+    → Widens l (e .schema) (e′ .schema)
+    → Unrefused (callBy e)
+    → Unrefused (callBy e′)
+    → Demand3 l (runBy e) (runBy e′)
+unfolding runBy entryRun
+entry-demand-3 e e′ a a′ s w n n′ =
+    demand-3 (runBy e) (runBy e′) (exchange-meets e a n) (exchange-meets e′ a′ n′) s w (unrefused-run e a n) (unrefused-run e′ a′ n′)
