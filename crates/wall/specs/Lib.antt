@@ -1,3 +1,6 @@
 pub mod Pages
 pub mod Wall
 pub mod Computing
+pub mod LineLaws
+pub mod PageLaws
+pub mod Writing
