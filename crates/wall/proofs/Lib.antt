@@ -1,2 +1,4 @@
 pub mod Edges
 pub mod LineSteps
+pub mod PageSteps
+pub mod CallSteps
