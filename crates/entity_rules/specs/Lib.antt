@@ -6,5 +6,9 @@ pub mod KeyEntryLaws
 pub mod WidensEntry
 pub mod WidensEntryLaws
 pub mod InstantEntry
+pub mod Counts
+pub mod CountLaws
 pub mod BookEntry
 pub mod BookEntryLaws
+pub mod WallEntry
+pub mod WallEntryLaws

@@ -1,7 +1,9 @@
 // The checker as C functions for a host. Each call brings a scratch of its own.
 mod result; // result.rt: the seven numbers as bytes
 mod change; // change.rt: what is answered about two schema sheets
-mod book; // book.rt: a whole rule book
+mod counts; // counts.rt: numbers of eight bytes
+mod book; // book.rt: the tally of a rule book
+mod pages; // pages.rt: a rule book's run for the wall
 
 use crate::change::told;
 use crate::result::RESULT_BYTES;

@@ -231,7 +231,7 @@ pub record Paging (setting : Setting) (label schema : List ℕ) (read : SchemaRe
   pub size : length pages ≡ length pages₀
   pub begun : (sheets : List (List ℕ)) → sheetsOf (drop from book) ≡ some sheets
       → Begun pages₀ pages line₀ line (flatten (rowsFrom perPage (perPage * before + 1) 0 (answersIn setting label schema sheets)))
-          (flatten (rowsFrom (perPage - row) (perPage * before + 1 + row) accepted (drop row (answersIn setting label schema sheets))))
+      (flatten (rowsFrom (perPage - row) (perPage * before + 1 + row) accepted (drop row (answersIn setting label schema sheets))))
 
 module _ {setting : Setting} {label schema : List ℕ} {read : SchemaRead} {book : List ℕ} {from before line₀ : ℕ} {path₀ words₀ pages₀ : List ℕ} where
   pub paging-start : Ready label schema read (drop from book) path₀ words₀
@@ -319,7 +319,7 @@ pub record Printing (setting : Setting) (label schema : List ℕ) (read : Schema
   pub size : length pages ≡ length pages₀
   pub begun : (sheets : List (List ℕ)) → sheetsOf book ≡ some sheets
       → Begun pages₀ pages 0 line (flatten (pagesFrom 0 count (answersIn setting label schema sheets)))
-          (flatten (pagesFrom done (count - done) (drop (perPage * done) (answersIn setting label schema sheets))))
+      (flatten (pagesFrom done (count - done) (drop (perPage * done) (answersIn setting label schema sheets))))
 
 module _ {setting : Setting} {label schema : List ℕ} {read : SchemaRead} {book : List ℕ} {count : ℕ} {path₀ words₀ pages₀ : List ℕ} where
   pub printing-start : Ready label schema read book path₀ words₀

@@ -241,9 +241,10 @@ module _ (r : WallRun) (m : MeetsWall r) where
 
   pub only-the-call : (q : WallRun) → MeetsWall q → wallCallOf q ≡ wallCallOf r → q .pagesBefore ≡ r .pagesBefore
       → (q .run .result ≡ r .run .result) × (q .pages ≡ r .pages)
-  only-the-call q k same before =
-      (k .result ∙ ap (λ (c : WallCall). wallNumbers (wallAnswer c)) same ∙ sym (m .result),
-      k .pages ∙ ap (λ (c : WallCall). pagesAfter (wallAnswer c) (q .pagesBefore)) same ∙ ap (pagesAfter (wallAnswer (wallCallOf r))) before ∙ sym (m .pages))
+  only-the-call q k same before = (
+    k .result ∙ ap (λ (c : WallCall). wallNumbers (wallAnswer c)) same ∙ sym (m .result),
+    k .pages ∙ ap (λ (c : WallCall). pagesAfter (wallAnswer c) (q .pagesBefore)) same ∙ ap (pagesAfter (wallAnswer (wallCallOf r))) before ∙ sym (m .pages),
+  )
 
 -- The two numbers of a result.
 

@@ -65,11 +65,12 @@ enum-known-setting c = search needs
 put-pages-requires : tie.Need-put-pages-requires
 put-pages-requires c κs =
     let a = c .before .before .before .before .before .before .before .before .before .before .before .before .before .before .before .before .before .before .before .before .before .before .args in
-    let counted = rw (c .before .before .before .before .before .before .before .before .before .before .sheets .given .1) at (c .before .before .before .before .before .before .before .before .before .before .before .before .count-sheets .ensures) in
-    (given (a .kind) (a .semantics) (a .label .now) (a .table .now) (a .schema .now) (a .book .now) (a .path .now) (a .pages .now) (a .scratch .now)
-    (c .before .before .before .before .before .before .before .before .before .before .before .before .before .before .refused-settings .ensures) (c .before .before .before .before .before .before .before .before .before .before .before .before .before .if1 .left) counted (c .before .before .before .before .before .before .before .before .page-count .ensures),
-    few (a .kind) (a .semantics) (a .label .now) (a .table .now) (a .schema .now) (a .book .now) (a .path .now) (a .pages .now) (a .scratch .now)
-    (c .before .before .before .before .before .before .before .before .before .before .before .before .before .before .refused-settings .ensures) (c .before .before .before .before .before .before .before .before .before .before .before .before .before .if1 .left) counted (c .before .before .before .before .before .before .before .before .page-count .ensures) (omega (arith, c .before .before .before .before .before .before .before .before .before .before .before .before .before .before .before .before .before .before .before .before .before .before .good .1 .1 .1 .1 .1 .0)))
+    let counted = rw (c .before .before .before .before .before .before .before .before .before .before .sheets .given .1) at (c .before .before .before .before .before .before .before .before .before .before .before .before .count-sheets .ensures) in (
+      given (a .kind) (a .semantics) (a .label .now) (a .table .now) (a .schema .now) (a .book .now) (a .path .now) (a .pages .now) (a .scratch .now)
+          (c .before .before .before .before .before .before .before .before .before .before .before .before .before .before .refused-settings .ensures) (c .before .before .before .before .before .before .before .before .before .before .before .before .before .if1 .left) counted (c .before .before .before .before .before .before .before .before .page-count .ensures),
+      few (a .kind) (a .semantics) (a .label .now) (a .table .now) (a .schema .now) (a .book .now) (a .path .now) (a .pages .now) (a .scratch .now)
+          (c .before .before .before .before .before .before .before .before .before .before .before .before .before .before .refused-settings .ensures) (c .before .before .before .before .before .before .before .before .before .before .before .before .before .if1 .left) counted (c .before .before .before .before .before .before .before .before .page-count .ensures) (omega (arith, c .before .before .before .before .before .before .before .before .before .before .before .before .before .before .before .before .before .before .before .before .before .before .good .1 .1 .1 .1 .1 .0)),
+    )
 
 returns-4 : tie.Need-returns-4
 returns-4 c =

@@ -12,11 +12,11 @@ use Rattle.wall.proofs.page.put_page.Statement.{statement}
 use Rattle.wall.proofs.page.put_page.Tie as tie
 
 abbrev Inv-loop : tie.InvT-loop
-Inv-loop setting label schema read book at before path₀ scratch₀ pages₀ to first line₀ sheet₀ accepted₀ row₀ path scratch pages line sheet accepted row = 
+Inv-loop setting label schema read book at before path₀ scratch₀ pages₀ to first line₀ sheet₀ accepted₀ row₀ path scratch pages line sheet accepted row =
     Paging (settingBy setting) label schema read book at before line₀ path₀ scratch₀ pages₀ path scratch pages sheet line accepted row
 
 abbrev μ-loop : tie.MeasureT-loop
-μ-loop setting label schema read book at before path₀ scratch₀ pages₀ to first line₀ sheet₀ accepted₀ row₀ path scratch pages line sheet accepted row = 
+μ-loop setting label schema read book at before path₀ scratch₀ pages₀ to first line₀ sheet₀ accepted₀ row₀ path scratch pages line sheet accepted row =
     perPage - row
 
 mul-first : tie.Need-mul-first Inv-loop μ-loop

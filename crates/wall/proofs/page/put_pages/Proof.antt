@@ -10,11 +10,11 @@ use Rattle.wall.proofs.page.put_pages.Statement.{statement}
 use Rattle.wall.proofs.page.put_pages.Tie as tie
 
 abbrev Inv-loop : tie.InvT-loop
-Inv-loop setting label schema book count path₀ scratch₀ pages₀ read sheet₀ line₀ page₀ path scratch pages sheet line page = 
+Inv-loop setting label schema book count path₀ scratch₀ pages₀ read sheet₀ line₀ page₀ path scratch pages sheet line page =
     Printing (settingBy setting) label schema read book count path₀ scratch₀ pages₀ path scratch pages sheet line page
 
 abbrev μ-loop : tie.MeasureT-loop
-μ-loop setting label schema book count path₀ scratch₀ pages₀ read sheet₀ line₀ page₀ path scratch pages sheet line page = 
+μ-loop setting label schema book count path₀ scratch₀ pages₀ read sheet₀ line₀ page₀ path scratch pages sheet line page =
     count - page
 
 read-schema-requires : tie.Need-read-schema-requires Inv-loop μ-loop

@@ -1,9 +1,9 @@
--- `entity_rules::book::rulecheck_count` meets its contract.
-use Rattle.entity_rules.proofs.BookEntries.{count-missing, count-there}
+-- `entity_rules::counts::rulecheck_count` meets its contract.
+use Rattle.entity_rules.proofs.CountSteps.{count-missing, count-there}
 use native.Mathlib.Omega.{arith}
 use borrow.Author.Needs.{needs}
-use Rattle.entity_rules.proofs.book.rulecheck_count.Statement.{statement}
-use Rattle.entity_rules.proofs.book.rulecheck_count.Tie as tie
+use Rattle.entity_rules.proofs.counts.rulecheck_count.Statement.{statement}
+use Rattle.entity_rules.proofs.counts.rulecheck_count.Tie as tie
 
 mul-at : tie.Need-mul-at
 mul-at c = search needs
