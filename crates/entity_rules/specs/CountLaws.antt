@@ -2,11 +2,11 @@
 use Prim.Native.Nat.{ℕ, zero, suc, _+_, _*_, _/_, _%_, _^_, _≤_, _<_}
 use native.Mathlib.Omega.{arith}
 use mathlib.Core.List.{List, [], _∷_, _++_, append-assoc}
-use mathlib.Core.Path.{_≡_, refl, _∙_}
+use mathlib.Core.Path.{_≡_, refl}
 use lib.ListN.{length, drop, getD}
 use lib.Seq.{sets-eq, length-sets}
 use borrow.Author.Tests.{le-leb}
-use Rattle.buffer.specs.Bytes.{littleEndian, bytesOf, InFourBytes, numberAt}
+use Rattle.buffer.specs.Bytes.{littleEndian, bytesOf, InFourBytes}
 use Rattle.buffer.specs.Bytes as four
 use Rattle.buffer.specs.BytesLaws.{number-of-bytes}
 use Rattle.entity_rules.specs.Counts.{eightBytes, longBytesOf, InEightBytes, no-more, one-more, longAt, countAt, countsAfter}

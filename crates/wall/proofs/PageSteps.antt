@@ -3,11 +3,11 @@ use Prim.Native.Nat.{ℕ, zero, suc, _+_, _*_, _-_, _≤_, _<_}
 use native.Mathlib.Omega.{arith}
 use mathlib.Core.Bool.{cond}
 use mathlib.Core.List.{List, [], _∷_, _++_, map, flatten, append-assoc, append-nil}
-use mathlib.Core.Option.{Option, none, some, Option·map, Option·none-ne-some, Option·some-injective}
-use mathlib.Core.Path.{_≡_, refl, sym, ap, subst, _∙_}
+use mathlib.Core.Option.{none, some, Option·none-ne-some, Option·some-injective}
+use mathlib.Core.Path.{_≡_, refl, sym, ap, _∙_}
 use lib.Dec.{eqb}
 use lib.ListN.{length, take, drop, replicate, length-take}
-use lib.Seq.{sets, drop-drop, drop-nil, take-nil}
+use lib.Seq.{drop-drop}
 use borrow.Author.Tests.{eq-eqb, ne-eqb}
 use Rattle.sheet.specs.Places.{ReadsTo, Refuses}
 use Rattle.buffer.specs.Wrote.{Wrote}
@@ -17,8 +17,7 @@ use Rattle.schema.specs.Read.{SchemaAnswer}
 use Rattle.schema.specs.declared.read.SchemaRead.{SchemaRead}
 use Rattle.validation.specs.Result.{any, Answer, refused, accepted, defect, pathBytes, Numbers, numbersOf, pathAfter}
 use Rattle.validator.specs.Answers.{Tells}
-use Rattle.validator.specs.Outcomes.{numbersBy}
-use Rattle.validator.specs.Sheets.{takesOf, sheetAnswer, FrontOnly, SheetChecked}
+use Rattle.validator.specs.Sheets.{takesOf, sheetAnswer, SheetChecked}
 use Rattle.validator.specs.SheetLaws.{still-read, front-schema, front-rule, front-both}
 use Rattle.validator.specs.declared.sheets.Takes.the-variants.{Any}
 use Rattle.validator.specs.declared.outcome.Outcome.{Outcome}

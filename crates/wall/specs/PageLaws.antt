@@ -1,10 +1,10 @@
 -- What the pages promise: every line has 81 bytes and every page 60 lines, the k-th result line is the k-th sheet's, and the feet add up to the accepted.
-use Prim.Native.Nat.{ℕ, zero, suc, _+_, _*_, _-_, _/_, _%_, _≤_, _<_, min}
+use Prim.Native.Nat.{ℕ, zero, suc, _+_, _*_, _-_, _/_, _%_, _≤_, _<_}
 use native.Mathlib.Omega.{arith}
 use mathlib.Core.List.{List, [], _∷_, _++_, flatten}
 use mathlib.Core.Path.{_≡_, refl, sym, ap, _∙_}
 use lib.ListN.{length, take, drop, getD, replicate, length-append, length-take, length-drop, length-replicate, take-append-drop, List·getD-append}
-use lib.Seq.{take-at, drop-append-add, getD-append-add, getD-append-seam, getD-take, getD-drop, drop-drop}
+use lib.Seq.{take-at, drop-append-add, getD-append-add, getD-take, getD-drop, drop-drop}
 use Rattle.validation.specs.Result.{Answer}
 use Rattle.rule_book.specs.Tally.{countOf, sum, tallyOf}
 use Rattle.wall.specs.Pages.{perPage, pageBytes, resultLine, results, blankLine, heading, foot, page, pagesFrom, pageCount, linesOf, pagesOf}

@@ -1,8 +1,8 @@
 -- What a call for the wall promises: which refusal is heard, that nothing changes under one, and that the pages are those of the tally's run.
-use Prim.Native.Nat.{ℕ, _+_, _*_, _/_, _%_, _≤_, _<_, min}
+use Prim.Native.Nat.{ℕ, _+_, _*_, _/_, _%_, _≤_, _<_}
 use native.Mathlib.Omega.{arith}
-use mathlib.Core.Bool.{Bool, true, false, not, cond, and-false}
-use mathlib.Core.List.{List, [], _∷_, _++_, map}
+use mathlib.Core.Bool.{true}
+use mathlib.Core.List.{List, [], _∷_, map}
 use mathlib.Core.Logic.{_↔_}
 use mathlib.Core.Option.{Option, none, some, Option·none-ne-some, Option·some-injective, orElse}
 use mathlib.Core.Path.{_≡_, refl, sym, ap, _∙_}
@@ -12,11 +12,10 @@ use borrow.Author.Tests.{leb-true, leb-false, le-leb, lt-leb}
 use Rattle.sheet.specs.ReaderLaws.{by-test}
 use Rattle.reference.specs.Setting.{oneOf}
 use Rattle.validation.specs.Check.{isNone}
-use Rattle.validation.specs.Result.{Answer, refused, Refusal, ofTable, ofSettings, firstRefusal, resultOf, pathBytes, scratchWords}
+use Rattle.validation.specs.Result.{Answer, Refusal, ofTable, ofSettings, firstRefusal, resultOf, pathBytes}
 use Rattle.validation.specs.RefusalLaws.{every, present, is-set, none-due, of-listed, of-first, first-none, first-append}
-use Rattle.validator.specs.SheetLaws.{roomy}
 use Rattle.rule_book.specs.Book.{sheetsOf}
-use Rattle.rule_book.specs.Tally.{BookCall, askedOf, single, ofForm, bookRefusals, answersOf, sum, Tally, tallyOf, tallied, orNoSheets, bookAnswer, KeptFrom}
+use Rattle.rule_book.specs.Tally.{BookCall, askedOf, single, ofForm, answersOf, sum, Tally, tallyOf, tallied, orNoSheets, bookAnswer, KeptFrom}
 use Rattle.rule_book.specs.TallyLaws.{settingRefusal, no-room-due, book-tallied, cappedBook, capped-same, read-bound, AllWithin}
 use Rattle.wall.specs.Pages.{pageBytes, resultLine, pageCount, pagesOf}
 use Rattle.wall.specs.PageLaws.{pages-size, ownCounts, lineAt, result-line, feet-add-up}

@@ -1,8 +1,6 @@
 -- `wall::refused` meets its contract: the number, and no page.
 use Rattle.wall.specs.Wall.{wallNumbers}
 use mathlib.Core.Path.{refl}
-use native.Mathlib.Omega.{arith}
-use borrow.Author.Needs.{needs}
 use Rattle.wall.proofs.refused.Statement.{statement}
 use Rattle.wall.proofs.refused.Tie as tie
 

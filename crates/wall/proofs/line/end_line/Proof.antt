@@ -1,6 +1,5 @@
 -- `wall::line::end_line` meets its contract.
 use Rattle.wall.proofs.LineSteps.{line-ended}
-use native.Mathlib.Omega.{arith}
 use borrow.Author.Needs.{needs}
 use Rattle.wall.proofs.line.end_line.Statement.{statement}
 use Rattle.wall.proofs.line.end_line.Tie as tie

@@ -1,6 +1,5 @@
 -- `wall::line::put_blank_line` meets its contract: a line of which all columns are missing.
 use Rattle.wall.proofs.LineSteps.{blank-written}
-use native.Mathlib.Omega.{arith}
 use borrow.Author.Needs.{needs}
 use Rattle.wall.proofs.line.put_blank_line.Statement.{statement}
 use Rattle.wall.proofs.line.put_blank_line.Tie as tie

@@ -1,6 +1,5 @@
 -- `wall::line::put_field` meets its contract.
 use Rattle.wall.proofs.LineSteps.{field-written}
-use native.Mathlib.Omega.{arith}
 use borrow.Author.Needs.{needs}
 use Rattle.wall.proofs.line.put_field.Statement.{statement}
 use Rattle.wall.proofs.line.put_field.Tie as tie

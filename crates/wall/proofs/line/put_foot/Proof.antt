@@ -1,6 +1,5 @@
 -- `wall::line::put_foot` meets its contract.
 use Rattle.wall.proofs.LineSteps.{foot-written}
-use native.Mathlib.Omega.{arith}
 use borrow.Author.Needs.{needs}
 use Rattle.wall.proofs.line.put_foot.Statement.{statement}
 use Rattle.wall.proofs.line.put_foot.Tie as tie

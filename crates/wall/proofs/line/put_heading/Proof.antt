@@ -1,6 +1,5 @@
 -- `wall::line::put_heading` meets its contract.
 use Rattle.wall.proofs.LineSteps.{heading-written}
-use native.Mathlib.Omega.{arith}
 use borrow.Author.Needs.{needs}
 use Rattle.wall.proofs.line.put_heading.Statement.{statement}
 use Rattle.wall.proofs.line.put_heading.Tie as tie

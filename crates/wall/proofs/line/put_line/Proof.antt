@@ -4,7 +4,6 @@ use Rattle.sheet.specs.Parts.{partOf}
 use lib.ListN.{take}
 use mathlib.Core.Path.{_∙_}
 use Rattle.wall.proofs.LineSteps.{line-written}
-use native.Mathlib.Omega.{arith}
 use borrow.Author.Needs.{needs}
 use Rattle.wall.proofs.line.put_line.Statement.{statement}
 use Rattle.wall.proofs.line.put_line.Tie as tie

@@ -1,7 +1,6 @@
 -- `wall::line::shown_byte` meets its contract: below the blank, above `~`, and between.
 use Rattle.wall.proofs.LineSteps.{shown-below, shown-above, shown-same}
 use native.Mathlib.Omega.{arith}
-use borrow.Author.Needs.{needs}
 use Rattle.wall.proofs.line.shown_byte.Statement.{statement}
 use Rattle.wall.proofs.line.shown_byte.Tie as tie
 

@@ -1,6 +1,5 @@
 -- `wall::page::one_if_accepted` meets its contract.
 use Rattle.wall.proofs.PageSteps.{one-accepted, none-accepted}
-use native.Mathlib.Omega.{arith}
 use borrow.Author.Needs.{needs}
 use Rattle.wall.proofs.page.one_if_accepted.Statement.{statement}
 use Rattle.wall.proofs.page.one_if_accepted.Tie as tie
