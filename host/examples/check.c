@@ -1,4 +1,4 @@
-/* Checks a good and a bad rule of a mill from C, and a third under the mill's own name table; then asks whether a schema has grown. In this folder, after `rt staticlib entity_rules` in the repository's root:
+/* Checks a good and a bad rule of a mill from C, and a third under the mill's own name table, which has a constant condition; then asks whether a schema has grown. In this folder, after `rt staticlib entity_rules` in the repository's root:
  *
  *   cc check.c -I../include -L../../target/staticlib -lentity_rules -o ../../target/check && ../../target/check
  *
@@ -6,7 +6,8 @@
  *
  *   good: accepted, 9 checks passed
  *   bad: defect 18 of family 8, detail 3, at entry 5, bad.assert.for_all.that.eq[0], after 8 checks
- *   own: accepted, 5 checks passed
+ *   own: accepted, 10 checks passed
+ *   own: entry 6 is always true
  *   wider: a widening
  *   narrower: none, reason 1, at entry 4 of the old sheet and 0 of the new
  */
@@ -16,14 +17,16 @@
 
 static uint8_t path[ENTITY_RULES_PATH_BYTES];
 
+/* The conditions that are constant. */
+static uint8_t marks[ENTITY_RULES_MARKS_BYTES];
+
 /* The mill's own name table, loaded. */
 static uint8_t table[ENTITY_RULES_TABLE_BYTES];
 
 static const uint8_t *bytes(const char *text) { return (const uint8_t *)text; }
 
 /* Prints what the library answered for one rule. */
-static void show(const char *label, uint32_t number, const uint8_t result[ENTITY_RULES_RESULT_BYTES]) {
-  const size_t size = ENTITY_RULES_RESULT_BYTES;
+static void show(const char *label, uint32_t number, const uint8_t *result, size_t size) {
   uint32_t passed = rulecheck_field(result, size, ENTITY_RULES_PASSED);
   if (number == ENTITY_RULES_ACCEPTED) {
     printf("%s: accepted, %u checks passed\n", label, (unsigned)passed);
@@ -45,17 +48,22 @@ static void check(const char *label, const char *schema, const char *rule) {
                                    bytes(label), strlen(label), bytes(schema), strlen(schema),
                                    bytes(rule), strlen(rule),
                                    path, sizeof path, result, sizeof result);
-  show(label, number, result);
+  show(label, number, result, sizeof result);
 }
 
-/* Checks a rule by the table that is loaded. */
+/* Checks a rule by the table that is loaded, and prints which of its conditions are constant. */
 static void check_own(const char *label, const char *schema, const char *rule) {
-  uint8_t result[ENTITY_RULES_RESULT_BYTES];
+  uint8_t result[ENTITY_RULES_CHECK_RESULT_BYTES];
   uint32_t number = rulecheck_check(ENTITY_RULES_OUTCOME_SELECTOR, ENTITY_RULES_SERVICE_1,
                                     bytes(label), strlen(label), table, sizeof table,
                                     bytes(schema), strlen(schema), bytes(rule), strlen(rule),
-                                    path, sizeof path, result, sizeof result);
-  show(label, number, result);
+                                    path, sizeof path, marks, sizeof marks, result, sizeof result);
+  show(label, number, result, sizeof result);
+  uint32_t count = rulecheck_field(result, sizeof result, ENTITY_RULES_MARK_COUNT);
+  for (uint32_t index = 0; index < count; index++) {
+    uint32_t mark = rulecheck_field(marks, sizeof marks, index);
+    printf("%s: entry %u is always %s\n", label, (unsigned)(mark / 2), mark % 2 == 1 ? "true" : "false");
+  }
 }
 
 /* Says whether a schema is a widening of another. */
@@ -110,9 +118,13 @@ int main(void) {
   }
   check_own("own", schema,
             "R,-,-,\n"
+            "C,2,2,\n"
             "C,8,0,\n"
             "V,5,6,$state\n"
-            "V,5,5,drawn\n");
+            "V,5,5,drawn\n"
+            "C,6,0,\n"
+            "V,5,10,2024-02-29\n"
+            "V,5,10,2024-03-01\n");
   /* Bars get a number, so whatever was accepted before is accepted still. */
   const char *wider = "H,0,1,-,0\n"
                       "F,6,0,1,0,4,-,bars\n"

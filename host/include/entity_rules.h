@@ -2,10 +2,11 @@
  * functions of libentity_rules.a.
  *
  * docs/FORMAT.md says what the sheets hold and what each number means. Lengths are in bytes. A pointer must lead to as many bytes
- * as the length after it says, and must not be null, even where that is 0. path, result, buffer and fields must not overlap each other
+ * as the length after it says, and must not be null, even where that is 0. path, marks, result, buffer and fields must not overlap each other
  * or anything else. No function keeps a pointer, allocates or waits, so any number of threads may call them at once. A call
  * takes up to about 280 KB of stack: 16 KB for its scratch, the rest by how deep the sheets nest, most of it with 31 quantifiers in one
- * another. A path under 32,768 bytes or a result under 28 is refusal 3, and is not written.
+ * another. A path under 32,768 bytes or a result under 28 is refusal 3, and is not written; rulecheck_check
+ * takes a result of 32 bytes.
  */
 #ifndef ENTITY_RULES_H
 #define ENTITY_RULES_H
@@ -46,7 +47,7 @@ enum entity_rules_reader {
   ENTITY_RULES_PROJECTION = 2
 };
 
-/* The number of an answer: 0, a refusal (1 to 5, 37, 38) or a defect (11 to 22). */
+/* The number of an answer: 0, a refusal (1 to 5, 35, 37, 38) or a defect (11 to 22). */
 enum entity_rules_number {
   ENTITY_RULES_ACCEPTED = 0,
   ENTITY_RULES_REFUSED_SETTING = 1,
@@ -66,6 +67,7 @@ enum entity_rules_number {
   ENTITY_RULES_DEFECT_INSTANT = 20,
   ENTITY_RULES_DEFECT_BIND = 21,
   ENTITY_RULES_DEFECT_OVER = 22,
+  ENTITY_RULES_REFUSED_MARK_LIST = 35,
   ENTITY_RULES_REFUSED_TABLE_FORM = 37,
   ENTITY_RULES_REFUSED_TABLE_MARK = 38
 };
@@ -120,7 +122,7 @@ enum entity_rules_collection_fault {
   ENTITY_RULES_OVER_NO_NAME = 5
 };
 
-/* The numbers of a result, by their index. */
+/* The numbers of a result, by their index; the last is rulecheck_check's alone. */
 enum entity_rules_field {
   ENTITY_RULES_NUMBER = 0,
   ENTITY_RULES_FAMILY = 1,
@@ -128,7 +130,8 @@ enum entity_rules_field {
   ENTITY_RULES_PLACE = 3,
   ENTITY_RULES_OVER_PLACE = 4,
   ENTITY_RULES_PASSED = 5,
-  ENTITY_RULES_PATH_LENGTH = 6
+  ENTITY_RULES_PATH_LENGTH = 6,
+  ENTITY_RULES_MARK_COUNT = 7
 };
 
 /* The detail of a defect 18 that only a key path can have: a projection cannot read the length of a text. */
@@ -181,6 +184,10 @@ enum entity_rules_instant_field {
 #define ENTITY_RULES_PATH_BYTES 32768
 #define ENTITY_RULES_RESULT_BYTES 28
 
+/* What rulecheck_check wants besides the path. */
+#define ENTITY_RULES_MARKS_BYTES 8192
+#define ENTITY_RULES_CHECK_RESULT_BYTES 32
+
 /* Checks a rule. Returns the number; result takes all seven numbers, and after a defect path begins with its path, which has no
  * 0 at its end. Other bytes of both keep their values. A template's sheet is refused with 5. */
 uint32_t rulecheck_rule(uint64_t kind, uint64_t semantics,
@@ -200,13 +207,17 @@ uint32_t rulecheck_template(uint64_t kind, uint64_t semantics,
 
 /* Checks a rule or a template, as the first letter of its sheet says, under a name table; otherwise as rulecheck_rule. A table of 0 bytes
  * is the stock table, which the other functions go by. Of any other the first 176 bytes count: 37 where they are no table, 38 where
- * a mark hides $id, $entity or $version, or shows $old_fields where $fields is hidden, both tried after 3 and before 4. */
+ * a mark hides $id, $entity or $version, or shows $old_fields where $fields is hidden. Of an accepted rule, marks takes the conditions that are
+ * before or after with two literal instants, and so have the same truth whatever a record holds: for each four bytes, least significant first, of the number
+ * of its entry, doubled, and 1 more if it is true. They rise; result has at index 7 how many there are, and marks keeps its other bytes. A list under
+ * 8,192 bytes is 35. After 3 and before 4, the order is 35, 37, 38. A result under 32 bytes is refusal 3. */
 uint32_t rulecheck_check(uint64_t kind, uint64_t semantics,
                          const uint8_t *label, size_t label_length,
                          const uint8_t *table, size_t table_length,
                          const uint8_t *schema, size_t schema_length,
                          const uint8_t *rule, size_t rule_length,
                          uint8_t *path, size_t path_length,
+                         uint8_t *marks, size_t marks_length,
                          uint8_t *result, size_t result_length);
 
 /* Loads a name table: copies it to the start of buffer, from which later checks can be lent it, and returns 0. Returns 37 for what is no
@@ -231,7 +242,7 @@ uint32_t rulecheck_widens(const uint8_t *first, size_t first_length,
                           const uint8_t *second, size_t second_length,
                           uint8_t *result, size_t result_length);
 
-/* One of the numbers of a result, by an index of enum entity_rules_field, or of an instant's fields; 0 where it does not lie in there. */
+/* One of the numbers of a result, by an index of enum entity_rules_field, of a list of marks, or of an instant's fields; 0 where it does not lie in there. */
 uint32_t rulecheck_field(const uint8_t *result, size_t result_length, uint32_t index);
 
 /* Whether a text is a finite number, and how many of its digits were compared with those of 2^1024 - 2^970 for that: the count (at most 309)

@@ -1,6 +1,7 @@
 //! A check with everything that it can be lent.
 
-use crate::limits::{PATH_BYTES, RESULT_BYTES};
+use crate::constants::{Constant, constants};
+use crate::limits::{CHECK_RESULT_BYTES, MARKS_BYTES, PATH_BYTES};
 use crate::settings::{Kind, Semantics};
 use crate::sheets::{RuleBytes, SchemaBytes};
 use crate::verdict::{self, Refusal, Verdict};
@@ -82,8 +83,8 @@ impl<'a> Check<'a> {
         rule: impl Into<RuleBytes<'s>>,
     ) -> Result<Checked, Refusal> {
         let (schema, rule) = (schema.into().0, rule.into().0);
-        let mut path = vec![0; PATH_BYTES];
-        let mut result = [0; RESULT_BYTES];
+        let (mut path, mut marks) = (vec![0; PATH_BYTES], vec![0; MARKS_BYTES]);
+        let mut result = [0; CHECK_RESULT_BYTES];
         let (kind, semantics) = (self.kind.number().into(), self.semantics.number().into());
         raw::check(
             kind,
@@ -93,10 +94,16 @@ impl<'a> Check<'a> {
             schema,
             rule,
             &mut path,
+            &mut marks,
             &mut result,
         );
-        let verdict = verdict::answer(numbers(&result), &path)?;
-        Ok(Checked { verdict })
+        let numbers = numbers(&result);
+        let verdict = verdict::answer(numbers, &path)?;
+        let constants = constants(&marks, raw::field(&result, 7));
+        Ok(Checked {
+            verdict,
+            constants: constants.ok_or(Refusal::Unknown(numbers))?,
+        })
     }
 }
 
@@ -115,4 +122,6 @@ impl<'a> Check<'a> {
 pub struct Checked {
     /// Acceptance, or the first defect.
     pub verdict: Verdict,
+    /// The constant conditions of a rule that is accepted, in the order of its sheet. Any other has none.
+    pub constants: Vec<Constant>,
 }

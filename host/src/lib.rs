@@ -16,6 +16,7 @@
 
 mod build;
 mod checks;
+mod constants;
 pub mod entries;
 mod finite;
 mod identity;
@@ -34,6 +35,7 @@ pub use build::{
     BuildError, CompareOp, Condition, Field, FieldKind, Nesting, Rule, Schema, Template, Value,
 };
 pub use checks::{Check, Checked};
+pub use constants::Constant;
 pub use entries::Operator;
 pub use finite::{Finite, finite};
 pub use identity::{Identity, Packed, identity};

@@ -1,4 +1,4 @@
-//! The limits of sheets, labels, keys, tables and buffers (docs/FORMAT.md).
+//! The limits of sheets, labels, keys, tables, lists and buffers (docs/FORMAT.md).
 //!
 //! ```
 //! use entity_rules::limits::MAX_TEXT_BYTES;
@@ -42,5 +42,11 @@ pub const TABLE_BYTES: usize = 176;
 /// Bytes that a call wants for the path.
 pub const PATH_BYTES: usize = 32_768;
 
+/// Bytes that a check wants for the list of marks: 2,048 numbers of four bytes.
+pub const MARKS_BYTES: usize = 8_192;
+
 /// Bytes that a call wants for the result, or for the fields of an instant: seven numbers of four bytes.
 pub const RESULT_BYTES: usize = 28;
+
+/// Bytes that the check with a list of marks wants for the result: the seven numbers, and how many marks there are.
+pub const CHECK_RESULT_BYTES: usize = 32;

@@ -61,6 +61,8 @@ unsafe extern "C" {
         rule_length: usize,
         path: *mut u8,
         path_length: usize,
+        marks: *mut u8,
+        marks_length: usize,
         result: *mut u8,
         result_length: usize,
     ) -> u32;
@@ -184,21 +186,31 @@ pub fn template(
     }
 }
 
-/// Checks a rule or a template, as the first letter of its sheet says, under a name table; otherwise as [`rule`].
+/// Checks a rule or a template, as the first letter of its sheet says, under a name table, and marks the conditions of an accepted rule that are
+/// constant; otherwise as [`rule`].
 ///
 /// A table of 0 bytes is the stock table. Of any other the first 176 bytes count: what is no table is refusal 37, and a mark that breaks one of
-/// the two conditions refusal 38, both tried after 3 and before 4.
+/// the two conditions refusal 38. A list of marks under 8,192 bytes is refusal 35. They are tried after 3 and before 4, in the order 35, 37, 38.
+///
+/// A mark is the number of the condition's entry, doubled, and 1 more if it is true. It takes four bytes, as a number of the result; the marks
+/// rise, and the list keeps its other bytes. The result has 32 bytes: behind the seven numbers, at index 7, stands how many marks there are.
 ///
 /// ```
 /// use entity_rules::raw;
 ///
-/// let (mut path, mut result) = (vec![0; 32_768], [0; 28]);
+/// let (mut path, mut marks, mut result) = (vec![0; 32_768], vec![0; 8_192], [0; 32]);
 /// let (schema, template) = (b"H,0,0,-,0\n", b"T\nV,5,6,$state\n");
 /// let stock = entity_rules::Table::stock().sheet()?;
-/// assert_eq!(raw::check(3, 1, b"", &[], schema, template, &mut path, &mut result), 0);
-/// assert_eq!(raw::check(5, 1, b"", &stock, schema, template, &mut path, &mut result), 18);
-/// assert_eq!(raw::check(5, 1, b"", b"N", schema, template, &mut path, &mut result), 37);
-/// assert_eq!(raw::check(5, 1, b"", b"N", schema, template, &mut [], &mut result), 3);
+/// assert_eq!(raw::check(3, 1, b"", &[], schema, template, &mut path, &mut marks, &mut result), 0);
+/// assert_eq!(raw::check(5, 1, b"", &stock, schema, template, &mut path, &mut marks, &mut result), 18);
+/// assert_eq!(raw::check(5, 1, b"", b"N", schema, template, &mut path, &mut marks, &mut result), 37);
+/// assert_eq!(raw::check(5, 1, b"", b"N", schema, template, &mut path, &mut [], &mut result), 35);
+/// assert_eq!(raw::check(5, 1, b"", b"N", schema, template, &mut [], &mut [], &mut result), 3);
+///
+/// // Entry 2 is true whatever the record holds.
+/// let rule = b"R,-,-,\nC,6,0,\nV,5,10,2024-02-29\nV,5,10,2024-03-01\n";
+/// assert_eq!(raw::check(1, 1, b"", &[], schema, rule, &mut path, &mut marks, &mut result), 0);
+/// assert_eq!((raw::field(&result, 7), raw::field(&marks, 0)), (1, 2 * 2 + 1));
 /// # Ok::<(), entity_rules::TableError>(())
 /// ```
 #[expect(
@@ -213,9 +225,10 @@ pub fn check(
     schema: &[u8],
     rule: &[u8],
     path: &mut [u8],
+    marks: &mut [u8],
     result: &mut [u8],
 ) -> u32 {
-    // SAFETY: as in `rule`; the table is a slice that is read, like the sheets.
+    // SAFETY: as in `rule`; the table is a slice that is read, like the sheets, and the marks one that is written, like the path.
     unsafe {
         rulecheck_check(
             kind,
@@ -230,6 +243,8 @@ pub fn check(
             rule.len(),
             path.as_mut_ptr(),
             path.len(),
+            marks.as_mut_ptr(),
+            marks.len(),
             result.as_mut_ptr(),
             result.len(),
         )
@@ -328,7 +343,8 @@ pub fn widens(first: &[u8], second: &[u8], result: &mut [u8]) -> u32 {
     }
 }
 
-/// One of the numbers in a result: 0 number, 1 family, 2 detail, 3 place, 4 over place, 5 passed, 6 path length; after [`widens`] its own.
+/// One of the numbers in a result: 0 number, 1 family, 2 detail, 3 place, 4 over place, 5 passed, 6 path length, after [`check`] 7 how many marks; after
+/// [`widens`] its own. Or one of the marks in a list.
 ///
 /// The answer is 0 where the four bytes do not lie in the result.
 ///

@@ -473,8 +473,8 @@ impl fmt::Display for PathVerdict {
 
 /// Why a call was not answered.
 ///
-/// The typed functions never meet [`Setting`](Refusal::Setting) and [`Width`](Refusal::Width), since their settings are known ones and
-/// their buffers wide enough.
+/// The typed functions never meet [`Setting`](Refusal::Setting), [`Width`](Refusal::Width) and [`Marks`](Refusal::Marks), since their settings are
+/// known ones and their buffers wide enough.
 ///
 /// ```
 /// use entity_rules::{check, Kind, Refusal, Semantics};
@@ -500,6 +500,8 @@ pub enum Refusal {
     NewSchemaSheet,
     /// 5: the rule sheet is not well formed, or is not of the sort that the function takes.
     RuleSheet,
+    /// 35: the list of marks is too short.
+    Marks,
     /// 37: the name table is not of its form. [`Table::read`](crate::Table::read) says where.
     TableForm,
     /// 38: a mark of the name table breaks one of its two conditions. [`Table::read`](crate::Table::read) says which.
@@ -522,6 +524,7 @@ impl Refusal {
             Self::Width => 3,
             Self::SchemaSheet | Self::NewSchemaSheet => 4,
             Self::RuleSheet => 5,
+            Self::Marks => 35,
             Self::TableForm => 37,
             Self::TableMark => 38,
             Self::Unknown([number, ..]) => number,
@@ -542,6 +545,7 @@ impl Refusal {
             Self::Width => "width",
             Self::SchemaSheet | Self::NewSchemaSheet => "schema sheet",
             Self::RuleSheet => "rule sheet",
+            Self::Marks => "mark list",
             Self::TableForm => "table form",
             Self::TableMark => "table mark",
             Self::Unknown(_) => "unknown",
@@ -580,6 +584,7 @@ impl Refusal {
             3 => Some(Self::Width),
             4 => Some(Self::SchemaSheet),
             5 => Some(Self::RuleSheet),
+            35 => Some(Self::Marks),
             37 => Some(Self::TableForm),
             38 => Some(Self::TableMark),
             _ => None,
@@ -595,7 +600,10 @@ impl fmt::Display for Refusal {
             }
             Self::Label => f.pad("the label is over 256 bytes long, or not UTF-8"),
             Self::Path => f.pad("the path is over 512 bytes long, or not UTF-8"),
-            Self::Width => f.pad("the path buffer is under 32,768 bytes, or the result under 28"),
+            Self::Width => {
+                f.pad("the path buffer is under 32,768 bytes, or the result under 28, of a check with marks under 32")
+            }
+            Self::Marks => f.pad("the list of marks is under 8,192 bytes"),
             Self::SchemaSheet => f.pad("the schema sheet is not well formed"),
             Self::NewSchemaSheet => f.pad("the new schema's sheet is not well formed"),
             Self::RuleSheet => {

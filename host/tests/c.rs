@@ -1,6 +1,8 @@
 //! The C header and the C example.
 
-use entity_rules::limits::{MAX_KEY_BYTES, PATH_BYTES, RESULT_BYTES, TABLE_BYTES};
+use entity_rules::limits::{
+    CHECK_RESULT_BYTES, MARKS_BYTES, MAX_KEY_BYTES, PATH_BYTES, RESULT_BYTES, TABLE_BYTES,
+};
 use entity_rules::{
     BreachReason, CollectionFault, DefectNumber, Family, InstantFault, Kind, Reader,
     ReferenceFault, Refusal, Semantics, Side, Widening,
@@ -52,7 +54,8 @@ fn runs(program: &Path) {
         printed,
         "good: accepted, 9 checks passed\n\
          bad: defect 18 of family 8, detail 3, at entry 5, bad.assert.for_all.that.eq[0], after 8 checks\n\
-         own: accepted, 5 checks passed\n\
+         own: accepted, 10 checks passed\n\
+         own: entry 6 is always true\n\
          wider: a widening\n\
          narrower: none, reason 1, at entry 4 of the old sheet and 0 of the new\n"
     );
@@ -121,6 +124,7 @@ fn the_header_has_the_numbers_of_the_crate() {
         ("WIDTH", Refusal::Width),
         ("SCHEMA_SHEET", Refusal::SchemaSheet),
         ("RULE_SHEET", Refusal::RuleSheet),
+        ("MARK_LIST", Refusal::Marks),
         ("TABLE_FORM", Refusal::TableForm),
         ("TABLE_MARK", Refusal::TableMark),
     ];
@@ -178,6 +182,8 @@ fn the_header_has_the_numbers_of_the_crate() {
         ("TABLE_BYTES", TABLE_BYTES),
         ("PATH_BYTES", PATH_BYTES),
         ("RESULT_BYTES", RESULT_BYTES),
+        ("MARKS_BYTES", MARKS_BYTES),
+        ("CHECK_RESULT_BYTES", CHECK_RESULT_BYTES),
     ] {
         let line = format!("\n#define ENTITY_RULES_{name} {number}\n");
         assert!(HEADER.contains(&line), "{line}");

@@ -3,7 +3,7 @@
 
 mod support;
 
-use entity_rules::limits::{PATH_BYTES, RESULT_BYTES, TABLE_BYTES};
+use entity_rules::limits::{CHECK_RESULT_BYTES, MARKS_BYTES, PATH_BYTES, TABLE_BYTES};
 use entity_rules::{
     Check, Condition, Detail, Kind, Name, ReferenceFault, Refusal, Rule, Schema, Semantics, Table,
     TableError, Template, Verdict, check, check_rule, check_template, raw,
@@ -40,6 +40,7 @@ impl Case<'_> {
             self.schema,
             self.rule,
             path,
+            &mut [0; MARKS_BYTES],
             result,
         )
     }
@@ -114,13 +115,13 @@ fn for_each_load(mut look: impl FnMut(&[u8], usize, u32)) {
 fn the_c_function_answers_every_case_and_keeps_the_other_bytes() {
     let before = vec![0xAA; PATH_BYTES + 3];
     for_each_case(|case| {
-        let (mut path, mut result) = (before.clone(), [0xBB; RESULT_BYTES + 5]);
+        let (mut path, mut result) = (before.clone(), [0xBB; CHECK_RESULT_BYTES + 5]);
         assert_eq!(case.run(&mut path, &mut result), case.numbers[0]);
         let found = [0, 1, 2, 3, 4, 5, 6].map(|index| raw::field(&result, index));
         assert_eq!(found, case.numbers);
         assert_eq!(path[..case.path.len()], *case.path);
         assert_eq!(path[case.path.len()..], before[case.path.len()..]);
-        assert_eq!(result[RESULT_BYTES..], [0xBB; 5]);
+        assert_eq!(result[CHECK_RESULT_BYTES..], [0xBB; 5]);
     });
 }
 
@@ -128,8 +129,8 @@ fn the_c_function_answers_every_case_and_keeps_the_other_bytes() {
 fn short_buffers_are_refused_before_the_table() {
     for_each_case(|case| {
         for (path, result) in [
-            (PATH_BYTES - 1, RESULT_BYTES),
-            (PATH_BYTES, RESULT_BYTES - 1),
+            (PATH_BYTES - 1, CHECK_RESULT_BYTES),
+            (PATH_BYTES, CHECK_RESULT_BYTES - 1),
         ] {
             let (mut path, mut result) = (vec![0xAA; path], vec![0xBB; result]);
             let earlier = matches!(case.numbers[0], 1 | 2);
@@ -453,7 +454,7 @@ fn the_c_functions_answer_anything() {
             b"T\n",
         ]);
         let mut path = vec![0xAA; random.pick(&[PATH_BYTES, PATH_BYTES, PATH_BYTES + 7, 9])];
-        let mut result = vec![0xBB; random.pick(&[28, 28, 28, 30, 27])];
+        let mut result = vec![0xBB; random.pick(&[32, 32, 32, 34, 31])];
         let (kind, semantics) = (random.below(10) as u64, random.below(6) as u64);
         let number = raw::check(
             kind,
@@ -463,6 +464,7 @@ fn the_c_functions_answer_anything() {
             b"H,0,0,-,0\n",
             rule,
             &mut path,
+            &mut [0; MARKS_BYTES],
             &mut result,
         );
         assert!(matches!(number, 0..=3 | 5 | 18 | 37 | 38), "{number}");
@@ -473,7 +475,7 @@ fn the_c_functions_answer_anything() {
             0
         };
         assert!(path[written..] == kept[written..path.len()]);
-        if result.len() < RESULT_BYTES {
+        if result.len() < CHECK_RESULT_BYTES {
             assert!((1..=3).contains(&number) && result.iter().all(|&byte| byte == 0xBB));
         } else {
             assert_eq!(raw::field(&result, 0), number);

@@ -925,3 +925,47 @@ fn the_readme_shows_a_tree() {
     assert!(out.contains("\nnone: unreadable: expected a file that holds a sheet: "));
     assert_eq!(run(&mill(), "show").status.code(), Some(2));
 }
+
+#[test]
+fn the_readme_shows_what_is_printed_for_constants() {
+    let readme = include_str!("../README.md");
+    let (before, rest) = readme
+        .split_once(" --constants\n")
+        .expect("an example of constants");
+    let (_, words) = before.rsplit_once("$ entity-rules ").expect("a command");
+    let (shown, _) = rest.split_once("```").expect("the end of the example");
+    let output = run(&mill(), &format!("{words} --constants"));
+    assert_eq!(String::from_utf8_lossy(&output.stdout), shown);
+    assert_eq!(output.status.code(), Some(0));
+}
+
+#[test]
+fn constants_are_told_where_they_are_asked_for() {
+    let (_, out, _) = run_check(&mill(), "pattern.schema season.rule");
+    assert_eq!(out.lines().count(), 1);
+    let (_, out, _) = run_check(&mill(), "pattern.schema release.rule --constants");
+    assert_eq!(out, "release.rule: accepted, all 19 checks passed\n");
+    let all = "pattern.schema release.rule season.rule --constants";
+    let (_, out, _) = run_check(&mill(), &format!("{all} --quiet"));
+    assert!(out.starts_with("season.rule: accepted"), "{out}");
+    let (_, out, _) = run_check(&mill(), &format!("{all} --json"));
+    let line = out.lines().next_back().expect("a line");
+    assert_eq!(
+        line,
+        r#"{"file":"season.rule","verdict":"accepted","number":0,"passed":12,"constants":[{"holds":true,"place":6,"line":6,"path":"season.assert.all[1]","entry":"\"2024-03-01\" before \"2024-09-30T12:00:00Z\""}]}"#
+    );
+    let first = out.lines().next().expect("a line");
+    assert!(
+        first.ends_with("\"passed\":19,\"constants\":[]}"),
+        "{first}"
+    );
+    for command in ["upgrade o n r", "path s p", "widens o n", "instant t"] {
+        let output = run(&mill(), &format!("{command} --constants"));
+        assert_eq!(output.status.code(), Some(2));
+        let error = String::from_utf8_lossy(&output.stderr);
+        assert!(
+            error.contains("--constants is no option of this command"),
+            "{error}"
+        );
+    }
+}

@@ -67,6 +67,15 @@ pub fn branch() -> Rule {
     Rule::new(Condition::eq("$state", "drawn")).name("from the drawing board")
 }
 
+/// A pattern is drawn in a season that ends after it begins; the latter is true of every pattern.
+pub fn season() -> Rule {
+    Rule::new(Condition::all([
+        Condition::after("$fields.drawn", "2024-03-01"),
+        Condition::before("2024-03-01", "2024-09-30T12:00:00Z"),
+    ]))
+    .name("season")
+}
+
 /// The mill's own name table: outcome selectors read `$state`.
 pub fn own() -> Table {
     Table::stock().show(Kind::OutcomeSelector, Name::State)
@@ -76,7 +85,7 @@ pub fn own() -> Table {
 pub type File = (&'static str, Vec<u8>);
 
 /// All files of this folder.
-pub fn files() -> Result<[File; 7], Box<dyn Error>> {
+pub fn files() -> Result<[File; 8], Box<dyn Error>> {
     Ok([
         ("pattern.schema", pattern().sheet()?.into()),
         ("wider.schema", wider().sheet()?.into()),
@@ -84,6 +93,7 @@ pub fn files() -> Result<[File; 7], Box<dyn Error>> {
         ("misspelt.rule", misspelt().sheet()?.into()),
         ("fits.rule", fits().sheet()?.into()),
         ("branch.rule", branch().sheet()?.into()),
+        ("season.rule", season().sheet()?.into()),
         ("own.table", own().sheet()?),
     ])
 }

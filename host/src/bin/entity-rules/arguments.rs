@@ -47,6 +47,8 @@ usage: entity-rules check SCHEMA RULE.. --kind KIND --semantics SEMANTICS [OPTIO
                       read (default: the stock table, which the command `table` prints); it may be -
   --label TEXT        check, upgrade: what each path begins with (default: the rule's file name
                       without its end)
+  --constants         check: under a rule that is accepted, its conditions that are always true or
+                      always false, since they compare two dates that are written in the rule
   --json              one line of JSON for each rule, path, text or pair of schemas, and no summary
   --sarif             check: one SARIF 2.1.0 log, by which editors and code hosts show defects
                       where they stand
@@ -131,6 +133,8 @@ pub struct Output {
     pub json: bool,
     pub quiet: bool,
     pub sarif: bool,
+    /// Whether constant conditions are told.
+    pub constants: bool,
 }
 
 /// What is checked against the schema.
@@ -238,7 +242,7 @@ impl Options {
             Some((name, value)) => (name, Some(OsString::from(value))),
             None => (word, None),
         };
-        let is_flag = matches!(name, "--json" | "--quiet" | "--sarif");
+        let is_flag = matches!(name, "--json" | "--quiet" | "--sarif" | "--constants");
         if is_flag && given.is_some() {
             return Err(format!("{name} takes no value"));
         }
@@ -247,6 +251,7 @@ impl Options {
             "--json" => self.output.json = true,
             "--quiet" => self.output.quiet = true,
             "--sarif" => self.output.sarif = true,
+            "--constants" => self.output.constants = true,
             "--kind" => self.kind = Some(named(name, &text(name, word())?)?),
             "--semantics" => self.semantics = Some(named(name, &text(name, word())?)?),
             "--reader" => self.reader = Some(named(name, &text(name, word())?)?),
@@ -284,7 +289,11 @@ impl Options {
 
     fn upgrade(self) -> Result<Upgrade, String> {
         self.once("upgrade")?;
-        not_for("upgrade", &[("--sarif", self.output.sarif)])?;
+        let given = [
+            ("--sarif", self.output.sarif),
+            ("--constants", self.output.constants),
+        ];
+        not_for("upgrade", &given)?;
         match self.words.clone().as_slice() {
             [] | [_] => Err("upgrade: expected the files OLD, NEW and RULE".to_owned()),
             [_, new] => Err(format!(
@@ -335,6 +344,7 @@ impl Options {
             ("--label", self.label.is_some()),
             ("--table", self.table.is_some()),
             ("--sarif", self.output.sarif),
+            ("--constants", self.output.constants),
         ];
         not_for("path", &given)?;
         let (schema, paths) = self.split("path", "file SCHEMA and a PATH", "PATH")?;
@@ -373,6 +383,7 @@ impl Options {
             ("--label", self.label.is_some()),
             ("--table", self.table.is_some()),
             ("--sarif", self.output.sarif),
+            ("--constants", self.output.constants),
         ];
         not_for(command, &given)
     }

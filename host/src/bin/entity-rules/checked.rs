@@ -2,6 +2,7 @@
 
 use crate::arguments::{Arguments, Asked, Output};
 use crate::blame::{self, Blame, Readable};
+use crate::constant::{self, Always};
 use crate::hint::{hint, no_member};
 use crate::outline::reached;
 use crate::region::{Position, Region};
@@ -80,6 +81,11 @@ pub enum Outcome {
     Accepted {
         passed: u32,
     },
+    /// Accepted, with the constant conditions that were asked for.
+    Marked {
+        passed: u32,
+        constants: Vec<Always>,
+    },
     Defect {
         defect: Defect,
         at: Option<Spot>,
@@ -143,7 +149,18 @@ pub enum Sheet {
 
 impl Outcome {
     pub fn is_accepted(&self) -> bool {
-        matches!(self, Self::Accepted { .. } | Self::Instant(_))
+        matches!(
+            self,
+            Self::Accepted { .. } | Self::Marked { .. } | Self::Instant(_)
+        )
+    }
+
+    /// Whether it is accepted and there is no more to tell.
+    pub fn is_plain(&self) -> bool {
+        match self {
+            Self::Marked { constants, .. } => constants.is_empty(),
+            other => other.is_accepted(),
+        }
     }
 
     /// Whether it is the same answer as another, to the last number.
@@ -343,8 +360,19 @@ fn rule_outcome(
     let stem = file.file_stem().unwrap_or_default().as_encoded_bytes();
     let label = label.map_or(stem, str::as_bytes);
     let check = Check::new(kind, arguments.semantics, label).table(&names.lent);
-    match check.run(schema, rule).map(|checked| checked.verdict) {
-        Ok(Verdict::Accepted { passed }) => Outcome::Accepted { passed },
+    let checked = check.run(schema, rule);
+    let constants = checked
+        .as_ref()
+        .map_or(&[][..], |checked| &checked.constants);
+    let always = arguments
+        .output
+        .constants
+        .then(|| constant::all(label, rule, constants));
+    match checked.map(|checked| checked.verdict) {
+        Ok(Verdict::Accepted { passed }) => match always {
+            Some(constants) => Outcome::Marked { passed, constants },
+            None => Outcome::Accepted { passed },
+        },
         Ok(Verdict::Defect(defect)) => {
             let readable = Readable {
                 kind,

@@ -2,6 +2,7 @@
 
 use crate::blame::{Blame, Help};
 use crate::checked::{Checked, Fault, Outcome, Spot, Subject, Unreadable};
+use crate::constant::Always;
 use crate::hint::INSTANT;
 use crate::report::{NO_INSTANT, explained, instant_fields, name, not_read, refused};
 use entity_rules::{Defect, DefectNumber, PathVerdict, Refusal};
@@ -31,6 +32,12 @@ pub fn outcome_members(object: &mut Object, outcome: &Outcome) {
             object.text("verdict", "accepted");
             object.number("number", 0);
             object.number("passed", *passed);
+        }
+        Outcome::Marked { passed, constants } => {
+            object.text("verdict", "accepted");
+            object.number("number", 0);
+            object.number("passed", *passed);
+            object.list("constants", constants.iter().map(Always::object));
         }
         Outcome::Defect {
             defect,
@@ -175,6 +182,10 @@ impl Object {
     pub fn number(&mut self, key: &str, number: impl std::fmt::Display) {
         self.key(key);
         self.0.push_str(&number.to_string());
+    }
+
+    pub fn truth(&mut self, key: &str, truth: bool) {
+        self.number(key, truth);
     }
 
     /// An object within this one.

@@ -15,6 +15,7 @@
 mod arguments;
 mod blame;
 mod checked;
+mod constant;
 mod explain;
 mod hint;
 mod json;
@@ -139,7 +140,7 @@ fn print<'a>(
         tally.count(&checked.outcome);
         if let Some(log) = &mut log {
             log.add(&checked);
-        } else if !(output.quiet && checked.outcome.is_accepted()) {
+        } else if !(output.quiet && checked.outcome.is_plain()) {
             progress.clear();
             out.write_all(show(output, &palette, &checked).as_bytes())?;
         }

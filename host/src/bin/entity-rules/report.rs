@@ -2,6 +2,7 @@
 
 use crate::blame::Blame;
 use crate::checked::{Checked, Fault, Outcome, Sheet, Spot, Subject, Unreadable};
+use crate::constant::Always;
 use crate::hint::INSTANT;
 use crate::terminal::{columns, is_dumb, is_plain};
 use entity_rules::{Defect, DefectNumber, Instant, PathVerdict, Refusal};
@@ -46,6 +47,11 @@ pub fn text(palette: &Palette, checked: &Checked) -> String {
         Outcome::Accepted { passed } => {
             let word = palette.paint(Colour::Green, "accepted");
             format!("{subject}: {word}, {}\n", accepted(*passed))
+        }
+        Outcome::Marked { passed, constants } => {
+            let word = palette.paint(Colour::Green, "accepted");
+            let rows: String = constants.iter().map(Always::row).collect();
+            format!("{subject}: {word}, {}\n{rows}", accepted(*passed))
         }
         Outcome::Defect {
             defect,
@@ -288,7 +294,9 @@ impl Tally {
             return;
         }
         let counter = match outcome {
-            Outcome::Accepted { .. } | Outcome::Instant(_) => &mut self.accepted,
+            Outcome::Accepted { .. } | Outcome::Marked { .. } | Outcome::Instant(_) => {
+                &mut self.accepted
+            }
             Outcome::Defect { .. } | Outcome::KeyDefect { .. } | Outcome::NoInstant => {
                 &mut self.defects
             }

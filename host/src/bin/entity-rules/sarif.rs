@@ -130,7 +130,10 @@ fn found(outcome: &Outcome) -> Option<Found> {
             region: None,
             path: None,
         }),
-        Outcome::Accepted { .. } | Outcome::Instant(_) | Outcome::NoInstant => None,
+        Outcome::Accepted { .. }
+        | Outcome::Marked { .. }
+        | Outcome::Instant(_)
+        | Outcome::NoInstant => None,
     }
 }
 
