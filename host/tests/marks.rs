@@ -7,7 +7,7 @@ use entity_rules::{
     Check, Condition, Constant, Kind, Rule, Schema, Semantics, Table, Template, Verdict, instant,
     raw,
 };
-use support::Random;
+use support::{Random, line, take};
 
 const SCHEMA: &[u8] = b"H,1,0,-,0\n";
 
@@ -229,4 +229,44 @@ fn tables_and_lists_go_together() {
         holds: true,
     };
     assert_eq!(checked.constants, [expected]);
+}
+
+#[test]
+fn the_fixed_list_is_answered() {
+    let list = concat!(env!("CARGO_MANIFEST_DIR"), "/vectors/marks.txt");
+    let list = std::fs::read(list).expect("a list");
+    let mut rest = list.as_slice();
+    while rest.first() == Some(&b'#') {
+        line(&mut rest);
+    }
+    let (mut cases, mut constants) = (0, 0);
+    while !rest.is_empty() {
+        let numbers = line(&mut rest).split(',').map(str::parse);
+        let numbers: Vec<u64> = numbers.collect::<Result<_, _>>().expect("numbers");
+        let (head, marks) = numbers.split_at(6);
+        let [kind, semantics, table, schema, rule, number] = head[..] else {
+            panic!("a case has six numbers");
+        };
+        let [table, schema, rule] = [table, schema, rule].map(|count| take(&mut rest, count));
+        assert_eq!(take(&mut rest, 1), b"\n");
+        let kind = Kind::from_number(kind as u32).expect("a kind");
+        let semantics = Semantics::from_number(semantics as u32).expect("a semantics");
+        let found = Check::new(kind, semantics, "r")
+            .table(table)
+            .run(schema, rule);
+        match found {
+            Err(refusal) => assert_eq!((u64::from(refusal.number()), marks), (number, &[][..])),
+            Ok(checked) => {
+                let defect = checked.verdict.defect();
+                let found = defect.map_or(0, |defect| defect.number.number());
+                assert_eq!(u64::from(found), number);
+                let found = checked.constants.iter();
+                let found = found.map(|one| u64::from(2 * one.entry + u32::from(one.holds)));
+                assert!(found.eq(marks.iter().copied()));
+            }
+        }
+        cases += 1;
+        constants += marks.len();
+    }
+    assert_eq!((cases, constants > 1_000), (1_101, true));
 }

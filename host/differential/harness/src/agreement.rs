@@ -1,7 +1,8 @@
 //! Holds one case against all three: the model answers, the library must answer the same, and the Rust must say the same of what it sees.
 
 use crate::case::Case;
-use crate::library::{self, Extent};
+use crate::library::{self, Entry, Extent};
+use crate::marks::flat;
 use crate::nodes::{entries, node, Node};
 use crate::oracle::{self, Defect, Frame, Quoted, Schemas, Verdict};
 use crate::plan::plan;
@@ -48,6 +49,10 @@ pub fn hold_with(case: &Case, extent: Extent) -> Result<Held, String> {
         };
     }
     let (schema, sheet) = trees(case)?;
+    let (marks, others) = (Entry::Check.marks(case, &answer), flat::marks(&case.rule));
+    if answer.number == 0 && marks != others {
+        return Err(format!("the model has the marks {marks:?}, the second reading {others:?}"));
+    }
     shape(&sheet, &answer, case.semantics > 1)?;
     if oracle::is_kept_out(&sheet) {
         return Ok(Held::KeptOut);

@@ -14,6 +14,7 @@ pub mod keys;
 pub mod leaves;
 pub mod library;
 pub mod longest;
+pub mod marks;
 pub mod memory;
 pub mod moved;
 pub mod nodes;

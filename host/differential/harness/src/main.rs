@@ -1,6 +1,6 @@
 //! The commands of the comparison. See README.md beside the script `run`.
 
-use harness::{compare, exhaustive, fuzzed, instants, keys, leaves, memory, moved, published, tables, vectors, widened, widens};
+use harness::{compare, exhaustive, fuzzed, instants, keys, leaves, marks, memory, moved, published, tables, vectors, widened, widens};
 use std::collections::BTreeMap;
 use std::process::ExitCode;
 
@@ -27,6 +27,9 @@ const USAGE: &str = "usage: differential COMMAND [OPTION..]
   instants [--cases N] [--seed S]  known texts, then N generated ones: which are instants, and their fields
   instants-vectors --out FILE [--seed S]
                                    writes the fixed list of texts and their fields; the library is not asked
+  marks [--cases N] [--seed S]     known rules that compare instants, then N generated ones: which conditions are constant
+  marks-vectors --out FILE [--seed S]
+                                   writes the fixed list of rules and their marks
   widens [--cases N] [--seed S]    known pairs of schemas, then N generated ones: is the second a widening, by library and model; and N
                                    with a rule, held against the Rust
   widens-vectors --out FILE [--seed S]
@@ -127,6 +130,15 @@ fn run(arguments: &[String]) -> Result<(), Trouble> {
             let options = options(rest, &["out", "seed"])?;
             let file = options.get("out").ok_or_else(|| Trouble::Usage("instants-vectors needs --out FILE".to_owned()))?;
             instants::vectors::vectors(file, numeral(&options, "seed", 1)?).map_err(Trouble::Failed)
+        }
+        "marks" => {
+            let options = options(rest, &["cases", "seed"])?;
+            marks::run::marks(numeral(&options, "cases", 1_000_000)?, numeral(&options, "seed", 1)?).map_err(Trouble::Failed)
+        }
+        "marks-vectors" => {
+            let options = options(rest, &["out", "seed"])?;
+            let file = options.get("out").ok_or_else(|| Trouble::Usage("marks-vectors needs --out FILE".to_owned()))?;
+            marks::vectors::vectors(file, numeral(&options, "seed", 1)?).map_err(Trouble::Failed)
         }
         "vectors" => {
             let options = options(rest, &["out", "printed", "seed"])?;

@@ -126,11 +126,13 @@ fn one_key(case: &KeyCase) -> Result<(), String> {
 /// Every entry; a case with a short scratch gets a short result.
 fn one(case: &Case) -> Result<(), String> {
     let answer = model::check(&case.call());
-    let result = if case.scratch_len < crate::refusals::MIN_SCRATCH_WORDS { RESULT_BYTES - 1 } else { RESULT_BYTES };
+    let is_wide = case.scratch_len >= crate::refusals::MIN_SCRATCH_WORDS;
     for entry in Entry::all(case) {
+        let result = entry.result_bytes() - usize::from(!is_wide);
         let expected = entry.answer(case, &answer);
+        let marks = entry.marks(case, &expected);
         let found = raw::fresh(case, *entry, result);
-        let wanted = (expected.number, (result == RESULT_BYTES).then(|| numbers(&expected)), expected.path);
+        let wanted = (expected.number, is_wide.then(|| numbers(&expected)), expected.path, marks);
         if found != wanted {
             return Err(format!("{entry:?} answers {found:?}, not {wanted:?}"));
         }

@@ -4,6 +4,7 @@
 pub mod checks;
 pub mod instant;
 mod keys;
+pub mod marks;
 pub mod number;
 mod paths;
 mod program;
@@ -31,6 +32,7 @@ pub use widening::{first_breach, is_widening, only_marks_opened, widens, Breach}
 
 pub const MAX_LABEL_BYTES: usize = 256;
 pub const PATH_BYTES: usize = 32_768;
+pub const MARKS_BYTES: usize = 8_192;
 pub const SCRATCH_WORDS: usize = 4_096;
 
 /// What a caller hands over; of the two buffers only their lengths matter.

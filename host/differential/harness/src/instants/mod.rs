@@ -5,7 +5,7 @@
 pub mod generate;
 pub mod run;
 #[path = "../../../around/timestamp.rs"]
-mod second;
+pub mod second;
 pub mod vectors;
 
 use crate::generate::values::{INSTANTS, NO_INSTANTS};

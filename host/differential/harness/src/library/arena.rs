@@ -1,16 +1,17 @@
 //! The buffers that are lent, each amid bytes that the library must not touch.
 
-use super::{numbers, raw, Lent, Slot, RESULT_BYTES};
+use super::{numbers, raw, Entry, Lent, Slot};
 use crate::case::Case;
 use crate::keys::KeyCase;
 use crate::random::Random;
 use crate::refusals::MIN_PATH_BYTES;
 use crate::widens::WidensCase;
-use differential::model::Answer;
+use differential::model::{Answer, MARKS_BYTES};
 
 /// Bytes before and behind what is lent.
 const AROUND: usize = 128;
 const PATH_ARENA: usize = AROUND + MIN_PATH_BYTES + 2 * AROUND;
+const MARKS_ARENA: usize = AROUND + MARKS_BYTES + 2 * AROUND;
 const RESULT_ARENA: usize = 4 * AROUND;
 
 /// Indexes far past every result; times four they wrap to one inside it, in 32 bits.
@@ -21,6 +22,7 @@ pub struct Arena {
     patterns: [Vec<u8>; 2],
     /// Each holds the pattern of its index between calls.
     paths: [Vec<u8>; 2],
+    marks: [Vec<u8>; 2],
     results: [Vec<u8>; 2],
 }
 
@@ -30,20 +32,22 @@ impl Arena {
         let first: Vec<u8> = (0..PATH_ARENA).map(|_| random.next() as u8).collect();
         let second = first.iter().map(|byte| !byte).collect();
         let patterns = [first, second];
-        let results = [patterns[0][..RESULT_ARENA].to_vec(), patterns[1][..RESULT_ARENA].to_vec()];
-        Self { paths: patterns.clone(), patterns, results }
+        let start = |length: usize| [patterns[0][..length].to_vec(), patterns[1][..length].to_vec()];
+        let (marks, results) = (start(MARKS_ARENA), start(RESULT_ARENA));
+        Self { paths: patterns.clone(), patterns, marks, results }
     }
 
     /// Makes the call. An error tells what differs, and leaves the buffers as the library left them.
-    pub fn call(&mut self, case: &Case, lent: &Lent, expected: &Answer) -> Result<(), String> {
+    pub fn call(&mut self, case: &Case, lent: &Lent, expected: &Answer, marks: &[u32]) -> Result<(), String> {
         let around = &self.patterns[lent.pattern][..AROUND];
-        let (path, result) = (&mut self.paths[lent.pattern], &mut self.results[lent.pattern]);
+        let (path, result, list) = (&mut self.paths[lent.pattern], &mut self.results[lent.pattern], &mut self.marks[lent.pattern]);
         let start = AROUND + lent.shift;
         let (path_lent, result_lent) = (AROUND..AROUND + lent.path, start..start + lent.result);
         let table = [around, &case.table, around].concat();
         let untouched = table.clone();
         let table_lent = &table[AROUND..AROUND + case.table.len()];
-        let number = raw::check(case, lent.entry, table_lent, &mut path[path_lent], &mut result[result_lent.clone()]);
+        let list_lent = &mut list[AROUND..AROUND + lent.marks];
+        let number = raw::check(case, lent.entry, table_lent, &mut path[path_lent], list_lent, &mut result[result_lent.clone()]);
         if number != expected.number {
             return Err(format!("it returns {number}"));
         }
@@ -51,7 +55,10 @@ impl Arena {
             return Err("a byte of the table, or around it, has changed".to_owned());
         }
         fields(&result[result_lent])?;
-        self.result(&lent.slot(), numbers(expected))?;
+        let count = (lent.entry == Entry::Check).then_some(marks.len() as u32);
+        let told: Vec<u32> = numbers(expected).into_iter().chain(count).collect();
+        self.result(&lent.slot(), &told)?;
+        self.list(lent.pattern, marks)?;
         self.path(lent, expected)
     }
 
@@ -72,7 +79,7 @@ impl Arena {
         if inputs != untouched {
             return Err("a byte of its inputs, or around them, has changed".to_owned());
         }
-        self.result(slot, numbers(expected))
+        self.result(slot, &numbers(expected))
     }
 
     /// Makes the call for two schemas, which must keep their bytes as well, amid others.
@@ -92,7 +99,7 @@ impl Arena {
         if inputs != untouched {
             return Err("a byte of its inputs, or around them, has changed".to_owned());
         }
-        self.result(slot, *expected)
+        self.result(slot, expected)
     }
 
     /// Calls a function on an input, which must keep its bytes, and a buffer amid others: what is written lies at its start, and all else is as it was.
@@ -125,15 +132,31 @@ impl Arena {
         Ok(())
     }
 
-    /// The seven numbers where there is room, all else as it was; then the pattern again.
-    fn result(&mut self, slot: &Slot, expected: [u32; 7]) -> Result<(), String> {
+    /// The marks at the start, all else as it was; then the pattern again.
+    fn list(&mut self, pattern: usize, marks: &[u32]) -> Result<(), String> {
+        let bytes: Vec<u8> = marks.iter().copied().flat_map(u32::to_le_bytes).collect();
+        let (whole, found) = (&self.patterns[pattern][..MARKS_ARENA], &mut self.marks[pattern]);
+        let end = AROUND + bytes.len();
+        if found[AROUND..end] != bytes {
+            let found: Vec<u32> = (0..marks.len() as u32).map(|index| raw::field(&found[AROUND..], index)).collect();
+            return Err(format!("the marks are {found:?}"));
+        }
+        found[AROUND..end].copy_from_slice(&whole[AROUND..end]);
+        match differs(found, whole) {
+            Some(at) => Err(format!("byte {} of the list is {}, not {}", at as isize - AROUND as isize, found[at], whole[at])),
+            None => Ok(()),
+        }
+    }
+
+    /// The numbers where there is room, all else as it was; then the pattern again.
+    fn result(&mut self, slot: &Slot, expected: &[u32]) -> Result<(), String> {
         let pattern = &self.patterns[slot.pattern][..RESULT_ARENA];
         let found = &mut self.results[slot.pattern];
         let mut wanted = pattern.to_vec();
-        if slot.length >= RESULT_BYTES {
-            let bytes: Vec<u8> = expected.into_iter().flat_map(u32::to_le_bytes).collect();
+        if slot.length >= 4 * expected.len() {
+            let bytes: Vec<u8> = expected.iter().copied().flat_map(u32::to_le_bytes).collect();
             let start = AROUND + slot.shift;
-            wanted[start..start + RESULT_BYTES].copy_from_slice(&bytes);
+            wanted[start..start + bytes.len()].copy_from_slice(&bytes);
         }
         if let Some(at) = differs(found, &wanted) {
             let place = at as isize - (AROUND + slot.shift) as isize;

@@ -1,4 +1,4 @@
-//! The library under its C functions, held against what the model answers: every byte of both buffers and around them, and every number.
+//! The library under its C functions, held against what the model answers: every byte of the buffers and around them, and every number.
 
 mod arena;
 pub mod instants;
@@ -11,19 +11,22 @@ use crate::agreement::line;
 use crate::case::Case;
 use crate::refusals::{MIN_PATH_BYTES, MIN_SCRATCH_WORDS};
 use arena::Arena;
-use differential::model::Answer;
+use differential::model::{decode_rule, marks::marks, Answer, MARKS_BYTES};
 use std::cell::RefCell;
 use std::fmt::Debug;
 
 /// The bytes of a result that are written.
 pub const RESULT_BYTES: usize = 28;
 
+/// The same of the entry that is lent a list of marks, whose count comes behind the seven numbers.
+pub const CHECK_RESULT_BYTES: usize = 32;
+
 /// The entry that a sheet goes to.
 #[derive(Clone, Copy, Debug, PartialEq, Eq)]
 pub enum Entry {
     Rule,
     Template,
-    /// The one that is lent a table, and takes both sheets.
+    /// The one that is lent a table and a list of marks, and takes both sheets.
     Check,
 }
 
@@ -57,6 +60,20 @@ impl Entry {
         }
     }
 
+    /// The bytes of a result that it writes.
+    pub fn result_bytes(self) -> usize {
+        match self {
+            Self::Rule | Self::Template => RESULT_BYTES,
+            Self::Check => CHECK_RESULT_BYTES,
+        }
+    }
+
+    /// The marks that it answers with.
+    pub fn marks(self, case: &Case, answer: &Answer) -> Vec<u32> {
+        let sheet = (self == Self::Check && answer.number == 0).then(|| decode_rule(&case.rule)).flatten();
+        sheet.map_or(Vec::new(), |sheet| marks(&sheet))
+    }
+
     /// What it answers where the entry for both sheets, all else equal, answers this.
     pub fn answer(self, case: &Case, answer: &Answer) -> Answer {
         let letters = match self {
@@ -78,6 +95,7 @@ impl Entry {
 pub struct Lent {
     pub entry: Entry,
     pub path: usize,
+    pub marks: usize,
     pub result: usize,
     /// Where the result begins, so that it need not stand on a boundary of four bytes.
     pub shift: usize,
@@ -104,6 +122,8 @@ impl Lent {
 pub enum Extent {
     /// The entry of the sheet, and by chance one of the other calls.
     Some,
+    /// The entry with a list of marks, and by chance a short list as well.
+    Marks,
     /// Each of them, so that a case that is made smaller goes on to show what it shows.
     All,
 }
@@ -123,40 +143,52 @@ fn mixed(settings: [u64; 2], parts: &[&[u8]]) -> u64 {
 /// Which of the other calls is made, each row equally often: the other entry and the one for both sheets in a quarter of the cases each, short buffers
 /// less often. The last one, buffers without a byte to spare, is often the own call already.
 const PICKS: [Option<usize>; 16] = {
-    let (other, result, path, all, both) = (Some(0), Some(1), Some(2), Some(3), Some(4));
-    [other, other, other, other, result, path, all, None, both, both, both, both, None, None, None, None]
+    let (other, result, path, all, both, list) = (Some(0), Some(1), Some(2), Some(3), Some(4), Some(5));
+    [other, other, other, other, result, path, all, list, both, both, both, both, None, None, None, None]
 };
 
 /// The calls of a case: its own, with short buffers where the case has them, and others.
 fn calls(case: &Case, extent: Extent) -> Vec<Lent> {
     let chance = mixed([case.kind, case.semantics], &[&case.label, &case.table, &case.schema, &case.rule]);
-    let entry = Entry::of(case, chance);
+    let entry = if extent == Extent::Marks { Entry::Check } else { Entry::of(case, chance) };
     let spare = [0, 0, 1, 7, 64][chance as usize % 5];
     let path = if case.path_len < MIN_PATH_BYTES { case.path_len } else { MIN_PATH_BYTES + spare };
     let short = (chance >> 32) as usize % RESULT_BYTES;
-    let long = RESULT_BYTES + [0, 0, 1, 3, 4, 36][chance as usize % 6];
-    let result = if case.scratch_len < MIN_SCRATCH_WORDS { short } else { long };
-    let own = Lent { entry, path, result, shift: chance as usize % 4, pattern: chance as usize / 4 % 2 };
+    let spare_result = [0, 0, 1, 3, 4, 36][chance as usize % 6];
+    let result_of = |entry: Entry| if case.scratch_len < MIN_SCRATCH_WORDS { short } else { entry.result_bytes() + spare_result };
+    let (result, marks) = (result_of(entry), MARKS_BYTES + [0, 0, 1, 3, 4, 100][(chance >> 8) as usize % 6]);
+    let own = Lent { entry, path, marks, result, shift: chance as usize % 4, pattern: chance as usize / 4 % 2 };
+    let few = [0, 4, MARKS_BYTES - 4, MARKS_BYTES - 1, (chance >> 40) as usize % MARKS_BYTES][(chance >> 12) as usize % 5];
+    let both = Lent { entry: Entry::Check, result: result_of(Entry::Check), ..own };
     let others = [
         Lent { entry: entry.other(), ..own },
         Lent { result: short, ..own },
         Lent { path: [0, 1, MIN_PATH_BYTES - 1, (chance >> 40) as usize % MIN_PATH_BYTES][chance as usize / 8 % 4], ..own },
         Lent { entry: entry.other(), path: MIN_PATH_BYTES - 1, result: RESULT_BYTES - 1, ..own },
-        Lent { entry: Entry::Check, pattern: 1 - own.pattern, ..own },
-        Lent { path: path.min(MIN_PATH_BYTES), result: result.min(RESULT_BYTES), ..own },
+        Lent { pattern: 1 - own.pattern, ..both },
+        Lent { marks: few, ..both },
+        Lent { marks: few, path: MIN_PATH_BYTES - 1, ..both },
+        Lent { path: path.min(MIN_PATH_BYTES), marks: MARKS_BYTES, result: result.min(entry.result_bytes()), ..own },
     ];
     let picked = PICKS[(chance >> 20) as usize % PICKS.len()];
-    let others = others.into_iter().enumerate().filter(|(at, _)| extent == Extent::All || picked == Some(*at));
+    let is_made = |at: usize| match extent {
+        Extent::Some => picked == Some(at),
+        Extent::Marks => at == 5 && (chance >> 24) % 4 == 0,
+        Extent::All => true,
+    };
+    let others = others.into_iter().enumerate().filter(|(at, _)| is_made(*at));
     [own].into_iter().chain(others.map(|(_, lent)| lent)).collect()
 }
 
 /// What the entry answers, given the model's answer to the case: a buffer may be shorter than the case says, and the sheet may be for the other entry.
 fn expected(case: &Case, answer: &Answer, lent: &Lent) -> Answer {
     let is_path_cut = lent.path < case.path_len.min(MIN_PATH_BYTES);
-    let is_result_cut = lent.result < RESULT_BYTES && case.scratch_len >= MIN_SCRATCH_WORDS;
+    let is_result_cut = lent.result < lent.entry.result_bytes() && case.scratch_len >= MIN_SCRATCH_WORDS;
     match answer.number {
         1 | 2 => answer.clone(),
         _ if is_path_cut || is_result_cut => Answer { number: 3, ..Answer::default() },
+        3 => answer.clone(),
+        _ if lent.entry == Entry::Check && lent.marks < MARKS_BYTES => Answer { number: 35, ..Answer::default() },
         _ => lent.entry.answer(case, answer),
     }
 }
@@ -167,7 +199,8 @@ thread_local! {
 
 fn one(case: &Case, answer: &Answer, lent: &Lent) -> Result<(), String> {
     let expected = expected(case, answer, lent);
-    in_arena(lent, || line(&expected), |arena| arena.call(case, lent, &expected))
+    let marks = lent.entry.marks(case, &expected);
+    in_arena(lent, || format!("{}, marks {marks:?}", line(&expected)), |arena| arena.call(case, lent, &expected, &marks))
 }
 
 /// Makes a call in the arena, which is a new one after a difference.

@@ -1,9 +1,10 @@
 //! The C functions on slices.
 
-use super::{Entry, RESULT_BYTES};
+use super::{Entry, CHECK_RESULT_BYTES, RESULT_BYTES};
 use crate::case::Case;
 use crate::keys::KeyCase;
 use crate::widens::WidensCase;
+use differential::model::MARKS_BYTES;
 use std::mem::MaybeUninit;
 
 /// An entry that takes one sort of sheet.
@@ -53,6 +54,8 @@ extern "C" {
         rule_length: usize,
         path: *mut u8,
         path_length: usize,
+        marks: *mut u8,
+        marks_length: usize,
         result: *mut u8,
         result_length: usize,
     ) -> u32;
@@ -86,18 +89,19 @@ extern "C" {
     fn rulecheck_instant(text: *const u8, text_length: usize, fields: *mut u8, fields_length: usize) -> u32;
 }
 
-/// One call of the case, the slices lent as they are, and the table from a place of its own.
-pub fn check(case: &Case, entry: Entry, table: &[u8], path: &mut [u8], result: &mut [u8]) -> u32 {
+/// One call of the case, the slices lent as they are, and the table from a place of its own. An entry without marks is lent none.
+pub fn check(case: &Case, entry: Entry, table: &[u8], path: &mut [u8], marks: &mut [u8], result: &mut [u8]) -> u32 {
     let inputs = [case.label.as_slice(), table, &case.schema, &case.rule];
+    let buffers = [path, marks, result].map(|buffer| (buffer.as_mut_ptr(), buffer.len()));
     // SAFETY: pointers and lengths are those of slices, and no two of them overlap.
-    unsafe { call(case, entry, inputs, (path.as_mut_ptr(), path.len()), (result.as_mut_ptr(), result.len())) }
+    unsafe { call(case, entry, inputs, buffers) }
 }
 
 /// # Safety
 ///
 /// Each pointer of a buffer leads to as many bytes as its length says, and nothing else refers to these.
-unsafe fn call(case: &Case, entry: Entry, inputs: [&[u8]; 4], path: (*mut u8, usize), result: (*mut u8, usize)) -> u32 {
-    let [label, table, schema, rule] = inputs;
+unsafe fn call(case: &Case, entry: Entry, inputs: [&[u8]; 4], buffers: [(*mut u8, usize); 3]) -> u32 {
+    let ([label, table, schema, rule], [path, marks, result]) = (inputs, buffers);
     let entry: Alone = match entry {
         Entry::Rule => rulecheck_rule,
         Entry::Template => rulecheck_template,
@@ -115,6 +119,8 @@ unsafe fn call(case: &Case, entry: Entry, inputs: [&[u8]; 4], path: (*mut u8, us
                 rule.len(),
                 path.0,
                 path.1,
+                marks.0,
+                marks.1,
                 result.0,
                 result.1,
             )
@@ -137,21 +143,36 @@ unsafe fn call(case: &Case, entry: Entry, inputs: [&[u8]; 4], path: (*mut u8, us
 }
 
 /// A call with buffers fresh from the allocator, which nobody wrote yet, and copies of the inputs that are exactly as long as these: the number, the
-/// seven numbers where the result has room for them, and the path.
-pub fn fresh(case: &Case, entry: Entry, result_length: usize) -> (u32, Option<[u32; 7]>, Vec<u8>) {
+/// seven numbers where the result has room for them, the path, and the marks.
+pub fn fresh(case: &Case, entry: Entry, result_length: usize) -> (u32, Option<[u32; 7]>, Vec<u8>, Vec<u32>) {
     let inputs = [&case.label, &case.table, &case.schema, &case.rule].map(|input| input.clone().into_boxed_slice());
     let (mut path, mut result) = (Box::<[u8]>::new_uninit_slice(case.path_len), Box::<[u8]>::new_uninit_slice(result_length));
     let [label, table, schema, rule] = &inputs;
-    let (path_lent, result_lent) = ((path.as_mut_ptr().cast(), path.len()), (result.as_mut_ptr().cast(), result.len()));
+    let mut marks = Box::<[u8]>::new_uninit_slice(MARKS_BYTES);
+    let buffers = [&mut path, &mut marks, &mut result].map(|buffer| (buffer.as_mut_ptr().cast(), buffer.len()));
     // SAFETY: the boxes are as long as said, and only read again after the call.
-    let number = unsafe { call(case, entry, [label, table, schema, rule], path_lent, result_lent) };
+    let number = unsafe { call(case, entry, [label, table, schema, rule], buffers) };
     // SAFETY: the call wrote the result, if it has room.
-    let Some(numbers) = (unsafe { written(&result) }) else {
-        return (number, None, Vec::new());
+    let Some(numbers) = (unsafe { written(result.get(..entry.result_bytes()).unwrap_or_default()) }) else {
+        return (number, None, Vec::new(), Vec::new());
     };
     // SAFETY: as long as this the path was written.
     let path = unsafe { std::slice::from_raw_parts(path.as_ptr().cast::<u8>(), numbers[6] as usize) };
-    (number, Some(numbers), path.to_vec())
+    // SAFETY: an entry with marks wrote how many there are, and so many of them.
+    let marks = unsafe { (entry == Entry::Check).then(|| written_marks(&result, &marks)) };
+    (number, Some(numbers), path.to_vec(), marks.unwrap_or_default())
+}
+
+/// The marks of a list that was lent with a result.
+///
+/// # Safety
+///
+/// The result was written in its first 32 bytes, and the list as far as the number at index 7 says.
+unsafe fn written_marks(result: &[MaybeUninit<u8>], marks: &[MaybeUninit<u8>]) -> Vec<u32> {
+    let result = std::slice::from_raw_parts(result.as_ptr().cast::<u8>(), CHECK_RESULT_BYTES);
+    let count = field(result, 7);
+    let marks = std::slice::from_raw_parts(marks.as_ptr().cast::<u8>(), 4 * count as usize);
+    (0..count).map(|index| field(marks, index)).collect()
 }
 
 /// The seven numbers of a result, if it has room for them.
