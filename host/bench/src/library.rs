@@ -2,15 +2,16 @@
 
 use crate::sheets::Sample;
 
-/// What a caller lends for a path, and where the seven numbers go.
+/// What a caller lends for a path and for marks, and where the numbers go.
 pub struct Buffers {
     path: Vec<u8>,
-    result: [u8; 28],
+    marks: Vec<u8>,
+    result: [u8; 32],
 }
 
 impl Buffers {
     pub fn new() -> Self {
-        Self { path: vec![0; 32_768], result: [0; 28] }
+        Self { path: vec![0; 32_768], marks: vec![0; 8_192], result: [0; 32] }
     }
 }
 
@@ -58,6 +59,24 @@ extern "C" {
         result: *mut u8,
         result_length: usize,
     ) -> u32;
+    fn rulecheck_check(
+        kind: u64,
+        semantics: u64,
+        label: *const u8,
+        label_length: usize,
+        table: *const u8,
+        table_length: usize,
+        schema: *const u8,
+        schema_length: usize,
+        rule: *const u8,
+        rule_length: usize,
+        path: *mut u8,
+        path_length: usize,
+        marks: *mut u8,
+        marks_length: usize,
+        result: *mut u8,
+        result_length: usize,
+    ) -> u32;
     fn acceptance_schema(sheet: *const u8, length: usize) -> u32;
     fn acceptance_rule(sheet: *const u8, length: usize) -> u32;
 }
@@ -81,6 +100,33 @@ pub fn check(sample: &Sample, buffers: &mut Buffers) -> u32 {
             rule.len(),
             path.as_mut_ptr(),
             path.len(),
+            result.as_mut_ptr(),
+            result.len(),
+        )
+    }
+}
+
+/// One whole check that marks constant conditions, under the stock table; the answer is the number.
+pub fn mark(sample: &Sample, buffers: &mut Buffers) -> u32 {
+    let (schema, rule) = (&sample.schema, &sample.rule);
+    let Buffers { path, marks, result } = buffers;
+    // SAFETY: as in `check`; the list of marks is lent like the path.
+    unsafe {
+        rulecheck_check(
+            sample.kind,
+            sample.semantics,
+            b"rule".as_ptr(),
+            4,
+            b"".as_ptr(),
+            0,
+            schema.as_ptr(),
+            schema.len(),
+            rule.as_ptr(),
+            rule.len(),
+            path.as_mut_ptr(),
+            path.len(),
+            marks.as_mut_ptr(),
+            marks.len(),
             result.as_mut_ptr(),
             result.len(),
         )

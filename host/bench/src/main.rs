@@ -1,6 +1,6 @@
 //! Measures the library beside the Rust on the same sheets and writes the figures, and a plot, into a document: `bench DOCUMENT`.
 //! `bench once GROUP SIDE SIZE` makes a single call for valgrind to count, `bench time GROUP SIDE SIZE` prints how many nanoseconds it takes;
-//! `bench plain` prints the figures only, without counting.
+//! `bench plain` prints the figures only, without counting; `bench marks` prints what it costs to mark constant conditions.
 
 mod library;
 mod measure;
@@ -25,6 +25,8 @@ use std::process::ExitCode;
 #[derive(Clone, Copy)]
 pub enum Side {
     Library,
+    /// The library, marking the conditions that are constant.
+    Marking,
     /// The Rust on types that were built before.
     Validating,
     /// The Rust building its types from the bytes, validating and dropping them.
@@ -35,7 +37,8 @@ impl Side {
     const ALL: [(&'static str, Side); 3] = [("library", Side::Library), ("validating", Side::Validating), ("building", Side::Building)];
 
     fn named(name: &str) -> Option<Self> {
-        Self::ALL.iter().find(|(known, _)| *known == name).map(|(_, side)| *side)
+        let all = Self::ALL.iter().chain(&[("marking", Side::Marking)]);
+        all.into_iter().find(|(known, _)| *known == name).map(|(_, side)| *side)
     }
 }
 
@@ -45,9 +48,10 @@ fn main() -> ExitCode {
     let done = match words[..] {
         ["once", group, side, size] => on_sample(group, side, size, |call| measure::counted_call(call)),
         ["time", group, side, size] => on_sample(group, side, size, |call| println!("{:.0}", measure::time(call))),
+        ["marks"] => marks(),
         ["plain"] => all(false).map(|figures| println!("{}", figures.tables())),
         [document] => all(true).and_then(|figures| figures.write(document)),
-        _ => Err("usage: bench DOCUMENT | bench plain | bench once GROUP SIDE SIZE | bench time GROUP SIDE SIZE".to_owned()),
+        _ => Err("usage: bench DOCUMENT | bench plain | bench marks | bench once GROUP SIDE SIZE | bench time GROUP SIDE SIZE".to_owned()),
     };
     match done {
         Ok(()) => ExitCode::SUCCESS,
@@ -74,6 +78,7 @@ fn with_call<T>(sample: &Sample, side: Side, measured: impl FnOnce(&mut dyn FnMu
     let built = rust::build(sample).expect("a measured sheet is well formed");
     let mut call = || match side {
         Side::Library => library::check(sample, &mut buffers) == 0,
+        Side::Marking => library::mark(sample, &mut buffers) == 0,
         Side::Validating => rust::validate(sample, &built),
         Side::Building => rust::build_and_validate(sample),
     };
@@ -83,6 +88,18 @@ fn with_call<T>(sample: &Sample, side: Side, measured: impl FnOnce(&mut dyn FnMu
 
 fn time(sample: &Sample, side: Side) -> f64 {
     with_call(sample, side, |call| measure::time(call))
+}
+
+/// Prints for each group how many instructions a check has, and how many with marks.
+fn marks() -> Result<(), String> {
+    for group in GROUPS.iter().chain(&NUMBERS) {
+        let size = group.listed.to_string();
+        let count = |side| measure::instructions(&["once", group.name, side, &size]).ok_or("valgrind is missing");
+        let (without, with) = (count("library")?, count("marking")?);
+        let more = 100.0 * (with as f64 - without as f64) / without as f64;
+        println!("| {} | {without} | {with} | {more:+.2}% |", group.name);
+    }
+    Ok(())
 }
 
 fn all(counting: bool) -> Result<Figures, String> {
