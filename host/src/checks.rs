@@ -1,7 +1,8 @@
 //! A check with everything that it can be lent.
 
-use crate::limits::{PATH_BYTES, RESULT_BYTES};
+use crate::limits::{PATH_BYTES, RESULT_BYTES, TALLY_BYTES};
 use crate::settings::{Kind, Semantics};
+use crate::tally::{self, Tally};
 use crate::verdict::{self, Refusal, Verdict};
 use crate::{numbers, raw};
 
@@ -91,6 +92,39 @@ impl<'a> Check<'a> {
         );
         let verdict = verdict::answer(numbers(&result), &path)?;
         Ok(Checked { verdict })
+    }
+
+    /// Checks every sheet of a rule book against a schema, and tallies how they fare; otherwise as [`tally`](crate::tally()).
+    ///
+    /// ```
+    /// use entity_rules::{Book, Check, Kind, Name, Semantics, Table};
+    ///
+    /// let table = Table::stock().show(Kind::OutcomeSelector, Name::State).sheet()?;
+    /// let check = Check::new(Kind::OutcomeSelector, Semantics::Service1, "branch");
+    /// let book = Book::new().sheet("T\nV,5,6,$state\n");
+    /// assert_eq!(check.tally(b"H,0,0,-,0\n", &book)?.accepted, 0);
+    /// assert_eq!(check.table(&table).tally(b"H,0,0,-,0\n", &book)?.accepted, 1);
+    /// # Ok::<(), Box<dyn std::error::Error>>(())
+    /// ```
+    ///
+    /// # Errors
+    ///
+    /// If the label or the table is refused, or the file is no book.
+    pub fn tally(&self, schema: &[u8], book: impl AsRef<[u8]>) -> Result<Tally, Refusal> {
+        let mut path = vec![0; PATH_BYTES];
+        let mut result = [0; TALLY_BYTES];
+        let (kind, semantics) = (self.kind.number().into(), self.semantics.number().into());
+        raw::tally(
+            kind,
+            semantics,
+            self.label,
+            self.table,
+            schema,
+            book.as_ref(),
+            &mut path,
+            &mut result,
+        );
+        tally::answer(&result)
     }
 }
 

@@ -14,6 +14,7 @@
     )
 )]
 
+mod book;
 mod build;
 mod checks;
 pub mod entries;
@@ -25,9 +26,11 @@ mod numbered;
 pub mod raw;
 mod settings;
 mod table;
+mod tally;
 mod verdict;
 mod widening;
 
+pub use book::{Book, BookError, BookSheet};
 pub use build::{
     BuildError, CompareOp, Condition, Field, FieldKind, Nesting, Rule, Schema, Template, Value,
 };
@@ -37,6 +40,7 @@ pub use finite::{Finite, finite};
 pub use instant::{Instant, instant};
 pub use settings::{Kind, Name, Reader, Semantics, UnknownName};
 pub use table::{Table, TableError};
+pub use tally::Tally;
 pub use verdict::{
     CollectionFault, Defect, DefectNumber, Detail, Family, InstantFault, PathVerdict,
     ReferenceFault, Refusal, Side, Verdict,
@@ -163,6 +167,39 @@ pub fn check_path(
     let (semantics, reader) = (semantics.number().into(), reader.number().into());
     raw::path(semantics, reader, path.as_ref(), schema, &mut result);
     verdict::path_answer(numbers(&result))
+}
+
+/// Checks every sheet of a rule book against a schema that is read once, and tallies how they fare.
+///
+/// What counts is what [`check`] answers for each sheet alone. The label is refused as there and otherwise without influence, since a tally has no paths.
+/// Which names may be read goes by the stock table; a [`Check`] can be lent another.
+///
+/// ```
+/// use entity_rules::{tally, Book, Condition, DefectNumber, Field, FieldKind, Kind, Rule, Schema, Semantics};
+///
+/// let schema = Schema::new().field(Field::new("yarn", FieldKind::String)).sheet()?;
+/// let mut book = Book::new();
+/// for field in ["yarn", "dye", "width"] {
+///     book.extend([Rule::new(Condition::exists(format!("$fields.{field}").as_str())).sheet()?]);
+/// }
+///
+/// let tally = tally(Kind::Invariant, Semantics::Service1, "mill", &schema, &book)?;
+/// assert_eq!((tally.read, tally.accepted), (3, 1));
+/// assert_eq!(tally.count(DefectNumber::Reference), 2);
+/// # Ok::<(), Box<dyn std::error::Error>>(())
+/// ```
+///
+/// # Errors
+///
+/// If the label is refused, or the file is no book. A schema sheet that is not well formed is no error here: every sheet counts as refused by 4, as each check would say.
+pub fn tally(
+    kind: Kind,
+    semantics: Semantics,
+    label: impl AsRef<[u8]>,
+    schema: &[u8],
+    book: impl AsRef<[u8]>,
+) -> Result<Tally, Refusal> {
+    Check::new(kind, semantics, &label).tally(schema, book)
 }
 
 type Entry = fn(u64, u64, &[u8], &[u8], &[u8], &mut [u8], &mut [u8]) -> u32;

@@ -44,3 +44,6 @@ pub const PATH_BYTES: usize = 32_768;
 
 /// Bytes that a call wants for the result, or for the fields of an instant: seven numbers of four bytes.
 pub const RESULT_BYTES: usize = 28;
+
+/// Bytes that a tally wants for its result: eighteen numbers of eight bytes.
+pub const TALLY_BYTES: usize = 144;

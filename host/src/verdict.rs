@@ -491,6 +491,8 @@ pub enum Refusal {
     NewSchemaSheet,
     /// 5: the rule sheet is not well formed, or is not of the sort that the function takes.
     RuleSheet,
+    /// 34 of a call for a rule book: the file is not one. [`Book::read`](crate::Book::read) says where.
+    BookForm,
     /// 37: the name table is not of its form. [`Table::read`](crate::Table::read) says where.
     TableForm,
     /// 38: a mark of the name table breaks one of its two conditions. [`Table::read`](crate::Table::read) says which.
@@ -513,6 +515,7 @@ impl Refusal {
             Self::Width => 3,
             Self::SchemaSheet | Self::NewSchemaSheet => 4,
             Self::RuleSheet => 5,
+            Self::BookForm => 34,
             Self::TableForm => 37,
             Self::TableMark => 38,
             Self::Unknown([number, ..]) => number,
@@ -533,13 +536,15 @@ impl Refusal {
             Self::Width => "width",
             Self::SchemaSheet | Self::NewSchemaSheet => "schema sheet",
             Self::RuleSheet => "rule sheet",
+            Self::BookForm => "book form",
             Self::TableForm => "table form",
             Self::TableMark => "table mark",
             Self::Unknown(_) => "unknown",
         }
     }
 
-    const fn from_number(number: u32) -> Option<Self> {
+    /// The refusal of a check that has this number.
+    pub(crate) const fn from_number(number: u32) -> Option<Self> {
         match number {
             1 => Some(Self::Setting),
             2 => Some(Self::Label),
@@ -561,12 +566,13 @@ impl fmt::Display for Refusal {
             }
             Self::Label => f.pad("the label is over 256 bytes long, or not UTF-8"),
             Self::Path => f.pad("the path is over 512 bytes long, or not UTF-8"),
-            Self::Width => f.pad("the path buffer is under 32,768 bytes, or the result under 28"),
+            Self::Width => f.pad("the path buffer is under 32,768 bytes, or the result under 28 (for a tally 144)"),
             Self::SchemaSheet => f.pad("the schema sheet is not well formed"),
             Self::NewSchemaSheet => f.pad("the new schema's sheet is not well formed"),
             Self::RuleSheet => {
                 f.pad("the rule sheet is not well formed, or not of the sort asked for")
             }
+            Self::BookForm => f.pad("the file is not a rule book"),
             Self::TableForm => f.pad("the name table is not of its form"),
             Self::TableMark => f.pad(
                 "a mark of the name table hides a name that every kind reads, or shows $old_fields where $fields is hidden",

@@ -1,6 +1,6 @@
 //! The C header and the C example.
 
-use entity_rules::limits::{MAX_KEY_BYTES, PATH_BYTES, RESULT_BYTES, TABLE_BYTES};
+use entity_rules::limits::{MAX_KEY_BYTES, PATH_BYTES, RESULT_BYTES, TABLE_BYTES, TALLY_BYTES};
 use entity_rules::{
     BreachReason, DefectNumber, Family, Kind, Reader, ReferenceFault, Refusal, Semantics, Widening,
 };
@@ -52,6 +52,7 @@ fn runs(program: &Path) {
         "good: accepted, 9 checks passed\n\
          bad: defect 18 of family 8, detail 3, at entry 5, bad.assert.for_all.that.eq[0], after 8 checks\n\
          own: accepted, 5 checks passed\n\
+         book: 2 read, 1 accepted, 1 with defect 18, 17 checks passed\n\
          wider: a widening\n\
          narrower: none, reason 1, at entry 4 of the old sheet and 0 of the new\n"
     );
@@ -120,6 +121,7 @@ fn the_header_has_the_numbers_of_the_crate() {
         ("WIDTH", Refusal::Width),
         ("SCHEMA_SHEET", Refusal::SchemaSheet),
         ("RULE_SHEET", Refusal::RuleSheet),
+        ("BOOK_FORM", Refusal::BookForm),
         ("TABLE_FORM", Refusal::TableForm),
         ("TABLE_MARK", Refusal::TableMark),
     ];
@@ -139,9 +141,23 @@ fn the_header_has_the_numbers_of_the_crate() {
         "NANOSECONDS",
     ];
     let fields = fields.into_iter().map(str::to_owned).zip(0..);
+    let counts = [
+        ("NUMBER", 0),
+        ("READ", 1),
+        ("ACCEPTED", 2),
+        ("REFUSED_SCHEMA_SHEET", 3),
+        ("REFUSED_RULE_SHEET", 4),
+        ("DEFECTS", 5),
+        ("PASSED", 17),
+    ];
+    let counts = counts.map(|(name, index)| (format!("TALLY_{name}"), index));
     let settings = kinds.chain(semantics).chain(readers);
     let answers = defects.chain(families).chain(refusals);
-    let answers = answers.chain(reasons).chain(widenings).chain(fields);
+    let answers = answers
+        .chain(reasons)
+        .chain(widenings)
+        .chain(fields)
+        .chain(counts);
     for (name, number) in settings.chain(answers) {
         let line = format!("  ENTITY_RULES_{name} = {number}");
         assert!(
@@ -157,6 +173,7 @@ fn the_header_has_the_numbers_of_the_crate() {
         ("TABLE_BYTES", TABLE_BYTES),
         ("PATH_BYTES", PATH_BYTES),
         ("RESULT_BYTES", RESULT_BYTES),
+        ("TALLY_BYTES", TALLY_BYTES),
     ] {
         let line = format!("\n#define ENTITY_RULES_{name} {number}\n");
         assert!(HEADER.contains(&line), "{line}");

@@ -1,6 +1,7 @@
 //! Outcomes as JSON (RFC 8259), one object on one line.
 
-use crate::checked::{Checked, Fault, Outcome, Spot, Subject, Unreadable};
+use crate::checked::{Checked, Outcome, Spot, Subject};
+use crate::files::{Fault, Unreadable};
 use crate::hint::INSTANT;
 use crate::report::{NO_INSTANT, instant_fields, not_read, refused};
 use entity_rules::{Defect, DefectNumber, PathVerdict, Refusal};
@@ -17,6 +18,10 @@ pub fn line(checked: &Checked) -> String {
 pub fn subject_member(object: &mut Object, subject: Subject<'_>) {
     match subject {
         Subject::File(file) => object.text("file", &file.to_string_lossy()),
+        Subject::InBook { book, serial } => {
+            object.text("file", &book.to_string_lossy());
+            object.number("sheet", serial);
+        }
         Subject::Key(path) => object.text("key", &path.to_string_lossy()),
         Subject::Text(text) => object.text("text", &text.to_string_lossy()),
     }
@@ -79,11 +84,16 @@ pub fn refused_members(object: &mut Object, refusal: Refusal, fault: Option<&Fau
     object.text("word", refusal.word());
     object.text("explanation", &refused(refusal, fault));
     if let Some(fault) = fault {
-        object.text("fault_file", &fault.file.to_string_lossy());
-        object.number("line", fault.line);
-        object.number("place", fault.malformed.entry);
-        object.number("byte", fault.malformed.byte);
+        fault_members(object, fault);
     }
+}
+
+/// Where a file is at fault.
+pub fn fault_members(object: &mut Object, fault: &Fault) {
+    object.text("fault_file", &fault.file.to_string_lossy());
+    object.number("line", fault.line);
+    object.number("place", fault.place);
+    object.number("byte", fault.byte);
 }
 
 pub fn unreadable_members(object: &mut Object, unreadable: &Unreadable) {
