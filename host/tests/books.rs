@@ -1,4 +1,5 @@
-//! Rule books: every tally is what single checks add up to, and the edges of docs/FORMAT.md, "Rule books".
+//! The fixed list of rule books (host/vectors/books.txt) replayed through the crate; every tally is what single checks add up to; and the edges of
+//! docs/FORMAT.md, "Rule books".
 
 mod support;
 
@@ -7,7 +8,8 @@ use entity_rules::{
     Book, Check, Condition, DefectNumber, Kind, Name, Refusal, Rule, Schema, Semantics, Table,
     Tally, raw, tally,
 };
-use support::Random;
+use std::collections::BTreeSet;
+use support::{Random, line, list, numbers, take};
 
 const SCHEMA: &[u8] = b"H,0,2,0,1\nF,6,0,1,0,4,-,bars\nF,7,0,0,1,0,-,\nF,4,0,0,0,8,-,threaded\nF,1,0,0,0,4,-,name\nF,1,0,0,0,2,-,by\n";
 
@@ -48,6 +50,106 @@ fn added_up(check: &Check, schema: &[u8], sheets: &[&[u8]]) -> Tally {
         }
     }
     sum
+}
+
+/// One book of the list: what is handed over, and the eighteen numbers of the answer.
+struct Case<'a> {
+    kind: u64,
+    semantics: u64,
+    label: &'a [u8],
+    table: &'a [u8],
+    schema: &'a [u8],
+    book: &'a [u8],
+    numbers: [u64; 18],
+}
+
+impl Case<'_> {
+    /// The check that its sheets are given, where the settings are known ones.
+    fn check(&self) -> Option<Check<'_>> {
+        let kind = Kind::from_number(self.kind.try_into().ok()?)?;
+        let semantics = Semantics::from_number(self.semantics.try_into().ok()?)?;
+        Some(Check::new(kind, semantics, self.label).table(self.table))
+    }
+}
+
+/// Calls the function on every book of the list.
+fn for_each_case(mut look: impl FnMut(&Case)) {
+    let list = list("books.txt");
+    let mut rest = list.as_slice();
+    let mut count = 0;
+    while !rest.is_empty() {
+        let all = numbers(line(&mut rest));
+        let (head, answer) = all.split_at(6);
+        let [kind, semantics, label, table, schema, book] = head[..] else {
+            panic!("a case has 24 numbers");
+        };
+        let label = take(&mut rest, label);
+        assert_eq!(take(&mut rest, 1), b"\n");
+        let [table, schema, book] = [table, schema, book].map(|count| take(&mut rest, count));
+        assert_eq!(take(&mut rest, 1), b"\n");
+        look(&Case {
+            kind,
+            semantics,
+            label,
+            table,
+            schema,
+            book,
+            numbers: answer.try_into().expect("eighteen numbers"),
+        });
+        count += 1;
+    }
+    assert_eq!(count, 604);
+}
+
+#[test]
+fn the_c_function_answers_every_case_and_keeps_the_other_bytes() {
+    for_each_case(|case| {
+        let (mut path, mut result) = (vec![0xAA; PATH_BYTES + 3], [0xBB; TALLY_BYTES + 5]);
+        let number = raw::tally(
+            case.kind,
+            case.semantics,
+            case.label,
+            case.table,
+            case.schema,
+            case.book,
+            &mut path,
+            &mut result,
+        );
+        assert_eq!(u64::from(number), case.numbers[0]);
+        let found: Vec<u64> = (0..18).map(|index| raw::count(&result, index)).collect();
+        assert_eq!(found, case.numbers);
+        let free = if number == 0 { PATH_BYTES } else { 0 };
+        assert!(path[free..].iter().all(|&byte| byte == 0xAA));
+        assert_eq!(result[TALLY_BYTES..], [0xBB; 5]);
+    });
+}
+
+#[test]
+fn the_typed_function_answers_every_case() {
+    let mut seen = BTreeSet::new();
+    for_each_case(|case| {
+        let [number, read, accepted, by_4, by_5, found @ .., passed] = case.numbers;
+        seen.insert(number);
+        let Some(check) = case.check() else {
+            assert_eq!(number, 1);
+            return;
+        };
+        match check.tally(case.schema, case.book) {
+            Err(refusal) => assert_eq!(u64::from(refusal.number()), number),
+            Ok(tally) => {
+                assert_eq!((tally.read, tally.accepted), (read, accepted));
+                assert_eq!((tally.schema_refused, tally.rule_refused), (by_4, by_5));
+                assert_eq!((tally.found, tally.passed, number), (found, passed, 0));
+                let sheets = Book::read(case.book).expect("a book");
+                let sheets: Vec<&[u8]> = sheets.iter().map(|sheet| sheet.bytes).collect();
+                assert_eq!(added_up(&check, case.schema, &sheets), tally);
+            }
+        }
+        if number == 34 {
+            assert!(Book::read(case.book).is_err());
+        }
+    });
+    assert!(seen.into_iter().eq([0, 1, 2, 34, 37, 38]));
 }
 
 #[test]

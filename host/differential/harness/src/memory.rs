@@ -2,6 +2,7 @@
 //!
 //! The two buffers that are written hold nothing yet, so that whatever depends on their contents shows.
 
+use crate::books::{self, BookCase};
 use crate::case::Case;
 use crate::edges::edges;
 use crate::generate::{self, names::STOCK};
@@ -15,8 +16,8 @@ use crate::vectors;
 use crate::widens::{self, WidensCase};
 use differential::model;
 
-/// The known edges, the list of answers, then so many generated cases, and the same of keys, of tables, of loads, of instants and of pairs of schemas; an error is a
-/// difference from the model.
+/// The known edges, the list of answers, then so many generated cases, and the same of keys, of tables, of loads, of instants, of pairs of schemas and of books; an
+/// error is a difference from the model.
 pub fn memory(list: &str, cases: u64, seed: u64) -> Result<(), String> {
     let known: Vec<Case> = edges().into_iter().chain(longest()).collect();
     for case in &known {
@@ -66,6 +67,16 @@ pub fn memory(list: &str, cases: u64, seed: u64) -> Result<(), String> {
         let (_, case) = widens::generate::case(&mut Random::of_case(seed, number));
         one_pair(&case).map_err(|trouble| format!("pair {number} of seed {seed}: {trouble}"))?;
     }
+    let known_books = books::edges::edges();
+    for case in &known_books {
+        one_book(case)?;
+    }
+    // A book has many sheets.
+    let books = cases / 20;
+    for number in 0..books {
+        let (_, case) = books::generate::case(&mut Random::of_case(seed, number));
+        one_book(&case).map_err(|trouble| format!("book {number} of seed {seed}: {trouble}"))?;
+    }
     println!("{} known edges, {} cases of {list}, {cases} generated ones (seed {seed}): answers as the model's", known.len(), listed.len());
     println!("{} known edges of keys, {cases} generated ones (seed {seed}): answers as the model's", known_keys.len());
     println!(
@@ -75,6 +86,7 @@ pub fn memory(list: &str, cases: u64, seed: u64) -> Result<(), String> {
     );
     println!("{} known instants, {cases} generated ones (seed {seed}): answers as the model's", known_texts.len());
     println!("{} known pairs of schemas, {cases} generated ones (seed {seed}): answers as the model's", known_pairs.len());
+    println!("{} known books, {books} generated ones (seed {seed}): answers as the model's", known_books.len());
     Ok(())
 }
 
@@ -109,6 +121,17 @@ fn one_pair(case: &WidensCase) -> Result<(), String> {
         Ok(())
     } else {
         Err(format!("a pair of schemas is answered {found:?}, not {wanted:?}"))
+    }
+}
+
+fn one_book(case: &BookCase) -> Result<(), String> {
+    let expected = model::tally(&case.call());
+    let found = raw::fresh_tally(case);
+    let wanted = (expected[0] as u32, (case.result_len >= model::TALLY_BYTES).then_some(expected));
+    if found == wanted {
+        Ok(())
+    } else {
+        Err(format!("a book is answered {found:?}, not {wanted:?}"))
     }
 }
 

@@ -1,6 +1,7 @@
 //! A plain model of docs/FORMAT.md: trees and recursion, the check list as a list, obvious before fast. It is written from the
 //! format alone, so that the checker and the Rust can both be held against it.
 
+pub mod book;
 pub mod checks;
 pub mod instant;
 mod keys;
@@ -22,6 +23,7 @@ use checks::{Binders, Check, Question};
 use settings::Setting;
 use table::Table;
 
+pub use book::{sheets, tally, write_book, BookCall, TallyNumbers, TALLY_BYTES};
 pub use keys::{check_key, KeyCall, MAX_KEY_BYTES};
 pub use program::rulecheck;
 pub use sheets::{decode_rule, decode_schema, write_rule, write_schema};

@@ -1,6 +1,7 @@
 //! The library under its C functions, held against what the model answers: every byte of both buffers and around them, and every number.
 
 mod arena;
+pub mod books;
 pub mod instants;
 pub mod keys;
 pub mod raw;

@@ -1,9 +1,11 @@
 //! The C functions on slices.
 
 use super::{Entry, RESULT_BYTES};
+use crate::books::BookCase;
 use crate::case::Case;
 use crate::keys::KeyCase;
 use crate::widens::WidensCase;
+use differential::model::{TallyNumbers, TALLY_BYTES};
 use std::mem::MaybeUninit;
 
 /// An entry that takes one sort of sheet.
@@ -78,6 +80,25 @@ extern "C" {
         result: *mut u8,
         result_length: usize,
     ) -> u32;
+
+    fn rulecheck_tally(
+        kind: u64,
+        semantics: u64,
+        label: *const u8,
+        label_length: usize,
+        table: *const u8,
+        table_length: usize,
+        schema: *const u8,
+        schema_length: usize,
+        book: *const u8,
+        book_length: usize,
+        path: *mut u8,
+        path_length: usize,
+        result: *mut u8,
+        result_length: usize,
+    ) -> u32;
+
+    fn rulecheck_count(result: *const u8, result_length: usize, index: u32) -> u64;
 
     fn rulecheck_field(result: *const u8, result_length: usize, index: u32) -> u32;
 
@@ -204,6 +225,54 @@ pub fn fresh_widens(case: &WidensCase) -> (u32, Option<[u32; 7]>) {
         let number = rulecheck_widens(first.as_ptr(), first.len(), second.as_ptr(), second.len(), lent, result.len());
         (number, written(&result))
     }
+}
+
+/// Tallies the book of a case: label, table, schema and book are lent from places of their own.
+pub fn tally(case: &BookCase, inputs: [&[u8]; 4], path: &mut [u8], result: &mut [u8]) -> u32 {
+    // SAFETY: pointers and lengths are those of slices, and no two of them overlap.
+    unsafe { call_tally(case, inputs, (path.as_mut_ptr(), path.len()), (result.as_mut_ptr(), result.len())) }
+}
+
+/// # Safety
+///
+/// Each pointer of a buffer leads to as many bytes as its length says, and nothing else refers to these.
+unsafe fn call_tally(case: &BookCase, inputs: [&[u8]; 4], path: (*mut u8, usize), result: (*mut u8, usize)) -> u32 {
+    let [label, table, schema, book] = inputs;
+    rulecheck_tally(
+        case.kind,
+        case.semantics,
+        label.as_ptr(),
+        label.len(),
+        table.as_ptr(),
+        table.len(),
+        schema.as_ptr(),
+        schema.len(),
+        book.as_ptr(),
+        book.len(),
+        path.0,
+        path.1,
+        result.0,
+        result.1,
+    )
+}
+
+/// A tally with buffers fresh from the allocator and copies of the inputs, as `fresh`.
+pub fn fresh_tally(case: &BookCase) -> (u32, Option<TallyNumbers>) {
+    let inputs = case.inputs().map(|input| input.to_vec().into_boxed_slice());
+    let (mut path, mut result) = (Box::<[u8]>::new_uninit_slice(case.path_len), Box::<[u8]>::new_uninit_slice(case.result_len));
+    let (path_lent, result_lent) = ((path.as_mut_ptr().cast(), path.len()), (result.as_mut_ptr().cast(), result.len()));
+    let [label, table, schema, book] = &inputs;
+    // SAFETY: the boxes are as long as said, and only read again after the call, which wrote the result if it has room.
+    unsafe {
+        let number = call_tally(case, [label, table, schema, book], path_lent, result_lent);
+        let written = result.get(..TALLY_BYTES).map(|written| std::slice::from_raw_parts(written.as_ptr().cast::<u8>(), TALLY_BYTES));
+        (number, written.map(|written| std::array::from_fn(|index| count(written, index as u32))))
+    }
+}
+
+pub fn count(result: &[u8], index: u32) -> u64 {
+    // SAFETY: pointer and length are those of a slice.
+    unsafe { rulecheck_count(result.as_ptr(), result.len(), index) }
 }
 
 /// Loads a table into a buffer.

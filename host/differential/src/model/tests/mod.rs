@@ -1,5 +1,6 @@
 //! The model against the answers that docs/FORMAT.md gives, worked out by hand.
 
+mod books;
 mod collections;
 mod defects;
 mod edges;
