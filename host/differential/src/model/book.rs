@@ -23,8 +23,8 @@ pub struct BookCall<'a> {
 }
 
 impl<'a> BookCall<'a> {
-    /// The check of one sheet alone. A result that is too short counts as a path buffer that is.
-    fn single(&self, sheet: &'a [u8]) -> Call<'a> {
+    /// The check of one sheet alone. A result under so many bytes counts as a path buffer that is too short.
+    fn single(&self, sheet: &'a [u8], result_bytes: usize) -> Call<'a> {
         Call {
             kind: self.kind,
             semantics: self.semantics,
@@ -32,7 +32,7 @@ impl<'a> BookCall<'a> {
             table: self.table,
             schema: self.schema,
             rule: sheet,
-            path_len: if self.result_len < TALLY_BYTES {
+            path_len: if self.result_len < result_bytes {
                 0
             } else {
                 self.path_len
@@ -66,25 +66,30 @@ pub fn write_book(sheets: &[impl AsRef<[u8]>]) -> Vec<u8> {
     file
 }
 
-/// Refusals 1, 2, 3, 34, 37 and 38 in this order, then what a check of each sheet answers.
-fn answers(call: &BookCall) -> Result<Vec<Answer>, u32> {
-    let refused = check(&call.single(b"")).number;
+/// Refusals 1, 2, 3, 34, the one that is due for so many sheets, 37 and 38 in this order; then what a check of each sheet answers.
+pub(super) fn answers(
+    call: &BookCall,
+    result_bytes: usize,
+    due: impl Fn(usize) -> Result<(), u32>,
+) -> Result<Vec<Answer>, u32> {
+    let refused = check(&call.single(b"", result_bytes)).number;
     if matches!(refused, 1..=3) {
         return Err(refused);
     }
     let sheets = sheets(call.book).ok_or(34_u32)?;
+    due(sheets.len())?;
     if matches!(refused, 37 | 38) {
         return Err(refused);
     }
     Ok(sheets
         .into_iter()
-        .map(|sheet| check(&call.single(sheet)))
+        .map(|sheet| check(&call.single(sheet, result_bytes)))
         .collect())
 }
 
 pub fn tally(call: &BookCall) -> TallyNumbers {
     let mut numbers = [0; 18];
-    match answers(call) {
+    match answers(call, TALLY_BYTES, |_| Ok(())) {
         Err(refused) => numbers[0] = refused.into(),
         Ok(answers) => {
             for answer in &answers {

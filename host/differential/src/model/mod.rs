@@ -13,6 +13,7 @@ mod sheets;
 pub mod table;
 pub mod text;
 mod walks;
+pub mod wall;
 mod widening;
 
 #[cfg(test)]
@@ -29,6 +30,7 @@ pub use program::rulecheck;
 pub use sheets::{decode_rule, decode_schema, write_rule, write_schema};
 pub use table::load_table;
 pub use walks::is_ordinal;
+pub use wall::{wall, WallCall, PAGE_BYTES, PAGE_SHEETS, WALL_BYTES};
 pub use widening::{first_breach, is_widening, only_marks_opened, widens, Breach};
 
 pub const MAX_LABEL_BYTES: usize = 256;

@@ -9,6 +9,7 @@ mod references;
 mod refusals;
 mod sheets;
 mod tables;
+mod walls;
 mod widenings;
 
 use super::*;
