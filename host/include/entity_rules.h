@@ -1,8 +1,8 @@
-/* One rule, template or key path checked against the schema of its record, schemas held against each other, and instants read: the C
- * functions of libentity_rules.a.
+/* One rule, template or key path checked against the schema of its record, or a whole rule book; schemas held against each other, and
+ * instants read: the C functions of libentity_rules.a.
  *
  * docs/FORMAT.md says what the sheets hold and what each number means. Lengths are in bytes. A pointer must lead to as many bytes
- * as the length after it says, and must not be null, even where that is 0. path, marks, result, buffer and fields must not overlap each other
+ * as the length after it says, and must not be null, even where that is 0. path, marks, result, pages, buffer and fields must not overlap each other
  * or anything else. No function keeps a pointer, allocates or waits, so any number of threads may call them at once. A call
  * takes up to about 280 KB of stack: 16 KB for its scratch, the rest by how deep the sheets nest, most of it with 31 quantifiers in one
  * another. A path under 32,768 bytes or a result under 28 is refusal 3, and is not written; rulecheck_check
@@ -47,7 +47,7 @@ enum entity_rules_reader {
   ENTITY_RULES_PROJECTION = 2
 };
 
-/* The number of an answer: 0, a refusal (1 to 5, 35, 37, 38) or a defect (11 to 22). */
+/* The number of an answer: 0, a refusal (1 to 5, 33 to 35, 37, 38) or a defect (11 to 22). */
 enum entity_rules_number {
   ENTITY_RULES_ACCEPTED = 0,
   ENTITY_RULES_REFUSED_SETTING = 1,
@@ -67,6 +67,8 @@ enum entity_rules_number {
   ENTITY_RULES_DEFECT_INSTANT = 20,
   ENTITY_RULES_DEFECT_BIND = 21,
   ENTITY_RULES_DEFECT_OVER = 22,
+  ENTITY_RULES_REFUSED_OUTPUT = 33,
+  ENTITY_RULES_REFUSED_BOOK_FORM = 34,
   ENTITY_RULES_REFUSED_MARK_LIST = 35,
   ENTITY_RULES_REFUSED_TABLE_FORM = 37,
   ENTITY_RULES_REFUSED_TABLE_MARK = 38
@@ -163,6 +165,24 @@ enum entity_rules_widens_reason {
   ENTITY_RULES_ARGUMENTS_GO = 7
 };
 
+/* The numbers of a tally, by their index. */
+enum entity_rules_tally_field {
+  ENTITY_RULES_TALLY_NUMBER = 0,
+  ENTITY_RULES_TALLY_READ = 1,
+  ENTITY_RULES_TALLY_ACCEPTED = 2,
+  ENTITY_RULES_TALLY_REFUSED_SCHEMA_SHEET = 3,
+  ENTITY_RULES_TALLY_REFUSED_RULE_SHEET = 4,
+  /* The defects from ENTITY_RULES_DEFECT_NAME to ENTITY_RULES_DEFECT_OVER, one after the other. */
+  ENTITY_RULES_TALLY_DEFECTS = 5,
+  ENTITY_RULES_TALLY_PASSED = 17
+};
+
+/* The numbers of a wall sheet's result, by their index. */
+enum entity_rules_wall_field {
+  ENTITY_RULES_WALL_NUMBER = 0,
+  ENTITY_RULES_WALL_PAGES = 1
+};
+
 /* The numbers of an instant's fields, by their index. */
 enum entity_rules_instant_field {
   ENTITY_RULES_YEAR = 0,
@@ -183,6 +203,12 @@ enum entity_rules_instant_field {
 /* What the buffers of a call must hold at least. */
 #define ENTITY_RULES_PATH_BYTES 32768
 #define ENTITY_RULES_RESULT_BYTES 28
+#define ENTITY_RULES_TALLY_BYTES 144
+#define ENTITY_RULES_WALL_BYTES 16
+
+/* A page of a wall sheet: the sheets that it has a line for, and its bytes. */
+#define ENTITY_RULES_PAGE_SHEETS 58
+#define ENTITY_RULES_PAGE_BYTES 4860
 
 /* What rulecheck_check wants besides the path. */
 #define ENTITY_RULES_MARKS_BYTES 8192
@@ -241,6 +267,35 @@ uint32_t rulecheck_path(uint64_t semantics, uint64_t reader,
 uint32_t rulecheck_widens(const uint8_t *first, size_t first_length,
                           const uint8_t *second, size_t second_length,
                           uint8_t *result, size_t result_length);
+
+/* Checks every sheet of a rule book, rules and templates, against one schema and tallies the answers that rulecheck_check would give. A book is a file of sheets, each with its
+ * length in bytes and a comma before it. Returns 0, and result takes eighteen numbers of eight bytes (enum entity_rules_tally_field), which rulecheck_count reads;
+ * or a refusal, the other numbers being 0: 1, 2, 3 (for a path under 32,768 bytes or a result under 144), 34 for a file that is no book, 37, 38, tried in this
+ * order. A schema sheet that is not well formed is none of them: every sheet then counts as refused by it. After a tally the first 32,768 bytes of path hold
+ * anything; all other bytes of both buffers are kept. */
+uint32_t rulecheck_tally(uint64_t kind, uint64_t semantics,
+                         const uint8_t *label, size_t label_length,
+                         const uint8_t *table, size_t table_length,
+                         const uint8_t *schema, size_t schema_length,
+                         const uint8_t *book, size_t book_length,
+                         uint8_t *path, size_t path_length,
+                         uint8_t *result, size_t result_length);
+
+/* Checks a rule book as rulecheck_tally does, and prints the answers on pages of 80 columns and 60 lines: a heading, a line for each of 58 sheets, and a
+ * foot with the page's own count of accepted ones. Returns 0, and the pages stand at the start of pages; result takes two numbers of eight bytes (enum
+ * entity_rules_wall_field). Or returns a refusal, the count of pages being 0 and pages unchanged: those of rulecheck_tally, 3 for a result under 16
+ * bytes, and after 34 33 for pages under 4,860 bytes for each page. Other bytes of pages and result are kept, and path is as after rulecheck_tally. */
+uint32_t rulecheck_wall(uint64_t kind, uint64_t semantics,
+                        const uint8_t *label, size_t label_length,
+                        const uint8_t *table, size_t table_length,
+                        const uint8_t *schema, size_t schema_length,
+                        const uint8_t *book, size_t book_length,
+                        uint8_t *path, size_t path_length,
+                        uint8_t *pages, size_t pages_length,
+                        uint8_t *result, size_t result_length);
+
+/* One of the numbers of a tally or of a wall sheet's result, by its index; 0 where it does not lie in there. */
+uint64_t rulecheck_count(const uint8_t *result, size_t result_length, uint32_t index);
 
 /* One of the numbers of a result, by an index of enum entity_rules_field, of a list of marks, or of an instant's fields; 0 where it does not lie in there. */
 uint32_t rulecheck_field(const uint8_t *result, size_t result_length, uint32_t index);

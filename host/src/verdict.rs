@@ -473,7 +473,7 @@ impl fmt::Display for PathVerdict {
 
 /// Why a call was not answered.
 ///
-/// The typed functions never meet [`Setting`](Refusal::Setting), [`Width`](Refusal::Width) and [`Marks`](Refusal::Marks), since their settings are
+/// The typed functions never meet [`Setting`](Refusal::Setting), [`Width`](Refusal::Width), [`Output`](Refusal::Output) and [`Marks`](Refusal::Marks), since their settings are
 /// known ones and their buffers wide enough.
 ///
 /// ```
@@ -500,6 +500,10 @@ pub enum Refusal {
     NewSchemaSheet,
     /// 5: the rule sheet is not well formed, or is not of the sort that the function takes.
     RuleSheet,
+    /// 33 of a call for a wall sheet: the buffer for the pages is too short.
+    Output,
+    /// 34 of a call for a rule book: the file is not one. [`Book::read`](crate::Book::read) says where.
+    BookForm,
     /// 35: the list of marks is too short.
     Marks,
     /// 37: the name table is not of its form. [`Table::read`](crate::Table::read) says where.
@@ -524,6 +528,8 @@ impl Refusal {
             Self::Width => 3,
             Self::SchemaSheet | Self::NewSchemaSheet => 4,
             Self::RuleSheet => 5,
+            Self::Output => 33,
+            Self::BookForm => 34,
             Self::Marks => 35,
             Self::TableForm => 37,
             Self::TableMark => 38,
@@ -545,6 +551,8 @@ impl Refusal {
             Self::Width => "width",
             Self::SchemaSheet | Self::NewSchemaSheet => "schema sheet",
             Self::RuleSheet => "rule sheet",
+            Self::Output => "output",
+            Self::BookForm => "book form",
             Self::Marks => "mark list",
             Self::TableForm => "table form",
             Self::TableMark => "table mark",
@@ -577,7 +585,8 @@ impl Refusal {
         }
     }
 
-    const fn from_number(number: u32) -> Option<Self> {
+    /// The refusal of a check that has this number.
+    pub(crate) const fn from_number(number: u32) -> Option<Self> {
         match number {
             1 => Some(Self::Setting),
             2 => Some(Self::Label),
@@ -600,15 +609,15 @@ impl fmt::Display for Refusal {
             }
             Self::Label => f.pad("the label is over 256 bytes long, or not UTF-8"),
             Self::Path => f.pad("the path is over 512 bytes long, or not UTF-8"),
-            Self::Width => {
-                f.pad("the path buffer is under 32,768 bytes, or the result under 28, of a check with marks under 32")
-            }
+            Self::Width => f.pad("the path buffer is under 32,768 bytes, or the result under 28 (32 for a check with marks, 144 for a tally, 16 for a wall sheet)"),
             Self::Marks => f.pad("the list of marks is under 8,192 bytes"),
             Self::SchemaSheet => f.pad("the schema sheet is not well formed"),
             Self::NewSchemaSheet => f.pad("the new schema's sheet is not well formed"),
             Self::RuleSheet => {
                 f.pad("the rule sheet is not well formed, or not of the sort asked for")
             }
+            Self::Output => f.pad("the buffer for the pages is too short"),
+            Self::BookForm => f.pad("the file is not a rule book"),
             Self::TableForm => f.pad("the name table is not of its form"),
             Self::TableMark => f.pad(
                 "a mark of the name table hides a name that every kind reads, or shows $old_fields where $fields is hidden",

@@ -17,7 +17,7 @@ pub struct Asked {
 }
 
 /// The numbers that can be asked for.
-const EXPECTED: &str = "explain: expected a number of an answer, 0 to 5, 11 to 22, 35, 37 or 38, or one of these with a detail, as 18.3";
+const EXPECTED: &str = "explain: expected a number of an answer, 0 to 5, 11 to 22, 33 to 35, 37 or 38, or one of these with a detail, as 18.3";
 
 /// Reads `18` or `18.3`.
 pub fn parse(words: &[std::ffi::OsString]) -> Result<Asked, String> {
@@ -89,6 +89,8 @@ fn refusal(number: u32) -> Option<Refusal> {
         Refusal::Width,
         Refusal::SchemaSheet,
         Refusal::RuleSheet,
+        Refusal::Output,
+        Refusal::BookForm,
         Refusal::Marks,
         Refusal::TableForm,
         Refusal::TableMark,
@@ -144,6 +146,10 @@ fn mend(number: u32) -> &'static str {
         21 => "A bind is a name that is not all white space and has no dot.",
         22 => {
             "Name an array or a map of `$fields`, `$old_fields` or `$args`, or something below a bind."
+        }
+        33 => "A wall sheet wants 4,860 bytes for each page; only a program can meet this.",
+        34 => {
+            "A rule book is a file of sheets, each with its length in bytes and a comma before it."
         }
         35 => "A check is lent a list of 8,192 bytes for its marks; only a program can meet this.",
         37 => {
@@ -414,7 +420,7 @@ mod tests {
                 assert!(one.example().is_some(), "{one:?}");
             }
         }
-        for number in [0, 1, 2, 3, 4, 5, 35, 37, 38] {
+        for number in [0, 1, 2, 3, 4, 5, 33, 34, 35, 37, 38] {
             assert!(asked(&number.to_string()).unwrap().text().lines().count() > 2);
         }
     }

@@ -21,6 +21,18 @@ impl Region {
         Self { start, end: start }
     }
 
+    /// The same in a file in which the sheet begins on this line.
+    pub fn below(self, line: usize) -> Self {
+        let moved = |place: Position| Position {
+            line: place.line.saturating_add(line).saturating_sub(1),
+            ..place
+        };
+        Self {
+            start: moved(self.start),
+            end: moved(self.end),
+        }
+    }
+
     /// Some bytes of a sheet.
     fn new(sheet: &[u8], bytes: std::ops::Range<usize>) -> Self {
         Self {

@@ -76,7 +76,7 @@ impl Log {
 
 fn subject(subject: Subject<'_>) -> &OsStr {
     match subject {
-        Subject::File(file) => file.as_os_str(),
+        Subject::File(file) | Subject::InBook { book: file, .. } => file.as_os_str(),
         Subject::Key(text) | Subject::Text(text) => text,
     }
 }

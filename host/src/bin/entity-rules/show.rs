@@ -1,6 +1,7 @@
 //! Sheets as trees, an entry on each line with its number.
 
-use crate::checked::{Outcome, Sheet, SheetReader, fault, read_sheet};
+use crate::checked::Outcome;
+use crate::files::{Sheet, SheetReader, fault, read_sheet};
 use crate::outline::{Standing, standings};
 use crate::report::{name, visible};
 use entity_rules::entries::{Content, Entry, read_rule, read_schema, read_table};

@@ -1,6 +1,6 @@
 //! Two schema sheets side by side, read for people: what an entry is called, and what has grown. Whether one is a widening of the other is the library's to say.
 
-use crate::checked::line_of;
+use crate::files::line_of;
 use entity_rules::entries::{Content, Entry, read_schema};
 use entity_rules::{FieldKind, Name};
 

@@ -1,0 +1,262 @@
+//! The files that the command line names, and where they are not what they should be.
+
+use crate::checked::Subject;
+use crate::region::Position;
+use entity_rules::entries::{Entry, Malformed, read_rule};
+use entity_rules::limits::{MAX_SHEET_BYTES, MAX_TEXT_BYTES};
+use entity_rules::{Book, BookError, BookSheet, Refusal};
+use std::fs::File;
+use std::io::{self, Read};
+use std::path::{Path, PathBuf};
+
+/// What a file should hold.
+#[derive(Clone, Copy, PartialEq, Eq)]
+pub enum Sheet {
+    Schema,
+    Rule,
+    Table,
+    Book,
+    /// A sheet of any kind, or a table.
+    Any,
+}
+
+/// A file that cannot be read.
+#[derive(Clone)]
+pub struct Unreadable {
+    pub file: PathBuf,
+    pub sheet: Sheet,
+    pub reason: String,
+}
+
+/// Where a sheet or a book stops being one, or a table breaks a condition.
+#[derive(Clone)]
+pub struct Fault {
+    pub file: PathBuf,
+    pub line: usize,
+    /// The character of the line, from 1.
+    pub column: usize,
+    /// The entry of the sheet, or the sheet of the book.
+    pub place: usize,
+    /// How many bytes of the sheet or book stand before the fault.
+    pub byte: usize,
+    /// All of it in words.
+    pub told: String,
+}
+
+impl Fault {
+    pub fn new(file: &Path, sheet: &[u8], malformed: &Malformed) -> Self {
+        Self {
+            file: file.to_owned(),
+            line: line_of(sheet, malformed.byte),
+            column: Position::new(sheet, malformed.byte).column,
+            place: malformed.entry,
+            byte: malformed.byte,
+            told: malformed.to_string(),
+        }
+    }
+
+    pub fn of_book(file: &Path, book: &[u8], error: &BookError) -> Self {
+        Self {
+            file: file.to_owned(),
+            line: line_of(book, error.byte),
+            column: Position::new(book, error.byte).column,
+            place: error.sheet,
+            byte: error.byte,
+            told: error.to_string(),
+        }
+    }
+}
+
+/// Why a file is of no use: it cannot be read, or is refused for what it holds.
+#[derive(Clone)]
+pub enum NoSheet {
+    Unreadable(Unreadable),
+    Refused {
+        refusal: Refusal,
+        fault: Option<Fault>,
+    },
+}
+
+impl From<Unreadable> for NoSheet {
+    fn from(unreadable: Unreadable) -> Self {
+        Self::Unreadable(unreadable)
+    }
+}
+
+/// A rule sheet, or a template's: the one of a file, or one of a book.
+#[derive(Clone, Copy)]
+pub struct Rule<'a> {
+    pub subject: Subject<'a>,
+    pub file: &'a Path,
+    pub bytes: &'a [u8],
+    /// The line of the file on which it begins, from 1.
+    pub line: usize,
+}
+
+impl Rule<'_> {
+    /// The line of the file on which a byte of the sheet stands.
+    pub fn line_of(&self, byte: usize) -> usize {
+        let below = line_of(self.bytes, byte).saturating_sub(1);
+        below.saturating_add(self.line)
+    }
+
+    /// Where it stops being a sheet.
+    pub fn fault(&self) -> Option<Fault> {
+        let fault = fault(self.file, self.bytes, read_rule)?;
+        let told = match self.subject {
+            Subject::InBook { serial, .. } => format!("sheet {serial}, {}", fault.told),
+            _ => fault.told,
+        };
+        let line = self.line_of(fault.byte);
+        Some(Fault {
+            line,
+            told,
+            ..fault
+        })
+    }
+}
+
+/// Files of rules, each a sheet or a book.
+pub struct Rules<'a>(Vec<(&'a Path, Result<Vec<u8>, NoSheet>)>);
+
+impl<'a> Rules<'a> {
+    /// As much of each sheet as its check needs, and all of a book.
+    pub fn read(files: &'a [PathBuf]) -> Self {
+        Self::read_by(files, |file| read_sheet(file, Sheet::Rule))
+    }
+
+    /// All of each file, however long.
+    pub fn read_whole(files: &'a [PathBuf]) -> Self {
+        Self::read_by(files, |file| read_by(file, Sheet::Rule, all))
+    }
+
+    fn read_by(files: &'a [PathBuf], read: impl Fn(&Path) -> Result<Vec<u8>, Unreadable>) -> Self {
+        let files = files.iter().map(PathBuf::as_path);
+        Self(
+            files
+                .map(|file| (file, rules_of(file, read(file))))
+                .collect(),
+        )
+    }
+
+    /// Every sheet in the order given, or why a file has none.
+    pub fn all(&self) -> Vec<Result<Rule<'_>, (&Path, &NoSheet)>> {
+        let mut all = Vec::new();
+        for &(file, ref read) in &self.0 {
+            match read {
+                Ok(bytes) if is_book(bytes) => {
+                    all.extend(sheets(file, bytes).into_iter().map(Ok));
+                }
+                Ok(bytes) => all.push(Ok(Rule {
+                    subject: Subject::File(file),
+                    file,
+                    bytes,
+                    line: 1,
+                })),
+                Err(no_sheet) => all.push(Err((file, no_sheet))),
+            }
+        }
+        all
+    }
+}
+
+/// Whether a file of rules is meant as a book: a sheet begins with a letter, a book with the length of its first sheet.
+fn is_book(file: &[u8]) -> bool {
+    file.first().is_some_and(u8::is_ascii_digit)
+}
+
+/// The bytes of a sheet, or of a book that is of its form.
+fn rules_of(file: &Path, read: Result<Vec<u8>, Unreadable>) -> Result<Vec<u8>, NoSheet> {
+    let bytes = read?;
+    match Book::read(&bytes) {
+        Err(error) if is_book(&bytes) => Err(NoSheet::Refused {
+            refusal: error.refusal(),
+            fault: Some(Fault::of_book(file, &bytes, &error)),
+        }),
+        _ => Ok(bytes),
+    }
+}
+
+/// The sheets of a book.
+fn sheets<'a>(file: &'a Path, book: &'a [u8]) -> Vec<Rule<'a>> {
+    let (mut line, mut before) = (1, 0);
+    let sheets = Book::read(book).unwrap_or_default().into_iter().zip(1..);
+    let rule = |(sheet, serial): (BookSheet<'a>, usize)| {
+        let between = book.get(before..sheet.byte).unwrap_or_default();
+        line = line_of(between, between.len())
+            .saturating_sub(1)
+            .saturating_add(line);
+        before = sheet.byte;
+        Rule {
+            subject: Subject::InBook { book: file, serial },
+            file,
+            bytes: sheet.bytes,
+            line,
+        }
+    };
+    sheets.map(rule).collect()
+}
+
+/// A file's bytes, or those of standard input for `-`; as much as is needed of a sheet that is too long, and all of a book.
+pub fn read_sheet(file: &Path, sheet: Sheet) -> Result<Vec<u8>, Unreadable> {
+    read_by(file, sheet, |input| match sheet {
+        Sheet::Book => all(input),
+        Sheet::Rule => start(input, is_book),
+        Sheet::Schema | Sheet::Table | Sheet::Any => start(input, |_| false),
+    })
+}
+
+fn read_by(
+    file: &Path,
+    sheet: Sheet,
+    read: impl Fn(&mut dyn Read) -> io::Result<Vec<u8>>,
+) -> Result<Vec<u8>, Unreadable> {
+    let bytes = match file.as_os_str() == "-" {
+        true => read(&mut io::stdin()),
+        false => File::open(file).and_then(|mut file| read(&mut file)),
+    };
+    bytes.map_err(|error| Unreadable {
+        file: file.to_owned(),
+        sheet,
+        reason: error.to_string(),
+    })
+}
+
+fn all(input: &mut dyn Read) -> io::Result<Vec<u8>> {
+    let mut bytes = Vec::new();
+    input.read_to_end(&mut bytes)?;
+    Ok(bytes)
+}
+
+/// The limit of a sheet, and the rest of the entry that passes it, which has two texts at most; then the rest where it is wanted.
+fn start(input: &mut dyn Read, wants_rest: impl Fn(&[u8]) -> bool) -> io::Result<Vec<u8>> {
+    let most = MAX_TEXT_BYTES
+        .saturating_mul(4)
+        .saturating_add(MAX_SHEET_BYTES);
+    let most = u64::try_from(most).unwrap_or(u64::MAX);
+    let mut bytes = Vec::new();
+    input.take(most).read_to_end(&mut bytes)?;
+    if wants_rest(&bytes) {
+        input.read_to_end(&mut bytes)?;
+    }
+    Ok(bytes)
+}
+
+/// What reads the entries of a sheet.
+pub type SheetReader = for<'a> fn(&'a [u8]) -> Result<Vec<Entry<'a>>, Malformed>;
+
+/// Where a file's sheet stops being one.
+pub fn fault(file: &Path, sheet: &[u8], read: SheetReader) -> Option<Fault> {
+    let malformed = read(sheet).err()?;
+    Some(Fault::new(file, sheet, &malformed))
+}
+
+/// The line on which a byte stands, from 1. A text may hold line ends, so this is not the entry's number.
+pub fn line_of(sheet: &[u8], byte: usize) -> usize {
+    let ends = sheet
+        .iter()
+        .take(byte)
+        .filter(|&&byte| byte == b'\n')
+        .count();
+    ends.saturating_add(1)
+}
