@@ -8,7 +8,7 @@ use entity_rules::{
     Schema, Semantics, check_path, check_rule, raw,
 };
 use std::collections::BTreeSet;
-use support::{Random, line, take};
+use support::{Random, line, list, take};
 
 /// One case: a call, and the three numbers of its answer that may differ from 0.
 struct Case<'a> {
@@ -45,12 +45,8 @@ impl Case<'_> {
 
 /// Calls the function on every case of the list.
 fn for_each_case(mut look: impl FnMut(&Case)) {
-    let list = concat!(env!("CARGO_MANIFEST_DIR"), "/vectors/paths.txt");
-    let list = std::fs::read(list).expect("the list of keys");
+    let list = list("paths.txt");
     let mut rest = list.as_slice();
-    while rest.first() == Some(&b'#') {
-        line(&mut rest);
-    }
     let mut count = 0;
     while !rest.is_empty() {
         let numbers = line(&mut rest).split(',').map(str::parse);

@@ -8,7 +8,7 @@ use entity_rules::{
     Widening, check_rule, raw, widens,
 };
 use std::collections::BTreeSet;
-use support::{Random, line, take};
+use support::{Random, line, list, take};
 
 /// One case: two sheets, and the five numbers of the answer that may differ from 0.
 struct Case<'a> {
@@ -35,12 +35,8 @@ impl Case<'_> {
 
 /// Calls the function on every case of the list.
 fn for_each_case(mut look: impl FnMut(&Case)) {
-    let list = concat!(env!("CARGO_MANIFEST_DIR"), "/vectors/widens.txt");
-    let list = std::fs::read(list).expect("the list of pairs");
+    let list = list("widens.txt");
     let mut rest = list.as_slice();
-    while rest.first() == Some(&b'#') {
-        line(&mut rest);
-    }
     let mut count = 0;
     while !rest.is_empty() {
         let numbers = line(&mut rest).split(',').map(str::parse);
