@@ -30,5 +30,6 @@ pub mod slips;
 pub mod tables;
 pub mod tally;
 pub mod vectors;
+pub mod walls;
 pub mod widened;
 pub mod widens;

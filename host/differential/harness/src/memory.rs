@@ -13,11 +13,12 @@ use crate::longest::longest;
 use crate::random::Random;
 use crate::tables::{self, LoadCase};
 use crate::vectors;
+use crate::walls::{self, WallCase};
 use crate::widens::{self, WidensCase};
 use differential::model;
 
-/// The known edges, the list of answers, then so many generated cases, and the same of keys, of tables, of loads, of instants, of pairs of schemas and of books; an
-/// error is a difference from the model.
+/// The known edges, the list of answers, then so many generated cases, and the same of keys, of tables, of loads, of instants, of pairs of schemas, of books and of wall
+/// sheets; an error is a difference from the model.
 pub fn memory(list: &str, cases: u64, seed: u64) -> Result<(), String> {
     let known: Vec<Case> = edges().into_iter().chain(longest()).collect();
     for case in &known {
@@ -77,6 +78,14 @@ pub fn memory(list: &str, cases: u64, seed: u64) -> Result<(), String> {
         let (_, case) = books::generate::case(&mut Random::of_case(seed, number));
         one_book(&case).map_err(|trouble| format!("book {number} of seed {seed}: {trouble}"))?;
     }
+    let known_walls = walls::edges::edges();
+    for case in &known_walls {
+        one_wall(case)?;
+    }
+    for number in 0..books {
+        let (_, case) = walls::generate::case(&mut Random::of_case(seed, number));
+        one_wall(&case).map_err(|trouble| format!("wall sheet {number} of seed {seed}: {trouble}"))?;
+    }
     println!("{} known edges, {} cases of {list}, {cases} generated ones (seed {seed}): answers as the model's", known.len(), listed.len());
     println!("{} known edges of keys, {cases} generated ones (seed {seed}): answers as the model's", known_keys.len());
     println!(
@@ -87,6 +96,7 @@ pub fn memory(list: &str, cases: u64, seed: u64) -> Result<(), String> {
     println!("{} known instants, {cases} generated ones (seed {seed}): answers as the model's", known_texts.len());
     println!("{} known pairs of schemas, {cases} generated ones (seed {seed}): answers as the model's", known_pairs.len());
     println!("{} known books, {books} generated ones (seed {seed}): answers as the model's", known_books.len());
+    println!("{} known wall sheets, {books} generated ones (seed {seed}): answers as the model's", known_walls.len());
     Ok(())
 }
 
@@ -132,6 +142,17 @@ fn one_book(case: &BookCase) -> Result<(), String> {
         Ok(())
     } else {
         Err(format!("a book is answered {found:?}, not {wanted:?}"))
+    }
+}
+
+fn one_wall(case: &WallCase) -> Result<(), String> {
+    let (numbers, pages) = model::wall(&case.call());
+    let found = raw::fresh_wall(case);
+    let wanted = (numbers[0] as u32, (case.book.result_len >= model::WALL_BYTES).then_some(numbers), pages);
+    if found == wanted {
+        Ok(())
+    } else {
+        Err(format!("a wall sheet is answered {:?}, not {numbers:?}, or its pages differ", found.1))
     }
 }
 

@@ -10,7 +10,7 @@ use differential::model::table::Table;
 const SCHEMA: &str = "H,0,2,0,1\nF,6,0,1,0,4,-,bars\nF,7,0,0,1,0,-,\nF,4,0,0,0,8,-,threaded\nF,1,0,0,0,4,-,name\nF,1,0,0,0,2,-,by\n";
 
 /// Sheets that are answered with 0, 5 and each of 11 to 22, under one semantics or another.
-const SHEETS: [&str; 15] = [
+pub const SHEETS: [&str; 15] = [
     "R,-,-,\nC,1,1,\n",
     "R,4,-,able\nC,5,0,\nV,5,12,$fields.name\n",
     "R,1,-, \nC,1,1,\n",
@@ -56,11 +56,16 @@ const NO_BOOKS: [&str; 24] = [
     "\u{661},R",
 ];
 
+/// A call under the schema that the sheets are for.
+pub fn known(semantics: u64) -> Case {
+    base(semantics, SCHEMA)
+}
+
 fn base(semantics: u64, schema: &str) -> Case {
     Case::new(2, semantics, b"mill", schema.as_bytes().to_vec(), Vec::new())
 }
 
-fn bytes(sheets: &[&str]) -> Vec<Vec<u8>> {
+pub fn bytes(sheets: &[&str]) -> Vec<Vec<u8>> {
     sheets.iter().map(|sheet| sheet.as_bytes().to_vec()).collect()
 }
 

@@ -83,6 +83,14 @@ impl BookCase {
         }
     }
 
+    pub fn print(&self) {
+        let Self { kind, semantics, path_len, result_len, .. } = self;
+        println!("kind {kind}, semantics {semantics}, a path buffer of {path_len} bytes, a result of {result_len}");
+        for (name, part) in ["label", "table", "schema", "book"].into_iter().zip(self.inputs()) {
+            println!("{name}:\n{}", String::from_utf8_lossy(part));
+        }
+    }
+
     /// The check of one sheet alone.
     fn single(&self, sheet: &[u8]) -> Case {
         Case::new(self.kind, self.semantics, &self.label, self.schema.clone(), sheet.to_vec()).under(self.table.clone())
@@ -172,18 +180,12 @@ pub fn report(case: &BookCase, trouble: &str, which: &str) -> String {
     if let Err(trouble) = hold_all(&small, Extent::All) {
         println!("made smaller: {trouble}");
     }
-    let BookCase { kind, semantics, path_len, result_len, .. } = small;
-    println!(
-        "kind {kind}, semantics {semantics}, a path buffer of {path_len} bytes, a result of {result_len}; label, table, schema and book:"
-    );
-    for part in small.inputs() {
-        println!("{}", String::from_utf8_lossy(part));
-    }
+    small.print();
     "the library, the model and the Rust do not all agree".to_owned()
 }
 
 /// Fewer sheets, larger parts left out first; what is no book is made shorter.
-fn candidates(case: &BookCase) -> Vec<BookCase> {
+pub fn candidates(case: &BookCase) -> Vec<BookCase> {
     let with = |book: Vec<u8>| BookCase { book, ..case.clone() };
     let Some(sheets) = sheets(&case.book) else {
         return shorter(&case.book).into_iter().map(with).collect();

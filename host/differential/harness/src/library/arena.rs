@@ -1,12 +1,14 @@
 //! The buffers that are lent, each amid bytes that the library must not touch.
 
 use super::books::TallyLent;
+use super::walls::WallLent;
 use super::{numbers, raw, Lent, Slot};
 use crate::books::BookCase;
 use crate::case::Case;
 use crate::keys::KeyCase;
 use crate::random::Random;
 use crate::refusals::MIN_PATH_BYTES;
+use crate::walls::{Printed, WallCase};
 use crate::widens::WidensCase;
 use differential::model::{Answer, TallyNumbers};
 
@@ -99,6 +101,32 @@ impl Arena {
 
     /// Makes the call for a rule book, whose inputs must keep their bytes as well, amid others.
     pub fn tally(&mut self, case: &BookCase, lent: &TallyLent, expected: &TallyNumbers) -> Result<(), String> {
+        self.book(case, lent, &expected.map(u64::to_le_bytes).concat(), |inputs, path, result| raw::tally(case, inputs, path, result))
+    }
+
+    /// Makes the call for a wall sheet, which has a buffer of its own for the pages, amid other bytes.
+    pub fn wall(&mut self, case: &WallCase, lent: &WallLent, (numbers, pages): &Printed) -> Result<(), String> {
+        let whole = lent.pages + 2 * AROUND;
+        let mut found: Vec<u8> = self.patterns[lent.tally.slot.pattern].iter().copied().cycle().take(whole).collect();
+        let mut wanted = found.clone();
+        wanted[AROUND..AROUND + pages.len()].copy_from_slice(pages);
+        let own = &mut found[AROUND..AROUND + lent.pages];
+        let result = numbers.map(u64::to_le_bytes).concat();
+        self.book(&case.book, &lent.tally, &result, |inputs, path, result| raw::wall(case, inputs, [path, own, result]))?;
+        match differs(&found, &wanted) {
+            Some(at) => Err(format!("byte {} of the pages is {}, not {}", at as isize - AROUND as isize, found[at], wanted[at])),
+            None => Ok(()),
+        }
+    }
+
+    /// Makes a call for a book, by a function of its inputs, path buffer and result. The first number of the result is what it returns.
+    fn book(
+        &mut self,
+        case: &BookCase,
+        lent: &TallyLent,
+        expected: &[u8],
+        call: impl FnOnce([&[u8]; 4], &mut [u8], &mut [u8]) -> u32,
+    ) -> Result<(), String> {
         let slot = &lent.slot;
         let around = &self.patterns[slot.pattern][..AROUND];
         let inputs = case.inputs().map(|input| [around, input, around].concat());
@@ -109,16 +137,16 @@ impl Arena {
         let path = &mut self.paths[slot.pattern][AROUND..AROUND + lent.path];
         let start = AROUND + slot.shift;
         let result = &mut self.results[slot.pattern][start..start + slot.length];
-        let number = raw::tally(case, given, path, result);
-        if u64::from(number) != expected[0] {
+        let number = call(given, path, result);
+        if !expected.starts_with(&u64::from(number).to_le_bytes()) {
             return Err(format!("it returns {number}"));
         }
         counts(result)?;
         if inputs != untouched {
             return Err("a byte of its inputs, or around them, has changed".to_owned());
         }
-        self.written(slot, &expected.map(u64::to_le_bytes).concat())?;
-        // After a tally as much is free as a path buffer must have.
+        self.written(slot, expected)?;
+        // After a tally or a wall sheet as much is free as a path buffer must have.
         let free = if number == 0 { MIN_PATH_BYTES } else { 0 };
         self.kept_path(slot.pattern, free)
     }

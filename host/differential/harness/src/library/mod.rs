@@ -6,6 +6,7 @@ pub mod instants;
 pub mod keys;
 pub mod raw;
 pub mod tables;
+pub mod walls;
 pub mod widens;
 
 use crate::agreement::line;
