@@ -2,7 +2,7 @@
  * instants read: the C functions of libentity_rules.a.
  *
  * docs/FORMAT.md says what the sheets hold and what each number means. Lengths are in bytes. A pointer must lead to as many bytes
- * as the length after it says, and must not be null, even where that is 0. path, result, buffer and fields must not overlap each other
+ * as the length after it says, and must not be null, even where that is 0. path, result, pages, buffer and fields must not overlap each other
  * or anything else. No function keeps a pointer, allocates or waits, so any number of threads may call them at once. A call
  * takes up to about 280 KB of stack: 16 KB for its scratch, the rest by how deep the sheets nest, most of it with 31 quantifiers in one
  * another. A path under 32,768 bytes or a result under 28 is refusal 3, and is not written.
@@ -43,7 +43,7 @@ enum entity_rules_reader {
   ENTITY_RULES_PROJECTION = 2
 };
 
-/* The number of an answer: 0, a refusal (1 to 5, 34, 37, 38) or a defect (11 to 22). */
+/* The number of an answer: 0, a refusal (1 to 5, 33, 34, 37, 38) or a defect (11 to 22). */
 enum entity_rules_number {
   ENTITY_RULES_ACCEPTED = 0,
   ENTITY_RULES_REFUSED_SETTING = 1,
@@ -63,6 +63,7 @@ enum entity_rules_number {
   ENTITY_RULES_DEFECT_INSTANT = 20,
   ENTITY_RULES_DEFECT_BIND = 21,
   ENTITY_RULES_DEFECT_OVER = 22,
+  ENTITY_RULES_REFUSED_OUTPUT = 33,
   ENTITY_RULES_REFUSED_BOOK_FORM = 34,
   ENTITY_RULES_REFUSED_TABLE_FORM = 37,
   ENTITY_RULES_REFUSED_TABLE_MARK = 38
@@ -132,6 +133,12 @@ enum entity_rules_tally_field {
   ENTITY_RULES_TALLY_PASSED = 17
 };
 
+/* The numbers of a wall sheet's result, by their index. */
+enum entity_rules_wall_field {
+  ENTITY_RULES_WALL_NUMBER = 0,
+  ENTITY_RULES_WALL_PAGES = 1
+};
+
 /* The numbers of an instant's fields, by their index. */
 enum entity_rules_instant_field {
   ENTITY_RULES_YEAR = 0,
@@ -153,6 +160,11 @@ enum entity_rules_instant_field {
 #define ENTITY_RULES_PATH_BYTES 32768
 #define ENTITY_RULES_RESULT_BYTES 28
 #define ENTITY_RULES_TALLY_BYTES 144
+#define ENTITY_RULES_WALL_BYTES 16
+
+/* A page of a wall sheet: the sheets that it has a line for, and its bytes. */
+#define ENTITY_RULES_PAGE_SHEETS 58
+#define ENTITY_RULES_PAGE_BYTES 4860
 
 /* Checks a rule. Returns the number; result takes all seven numbers, and after a defect path begins with its path, which has no
  * 0 at its end. Other bytes of both keep their values. A template's sheet is refused with 5. */
@@ -217,7 +229,20 @@ uint32_t rulecheck_tally(uint64_t kind, uint64_t semantics,
                          uint8_t *path, size_t path_length,
                          uint8_t *result, size_t result_length);
 
-/* One of the numbers of a tally, by an index of enum entity_rules_tally_field; 0 where it does not lie in there. */
+/* Checks a rule book as rulecheck_tally does, and prints the answers on pages of 80 columns and 60 lines: a heading, a line for each of 58 sheets, and a
+ * foot with the page's own count of accepted ones. Returns 0, and the pages stand at the start of pages; result takes two numbers of eight bytes (enum
+ * entity_rules_wall_field). Or returns a refusal, the count of pages being 0 and pages unchanged: those of rulecheck_tally, 3 for a result under 16
+ * bytes, and after 34 33 for pages under 4,860 bytes for each page. Other bytes of pages and result are kept, and path is as after rulecheck_tally. */
+uint32_t rulecheck_wall(uint64_t kind, uint64_t semantics,
+                        const uint8_t *label, size_t label_length,
+                        const uint8_t *table, size_t table_length,
+                        const uint8_t *schema, size_t schema_length,
+                        const uint8_t *book, size_t book_length,
+                        uint8_t *path, size_t path_length,
+                        uint8_t *pages, size_t pages_length,
+                        uint8_t *result, size_t result_length);
+
+/* One of the numbers of a tally or of a wall sheet's result, by its index; 0 where it does not lie in there. */
 uint64_t rulecheck_count(const uint8_t *result, size_t result_length, uint32_t index);
 
 /* One of the numbers of a result, by an index of enum entity_rules_field, or of an instant's fields; 0 where it does not lie in there. */

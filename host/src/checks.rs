@@ -1,10 +1,10 @@
 //! A check with everything that it can be lent.
 
-use crate::limits::{PATH_BYTES, RESULT_BYTES, TALLY_BYTES};
+use crate::limits::{PATH_BYTES, RESULT_BYTES, TALLY_BYTES, WALL_BYTES};
 use crate::settings::{Kind, Semantics};
 use crate::tally::{self, Tally};
 use crate::verdict::{self, Refusal, Verdict};
-use crate::{numbers, raw};
+use crate::{numbers, raw, wall};
 
 /// A check of a rule or template, as the first letter of its sheet says, with everything that it can be lent.
 ///
@@ -125,6 +125,40 @@ impl<'a> Check<'a> {
             &mut result,
         );
         tally::answer(&result)
+    }
+
+    /// Checks every sheet of a rule book against a schema, and prints how they fare on pages; otherwise as [`wall`](crate::wall()).
+    ///
+    /// ```
+    /// use entity_rules::{Check, Kind, Semantics};
+    ///
+    /// let check = Check::new(Kind::Invariant, Semantics::Kernel1, "mill");
+    /// assert_eq!(check.wall(b"H,0,0,-,0\n", b"")?, "");
+    /// assert_eq!(check.wall(b"H,0,0,-,0\n", b"0,")?.len(), 60 * 81);
+    /// # Ok::<(), entity_rules::Refusal>(())
+    /// ```
+    ///
+    /// # Errors
+    ///
+    /// If the label or the table is refused, or the file is no book.
+    pub fn wall(&self, schema: &[u8], book: impl AsRef<[u8]>) -> Result<String, Refusal> {
+        let book = book.as_ref();
+        let mut path = vec![0; PATH_BYTES];
+        let mut pages = wall::buffer(book);
+        let mut result = [0; WALL_BYTES];
+        let (kind, semantics) = (self.kind.number().into(), self.semantics.number().into());
+        raw::wall(
+            kind,
+            semantics,
+            self.label,
+            self.table,
+            schema,
+            book,
+            &mut path,
+            &mut pages,
+            &mut result,
+        );
+        wall::answer(&result, pages)
     }
 }
 

@@ -28,6 +28,7 @@ mod settings;
 mod table;
 mod tally;
 mod verdict;
+mod wall;
 mod widening;
 
 pub use book::{Book, BookError, BookSheet};
@@ -200,6 +201,39 @@ pub fn tally(
     book: impl AsRef<[u8]>,
 ) -> Result<Tally, Refusal> {
     Check::new(kind, semantics, &label).tally(schema, book)
+}
+
+/// Checks every sheet of a rule book against a schema, and prints how they fare on pages of 80 columns and 60 lines, for the wall.
+///
+/// A page has a heading, a line for each of 58 sheets, and a foot with the page's own count of accepted sheets. A line has the sheet's serial number, the number, family and place of its answer,
+/// the checks passed, and the path, which is cut with `>` in the last column if it is longer. A book without sheets has no page. The label begins each path.
+///
+/// ```
+/// use entity_rules::{wall, Book, Kind, Semantics};
+///
+/// let book = Book::new().sheet("R,-,-,\nC,1,1,\n").sheet("R,-,-,\nC,5,0,\nV,5,12,$fields.yarn\n");
+/// let pages = wall(Kind::Invariant, Semantics::Kernel1, "mill", b"H,0,0,-,0\n", &book)?;
+/// let lines: Vec<&str> = pages.lines().map(str::trim_end).collect();
+///
+/// assert_eq!(lines.len(), 60);
+/// assert_eq!(lines[0], "PAGE     1");
+/// assert_eq!(lines[1], "    1   0  0     0     4");
+/// assert_eq!(lines[2], "    2  18  1     3     4 mill.assert.exists");
+/// assert_eq!(lines[59], "ACCEPTED  1");
+/// # Ok::<(), entity_rules::Refusal>(())
+/// ```
+///
+/// # Errors
+///
+/// As for [`tally`].
+pub fn wall(
+    kind: Kind,
+    semantics: Semantics,
+    label: impl AsRef<[u8]>,
+    schema: &[u8],
+    book: impl AsRef<[u8]>,
+) -> Result<String, Refusal> {
+    Check::new(kind, semantics, &label).wall(schema, book)
 }
 
 type Entry = fn(u64, u64, &[u8], &[u8], &[u8], &mut [u8], &mut [u8]) -> u32;

@@ -45,5 +45,14 @@ pub const PATH_BYTES: usize = 32_768;
 /// Bytes that a call wants for the result, or for the fields of an instant: seven numbers of four bytes.
 pub const RESULT_BYTES: usize = 28;
 
+/// Sheets that a page of a wall sheet has a line for.
+pub const PAGE_SHEETS: usize = 58;
+
+/// Bytes of a page: 60 lines of 80 columns, each with its end.
+pub const PAGE_BYTES: usize = 4_860;
+
+/// Bytes that a wall sheet wants for its result: two numbers of eight bytes.
+pub const WALL_BYTES: usize = 16;
+
 /// Bytes that a tally wants for its result: eighteen numbers of eight bytes.
 pub const TALLY_BYTES: usize = 144;

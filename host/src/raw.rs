@@ -109,6 +109,25 @@ unsafe extern "C" {
         result_length: usize,
     ) -> u32;
 
+    fn rulecheck_wall(
+        kind: u64,
+        semantics: u64,
+        label: *const u8,
+        label_length: usize,
+        table: *const u8,
+        table_length: usize,
+        schema: *const u8,
+        schema_length: usize,
+        book: *const u8,
+        book_length: usize,
+        path: *mut u8,
+        path_length: usize,
+        pages: *mut u8,
+        pages_length: usize,
+        result: *mut u8,
+        result_length: usize,
+    ) -> u32;
+
     fn rulecheck_count(result: *const u8, result_length: usize, index: u32) -> u64;
 
     fn rulecheck_field(result: *const u8, result_length: usize, index: u32) -> u32;
@@ -400,7 +419,62 @@ pub fn tally(
     }
 }
 
-/// One of the eighteen numbers that [`tally`] leaves.
+/// Prints how the sheets of a rule book fare; the answer is 0 or a refusal, and `result` takes two numbers of eight bytes, which [`count`] reads: the answer and the count of pages,
+/// which stand at the start of `pages`.
+///
+/// A page has 4,860 bytes and room for 58 sheets. A buffer that is too short for all pages is refusal 33, tried after 34 and before the table's; a result under 16 bytes, like a path buffer under
+/// 32,768, is refusal 3. Under a refusal nothing but the result is written.
+///
+/// ```
+/// use entity_rules::raw;
+///
+/// let (mut path, mut pages, mut result) = (vec![0; 32_768], vec![b'-'; 4_861], [0; 16]);
+/// let (schema, book) = (b"H,0,0,-,0\n", b"14,R,-,-,\nC,1,1,\n0,");
+/// assert_eq!(raw::wall(1, 1, b"", &[], schema, book, &mut path, &mut pages, &mut result), 0);
+/// assert_eq!(raw::count(&result, 1), 1);
+/// assert!(pages.starts_with(b"PAGE     1  ") && pages.ends_with(b" \n-"));
+/// assert_eq!(raw::wall(1, 1, b"", &[], schema, book, &mut path, &mut pages[..4_859], &mut result), 33);
+/// assert_eq!(raw::count(&result, 1), 0);
+/// ```
+#[expect(
+    clippy::too_many_arguments,
+    reason = "as many as the C function has slices and numbers"
+)]
+pub fn wall(
+    kind: u64,
+    semantics: u64,
+    label: &[u8],
+    table: &[u8],
+    schema: &[u8],
+    book: &[u8],
+    path: &mut [u8],
+    pages: &mut [u8],
+    result: &mut [u8],
+) -> u32 {
+    // SAFETY: as in `tally`; the pages are a slice that is written, lent mutably like the other two.
+    unsafe {
+        rulecheck_wall(
+            kind,
+            semantics,
+            label.as_ptr(),
+            label.len(),
+            table.as_ptr(),
+            table.len(),
+            schema.as_ptr(),
+            schema.len(),
+            book.as_ptr(),
+            book.len(),
+            path.as_mut_ptr(),
+            path.len(),
+            pages.as_mut_ptr(),
+            pages.len(),
+            result.as_mut_ptr(),
+            result.len(),
+        )
+    }
+}
+
+/// One of the eighteen numbers that [`tally`] leaves, or of the two of [`wall`].
 ///
 /// The answer is 0 where the eight bytes do not lie in the result.
 ///

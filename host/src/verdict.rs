@@ -465,8 +465,8 @@ impl fmt::Display for PathVerdict {
 
 /// Why a call was not answered.
 ///
-/// The typed functions never meet [`Setting`](Refusal::Setting) and [`Width`](Refusal::Width), since their settings are known ones and
-/// their buffers wide enough.
+/// The typed functions never meet [`Setting`](Refusal::Setting), [`Width`](Refusal::Width) and [`Output`](Refusal::Output), since their settings are
+/// known ones and their buffers wide enough.
 ///
 /// ```
 /// use entity_rules::{check, Kind, Refusal, Semantics};
@@ -491,6 +491,8 @@ pub enum Refusal {
     NewSchemaSheet,
     /// 5: the rule sheet is not well formed, or is not of the sort that the function takes.
     RuleSheet,
+    /// 33 of a call for a wall sheet: the buffer for the pages is too short.
+    Output,
     /// 34 of a call for a rule book: the file is not one. [`Book::read`](crate::Book::read) says where.
     BookForm,
     /// 37: the name table is not of its form. [`Table::read`](crate::Table::read) says where.
@@ -515,6 +517,7 @@ impl Refusal {
             Self::Width => 3,
             Self::SchemaSheet | Self::NewSchemaSheet => 4,
             Self::RuleSheet => 5,
+            Self::Output => 33,
             Self::BookForm => 34,
             Self::TableForm => 37,
             Self::TableMark => 38,
@@ -536,6 +539,7 @@ impl Refusal {
             Self::Width => "width",
             Self::SchemaSheet | Self::NewSchemaSheet => "schema sheet",
             Self::RuleSheet => "rule sheet",
+            Self::Output => "output",
             Self::BookForm => "book form",
             Self::TableForm => "table form",
             Self::TableMark => "table mark",
@@ -566,12 +570,13 @@ impl fmt::Display for Refusal {
             }
             Self::Label => f.pad("the label is over 256 bytes long, or not UTF-8"),
             Self::Path => f.pad("the path is over 512 bytes long, or not UTF-8"),
-            Self::Width => f.pad("the path buffer is under 32,768 bytes, or the result under 28 (for a tally 144)"),
+            Self::Width => f.pad("the path buffer is under 32,768 bytes, or the result under 28 (144 for a tally, 16 for a wall sheet)"),
             Self::SchemaSheet => f.pad("the schema sheet is not well formed"),
             Self::NewSchemaSheet => f.pad("the new schema's sheet is not well formed"),
             Self::RuleSheet => {
                 f.pad("the rule sheet is not well formed, or not of the sort asked for")
             }
+            Self::Output => f.pad("the buffer for the pages is too short"),
             Self::BookForm => f.pad("the file is not a rule book"),
             Self::TableForm => f.pad("the name table is not of its form"),
             Self::TableMark => f.pad(

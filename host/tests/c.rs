@@ -1,6 +1,9 @@
 //! The C header and the C example.
 
-use entity_rules::limits::{MAX_KEY_BYTES, PATH_BYTES, RESULT_BYTES, TABLE_BYTES, TALLY_BYTES};
+use entity_rules::limits::{
+    MAX_KEY_BYTES, PAGE_BYTES, PAGE_SHEETS, PATH_BYTES, RESULT_BYTES, TABLE_BYTES, TALLY_BYTES,
+    WALL_BYTES,
+};
 use entity_rules::{
     BreachReason, DefectNumber, Family, Kind, Reader, ReferenceFault, Refusal, Semantics, Widening,
 };
@@ -121,6 +124,7 @@ fn the_header_has_the_numbers_of_the_crate() {
         ("WIDTH", Refusal::Width),
         ("SCHEMA_SHEET", Refusal::SchemaSheet),
         ("RULE_SHEET", Refusal::RuleSheet),
+        ("OUTPUT", Refusal::Output),
         ("BOOK_FORM", Refusal::BookForm),
         ("TABLE_FORM", Refusal::TableForm),
         ("TABLE_MARK", Refusal::TableMark),
@@ -151,6 +155,8 @@ fn the_header_has_the_numbers_of_the_crate() {
         ("PASSED", 17),
     ];
     let counts = counts.map(|(name, index)| (format!("TALLY_{name}"), index));
+    let walls = [("WALL_NUMBER".to_owned(), 0), ("WALL_PAGES".to_owned(), 1)];
+    let counts = counts.into_iter().chain(walls);
     let settings = kinds.chain(semantics).chain(readers);
     let answers = defects.chain(families).chain(refusals);
     let answers = answers
@@ -174,6 +180,9 @@ fn the_header_has_the_numbers_of_the_crate() {
         ("PATH_BYTES", PATH_BYTES),
         ("RESULT_BYTES", RESULT_BYTES),
         ("TALLY_BYTES", TALLY_BYTES),
+        ("WALL_BYTES", WALL_BYTES),
+        ("PAGE_SHEETS", PAGE_SHEETS),
+        ("PAGE_BYTES", PAGE_BYTES),
     ] {
         let line = format!("\n#define ENTITY_RULES_{name} {number}\n");
         assert!(HEADER.contains(&line), "{line}");

@@ -11,6 +11,7 @@ those that come after them; tallies rule books; reads instants.
 
 usage: entity-rules check SCHEMA RULE.. --kind KIND --semantics SEMANTICS [OPTION..]
        entity-rules tally SCHEMA BOOK --kind KIND --semantics SEMANTICS [OPTION..]
+       entity-rules wall SCHEMA BOOK --kind KIND --semantics SEMANTICS [OPTION..]
        entity-rules book RULE.. > BOOK
        entity-rules path SCHEMA PATH.. --semantics SEMANTICS [OPTION..]
        entity-rules widens OLD NEW [--json] [--quiet]
@@ -20,6 +21,8 @@ usage: entity-rules check SCHEMA RULE.. --kind KIND --semantics SEMANTICS [OPTIO
 
   check    whether rules and templates are accepted, or their first defect
   tally    how many sheets of a rule book are accepted, refused, and have a defect of each number
+  wall     prints a rule book for the wall, on pages of 80 columns and 60 lines: for each sheet its
+           serial number, the number, family and place of its answer, the checks passed, the path
   book     writes the rule book of the sheets in these files to standard output
   path     whether paths of the record's fields can be read
   widens   whether the schema NEW is a widening of OLD, so that what was accepted stays accepted;
@@ -37,17 +40,17 @@ usage: entity-rules check SCHEMA RULE.. --kind KIND --semantics SEMANTICS [OPTIO
   BOOK                a file of sheets, each with its length in bytes and a comma before it
   PATH                a path of the record's fields, without `$fields.` before it
   TEXT                a text that may be an instant
-  --kind KIND         check, tally, upgrade: invariant, precondition, create_template,
+  --kind KIND         check, tally, wall, upgrade: invariant, precondition, create_template,
                       operation_template, outcome_selector, create_selector, create_set or
                       create_outcome_template
   --semantics SEMANTICS
                       kernel/1, service/1, service/2 or service/3
   --reader READER     path: kernel or projection, who will read the path (default: kernel)
-  --table FILE        check, tally, upgrade: a file that holds a name table, which says what each
-                      kind may read (default: the stock table, which the command `table` prints); it
-                      may be -
-  --label TEXT        check, upgrade: what each path begins with (default: the rule's file name
-                      without its end, and in brackets the serial number of a sheet in a book)
+  --table FILE        check, tally, wall, upgrade: a file that holds a name table, which says what
+                      each kind may read (default: the stock table, which the command `table`
+                      prints); it may be -
+  --label TEXT        check, wall, upgrade: what each path begins with (default: the file's name
+                      without its end, and, but for wall, the serial number of a sheet in a book)
   --json              one line of JSON for each rule, path, text, book or pair of schemas, and no
                       summary
   --quiet             print nothing for what is accepted, for a widening and for a rule that fares
@@ -60,6 +63,7 @@ Examples, in the crate's folder examples/mill:
   entity-rules check pattern.schema branch.rule --kind outcome_selector --semantics service/1 \\
       --table own.table
   entity-rules tally pattern.schema mill.book --kind precondition --semantics service/1
+  entity-rules wall pattern.schema mill.book --kind precondition --semantics service/1
   entity-rules book release.rule misspelt.rule > two.book
   entity-rules path pattern.schema bars.count --semantics service/1 --reader projection
   entity-rules widens pattern.schema wider.schema
@@ -75,8 +79,7 @@ Colours and a progress bar appear on a terminal only. NO_COLOR, set to anything,
 colours off; TERM=dumb switches off both.
 ";
 
-const COMMANDS: &str =
-    "the command `check`, `tally`, `book`, `path`, `widens`, `upgrade`, `instant` or `table`";
+const COMMANDS: &str = "the command `check`, `tally`, `wall`, `book`, `path`, `widens`, `upgrade`, `instant` or `table`";
 
 /// What the command line asks for.
 #[derive(Debug, PartialEq)]
@@ -87,6 +90,7 @@ pub enum Command {
     Table,
     Check(Arguments),
     Tally(BookRun),
+    Wall(BookRun),
     /// Writes the book of these files.
     Book(Vec<PathBuf>),
     Widens(Pair),
@@ -94,13 +98,14 @@ pub enum Command {
     Instants(Instants),
 }
 
-/// What `tally` is given.
+/// What `tally` or `wall` is given.
 #[derive(Debug, PartialEq)]
 pub struct BookRun {
     pub schema: PathBuf,
     pub book: PathBuf,
     pub kind: Kind,
     pub semantics: Semantics,
+    pub label: Option<String>,
     pub table: Option<PathBuf>,
     pub output: Output,
 }
@@ -203,6 +208,7 @@ pub fn parse(words: impl IntoIterator<Item = OsString>) -> Result<Command, Strin
     match words.next() {
         Some(command) if command == "check" => options(words)?.check().map(Command::Check),
         Some(command) if command == "tally" => options(words)?.tally().map(Command::Tally),
+        Some(command) if command == "wall" => options(words)?.wall().map(Command::Wall),
         Some(command) if command == "book" => options(words)?.book().map(Command::Book),
         Some(command) if command == "path" => options(words)?.path().map(Command::Check),
         Some(command) if command == "widens" => options(words)?.widens().map(Command::Widens),
@@ -268,20 +274,29 @@ impl Options {
     }
 
     fn tally(self) -> Result<BookRun, String> {
-        self.once("tally")?;
-        let given = [
-            ("--reader", self.reader.is_some()),
-            ("--label", self.label.is_some()),
-        ];
-        not_for("tally", &given)?;
+        not_for("tally", &[("--label", self.label.is_some())])?;
+        self.book_run("tally")
+    }
+
+    fn wall(self) -> Result<BookRun, String> {
+        let given = [("--json", self.output.json), ("--quiet", self.output.quiet)];
+        not_for("wall", &given)?;
+        self.book_run("wall")
+    }
+
+    /// What a command about a whole book is given.
+    fn book_run(self, command: &str) -> Result<BookRun, String> {
+        self.once(command)?;
+        not_for(command, &[("--reader", self.reader.is_some())])?;
         let [schema, book] = self.words.as_slice() else {
-            return Err("tally: expected the files SCHEMA and BOOK".to_owned());
+            return Err(format!("{command}: expected the files SCHEMA and BOOK"));
         };
         Ok(BookRun {
             schema: schema.into(),
             book: book.into(),
-            kind: self.kind("tally")?,
-            semantics: self.semantics("tally")?,
+            kind: self.kind(command)?,
+            semantics: self.semantics(command)?,
+            label: self.label,
             table: self.table,
             output: self.output,
         })
@@ -550,6 +565,7 @@ mod tests {
             book: "b".into(),
             kind: Kind::Invariant,
             semantics: Semantics::Kernel1,
+            label: None,
             table: Some("t".into()),
             output: Output {
                 json: true,
@@ -577,6 +593,26 @@ mod tests {
         assert_eq!(
             error(&format!("tally - - {settings}")),
             "tally: expected `-`, standard input, at most once"
+        );
+    }
+
+    #[test]
+    fn a_wall_sheet_takes_a_label() {
+        let settings = "--kind invariant --semantics kernel/1";
+        let label = |line: &str| match parsed(&format!("wall s b {settings} {line}")) {
+            Ok(Command::Wall(run)) => run.label,
+            _ => Some("no wall sheet".to_owned()),
+        };
+        assert_eq!(label("--label x").as_deref(), Some("x"));
+        assert_eq!(label(""), None);
+        for option in ["--json", "--quiet", "--reader kernel"] {
+            let (name, _) = option.split_once(' ').unwrap_or((option, ""));
+            let expected = format!("wall: {name} is no option of this command");
+            assert_eq!(error(&format!("wall s b {settings} {option}")), expected);
+        }
+        assert_eq!(
+            error(&format!("wall s {settings}")),
+            "wall: expected the files SCHEMA and BOOK"
         );
     }
 

@@ -1,5 +1,5 @@
 //! The command-line tool: `entity-rules check SCHEMA RULE.. --kind KIND --semantics SEMANTICS`, `entity-rules tally SCHEMA BOOK ..` for a whole rule book,
-//! which `entity-rules book RULE..` writes, `entity-rules path SCHEMA PATH..` for keys,
+//! which `entity-rules book RULE..` writes and `entity-rules wall SCHEMA BOOK ..` prints for the wall, `entity-rules path SCHEMA PATH..` for keys,
 //! `entity-rules widens OLD NEW` and `entity-rules upgrade OLD NEW RULE..` for schemas that change, `entity-rules instant TEXT..`, which prints the
 //! fields of instants, and `entity-rules table`, which prints the stock table.
 
@@ -35,7 +35,7 @@ use std::env;
 use std::io::{self, ErrorKind, IsTerminal, Write};
 use std::path::{Path, PathBuf};
 use std::process::ExitCode;
-use tallied::Tallied;
+use tallied::{Tallied, Walled};
 use upgraded::{Fates, Upgraded};
 use widened::{Compared, Comparison};
 
@@ -71,6 +71,7 @@ fn run(command: &Command) -> io::Result<u8> {
         },
         Command::Check(arguments) => return check(arguments, &mut out),
         Command::Tally(asked) => return tally(asked, &mut out),
+        Command::Wall(asked) => return wall(asked, &mut out),
         Command::Book(files) => return book(files, &mut out),
         Command::Widens(pair) => return widens(pair, &mut out),
         Command::Upgrade(asked) => return upgrade(asked, &mut out),
@@ -152,6 +153,21 @@ fn tally(asked: &BookRun, out: &mut impl Write) -> io::Result<u8> {
     }
     out.flush()?;
     Ok(status)
+}
+
+/// Prints a rule book for the wall. Nothing but its pages goes to standard output.
+fn wall(asked: &BookRun, out: &mut impl Write) -> io::Result<u8> {
+    match Walled::new(asked) {
+        Err(text) => Ok(complain(text.trim_end())),
+        Ok(walled) => {
+            if let Some(note) = &walled.note {
+                complain(note.trim_end());
+            }
+            out.write_all(walled.pages.as_bytes())?;
+            out.flush()?;
+            Ok(walled.status)
+        }
+    }
 }
 
 /// Writes the book of the sheets in these files, or nothing if one of them cannot be read. A sheet that is none is noted.

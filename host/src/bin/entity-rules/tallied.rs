@@ -1,4 +1,4 @@
-//! A rule book, tallied.
+//! A rule book, tallied or printed for the wall.
 
 use crate::arguments::BookRun;
 use crate::checked::{Checked, Outcome, Shared, Subject};
@@ -28,6 +28,17 @@ struct Counted {
     fault: Option<Fault>,
 }
 
+impl Counted {
+    /// The exit status: that of the worst sheet.
+    fn status(&self) -> u8 {
+        match (self.tally.defects(), self.tally.refused()) {
+            (0, 0) => 0,
+            (_, 0) => 1,
+            _ => 2,
+        }
+    }
+}
+
 impl<'a> Tallied<'a> {
     /// Reads what is asked for and tallies it; the bar is for that many sheets.
     pub fn new<W: Write>(asked: &'a BookRun, bar: impl FnOnce(usize) -> Progress<W>) -> Self {
@@ -37,16 +48,9 @@ impl<'a> Tallied<'a> {
         }
     }
 
-    /// The exit status: that of the worst sheet.
+    /// The exit status: that of the worst sheet, or of what keeps the book from being tallied.
     pub fn status(&self) -> u8 {
-        match &self.result {
-            Ok(Counted { tally, .. }) => match (tally.defects(), tally.refused()) {
-                (0, 0) => 0,
-                (_, 0) => 1,
-                _ => 2,
-            },
-            Err(_) => 2,
-        }
+        self.result.as_ref().map_or(2, Counted::status)
     }
 
     /// What is printed for it.
@@ -77,32 +81,111 @@ fn counted<W: Write>(
     asked: &BookRun,
     bar: impl FnOnce(usize) -> Progress<W>,
 ) -> Result<Counted, NoSheet> {
-    let shared = Shared::new(&asked.schema, asked.table.as_deref());
-    let (names, schema) = shared.ready()?;
-    let book = read_sheet(&asked.book, Sheet::Book)?;
-    let refused = |refusal| NoSheet::Refused {
-        refusal,
-        fault: match (refusal, Book::read(&book)) {
-            (Refusal::BookForm, Err(error)) => Some(Fault::of_book(&asked.book, &book, &error)),
-            _ => None,
-        },
-    };
-    let check = Check::new(asked.kind, asked.semantics, "").table(&names.lent);
-    let parts = parts(&book);
+    let read = Read::new(asked)?;
+    let parts = parts(&read.book);
     let mut progress = bar(parts.iter().map(|(_, sheets)| sheets).sum());
     let tallied = parts.into_iter().map(|(part, sheets)| {
-        let tally = check.tally(schema, part);
+        let tally = read.check("").tally(&read.schema, part);
         progress.steps(sheets);
         tally
     });
     let tally = tallied.sum::<Result<Tally, Refusal>>();
     progress.clear();
-    let tally = tally.map_err(refused)?;
-    let fault = match tally.schema_refused {
-        0 => None,
-        _ => fault(&asked.schema, schema, read_schema),
-    };
-    Ok(Counted { tally, fault })
+    read.counted(tally)
+}
+
+/// The files that a command about a book names.
+struct Read<'a> {
+    asked: &'a BookRun,
+    /// The name table as it is lent.
+    table: Vec<u8>,
+    schema: Vec<u8>,
+    book: Vec<u8>,
+}
+
+impl<'a> Read<'a> {
+    fn new(asked: &'a BookRun) -> Result<Self, NoSheet> {
+        let shared = Shared::new(&asked.schema, asked.table.as_deref());
+        let (names, schema) = shared.ready()?;
+        Ok(Self {
+            asked,
+            table: names.lent.clone(),
+            schema: schema.to_vec(),
+            book: read_sheet(&asked.book, Sheet::Book)?,
+        })
+    }
+
+    fn check<'b>(&'b self, label: &'b str) -> Check<'b> {
+        let BookRun {
+            kind, semantics, ..
+        } = self.asked;
+        Check::new(*kind, *semantics, label).table(&self.table)
+    }
+
+    /// A refusal, with the book's fault if it is that one.
+    fn refused(&self, refusal: Refusal) -> NoSheet {
+        let fault = match (refusal, Book::read(&self.book)) {
+            (Refusal::BookForm, Err(error)) => {
+                Some(Fault::of_book(&self.asked.book, &self.book, &error))
+            }
+            _ => None,
+        };
+        NoSheet::Refused { refusal, fault }
+    }
+
+    /// A tally, with the schema's fault if sheets are refused for that.
+    fn counted(&self, tally: Result<Tally, Refusal>) -> Result<Counted, NoSheet> {
+        let tally = tally.map_err(|refusal| self.refused(refusal))?;
+        let fault = match tally.schema_refused {
+            0 => None,
+            _ => fault(&self.asked.schema, &self.schema, read_schema),
+        };
+        Ok(Counted { tally, fault })
+    }
+}
+
+/// A book, printed for the wall.
+pub struct Walled {
+    pub pages: String,
+    pub status: u8,
+    /// What else is to be said.
+    pub note: Option<String>,
+}
+
+impl Walled {
+    /// Reads what is asked for and prints it; an error is the text of what keeps it from that.
+    pub fn new(asked: &BookRun) -> Result<Self, String> {
+        let subject = Subject::File(&asked.book);
+        let own = subject.label();
+        let label = asked.label.as_deref().unwrap_or(&own);
+        let walled = || {
+            let read = Read::new(asked)?;
+            let counted = read.counted(read.check(label).tally(&read.schema, &read.book))?;
+            let pages = read.check(label).wall(&read.schema, &read.book);
+            Ok((pages.map_err(|refusal| read.refused(refusal))?, counted))
+        };
+        let plain = Palette::new(false);
+        let (pages, counted) = walled().map_err(|why: NoSheet| {
+            let outcome = why.into();
+            report::text(&plain, &Checked { subject, outcome })
+        })?;
+        let name = report::subject(subject);
+        let note = match &counted {
+            Counted { tally, .. } if tally.read == 0 => Some(nothing(&name)),
+            Counted { fault, .. } => fault
+                .as_ref()
+                .map(|fault| refused_text(&plain, &name, Refusal::SchemaSheet, Some(fault))),
+        };
+        Ok(Self {
+            pages,
+            status: counted.status(),
+            note,
+        })
+    }
+}
+
+fn nothing(subject: &str) -> String {
+    format!("{subject}: no sheets, nothing to check\n")
 }
 
 /// The book in parts that are books, each with the number of its sheets; all of it where it has none or is no book, for the library to say so.
@@ -148,7 +231,7 @@ fn table(palette: &Palette, subject: &str, counted: &Counted) -> String {
         None => String::new(),
     };
     if tally.read == 0 {
-        return format!("{subject}: no sheets, nothing to check\n");
+        return nothing(subject);
     }
     text.push_str(&format!("{subject}: tally of {tally}\n"));
     let width = tally.read.to_string().len();
