@@ -23,6 +23,13 @@ pub fn tally_answer(call: &differential::model::BookCall) -> differential::model
     tally(&BookCall { kind, semantics, label, table, schema, book, path_len, result_len })
 }
 
+/// The same for a wall sheet.
+pub fn wall_answer(call: &differential::model::WallCall) -> ([u64; 2], Vec<u8>) {
+    let &differential::model::BookCall { kind, semantics, label, table, schema, book, path_len, result_len } = &call.book;
+    let book = BookCall { kind, semantics, label, table, schema, book, path_len, result_len };
+    wall(&WallCall { book, pages_len: call.pages_len })
+}
+
 fn own(answer: Answer) -> differential::model::Answer {
     let Answer { number, family, detail, place, over_place, passed, path } = answer;
     differential::model::Answer { number, family, detail, place, over_place, passed, path }

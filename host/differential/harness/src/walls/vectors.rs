@@ -3,6 +3,7 @@
 use super::edges::edges;
 use super::generate::case;
 use super::{hold, report, WallCase};
+use crate::books::Expect;
 use crate::library::Extent;
 use crate::random::Random;
 use crate::refusals::MIN_PATH_BYTES;
@@ -15,14 +16,17 @@ const MAX_CASE_BYTES: usize = 900;
 /// How many books the list has besides the edges.
 const GENERATED: usize = 60;
 
-/// Of the known edges each so manieth is taken, since there are many of a sort.
-const EDGE_STEP: usize = 9;
+/// Of the known edges each so manieth is taken, since there are many of a sort, and the first of each refusal.
+const EDGE_STEP: usize = 8;
 
 /// Writes the list; an error before that leaves the file as it was.
 pub fn vectors(file: &str, seed: u64) -> Result<(), String> {
     let mut list = List::default();
-    for case in edges().iter().step_by(EDGE_STEP) {
-        list.take(case)?;
+    for (at, case) in edges().iter().enumerate() {
+        let is_new = |number: u32| !list.numbers.contains(&number.into());
+        if at % EDGE_STEP == 0 || matches!(case.book.expect, Expect::Refused(number) if is_new(number)) {
+            list.take(case)?;
+        }
     }
     let known = list.seen.len();
     for number in 0.. {
@@ -30,6 +34,10 @@ pub fn vectors(file: &str, seed: u64) -> Result<(), String> {
             break;
         }
         list.take(&case(&mut Random::of_case(seed, number)).1)?;
+    }
+    // That a path buffer or a result is too short is not told.
+    if let Some(missing) = [0, 1, 2, 33, 34, 37, 38].iter().find(|number| !list.numbers.contains(number)) {
+        return Err(format!("no book of the list has the answer {missing}"));
     }
     let books = list.seen.len();
     let bytes = [head(books, seed).into_bytes(), list.bytes].concat();
@@ -51,6 +59,7 @@ fn head(books: usize, seed: u64) -> String {
 #[derive(Default)]
 struct List {
     seen: BTreeSet<Vec<u8>>,
+    numbers: BTreeSet<u64>,
     bytes: Vec<u8>,
 }
 
@@ -72,6 +81,7 @@ impl List {
             written.push(b'\n');
         }
         if self.seen.insert(written.clone()) {
+            self.numbers.insert(numbers[0]);
             self.bytes.extend_from_slice(&written);
         }
         Ok(())
