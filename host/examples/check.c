@@ -1,4 +1,4 @@
-/* Checks a good and a bad rule of a mill from C, and a third under the mill's own name table, which has a constant condition; then asks whether a schema has grown. In this folder, after `rt staticlib entity_rules` in the repository's root:
+/* Checks a good and a bad rule of a mill from C, and a third under the mill's own name table, where one has a constant condition; tallies a book of two rules; then asks whether a schema has grown. In this folder, after `rt staticlib entity_rules` in the repository's root:
  *
  *   cc check.c -I../include -L../../target/staticlib -lentity_rules -o ../../target/check && ../../target/check
  *
@@ -8,6 +8,7 @@
  *   bad: defect 18 of family 8, detail 3, at entry 5, bad.assert.for_all.that.eq[0], after 8 checks
  *   own: accepted, 10 checks passed
  *   own: entry 6 is always true
+ *   book: 2 read, 1 accepted, 1 with defect 18, 17 checks passed
  *   wider: a widening
  *   narrower: none, reason 1, at entry 4 of the old sheet and 0 of the new
  */
@@ -66,6 +67,26 @@ static void check_own(const char *label, const char *schema, const char *rule) {
   }
 }
 
+/* Tallies a book, and prints how often one defect came. */
+static void tally(const char *label, const char *schema, const char *book, unsigned defect) {
+  uint8_t result[ENTITY_RULES_TALLY_BYTES];
+  const size_t size = sizeof result;
+  uint32_t number = rulecheck_tally(ENTITY_RULES_PRECONDITION, ENTITY_RULES_SERVICE_1,
+                                    bytes(label), strlen(label), bytes(""), 0,
+                                    bytes(schema), strlen(schema), bytes(book), strlen(book),
+                                    path, sizeof path, result, size);
+  if (number != 0) {
+    printf("%s: refused, %u\n", label, (unsigned)number);
+  } else {
+    uint32_t index = ENTITY_RULES_TALLY_DEFECTS + defect - ENTITY_RULES_DEFECT_NAME;
+    printf("%s: %llu read, %llu accepted, %llu with defect %u, %llu checks passed\n", label,
+           (unsigned long long)rulecheck_count(result, size, ENTITY_RULES_TALLY_READ),
+           (unsigned long long)rulecheck_count(result, size, ENTITY_RULES_TALLY_ACCEPTED),
+           (unsigned long long)rulecheck_count(result, size, index), defect,
+           (unsigned long long)rulecheck_count(result, size, ENTITY_RULES_TALLY_PASSED));
+  }
+}
+
 /* Says whether a schema is a widening of another. */
 static void compare(const char *label, const char *old_schema, const char *new_schema) {
   uint8_t result[ENTITY_RULES_RESULT_BYTES];
@@ -90,20 +111,20 @@ int main(void) {
                        "F,6,0,1,0,4,-,bars\n"
                        "F,7,0,0,1,0,-,\n"
                        "F,4,0,0,0,8,-,threaded\n";
-  check("good", schema,
-        "R,-,-,\n"
-        "C,20,3,bar\n"
-        "V,5,12,$fields.bars\n"
-        "C,8,0,\n"
-        "V,5,13,$bar.threaded\n"
-        "V,3,0,\n");
-  check("bad", schema,
-        "R,-,-,\n"
-        "C,20,3,bar\n"
-        "V,5,12,$fields.bars\n"
-        "C,8,0,\n"
-        "V,5,12,$bar.threded\n"
-        "V,3,0,\n");
+  const char *good = "R,-,-,\n"
+                     "C,20,3,bar\n"
+                     "V,5,12,$fields.bars\n"
+                     "C,8,0,\n"
+                     "V,5,13,$bar.threaded\n"
+                     "V,3,0,\n";
+  check("good", schema, good);
+  const char *bad = "R,-,-,\n"
+                    "C,20,3,bar\n"
+                    "V,5,12,$fields.bars\n"
+                    "C,8,0,\n"
+                    "V,5,12,$bar.threded\n"
+                    "V,3,0,\n";
+  check("bad", schema, bad);
   /* In this mill outcome selectors read the state, the fifth mark of entry 5. */
   const char *own = "N,1,1,1,1,1,1,0,0,0,0\n"
                     "N,2,1,1,1,1,0,1,1,1,1\n"
@@ -125,6 +146,10 @@ int main(void) {
             "C,6,0,\n"
             "V,5,10,2024-02-29\n"
             "V,5,10,2024-03-01\n");
+  /* A book of both, each with its length in bytes and a comma before it. */
+  char book[256];
+  snprintf(book, sizeof book, "%u,%s%u,%s", (unsigned)strlen(good), good, (unsigned)strlen(bad), bad);
+  tally("book", schema, book, ENTITY_RULES_DEFECT_REFERENCE);
   /* Bars get a number, so whatever was accepted before is accepted still. */
   const char *wider = "H,0,1,-,0\n"
                       "F,6,0,1,0,4,-,bars\n"

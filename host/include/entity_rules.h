@@ -1,14 +1,18 @@
-/* One rule, template or key path checked against the schema of its record, schemas held against each other, and instants read: the C
- * functions of libentity_rules.a.
+/* One rule, template or key path checked against the schema of its record, or a whole rule book; schemas held against each other, and
+ * instants read: the C functions of libentity_rules.a.
  *
  * docs/FORMAT.md says what the sheets hold and what each number means. Lengths are in bytes. A pointer must lead to as many bytes
- * as the length after it says, and must not be null, even where that is 0. path, marks, result, buffer and fields must not overlap each other
+ * as the length after it says, and must not be null, even where that is 0. path, marks, result, pages, buffer and fields must not overlap each other
  * or anything else. No function keeps a pointer, allocates or waits, so any number of threads may call them at once. A call
  * takes up to about 280 KB of stack: 16 KB for its scratch, the rest by how deep the sheets nest, most of it with 31 quantifiers in one
- * another. A path under 32,768 bytes or a result under 28 is refusal 3, and is not written; rulecheck_check wants a result of 32.
+ * another. A path under 32,768 bytes or a result under 28 is refusal 3, and is not written; rulecheck_check wants a result of 32,
+ * rulecheck_tally of 144, rulecheck_wall of 16.
  */
 #ifndef ENTITY_RULES_H
 #define ENTITY_RULES_H
+
+/* The version of this header and of the crate. */
+#define ENTITY_RULES_VERSION "0.1.0"
 
 #include <stddef.h>
 #include <stdint.h>
@@ -43,7 +47,7 @@ enum entity_rules_reader {
   ENTITY_RULES_PROJECTION = 2
 };
 
-/* The number of an answer: 0, a refusal (1 to 5, 35, 37, 38) or a defect (11 to 22). */
+/* The number of an answer: 0, a refusal (1 to 5, 33 to 35, 37, 38) or a defect (11 to 22). */
 enum entity_rules_number {
   ENTITY_RULES_ACCEPTED = 0,
   ENTITY_RULES_REFUSED_SETTING = 1,
@@ -63,6 +67,8 @@ enum entity_rules_number {
   ENTITY_RULES_DEFECT_INSTANT = 20,
   ENTITY_RULES_DEFECT_BIND = 21,
   ENTITY_RULES_DEFECT_OVER = 22,
+  ENTITY_RULES_REFUSED_OUTPUT = 33,
+  ENTITY_RULES_REFUSED_BOOK_FORM = 34,
   ENTITY_RULES_REFUSED_MARK_LIST = 35,
   ENTITY_RULES_REFUSED_TABLE_FORM = 37,
   ENTITY_RULES_REFUSED_TABLE_MARK = 38
@@ -80,7 +86,45 @@ enum entity_rules_family {
   ENTITY_RULES_QUANTIFIER_BODY_SCOPE = 8
 };
 
-/* The numbers of a result, by their index; the last one is of rulecheck_check alone. */
+/* The detail of a defect 17. */
+enum entity_rules_side {
+  ENTITY_RULES_SIDE_LEFT = 1,
+  ENTITY_RULES_SIDE_RIGHT = 2
+};
+
+/* The detail of a defect 18: why a reference cannot be read. The last one is a key path's alone. */
+enum entity_rules_reference_fault {
+  ENTITY_RULES_REFERENCE_EMPTY_PATH = 1,
+  ENTITY_RULES_REFERENCE_UNKNOWN_ROOT = 2,
+  ENTITY_RULES_REFERENCE_UNKNOWN_PROPERTY = 3,
+  ENTITY_RULES_REFERENCE_ARRAY_MEMBER = 4,
+  ENTITY_RULES_REFERENCE_MAP_MEMBER = 5,
+  ENTITY_RULES_REFERENCE_AFTER_COUNT = 6,
+  ENTITY_RULES_REFERENCE_AFTER_TAG = 7,
+  ENTITY_RULES_REFERENCE_UNION_MEMBER = 8,
+  ENTITY_RULES_REFERENCE_NO_COUNT = 9,
+  ENTITY_RULES_REFERENCE_NO_MEMBER = 10,
+  ENTITY_RULES_REFERENCE_ROOT_NOT_AVAILABLE = 11,
+  ENTITY_RULES_REFERENCE_NO_SUCH_REFERENCE = 12,
+  ENTITY_RULES_REFERENCE_TEXT_COUNT = 13
+};
+
+/* The detail of a defect 20: why an operand is no instant. */
+enum entity_rules_instant_fault {
+  ENTITY_RULES_INSTANT_ESCAPED = 1,
+  ENTITY_RULES_INSTANT_UNREADABLE = 2
+};
+
+/* The detail of a defect 22: why that which a quantifier goes over is no collection. */
+enum entity_rules_collection_fault {
+  ENTITY_RULES_OVER_NOT_A_STRING = 1,
+  ENTITY_RULES_OVER_UNKNOWN_PROPERTY = 2,
+  ENTITY_RULES_OVER_NO_MEMBER = 3,
+  ENTITY_RULES_OVER_NOT_A_COLLECTION = 4,
+  ENTITY_RULES_OVER_NO_NAME = 5
+};
+
+/* The numbers of a result, by their index; the last is rulecheck_check's alone. */
 enum entity_rules_field {
   ENTITY_RULES_NUMBER = 0,
   ENTITY_RULES_FAMILY = 1,
@@ -121,6 +165,24 @@ enum entity_rules_widens_reason {
   ENTITY_RULES_ARGUMENTS_GO = 7
 };
 
+/* The numbers of a tally, by their index. */
+enum entity_rules_tally_field {
+  ENTITY_RULES_TALLY_NUMBER = 0,
+  ENTITY_RULES_TALLY_READ = 1,
+  ENTITY_RULES_TALLY_ACCEPTED = 2,
+  ENTITY_RULES_TALLY_REFUSED_SCHEMA_SHEET = 3,
+  ENTITY_RULES_TALLY_REFUSED_RULE_SHEET = 4,
+  /* The defects from ENTITY_RULES_DEFECT_NAME to ENTITY_RULES_DEFECT_OVER, one after the other. */
+  ENTITY_RULES_TALLY_DEFECTS = 5,
+  ENTITY_RULES_TALLY_PASSED = 17
+};
+
+/* The numbers of a wall sheet's result, by their index. */
+enum entity_rules_wall_field {
+  ENTITY_RULES_WALL_NUMBER = 0,
+  ENTITY_RULES_WALL_PAGES = 1
+};
+
 /* The numbers of an instant's fields, by their index. */
 enum entity_rules_instant_field {
   ENTITY_RULES_YEAR = 0,
@@ -141,6 +203,12 @@ enum entity_rules_instant_field {
 /* What the buffers of a call must hold at least. */
 #define ENTITY_RULES_PATH_BYTES 32768
 #define ENTITY_RULES_RESULT_BYTES 28
+#define ENTITY_RULES_TALLY_BYTES 144
+#define ENTITY_RULES_WALL_BYTES 16
+
+/* A page of a wall sheet: the sheets that it has a line for, and its bytes. */
+#define ENTITY_RULES_PAGE_SHEETS 58
+#define ENTITY_RULES_PAGE_BYTES 4860
 
 /* What rulecheck_check wants besides the path. */
 #define ENTITY_RULES_MARKS_BYTES 8192
@@ -163,12 +231,12 @@ uint32_t rulecheck_template(uint64_t kind, uint64_t semantics,
                             uint8_t *path, size_t path_length,
                             uint8_t *result, size_t result_length);
 
-/* Checks a rule or a template, as the first letter of its sheet says, under a name table, and marks the constant conditions of a rule that is
- * accepted; otherwise as rulecheck_rule. A table of 0 bytes is the stock table, which the other functions go by. Of any other the first 176
- * bytes count: 37 where they are no table, 38 where a mark hides $id, $entity or $version, or shows $old_fields where $fields is hidden, both
- * tried last before 4. marks takes 2,048 numbers of four bytes; under 8,192 bytes it is refusal 35, tried after 3 and before 37. A mark is
- * twice the entry of a `before` or `after` with two literal instants, and 1 more if that is true. The marks rise from the start of marks on;
- * rulecheck_field reads them, and result has their count as its eighth number. All other bytes of marks keep their values. */
+/* Checks a rule or a template, as the first letter of its sheet says, under a name table; otherwise as rulecheck_rule. A table of 0 bytes
+ * is the stock table, which the other functions go by. Of any other the first 176 bytes count: 37 where they are no table, 38 where
+ * a mark hides $id, $entity or $version, or shows $old_fields where $fields is hidden. Of an accepted rule, marks takes the conditions that are
+ * before or after with two literal instants, and so have the same truth whatever a record holds: for each four bytes, least significant first, of the number
+ * of its entry, doubled, and 1 more if it is true. They rise; result has at index 7 how many there are, and marks keeps its other bytes. A list under
+ * 8,192 bytes is 35. After 3 and before 4, the order is 35, 37, 38. A result under 32 bytes is refusal 3. */
 uint32_t rulecheck_check(uint64_t kind, uint64_t semantics,
                          const uint8_t *label, size_t label_length,
                          const uint8_t *table, size_t table_length,
@@ -200,7 +268,36 @@ uint32_t rulecheck_widens(const uint8_t *first, size_t first_length,
                           const uint8_t *second, size_t second_length,
                           uint8_t *result, size_t result_length);
 
-/* One of the numbers of a result, by an index of enum entity_rules_field, of an instant's fields, or of a mark list; 0 where it does not lie in there. */
+/* Checks every sheet of a rule book, rules and templates, against one schema and tallies the answers that rulecheck_check would give. A book is a file of sheets, each with its
+ * length in bytes and a comma before it. Returns 0, and result takes eighteen numbers of eight bytes (enum entity_rules_tally_field), which rulecheck_count reads;
+ * or a refusal, the other numbers being 0: 1, 2, 3 (for a path under 32,768 bytes or a result under 144), 34 for a file that is no book, 37, 38, tried in this
+ * order. A schema sheet that is not well formed is none of them: every sheet then counts as refused by it. After a tally the first 32,768 bytes of path hold
+ * anything; all other bytes of both buffers are kept. */
+uint32_t rulecheck_tally(uint64_t kind, uint64_t semantics,
+                         const uint8_t *label, size_t label_length,
+                         const uint8_t *table, size_t table_length,
+                         const uint8_t *schema, size_t schema_length,
+                         const uint8_t *book, size_t book_length,
+                         uint8_t *path, size_t path_length,
+                         uint8_t *result, size_t result_length);
+
+/* Checks a rule book as rulecheck_tally does, and prints the answers on pages of 80 columns and 60 lines: a heading, a line for each of 58 sheets, and a
+ * foot with the page's own count of accepted ones. Returns 0, and the pages stand at the start of pages; result takes two numbers of eight bytes (enum
+ * entity_rules_wall_field). Or returns a refusal, the count of pages being 0 and pages unchanged: those of rulecheck_tally, 3 for a result under 16
+ * bytes, and after 34 33 for pages under 4,860 bytes for each page. Other bytes of pages and result are kept, and path is as after rulecheck_tally. */
+uint32_t rulecheck_wall(uint64_t kind, uint64_t semantics,
+                        const uint8_t *label, size_t label_length,
+                        const uint8_t *table, size_t table_length,
+                        const uint8_t *schema, size_t schema_length,
+                        const uint8_t *book, size_t book_length,
+                        uint8_t *path, size_t path_length,
+                        uint8_t *pages, size_t pages_length,
+                        uint8_t *result, size_t result_length);
+
+/* One of the numbers of a tally or of a wall sheet's result, by its index; 0 where it does not lie in there. */
+uint64_t rulecheck_count(const uint8_t *result, size_t result_length, uint32_t index);
+
+/* One of the numbers of a result, by an index of enum entity_rules_field, of a list of marks, or of an instant's fields; 0 where it does not lie in there. */
 uint32_t rulecheck_field(const uint8_t *result, size_t result_length, uint32_t index);
 
 /* Whether a text is a finite number, and how many of its digits were compared with those of 2^1024 - 2^970 for that: the count (at most 309)

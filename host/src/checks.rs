@@ -1,10 +1,12 @@
 //! A check with everything that it can be lent.
 
 use crate::constants::{Constant, constants};
-use crate::limits::{CHECK_RESULT_BYTES, MARKS_BYTES, PATH_BYTES};
+use crate::limits::{CHECK_RESULT_BYTES, MARKS_BYTES, PATH_BYTES, TALLY_BYTES, WALL_BYTES};
 use crate::settings::{Kind, Semantics};
+use crate::sheets::{RuleBytes, SchemaBytes};
+use crate::tally::{self, Tally};
 use crate::verdict::{self, Refusal, Verdict};
-use crate::{numbers, raw};
+use crate::{numbers, raw, wall};
 
 /// A check of a rule or template, as the first letter of its sheet says, with everything that it can be lent.
 ///
@@ -76,7 +78,12 @@ impl<'a> Check<'a> {
     /// # Errors
     ///
     /// If the label, the table or one of the sheets is refused.
-    pub fn run(&self, schema: &[u8], rule: &[u8]) -> Result<Checked, Refusal> {
+    pub fn run<'s>(
+        &self,
+        schema: impl Into<SchemaBytes<'s>>,
+        rule: impl Into<RuleBytes<'s>>,
+    ) -> Result<Checked, Refusal> {
+        let (schema, rule) = (schema.into().0, rule.into().0);
         let (mut path, mut marks) = (vec![0; PATH_BYTES], vec![0; MARKS_BYTES]);
         let mut result = [0; CHECK_RESULT_BYTES];
         let (kind, semantics) = (self.kind.number().into(), self.semantics.number().into());
@@ -98,6 +105,73 @@ impl<'a> Check<'a> {
             verdict,
             constants: constants.ok_or(Refusal::Unknown(numbers))?,
         })
+    }
+
+    /// Checks every sheet of a rule book against a schema, and tallies how they fare; otherwise as [`tally`](crate::tally()).
+    ///
+    /// ```
+    /// use entity_rules::{Book, Check, Kind, Name, Semantics, Table};
+    ///
+    /// let table = Table::stock().show(Kind::OutcomeSelector, Name::State).sheet()?;
+    /// let check = Check::new(Kind::OutcomeSelector, Semantics::Service1, "branch");
+    /// let book = Book::new().sheet("T\nV,5,6,$state\n");
+    /// assert_eq!(check.tally(b"H,0,0,-,0\n", &book)?.accepted, 0);
+    /// assert_eq!(check.table(&table).tally(b"H,0,0,-,0\n", &book)?.accepted, 1);
+    /// # Ok::<(), Box<dyn std::error::Error>>(())
+    /// ```
+    ///
+    /// # Errors
+    ///
+    /// If the label or the table is refused, or the file is no book.
+    pub fn tally(&self, schema: &[u8], book: impl AsRef<[u8]>) -> Result<Tally, Refusal> {
+        let mut path = vec![0; PATH_BYTES];
+        let mut result = [0; TALLY_BYTES];
+        let (kind, semantics) = (self.kind.number().into(), self.semantics.number().into());
+        raw::tally(
+            kind,
+            semantics,
+            self.label,
+            self.table,
+            schema,
+            book.as_ref(),
+            &mut path,
+            &mut result,
+        );
+        tally::answer(&result)
+    }
+
+    /// Checks every sheet of a rule book against a schema, and prints how they fare on pages; otherwise as [`wall`](crate::wall()).
+    ///
+    /// ```
+    /// use entity_rules::{Check, Kind, Semantics};
+    ///
+    /// let check = Check::new(Kind::Invariant, Semantics::Kernel1, "mill");
+    /// assert_eq!(check.wall(b"H,0,0,-,0\n", b"")?, "");
+    /// assert_eq!(check.wall(b"H,0,0,-,0\n", b"0,")?.len(), 60 * 81);
+    /// # Ok::<(), entity_rules::Refusal>(())
+    /// ```
+    ///
+    /// # Errors
+    ///
+    /// If the label or the table is refused, or the file is no book.
+    pub fn wall(&self, schema: &[u8], book: impl AsRef<[u8]>) -> Result<String, Refusal> {
+        let book = book.as_ref();
+        let mut path = vec![0; PATH_BYTES];
+        let mut pages = wall::buffer(book);
+        let mut result = [0; WALL_BYTES];
+        let (kind, semantics) = (self.kind.number().into(), self.semantics.number().into());
+        raw::wall(
+            kind,
+            semantics,
+            self.label,
+            self.table,
+            schema,
+            book,
+            &mut path,
+            &mut pages,
+            &mut result,
+        );
+        wall::answer(&result, pages)
     }
 }
 

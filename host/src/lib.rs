@@ -14,6 +14,7 @@
     )
 )]
 
+mod book;
 mod build;
 mod checks;
 mod constants;
@@ -26,10 +27,14 @@ mod numbered;
 #[allow(unsafe_code)]
 pub mod raw;
 mod settings;
+mod sheets;
 mod table;
+mod tally;
 mod verdict;
+mod wall;
 mod widening;
 
+pub use book::{Book, BookError, BookSheet};
 pub use build::{
     BuildError, CompareOp, Condition, Field, FieldKind, Nesting, Rule, Schema, Template, Value,
 };
@@ -40,7 +45,9 @@ pub use finite::{Finite, finite};
 pub use identity::{Identity, Packed, identity};
 pub use instant::{Instant, instant};
 pub use settings::{Kind, Name, Reader, Semantics, UnknownName};
+pub use sheets::{RuleBytes, RuleSheet, SchemaBytes, SchemaSheet};
 pub use table::{Table, TableError};
+pub use tally::Tally;
 pub use verdict::{
     CollectionFault, Defect, DefectNumber, Detail, Family, InstantFault, PathVerdict,
     ReferenceFault, Refusal, Side, Verdict,
@@ -68,14 +75,15 @@ use limits::{PATH_BYTES, RESULT_BYTES};
 /// # Errors
 ///
 /// If the label or one of the sheets is refused.
-pub fn check(
+pub fn check<'a>(
     kind: Kind,
     semantics: Semantics,
     label: impl AsRef<[u8]>,
-    schema: &[u8],
-    rule: &[u8],
+    schema: impl Into<SchemaBytes<'a>>,
+    rule: impl Into<RuleBytes<'a>>,
 ) -> Result<Verdict, Refusal> {
-    match rule.first() {
+    let rule = rule.into();
+    match rule.0.first() {
         Some(b'T') => check_template(kind, semantics, label, schema, rule),
         _ => check_rule(kind, semantics, label, schema, rule),
     }
@@ -98,13 +106,14 @@ pub fn check(
 /// # Errors
 ///
 /// If the label or one of the sheets is refused; a template's sheet is.
-pub fn check_rule(
+pub fn check_rule<'a>(
     kind: Kind,
     semantics: Semantics,
     label: impl AsRef<[u8]>,
-    schema: &[u8],
-    rule: &[u8],
+    schema: impl Into<SchemaBytes<'a>>,
+    rule: impl Into<RuleBytes<'a>>,
 ) -> Result<Verdict, Refusal> {
+    let (schema, rule) = (schema.into().0, rule.into().0);
     call(raw::rule, kind, semantics, label.as_ref(), schema, rule)
 }
 
@@ -124,13 +133,14 @@ pub fn check_rule(
 /// # Errors
 ///
 /// If the label or one of the sheets is refused; a rule's sheet is.
-pub fn check_template(
+pub fn check_template<'a>(
     kind: Kind,
     semantics: Semantics,
     label: impl AsRef<[u8]>,
-    schema: &[u8],
-    rule: &[u8],
+    schema: impl Into<SchemaBytes<'a>>,
+    rule: impl Into<RuleBytes<'a>>,
 ) -> Result<Verdict, Refusal> {
+    let (schema, rule) = (schema.into().0, rule.into().0);
     call(raw::template, kind, semantics, label.as_ref(), schema, rule)
 }
 
@@ -157,16 +167,83 @@ pub fn check_template(
 /// # Errors
 ///
 /// If the path or the schema sheet is refused.
-pub fn check_path(
+pub fn check_path<'a>(
     semantics: Semantics,
     reader: Reader,
     path: impl AsRef<[u8]>,
-    schema: &[u8],
+    schema: impl Into<SchemaBytes<'a>>,
 ) -> Result<PathVerdict, Refusal> {
+    let schema = schema.into().0;
     let mut result = [0; RESULT_BYTES];
     let (semantics, reader) = (semantics.number().into(), reader.number().into());
     raw::path(semantics, reader, path.as_ref(), schema, &mut result);
     verdict::path_answer(numbers(&result))
+}
+
+/// Checks every sheet of a rule book against a schema that is read once, and tallies how they fare.
+///
+/// What counts is what [`check`] answers for each sheet alone. The label is refused as there and otherwise without influence, since a tally has no paths.
+/// Which names may be read goes by the stock table; a [`Check`] can be lent another.
+///
+/// ```
+/// use entity_rules::{tally, Book, Condition, DefectNumber, Field, FieldKind, Kind, Rule, Schema, Semantics};
+///
+/// let schema = Schema::new().field(Field::new("yarn", FieldKind::String)).sheet()?;
+/// let mut book = Book::new();
+/// for field in ["yarn", "dye", "width"] {
+///     book.extend([Rule::new(Condition::exists(format!("$fields.{field}").as_str())).sheet()?]);
+/// }
+///
+/// let tally = tally(Kind::Invariant, Semantics::Service1, "mill", &schema, &book)?;
+/// assert_eq!((tally.read, tally.accepted), (3, 1));
+/// assert_eq!(tally.count(DefectNumber::Reference), 2);
+/// # Ok::<(), Box<dyn std::error::Error>>(())
+/// ```
+///
+/// # Errors
+///
+/// If the label is refused, or the file is no book. A schema sheet that is not well formed is no error here: every sheet counts as refused by 4, as each check would say.
+pub fn tally(
+    kind: Kind,
+    semantics: Semantics,
+    label: impl AsRef<[u8]>,
+    schema: &[u8],
+    book: impl AsRef<[u8]>,
+) -> Result<Tally, Refusal> {
+    Check::new(kind, semantics, &label).tally(schema, book)
+}
+
+/// Checks every sheet of a rule book against a schema, and prints how they fare on pages of 80 columns and 60 lines, for the wall.
+///
+/// A page has a heading, a line for each of 58 sheets, and a foot with the page's own count of accepted sheets. A line has the sheet's serial number, the number, family and place of its answer,
+/// the checks passed, and the path, which is cut with `>` in the last column if it is longer. A book without sheets has no page. The label begins each path.
+///
+/// ```
+/// use entity_rules::{wall, Book, Kind, Semantics};
+///
+/// let book = Book::new().sheet("R,-,-,\nC,1,1,\n").sheet("R,-,-,\nC,5,0,\nV,5,12,$fields.yarn\n");
+/// let pages = wall(Kind::Invariant, Semantics::Kernel1, "mill", b"H,0,0,-,0\n", &book)?;
+/// let lines: Vec<&str> = pages.lines().map(str::trim_end).collect();
+///
+/// assert_eq!(lines.len(), 60);
+/// assert_eq!(lines[0], "PAGE     1");
+/// assert_eq!(lines[1], "    1   0  0     0     4");
+/// assert_eq!(lines[2], "    2  18  1     3     4 mill.assert.exists");
+/// assert_eq!(lines[59], "ACCEPTED  1");
+/// # Ok::<(), entity_rules::Refusal>(())
+/// ```
+///
+/// # Errors
+///
+/// As for [`tally`].
+pub fn wall(
+    kind: Kind,
+    semantics: Semantics,
+    label: impl AsRef<[u8]>,
+    schema: &[u8],
+    book: impl AsRef<[u8]>,
+) -> Result<String, Refusal> {
+    Check::new(kind, semantics, &label).wall(schema, book)
 }
 
 type Entry = fn(u64, u64, &[u8], &[u8], &[u8], &mut [u8], &mut [u8]) -> u32;

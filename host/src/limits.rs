@@ -50,3 +50,15 @@ pub const RESULT_BYTES: usize = 28;
 
 /// Bytes that the check with a list of marks wants for the result: the seven numbers, and how many marks there are.
 pub const CHECK_RESULT_BYTES: usize = 32;
+
+/// Bytes that a tally wants for its result: eighteen numbers of eight bytes.
+pub const TALLY_BYTES: usize = 144;
+
+/// Bytes that a wall sheet wants for its result: two numbers of eight bytes.
+pub const WALL_BYTES: usize = 16;
+
+/// Sheets that a page of a wall sheet has a line for.
+pub const PAGE_SHEETS: usize = 58;
+
+/// Bytes of a page: 60 lines of 80 columns, each with its end.
+pub const PAGE_BYTES: usize = 4_860;

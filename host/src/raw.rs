@@ -94,6 +94,44 @@ unsafe extern "C" {
         result_length: usize,
     ) -> u32;
 
+    fn rulecheck_tally(
+        kind: u64,
+        semantics: u64,
+        label: *const u8,
+        label_length: usize,
+        table: *const u8,
+        table_length: usize,
+        schema: *const u8,
+        schema_length: usize,
+        book: *const u8,
+        book_length: usize,
+        path: *mut u8,
+        path_length: usize,
+        result: *mut u8,
+        result_length: usize,
+    ) -> u32;
+
+    fn rulecheck_wall(
+        kind: u64,
+        semantics: u64,
+        label: *const u8,
+        label_length: usize,
+        table: *const u8,
+        table_length: usize,
+        schema: *const u8,
+        schema_length: usize,
+        book: *const u8,
+        book_length: usize,
+        path: *mut u8,
+        path_length: usize,
+        pages: *mut u8,
+        pages_length: usize,
+        result: *mut u8,
+        result_length: usize,
+    ) -> u32;
+
+    fn rulecheck_count(result: *const u8, result_length: usize, index: u32) -> u64;
+
     fn rulecheck_field(result: *const u8, result_length: usize, index: u32) -> u32;
 
     fn rulecheck_finite(text: *const u8, text_length: usize) -> u32;
@@ -341,6 +379,132 @@ pub fn widens(first: &[u8], second: &[u8], result: &mut [u8]) -> u32 {
             result.len(),
         )
     }
+}
+
+/// Tallies a rule book; the answer is 0 or a refusal, and `result` takes eighteen numbers of eight bytes, which [`count`] reads: the answer, the sheets read, accepted,
+/// refused by 4, refused by 5, how often each of 11 to 22 came, and the checks passed.
+///
+/// A result under 144 bytes, like a path buffer under 32,768, is refusal 3. After a tally the first 32,768 bytes of the path buffer hold anything. A file that is no
+/// book is refusal 34, tried before the table's.
+///
+/// ```
+/// use entity_rules::raw;
+///
+/// let (mut path, mut result) = (vec![0; 32_768], [0; 144]);
+/// let (schema, book) = (b"H,0,0,-,0\n", b"14,R,-,-,\nC,1,1,\n0,");
+/// assert_eq!(raw::tally(1, 1, b"", &[], schema, book, &mut path, &mut result), 0);
+/// assert_eq!([1, 2, 3, 4].map(|index| raw::count(&result, index)), [2, 1, 0, 1]);
+/// assert_eq!(raw::count(&result, 17), 4);
+/// assert_eq!(raw::tally(1, 1, b"", b"N", schema, b"1", &mut path, &mut result), 34);
+/// assert_eq!(raw::tally(1, 1, b"", b"N", schema, b"", &mut path, &mut result), 37);
+/// assert_eq!(raw::tally(1, 1, b"", b"N", schema, b"1", &mut path, &mut result[..143]), 3);
+/// ```
+#[expect(
+    clippy::too_many_arguments,
+    reason = "as many as the C function has slices and numbers"
+)]
+pub fn tally(
+    kind: u64,
+    semantics: u64,
+    label: &[u8],
+    table: &[u8],
+    schema: &[u8],
+    book: &[u8],
+    path: &mut [u8],
+    result: &mut [u8],
+) -> u32 {
+    // SAFETY: as in `rule`; table and book are slices that are read, like the schema.
+    unsafe {
+        rulecheck_tally(
+            kind,
+            semantics,
+            label.as_ptr(),
+            label.len(),
+            table.as_ptr(),
+            table.len(),
+            schema.as_ptr(),
+            schema.len(),
+            book.as_ptr(),
+            book.len(),
+            path.as_mut_ptr(),
+            path.len(),
+            result.as_mut_ptr(),
+            result.len(),
+        )
+    }
+}
+
+/// Prints how the sheets of a rule book fare; the answer is 0 or a refusal, and `result` takes two numbers of eight bytes, which [`count`] reads: the answer and the count of pages,
+/// which stand at the start of `pages`.
+///
+/// A page has 4,860 bytes and room for 58 sheets. A buffer that is too short for all pages is refusal 33, tried after 34 and before the table's; a result under 16 bytes, like a path buffer under
+/// 32,768, is refusal 3. Under a refusal nothing but the result is written.
+///
+/// ```
+/// use entity_rules::raw;
+///
+/// let (mut path, mut pages, mut result) = (vec![0; 32_768], vec![b'-'; 4_861], [0; 16]);
+/// let (schema, book) = (b"H,0,0,-,0\n", b"14,R,-,-,\nC,1,1,\n0,");
+/// assert_eq!(raw::wall(1, 1, b"", &[], schema, book, &mut path, &mut pages, &mut result), 0);
+/// assert_eq!(raw::count(&result, 1), 1);
+/// assert!(pages.starts_with(b"PAGE     1  ") && pages.ends_with(b" \n-"));
+/// assert_eq!(raw::wall(1, 1, b"", &[], schema, book, &mut path, &mut pages[..4_859], &mut result), 33);
+/// assert_eq!(raw::count(&result, 1), 0);
+/// ```
+#[expect(
+    clippy::too_many_arguments,
+    reason = "as many as the C function has slices and numbers"
+)]
+pub fn wall(
+    kind: u64,
+    semantics: u64,
+    label: &[u8],
+    table: &[u8],
+    schema: &[u8],
+    book: &[u8],
+    path: &mut [u8],
+    pages: &mut [u8],
+    result: &mut [u8],
+) -> u32 {
+    // SAFETY: as in `tally`; the pages are a slice that is written, lent mutably like the other two.
+    unsafe {
+        rulecheck_wall(
+            kind,
+            semantics,
+            label.as_ptr(),
+            label.len(),
+            table.as_ptr(),
+            table.len(),
+            schema.as_ptr(),
+            schema.len(),
+            book.as_ptr(),
+            book.len(),
+            path.as_mut_ptr(),
+            path.len(),
+            pages.as_mut_ptr(),
+            pages.len(),
+            result.as_mut_ptr(),
+            result.len(),
+        )
+    }
+}
+
+/// One of the eighteen numbers that [`tally`] leaves, or of the two of [`wall`].
+///
+/// The answer is 0 where the eight bytes do not lie in the result.
+///
+/// ```
+/// use entity_rules::raw;
+///
+/// let result = [0, 0, 0, 0, 0, 0, 0, 0, 2, 1, 0, 0, 0, 0, 0, 128, 7];
+/// assert_eq!(raw::count(&result, 1), (1 << 63) + 258);
+/// assert_eq!(raw::count(&result, 2), 0);
+/// assert_eq!(raw::count(&[], u32::MAX), 0);
+/// ```
+#[must_use]
+pub fn count(result: &[u8], index: u32) -> u64 {
+    // SAFETY: pointer and length are those of a slice, which the library only reads.
+    unsafe { rulecheck_count(result.as_ptr(), result.len(), index) }
 }
 
 /// One of the numbers in a result: 0 number, 1 family, 2 detail, 3 place, 4 over place, 5 passed, 6 path length, after [`check`] 7 how many marks; after

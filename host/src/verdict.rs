@@ -1,6 +1,8 @@
 //! What a check answers (docs/FORMAT.md, "Answers", "Families", "Details").
 
+use crate::entries::{Malformed, read_rule, read_schema};
 use crate::numbered::numbered;
+use crate::sheets::{RuleBytes, SchemaBytes};
 use std::fmt;
 
 numbered! {
@@ -12,6 +14,7 @@ numbered! {
     /// assert_eq!(DefectNumber::from_number(18), Some(DefectNumber::Reference));
     /// assert_eq!(DefectNumber::Instant.word(), "instant");
     /// ```
+    #[non_exhaustive]
     DefectNumber {
         /// The rule's name.
         Name = 11, "the rule's name is blank";
@@ -74,6 +77,7 @@ numbered! {
     /// assert_eq!(Family::QuantifierBodyScope.name(), "QuantifierBodyScope");
     /// assert_eq!(Family::QuantifierBodyScope.to_string(), "a fault in the body of a quantifier");
     /// ```
+    #[non_exhaustive]
     Family {
         /// Name, message, literals, and faults of a rule outside quantifiers.
         InvalidRule = 1, "a fault of the rule";
@@ -116,6 +120,7 @@ numbered! {
     ///
     /// assert_eq!(ReferenceFault::NoCount.to_string(), "`count` of a field that has none");
     /// ```
+    #[non_exhaustive]
     ReferenceFault {
         /// As in `$fields.` or `$fields.a..b`.
         EmptyPath = 1, "the path, or the next segment of it, is empty";
@@ -152,6 +157,7 @@ numbered! {
     /// ```
     /// assert_eq!(entity_rules::InstantFault::Escaped.number(), 1);
     /// ```
+    #[non_exhaustive]
     InstantFault {
         /// A text that is kept from being a reference.
         Escaped = 1, "a text that begins with `$$` is no instant";
@@ -166,6 +172,7 @@ numbered! {
     /// ```
     /// assert_eq!(entity_rules::CollectionFault::NotAString.number(), 1);
     /// ```
+    #[non_exhaustive]
     CollectionFault {
         /// Another value.
         NotAString = 1, "`in` is not a string";
@@ -190,6 +197,7 @@ numbered! {
 /// assert_eq!(Detail::from_numbers(DefectNumber::Name, 9), None);
 /// ```
 #[derive(Clone, Copy, Debug, PartialEq, Eq, Hash)]
+#[non_exhaustive]
 pub enum Detail {
     /// The number says it all.
     None,
@@ -465,7 +473,7 @@ impl fmt::Display for PathVerdict {
 
 /// Why a call was not answered.
 ///
-/// The typed functions never meet [`Setting`](Refusal::Setting), [`Width`](Refusal::Width) and [`Marks`](Refusal::Marks), since their settings are
+/// The typed functions never meet [`Setting`](Refusal::Setting), [`Width`](Refusal::Width), [`Output`](Refusal::Output) and [`Marks`](Refusal::Marks), since their settings are
 /// known ones and their buffers wide enough.
 ///
 /// ```
@@ -476,6 +484,7 @@ impl fmt::Display for PathVerdict {
 /// assert_eq!(Refusal::SchemaSheet.number(), 4);
 /// ```
 #[derive(Clone, Copy, Debug, PartialEq, Eq, Hash)]
+#[non_exhaustive]
 pub enum Refusal {
     /// 1: the kind, the semantics or the reader is not among the known ones.
     Setting,
@@ -491,6 +500,10 @@ pub enum Refusal {
     NewSchemaSheet,
     /// 5: the rule sheet is not well formed, or is not of the sort that the function takes.
     RuleSheet,
+    /// 33 of a call for a wall sheet: the buffer for the pages is too short.
+    Output,
+    /// 34 of a call for a rule book: the file is not one. [`Book::read`](crate::Book::read) says where.
+    BookForm,
     /// 35: the list of marks is too short.
     Marks,
     /// 37: the name table is not of its form. [`Table::read`](crate::Table::read) says where.
@@ -515,6 +528,8 @@ impl Refusal {
             Self::Width => 3,
             Self::SchemaSheet | Self::NewSchemaSheet => 4,
             Self::RuleSheet => 5,
+            Self::Output => 33,
+            Self::BookForm => 34,
             Self::Marks => 35,
             Self::TableForm => 37,
             Self::TableMark => 38,
@@ -536,6 +551,8 @@ impl Refusal {
             Self::Width => "width",
             Self::SchemaSheet | Self::NewSchemaSheet => "schema sheet",
             Self::RuleSheet => "rule sheet",
+            Self::Output => "output",
+            Self::BookForm => "book form",
             Self::Marks => "mark list",
             Self::TableForm => "table form",
             Self::TableMark => "table mark",
@@ -543,7 +560,33 @@ impl Refusal {
         }
     }
 
-    const fn from_number(number: u32) -> Option<Self> {
+    /// Where the sheet that was refused stops being one; none if it was not for a sheet of these.
+    ///
+    /// ```
+    /// use entity_rules::{check, Kind, Semantics};
+    ///
+    /// let (schema, rule) = (b"H,0,0,-,0\n", b"R,-,-,\nC,22,0,\n");
+    /// let refused = check(Kind::Invariant, Semantics::Kernel1, "r", schema, rule).unwrap_err();
+    /// let fault = refused.fault(schema, rule).ok_or("a fault")?;
+    /// assert_eq!((fault.entry, fault.byte), (2, 9));
+    /// assert_eq!(fault.to_string(), "entry 2, byte 9: expected an operator, 1 to 21");
+    /// # Ok::<(), Box<dyn std::error::Error>>(())
+    /// ```
+    #[must_use]
+    pub fn fault<'a>(
+        self,
+        schema: impl Into<SchemaBytes<'a>>,
+        rule: impl Into<RuleBytes<'a>>,
+    ) -> Option<Malformed> {
+        match self {
+            Self::SchemaSheet => read_schema(schema.into().0).err(),
+            Self::RuleSheet => read_rule(rule.into().0).err(),
+            _ => None,
+        }
+    }
+
+    /// The refusal of a check that has this number.
+    pub(crate) const fn from_number(number: u32) -> Option<Self> {
         match number {
             1 => Some(Self::Setting),
             2 => Some(Self::Label),
@@ -566,15 +609,17 @@ impl fmt::Display for Refusal {
             }
             Self::Label => f.pad("the label is over 256 bytes long, or not UTF-8"),
             Self::Path => f.pad("the path is over 512 bytes long, or not UTF-8"),
-            Self::Width => {
-                f.pad("the path buffer is under 32,768 bytes, or the result under 28, of a check with marks under 32")
-            }
-            Self::Marks => f.pad("the list of marks is under 8,192 bytes"),
+            Self::Width => f.pad(
+                "the path buffer is under 32,768 bytes, or the result under 28 (32 for a check with marks, 144 for a tally, 16 for a wall sheet)",
+            ),
             Self::SchemaSheet => f.pad("the schema sheet is not well formed"),
             Self::NewSchemaSheet => f.pad("the new schema's sheet is not well formed"),
             Self::RuleSheet => {
                 f.pad("the rule sheet is not well formed, or not of the sort asked for")
             }
+            Self::Output => f.pad("the buffer for the pages is too short"),
+            Self::BookForm => f.pad("the file is not a rule book"),
+            Self::Marks => f.pad("the list of marks is under 8,192 bytes"),
             Self::TableForm => f.pad("the name table is not of its form"),
             Self::TableMark => f.pad(
                 "a mark of the name table hides a name that every kind reads, or shows $old_fields where $fields is hidden",

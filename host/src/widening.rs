@@ -2,6 +2,7 @@
 
 use crate::limits::RESULT_BYTES;
 use crate::numbered::numbered;
+use crate::sheets::SchemaBytes;
 use crate::verdict::Refusal;
 use crate::{numbers, raw};
 use std::fmt;
@@ -173,7 +174,11 @@ impl fmt::Display for Widening {
 /// # Errors
 ///
 /// If one of the sheets is refused: [`Refusal::SchemaSheet`] for the old one, [`Refusal::NewSchemaSheet`] for the new one.
-pub fn widens(old: &[u8], new: &[u8]) -> Result<Widening, Refusal> {
+pub fn widens<'a>(
+    old: impl Into<SchemaBytes<'a>>,
+    new: impl Into<SchemaBytes<'a>>,
+) -> Result<Widening, Refusal> {
+    let (old, new) = (old.into().0, new.into().0);
     let mut result = [0; RESULT_BYTES];
     raw::widens(old, new, &mut result);
     answer(numbers(&result))

@@ -7,7 +7,7 @@ use entity_rules::limits::{
     MAX_VALUE_NESTING,
 };
 use entity_rules::{
-    BuildError, Condition, Field, FieldKind, Nesting, Rule, Schema, Template, Value,
+    BuildError, Condition, Field, FieldKind, Nesting, Rule, Schema, SchemaSheet, Template, Value,
 };
 use support::{takes_rule, takes_schema};
 
@@ -26,8 +26,8 @@ fn too_long(what: &'static str) -> BuildError {
 
 #[test]
 fn texts_have_at_most_512_bytes() {
-    let schema = |field: Field| Schema::new().field(field).sheet();
-    let rule = |rule: Rule| rule.sheet();
+    let schema = |field: Field| Schema::new().field(field).sheet().map(Vec::from);
+    let rule = |rule: Rule| rule.sheet().map(Vec::from);
     let always = || Condition::literal(true);
     for bytes in [MAX_TEXT_BYTES - 1, MAX_TEXT_BYTES, MAX_TEXT_BYTES + 1] {
         let text = texts(bytes);
@@ -47,7 +47,12 @@ fn texts_have_at_most_512_bytes() {
                 rule(Rule::new(Condition::for_all(&text, "$fields.a", always()))),
             ),
             ("string", rule(Rule::new(Condition::exists(text.as_str())))),
-            ("key", Template::new(Value::object([(&text, 1)])).sheet()),
+            (
+                "key",
+                Template::new(Value::object([(&text, 1)]))
+                    .sheet()
+                    .map(Vec::from),
+            ),
         ];
         for (what, sheet) in written {
             match bytes <= MAX_TEXT_BYTES {
@@ -94,8 +99,8 @@ fn nested_condition(depth: usize) -> Condition {
 }
 
 /// What nests too deep, if something does.
-fn too_deep(built: Result<Vec<u8>, BuildError>) -> Result<Vec<u8>, Nesting> {
-    built.map_err(|error| match error {
+fn too_deep(built: Result<impl Into<Vec<u8>>, BuildError>) -> Result<Vec<u8>, Nesting> {
+    built.map(Into::into).map_err(|error| match error {
         BuildError::TooDeep { nesting, .. } => nesting,
         other => panic!("{other}"),
     })
@@ -198,7 +203,7 @@ fn schemas_have_at_most_1024_entries() {
         })
     };
     let is_good =
-        |sheet: Result<Vec<u8>, BuildError>| sheet.is_ok_and(|sheet| takes_schema(&sheet));
+        |sheet: Result<SchemaSheet, BuildError>| sheet.is_ok_and(|sheet| takes_schema(&sheet));
 
     let flat = |fields| {
         numbered(0..fields)

@@ -1,10 +1,12 @@
 //! The C header and the C example.
 
 use entity_rules::limits::{
-    CHECK_RESULT_BYTES, MARKS_BYTES, MAX_KEY_BYTES, PATH_BYTES, RESULT_BYTES, TABLE_BYTES,
+    CHECK_RESULT_BYTES, MARKS_BYTES, MAX_KEY_BYTES, PAGE_BYTES, PAGE_SHEETS, PATH_BYTES,
+    RESULT_BYTES, TABLE_BYTES, TALLY_BYTES, WALL_BYTES,
 };
 use entity_rules::{
-    BreachReason, DefectNumber, Family, Kind, Reader, ReferenceFault, Refusal, Semantics, Widening,
+    BreachReason, CollectionFault, DefectNumber, Family, InstantFault, Kind, Reader,
+    ReferenceFault, Refusal, Semantics, Side, Widening,
 };
 use std::path::{Path, PathBuf};
 use std::process::Command;
@@ -55,6 +57,7 @@ fn runs(program: &Path) {
          bad: defect 18 of family 8, detail 3, at entry 5, bad.assert.for_all.that.eq[0], after 8 checks\n\
          own: accepted, 10 checks passed\n\
          own: entry 6 is always true\n\
+         book: 2 read, 1 accepted, 1 with defect 18, 17 checks passed\n\
          wider: a widening\n\
          narrower: none, reason 1, at entry 4 of the old sheet and 0 of the new\n"
     );
@@ -123,6 +126,8 @@ fn the_header_has_the_numbers_of_the_crate() {
         ("WIDTH", Refusal::Width),
         ("SCHEMA_SHEET", Refusal::SchemaSheet),
         ("RULE_SHEET", Refusal::RuleSheet),
+        ("OUTPUT", Refusal::Output),
+        ("BOOK_FORM", Refusal::BookForm),
         ("MARK_LIST", Refusal::Marks),
         ("TABLE_FORM", Refusal::TableForm),
         ("TABLE_MARK", Refusal::TableMark),
@@ -143,10 +148,46 @@ fn the_header_has_the_numbers_of_the_crate() {
         "NANOSECONDS",
     ];
     let fields = fields.into_iter().map(str::to_owned).zip(0..);
+    let named = |prefix: &str, all: Vec<(&str, u32)>| {
+        let named = |(name, number)| (format!("{prefix}_{}", spelled(name)), number);
+        all.into_iter().map(named).collect::<Vec<_>>()
+    };
+    let sides = Side::ALL.iter().map(|one| (one.name(), one.number()));
+    let references = ReferenceFault::ALL
+        .iter()
+        .map(|one| (one.name(), one.number()));
+    let instants = InstantFault::ALL
+        .iter()
+        .map(|one| (one.name(), one.number()));
+    let overs = CollectionFault::ALL
+        .iter()
+        .map(|one| (one.name(), one.number()));
+    let details = [
+        named("SIDE", sides.collect()),
+        named("REFERENCE", references.collect()),
+        named("INSTANT", instants.collect()),
+        named("OVER", overs.collect()),
+    ];
+    let counts = [
+        ("NUMBER", 0),
+        ("READ", 1),
+        ("ACCEPTED", 2),
+        ("REFUSED_SCHEMA_SHEET", 3),
+        ("REFUSED_RULE_SHEET", 4),
+        ("DEFECTS", 5),
+        ("PASSED", 17),
+    ];
+    let counts = counts.map(|(name, index)| (format!("TALLY_{name}"), index));
+    let walls = [("WALL_NUMBER".to_owned(), 0), ("WALL_PAGES".to_owned(), 1)];
+    let counts = counts.into_iter().chain(walls);
     let settings = kinds.chain(semantics).chain(readers);
     let answers = defects.chain(families).chain(refusals);
-    let answers = answers.chain(reasons).chain(widenings).chain(fields);
-    for (name, number) in settings.chain(answers) {
+    let answers = answers
+        .chain(reasons)
+        .chain(widenings)
+        .chain(fields)
+        .chain(counts);
+    for (name, number) in settings.chain(answers).chain(details.concat()) {
         let line = format!("  ENTITY_RULES_{name} = {number}");
         assert!(
             HEADER
@@ -163,8 +204,21 @@ fn the_header_has_the_numbers_of_the_crate() {
         ("RESULT_BYTES", RESULT_BYTES),
         ("MARKS_BYTES", MARKS_BYTES),
         ("CHECK_RESULT_BYTES", CHECK_RESULT_BYTES),
+        ("TALLY_BYTES", TALLY_BYTES),
+        ("WALL_BYTES", WALL_BYTES),
+        ("PAGE_SHEETS", PAGE_SHEETS),
+        ("PAGE_BYTES", PAGE_BYTES),
     ] {
         let line = format!("\n#define ENTITY_RULES_{name} {number}\n");
         assert!(HEADER.contains(&line), "{line}");
     }
+}
+
+#[test]
+fn the_header_has_the_version_of_the_crate() {
+    let line = format!(
+        "\n#define ENTITY_RULES_VERSION \"{}\"\n",
+        env!("CARGO_PKG_VERSION")
+    );
+    assert!(HEADER.contains(&line), "{line}");
 }

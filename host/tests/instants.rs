@@ -6,7 +6,7 @@ use entity_rules::limits::RESULT_BYTES;
 use entity_rules::{
     Condition, DefectNumber, Instant, Kind, Rule, Schema, Semantics, check_rule, instant, raw,
 };
-use support::{Random, line, take};
+use support::{Random, line, list, take};
 
 /// One case: a text, and its fields if it is an instant.
 struct Case<'a> {
@@ -31,12 +31,8 @@ impl Case<'_> {
 
 /// Calls the function on every case of the list.
 fn for_each_case(mut look: impl FnMut(&Case)) {
-    let list = concat!(env!("CARGO_MANIFEST_DIR"), "/vectors/instants.txt");
-    let list = std::fs::read(list).expect("the list of instants");
+    let list = list("instants.txt");
     let mut rest = list.as_slice();
-    while rest.first() == Some(&b'#') {
-        line(&mut rest);
-    }
     let (mut count, mut instants) = (0, 0);
     while !rest.is_empty() {
         let numbers = line(&mut rest).split(',').map(str::parse);

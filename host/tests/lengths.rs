@@ -103,3 +103,12 @@ fn what_is_no_sheet_is_told_apart() {
     assert!(told(read_schema(b"")).ends_with("which begins a schema sheet"));
     assert!(told(read_schema(b"fields: {}")).ends_with("which begins a schema sheet"));
 }
+
+#[test]
+fn a_sheet_that_was_cut_is_told_as_such() {
+    let sheet = b"R,-,-,\nC,20,3,ba";
+    assert_eq!(
+        told(read_rule(sheet)),
+        "entry 2, byte 14: expected a bind of 3 bytes, but the sheet ends"
+    );
+}

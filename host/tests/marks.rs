@@ -7,7 +7,7 @@ use entity_rules::{
     Check, Condition, Constant, Kind, Rule, Schema, Semantics, Table, Template, Verdict, instant,
     raw,
 };
-use support::{Random, line, take};
+use support::{Random, line, list, numbers, take};
 
 const SCHEMA: &[u8] = b"H,1,0,-,0\n";
 
@@ -233,16 +233,11 @@ fn tables_and_lists_go_together() {
 
 #[test]
 fn the_fixed_list_is_answered() {
-    let list = concat!(env!("CARGO_MANIFEST_DIR"), "/vectors/marks.txt");
-    let list = std::fs::read(list).expect("a list");
+    let list = list("marks.txt");
     let mut rest = list.as_slice();
-    while rest.first() == Some(&b'#') {
-        line(&mut rest);
-    }
     let (mut cases, mut constants) = (0, 0);
     while !rest.is_empty() {
-        let numbers = line(&mut rest).split(',').map(str::parse);
-        let numbers: Vec<u64> = numbers.collect::<Result<_, _>>().expect("numbers");
+        let numbers = numbers(line(&mut rest));
         let (head, marks) = numbers.split_at(6);
         let [kind, semantics, table, schema, rule, number] = head[..] else {
             panic!("a case has six numbers");

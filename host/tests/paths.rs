@@ -5,10 +5,10 @@ mod support;
 use entity_rules::limits::{MAX_KEY_BYTES, RESULT_BYTES};
 use entity_rules::{
     Condition, Detail, Field, FieldKind, Kind, PathVerdict, Reader, ReferenceFault, Refusal, Rule,
-    Schema, Semantics, check_path, check_rule, raw,
+    Schema, SchemaSheet, Semantics, check_path, check_rule, raw,
 };
 use std::collections::BTreeSet;
-use support::{Random, line, take};
+use support::{Random, line, list, take};
 
 /// One case: a call, and the three numbers of its answer that may differ from 0.
 struct Case<'a> {
@@ -45,12 +45,8 @@ impl Case<'_> {
 
 /// Calls the function on every case of the list.
 fn for_each_case(mut look: impl FnMut(&Case)) {
-    let list = concat!(env!("CARGO_MANIFEST_DIR"), "/vectors/paths.txt");
-    let list = std::fs::read(list).expect("the list of keys");
+    let list = list("paths.txt");
     let mut rest = list.as_slice();
-    while rest.first() == Some(&b'#') {
-        line(&mut rest);
-    }
     let mut count = 0;
     while !rest.is_empty() {
         let numbers = line(&mut rest).split(',').map(str::parse);
@@ -161,7 +157,7 @@ fn a_key_is_a_reference_without_its_root() {
     });
 }
 
-fn schema() -> Vec<u8> {
+fn schema() -> SchemaSheet {
     let bar = Field::element(FieldKind::Object).property(Field::new("mark", FieldKind::String));
     Schema::new()
         .field(Field::new("name", FieldKind::String))
@@ -239,7 +235,7 @@ fn the_c_function_answers_anything() {
     let mut random = Random(0x5EED_0008);
     let good = schema();
     for _ in 0..20_000 {
-        let mut schema = good.clone();
+        let mut schema = Vec::from(good.clone());
         if random.chance(2) {
             let at = random.below(schema.len());
             schema[at] = random.below(256) as u8;

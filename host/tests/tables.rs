@@ -9,7 +9,7 @@ use entity_rules::{
     TableError, Template, Verdict, check, check_rule, check_template, raw,
 };
 use std::collections::BTreeSet;
-use support::{Random, line, take};
+use support::{Random, line, list, numbers, take};
 
 /// One check: what is handed over, and the answer.
 struct Case<'a> {
@@ -46,22 +46,6 @@ impl Case<'_> {
     }
 }
 
-/// The lines of a list behind its head.
-fn list(name: &str) -> Vec<u8> {
-    let file = format!("{}/vectors/{name}", env!("CARGO_MANIFEST_DIR"));
-    let list = std::fs::read(file).expect("a list");
-    let mut rest = list.as_slice();
-    while rest.first() == Some(&b'#') {
-        line(&mut rest);
-    }
-    rest.to_vec()
-}
-
-fn numbers(line: &str) -> Vec<u64> {
-    let numbers = line.split(',').map(str::parse);
-    numbers.collect::<Result<_, _>>().expect("numbers")
-}
-
 /// Calls the function on every check of the list.
 fn for_each_case(mut look: impl FnMut(&Case)) {
     let list = list("tables.txt");
@@ -91,7 +75,7 @@ fn for_each_case(mut look: impl FnMut(&Case)) {
         });
         count += 1;
     }
-    assert_eq!(count, 1_420);
+    assert_eq!(count, 1_438);
 }
 
 /// Calls the function on every load of the list: table, length of the buffer, answer.

@@ -1,23 +1,13 @@
 //! The tool as people and programs run it.
 
+mod support;
+
 use entity_rules::{Kind, Name, Semantics, Table, check_template};
 use std::fs;
 use std::io::Write;
-use std::path::{Path, PathBuf};
-use std::process::{Command, Output, Stdio};
-
-fn mill() -> PathBuf {
-    Path::new(env!("CARGO_MANIFEST_DIR")).join("examples/mill")
-}
-
-/// Runs the tool in a folder, with words parted by blanks.
-fn run(folder: &Path, line: &str) -> Output {
-    Command::new(env!("CARGO_BIN_EXE_entity-rules"))
-        .args(line.split_whitespace())
-        .current_dir(folder)
-        .output()
-        .expect("the tool runs")
-}
+use std::path::Path;
+use std::process::{Command, Stdio};
+use support::tool::{folder, mill, printed, run};
 
 const SETTINGS: &str = "--kind precondition --semantics service/1";
 
@@ -29,14 +19,6 @@ fn run_check(folder: &Path, words: &str) -> (Option<i32>, String, String) {
         text(output.stdout),
         text(output.stderr),
     )
-}
-
-/// A folder of its own for a test, empty at the start.
-fn folder(name: &str) -> PathBuf {
-    let folder = Path::new(env!("CARGO_TARGET_TMPDIR")).join(name);
-    let _ = fs::remove_dir_all(&folder);
-    fs::create_dir_all(&folder).expect("a folder");
-    folder
 }
 
 #[test]
@@ -281,10 +263,7 @@ fn the_names_of_a_kind_are_those_that_it_may_read() {
 }
 
 fn run_path(folder: &Path, words: &str) -> (Option<i32>, String) {
-    let output = run(folder, &format!("path {words}"));
-    assert!(output.stderr.is_empty(), "{output:?}");
-    let out = String::from_utf8(output.stdout).expect("the tool prints UTF-8");
-    (output.status.code(), out)
+    printed(folder, &format!("path {words}"))
 }
 
 #[test]
@@ -690,14 +669,6 @@ fn a_refused_table_is_told_by_row_and_mark() {
     assert!(out.starts_with("none: unreadable: expected a file that holds a name table: "));
 }
 
-/// Runs a command about two schemas, which says nothing on standard error.
-fn run_pair(folder: &Path, line: &str) -> (Option<i32>, String) {
-    let output = run(folder, line);
-    assert!(output.stderr.is_empty(), "{output:?}");
-    let out = String::from_utf8(output.stdout).expect("the tool prints UTF-8");
-    (output.status.code(), out)
-}
-
 #[test]
 fn the_readme_shows_what_is_printed_for_two_schemas() {
     let readme = include_str!("../README.md");
@@ -710,7 +681,7 @@ fn the_readme_shows_what_is_printed_for_two_schemas() {
         let (command, rest) = block.split_once('\n').expect("a command");
         let (shown, _) = rest.split_once("```").expect("the end of the example");
         let line = command.trim_start_matches("$ entity-rules ");
-        let (status, out) = run_pair(&mill(), line);
+        let (status, out) = printed(&mill(), line);
         assert_eq!(out, shown);
         assert_eq!(
             status == Some(0),
@@ -718,12 +689,12 @@ fn the_readme_shows_what_is_printed_for_two_schemas() {
         );
         count += 1;
     }
-    assert_eq!(count, 3);
+    assert_eq!(count, 4);
 }
 
 #[test]
 fn the_status_tells_a_widening() {
-    let status = |words: &str| run_pair(&mill(), &format!("widens {words}")).0;
+    let status = |words: &str| printed(&mill(), &format!("widens {words}")).0;
     assert_eq!(status("pattern.schema wider.schema"), Some(0));
     assert_eq!(status("pattern.schema pattern.schema"), Some(0));
     assert_eq!(status("wider.schema pattern.schema"), Some(1));
@@ -734,7 +705,7 @@ fn the_status_tells_a_widening() {
 
 #[test]
 fn the_status_tells_a_change() {
-    let status = |words: &str| run_pair(&mill(), &format!("upgrade {words} {SETTINGS}")).0;
+    let status = |words: &str| printed(&mill(), &format!("upgrade {words} {SETTINGS}")).0;
     let (wider, narrower) = ("pattern.schema wider.schema", "wider.schema pattern.schema");
     assert_eq!(
         status(&format!("{wider} release.rule misspelt.rule")),
@@ -761,7 +732,7 @@ fn the_status_tells_a_change() {
 
 #[test]
 fn a_widening_is_told_quietly_or_not() {
-    let out = |words: &str| run_pair(&mill(), words).1;
+    let out = |words: &str| printed(&mill(), words).1;
     assert_eq!(
         out("widens pattern.schema pattern.schema"),
         "pattern.schema: widening of pattern.schema: nothing differs\n"
@@ -819,7 +790,7 @@ fn breaches_are_told_with_their_lines_and_paths() {
         ),
     ] {
         file("new", new);
-        let (status, out) = run_pair(&folder, "widens old new");
+        let (status, out) = printed(&folder, "widens old new");
         assert_eq!(status, Some(1));
         assert_eq!(out, format!("new: no widening of old, {told}"));
     }
@@ -827,7 +798,7 @@ fn breaches_are_told_with_their_lines_and_paths() {
 
 #[test]
 fn machines_read_json_of_two_schemas() {
-    let (status, out) = run_pair(&mill(), "widens pattern.schema wider.schema --json");
+    let (status, out) = printed(&mill(), "widens pattern.schema wider.schema --json");
     assert_eq!(status, Some(0));
     let widening = concat!(
         r#"{"old":"pattern.schema","new":"wider.schema","verdict":"widening","number":0,"answer":2,"grown":["#,
@@ -837,7 +808,7 @@ fn machines_read_json_of_two_schemas() {
         "\n"
     );
     assert_eq!(out, widening);
-    let (_, out) = run_pair(&mill(), "widens wider.schema pattern.schema --json");
+    let (_, out) = printed(&mill(), "widens wider.schema pattern.schema --json");
     assert_eq!(
         out,
         concat!(
@@ -846,7 +817,7 @@ fn machines_read_json_of_two_schemas() {
             "\n"
         )
     );
-    let (status, out) = run_pair(&mill(), "widens pattern.schema release.rule --json");
+    let (status, out) = printed(&mill(), "widens pattern.schema release.rule --json");
     assert_eq!(status, Some(2));
     assert_eq!(
         out,
@@ -856,7 +827,7 @@ fn machines_read_json_of_two_schemas() {
         )
     );
     let words = "upgrade pattern.schema wider.schema release.rule fits.rule missing.rule --json";
-    let (status, out) = run_pair(&mill(), &format!("{words} {SETTINGS}"));
+    let (status, out) = printed(&mill(), &format!("{words} {SETTINGS}"));
     assert_eq!(status, Some(2));
     let lines = concat!(
         r#"{"file":"release.rule","change":"stays","old":{"verdict":"accepted","number":0,"passed":19}}"#,
@@ -871,7 +842,7 @@ fn machines_read_json_of_two_schemas() {
 #[test]
 fn any_one_file_of_an_upgrade_is_standard_input() {
     let words = ["pattern.schema", "wider.schema", "fits.rule"];
-    let (_, expected) = run_pair(
+    let (_, expected) = printed(
         &mill(),
         &format!("upgrade {} {SETTINGS} --label r", words.join(" ")),
     );

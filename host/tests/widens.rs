@@ -4,11 +4,11 @@ mod support;
 
 use entity_rules::limits::RESULT_BYTES;
 use entity_rules::{
-    Breach, BreachReason, Condition, Field, FieldKind, Kind, Refusal, Rule, Schema, Semantics,
-    Widening, check_rule, raw, widens,
+    Breach, BreachReason, Condition, Field, FieldKind, Kind, Refusal, Rule, Schema, SchemaSheet,
+    Semantics, Widening, check_rule, raw, widens,
 };
 use std::collections::BTreeSet;
-use support::{Random, line, take};
+use support::{Random, line, list, take};
 
 /// One case: two sheets, and the five numbers of the answer that may differ from 0.
 struct Case<'a> {
@@ -35,12 +35,8 @@ impl Case<'_> {
 
 /// Calls the function on every case of the list.
 fn for_each_case(mut look: impl FnMut(&Case)) {
-    let list = concat!(env!("CARGO_MANIFEST_DIR"), "/vectors/widens.txt");
-    let list = std::fs::read(list).expect("the list of pairs");
+    let list = list("widens.txt");
     let mut rest = list.as_slice();
-    while rest.first() == Some(&b'#') {
-        line(&mut rest);
-    }
     let mut count = 0;
     while !rest.is_empty() {
         let numbers = line(&mut rest).split(',').map(str::parse);
@@ -105,7 +101,7 @@ fn every_schema_is_a_widening_of_itself() {
     });
 }
 
-fn sheet(schema: Schema) -> Vec<u8> {
+fn sheet(schema: Schema) -> SchemaSheet {
     schema.sheet().expect("a small schema")
 }
 
@@ -284,7 +280,7 @@ fn no_bytes_upset_it() {
     let good = sheet(old());
     let mut random = Random(7);
     for _ in 0..20_000 {
-        let mut bad = good.clone();
+        let mut bad = Vec::from(good.clone());
         let (at, byte) = (random.below(bad.len()), random.next() as u8);
         bad[at] = byte;
         bad.truncate(random.below(bad.len()) + 1 + 4 * at);

@@ -5,4 +5,6 @@ pub mod WidensEntries
 pub mod Examples
 pub mod NumberTests
 pub mod Instants
+pub mod CountSteps
 pub mod BookEntries
+pub mod WallEntries

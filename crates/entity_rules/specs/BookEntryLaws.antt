@@ -1,70 +1,14 @@
 -- What a host may rely on where it tallies a book: `rulecheck_count` gives the eighteen numbers of the answer.
-use Prim.Native.Nat.{ℕ, zero, suc, _+_, _*_, _/_, _%_, _^_, _≤_, _<_}
+use Prim.Native.Nat.{ℕ, _≤_, _<_}
 use native.Mathlib.Omega.{arith}
-use mathlib.Core.List.{List, [], _∷_, _++_, append-assoc}
-use mathlib.Core.Path.{_≡_, refl, _∙_}
-use lib.ListN.{length, drop, getD}
-use lib.Seq.{sets-eq, length-sets}
-use borrow.Author.Tests.{le-leb}
+use mathlib.Core.List.{List}
+use mathlib.Core.Path.{_≡_, ap, _∙_}
+use lib.ListN.{length, getD}
 use Rattle.rule_book.specs.Tally.{tallyNumbers}
 use Rattle.rule_book.specs.TallyLaws.{tally-size}
-use Rattle.buffer.specs.Bytes.{littleEndian, bytesOf, InFourBytes, numberAt}
-use Rattle.buffer.specs.Bytes as four
-use Rattle.buffer.specs.BytesLaws.{number-of-bytes}
-use Rattle.entity_rules.specs.BookEntry.{eightBytes, longBytesOf, InEightBytes, no-more, one-more, longAt, countAt, tallyBytes, tallyAfter, tallyCall, tallyAnswer, TallyAnswered}
-
--- Numbers of eight bytes are numbers of four, two for each.
-
-unfoldable halvesOf : List ℕ → List ℕ
-halvesOf [] = []
-halvesOf (n ∷ ns) = n % 256 ^ 4 ∷ n / 256 ^ 4 ∷ halvesOf ns
-
-long-halves : (ns : List ℕ) → longBytesOf ns ≡ bytesOf (halvesOf ns)
-unfolding longBytesOf eightBytes bytesOf halvesOf
-long-halves [] = refl
-long-halves (n ∷ ns) = rw (append-assoc, long-halves ns)
-
-halves-count : (ns : List ℕ) → length (halvesOf ns) ≡ 2 * length ns
-unfolding halvesOf
-halves-count [] = refl
-halves-count (n ∷ ns) = omega (arith, halves-count ns)
-
-halves-fit : (ns : List ℕ) → InEightBytes ns → InFourBytes (halvesOf ns)
-unfolding halvesOf
-halves-fit [] no-more = four.no-more
-halves-fit (n ∷ ns) (one-more h hs) =
-    four.one-more {n = n % 256 ^ 4} (omega arith) (four.one-more {n = n / 256 ^ 4} (omega arith) (halves-fit ns hs))
-
-lower-half : (ns : List ℕ) (i : ℕ) → i < length ns → getD (halvesOf ns) (2 * i) 0 ≡ getD ns i 0 % 4294967296
-unfolding halvesOf
-lower-half [] i less = absurd (omega arith)
-lower-half (n ∷ ns) zero less = refl
-lower-half (n ∷ ns) (suc i) less =
-    let place : 2 * suc i ≡ suc (suc (2 * i)) = omega arith in
-    rw place (lower-half ns i (omega arith))
-
-upper-half : (ns : List ℕ) (i : ℕ) → i < length ns → getD (halvesOf ns) (2 * i + 1) 0 ≡ getD ns i 0 / 4294967296
-unfolding halvesOf
-upper-half [] i less = absurd (omega arith)
-upper-half (n ∷ ns) zero less = refl
-upper-half (n ∷ ns) (suc i) less =
-    let place : 2 * suc i + 1 ≡ suc (suc (2 * i + 1)) = omega arith in
-    rw place (upper-half ns i (omega arith))
-
-long-of-bytes : (ns : List ℕ) (i : ℕ) (rest : List ℕ) → i < length ns → InEightBytes ns → longAt (8 * i) (longBytesOf ns ++ rest) ≡ getD ns i 0
-unfolding longAt
-long-of-bytes ns i rest less small =
-    let count = halves-count ns in
-    let low = number-of-bytes (halvesOf ns) (2 * i) rest (omega (arith, count)) (halves-fit ns small) in
-    let high = number-of-bytes (halvesOf ns) (2 * i + 1) rest (omega (arith, count)) (halves-fit ns small) in
-    let first : 8 * i ≡ 4 * (2 * i) = omega arith in
-    let second : 4 * (2 * i) + 4 ≡ 4 * (2 * i + 1) = omega arith in
-    rw (long-halves ns, first, second, low, high, lower-half ns i less, upper-half ns i less) (omega arith)
-
-pub long-bytes : (ns : List ℕ) → length (longBytesOf ns) ≡ 8 * length ns
-unfolding longBytesOf eightBytes littleEndian
-long-bytes [] = refl
-long-bytes (n ∷ ns) = omega (arith, long-bytes ns)
+use Rattle.entity_rules.specs.Counts.{countAt}
+use Rattle.entity_rules.specs.CountLaws.{count-of-written}
+use Rattle.entity_rules.specs.BookEntry.{bookCallFor, tallyBytes, tallyAnswer, TallyAnswered}
 
 -- the number at index i of a written result is the i-th of its eighteen
 module _ (kind semantics : ℕ) (label table schema book pathBefore pathNow resultBefore resultNow : List ℕ) where
@@ -74,17 +18,8 @@ module _ (kind semantics : ℕ) (label table schema book pathBefore pathNow resu
       → i < 18
       → tallyBytes ≤ length resultBefore
       → countAt i resultNow ≡ getD (tallyNumbers (tallyAnswer kind semantics label table schema book (length pathBefore) (length resultBefore))) i 0
-  unfolding countAt tallyAfter tallyAnswer
+  unfolding tallyAnswer
   count-of-tally a i less room =
-      let call = tallyCall kind semantics label table schema book (length pathBefore) (length resultBefore) in
-      let numbers = tallyNumbers (tallyAnswer kind semantics label table schema book (length pathBefore) (length resultBefore)) in
-      let size = tally-size call in
-      let bytes : length (longBytesOf numbers) ≡ 144 = long-bytes numbers ∙ omega (arith, size) in
-      rw (
-        a .result,
-        le-leb tallyBytes (length resultBefore) room,
-        length-sets resultBefore 0 (longBytesOf numbers),
-        le-leb (8 * i + 8) (length resultBefore) (omega arith),
-        sets-eq (longBytesOf numbers) resultBefore 0 (omega arith),
-      )
-      (long-of-bytes numbers i (drop (0 + length (longBytesOf numbers)) resultBefore) (omega (arith, size)) (a .small))
+      let size = tally-size (bookCallFor tallyBytes kind semantics label table schema book (length pathBefore) (length resultBefore)) in
+      ap (countAt i) (a .result)
+      ∙ count-of-written _ resultBefore i (omega (arith, size)) (omega (arith, size)) (a .small)

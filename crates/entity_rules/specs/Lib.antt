@@ -10,5 +10,9 @@ pub mod CheckEntry
 pub mod CheckEntryLaws
 pub mod Exchange
 pub mod EntryDemands
+pub mod Counts
+pub mod CountLaws
 pub mod BookEntry
 pub mod BookEntryLaws
+pub mod WallEntry
+pub mod WallEntryLaws

@@ -2,7 +2,9 @@
 mod result; // result.rt: the seven numbers as bytes
 mod report; // report.rt: a check with a name table and a mark list
 mod change; // change.rt: what is answered about two schema sheets
-mod book; // book.rt: a whole rule book
+mod counts; // counts.rt: numbers of eight bytes
+mod book; // book.rt: the tally of a rule book
+mod pages; // pages.rt: a rule book's run for the wall
 
 use crate::change::told;
 use crate::result::RESULT_BYTES;

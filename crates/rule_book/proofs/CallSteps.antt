@@ -20,12 +20,12 @@ use Rattle.rule_book.specs.Tally.{BookCall, askedOf, single, answersOf, 
 use Rattle.rule_book.specs.TallyLaws.{settingRefusal, settings-first, form-refused, table-refused, book-tallied}
 use Rattle.rule_book.specs.Tallying.{answersIn, Ready, SheetsTallied, bookRunOf}
 
-counted-some : (o : Option (List (List ℕ))) (n : ℕ) → Option·map length o ≡ some n → (sheets : List (List ℕ)) × (o ≡ some sheets)
+pub counted-some : (o : Option (List (List ℕ))) (n : ℕ) → Option·map length o ≡ some n → (sheets : List (List ℕ)) × (o ≡ some sheets)
 counted-some none n e = absurd (Option·none-ne-some n e)
 counted-some (some sheets) n e = (sheets, refl)
 
 module _ (kind semantics : ℕ) (label table schema book pathBefore before : List ℕ) where
-  abbrev call : BookCall
+  abbrev pub call : BookCall
   call =
       record {
         kind = kind;
@@ -54,10 +54,10 @@ module _ (kind semantics : ℕ) (label table schema book pathBefore before : Lis
   meets-settings {n} e h q = meets-refused (settings-first call n (number-some n _ (e .first any []) h)) q
 
   module _ {n : ℕ} (e : EarlyIs kind semantics label (length pathBefore) (length before) n) (z : n ≡ 0) where
-    not-due : (sheet : List ℕ) → firstRefusal (ofSettings (askedBy any kind semantics label sheet) (widthsBy (length pathBefore) (length before))) ≡ none
+    pub not-due : (sheet : List ℕ) → firstRefusal (ofSettings (askedBy any kind semantics label sheet) (widthsBy (length pathBefore) (length before))) ≡ none
     not-due sheet = settings-none _ _ (sym z ∙ e .first any sheet)
 
-    settings-pass : settingRefusal call ≡ none
+    pub settings-pass : settingRefusal call ≡ none
     unfolding askedOf
     settings-pass = not-due []
 
@@ -66,7 +66,7 @@ module _ (kind semantics : ℕ) (label table schema book pathBefore before : Lis
     meets-form f q = meets-refused (form-refused call settings-pass f) q
 
     module _ {k : ℕ} (count : sheetCount book ≡ some k) where
-      all : (sheets : List (List ℕ)) × (sheetsOf book ≡ some sheets)
+      pub all : (sheets : List (List ℕ)) × (sheetsOf book ≡ some sheets)
       unfolding sheetCount
       all = counted-some (sheetsOf book) k count
 
@@ -92,7 +92,7 @@ module _ (kind semantics : ℕ) (label table schema book pathBefore before : Lis
         same-answer sheet =
             rw (t .1) (sheets-decide (single call sheet) (table-decides (single call sheet) (not-due sheet) (omega arith) ∙ t .0))
 
-        same-answers : (sheets : List (List ℕ)) → answersOf call sheets ≡ answersIn (settingBy s) label schema sheets
+        pub same-answers : (sheets : List (List ℕ)) → answersOf call sheets ≡ answersIn (settingBy s) label schema sheets
         unfolding answersOf answersIn
         same-answers sheets = ap (λ (f : List ℕ → Answer). map f sheets) (λ i sheet. same-answer sheet i)
 

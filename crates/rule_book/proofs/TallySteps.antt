@@ -54,7 +54,8 @@ counting-start f book sheets e =
       passes = omega arith;
     }
 
-first-of : (x : List ℕ) (o : Option (List (List ℕ))) (rest : List (List ℕ)) → Option·map (λ (others : List (List ℕ)). x ∷ others) o ≡ some rest
+-- the first sheet, and those behind it
+pub first-of : (x : List ℕ) (o : Option (List (List ℕ))) (rest : List (List ℕ)) → Option·map (λ (others : List (List ℕ)). x ∷ others) o ≡ some rest
     → (others : List (List ℕ)) × (o ≡ some others) × (rest ≡ x ∷ others)
 first-of x none rest e = absurd (Option·none-ne-some rest e)
 first-of x (some others) rest e = (others, refl, sym (Option·some-injective (x ∷ others) rest e))
@@ -187,7 +188,7 @@ tallying-start {label} {schema} {read} {book} setting r =
       front = record { size = refl; kept = λ i h. refl };
     }
 
-kept-both : {free : ℕ} {before middle after : List ℕ} → KeptFrom free before middle → KeptFrom free middle after → KeptFrom free before after
+pub kept-both : {free : ℕ} {before middle after : List ℕ} → KeptFrom free before middle → KeptFrom free middle after → KeptFrom free before after
 kept-both f g = record { size = g .size ∙ f .size; kept = g .kept ∙ f .kept }
 
 module _ {setting : Setting} {label schema : List ℕ} {read : SchemaRead} {book pathBefore before path words counts : List ℕ} {sheets passed at : ℕ}

@@ -1,4 +1,4 @@
--- What the check of one sheet adds to a tally: a number below 23, no more than the sheet has bytes, and a path in the first 32,768 bytes.
+-- What the check of one sheet adds to a run: a number below 23, no more passed than the sheet has bytes, and a path in the first 32,768 bytes.
 use Prim.Native.Nat.{ℕ, _+_, _-_, _<_, _≤_}
 use native.Mathlib.Omega.{arith}
 use mathlib.Core.Bool.{Bool, true, false, cond}
@@ -14,8 +14,7 @@ use Rattle.definition.specs.RoundTrip.{rule-round-trip}
 use Rattle.reference.specs.Setting.{Setting}
 use Rattle.validation.specs.Check.{Check, check, checks}
 use Rattle.validation.specs.Judge.{Verdict, allPass, failsAt, judge}
-use Rattle.validation.specs.Location.{pathOf}
-use Rattle.validation.specs.Result.{Takes, maxLabelBytes, pathBytes, isTaken, answerOf, checked, judged, numbersOf, pathAfter}
+use Rattle.validation.specs.Result.{Takes, Answer, refused, accepted, defect, maxLabelBytes, pathBytes, isTaken, answerOf, checked, judged, numbersOf, pathAfter}
 use Rattle.validation.specs.CheckLaws.{every-check}
 use Rattle.validation.specs.CountLaws.{VerdictIs, every-judged}
 use Rattle.location.specs.LengthLaws.{path-length}
@@ -77,23 +76,33 @@ sets-kept free l p short room =
           ∙ ap (λ (k : ℕ). drop k l) all;
     }
 
-module _ (label before : List ℕ) (small : length label ≤ maxLabelBytes) (room : pathBytes ≤ length before) where
-  verdict-path : (setting : Setting) (r : Rule) (v : Verdict) → RuleWithin r → KeptFrom pathBytes before (pathAfter (answerOf setting label r v) before)
-  unfolding answerOf pathAfter
-  verdict-path setting r (allPass n) within = record { size = refl; kept = refl }
-  verdict-path setting r (failsAt n c d) within =
-      sets-kept pathBytes before (pathOf label r (c .number) (c .place)) (path-length label r (c .number) (c .place) small within) room
+answer-path : (before : List ℕ) → pathBytes ≤ length before → (a : Answer) → numbersOf a .pathLength ≤ pathBytes → KeptFrom pathBytes before (pathAfter a before)
+unfolding numbersOf pathAfter
+answer-path before room (refused n) short = record { size = refl; kept = refl }
+answer-path before room (accepted n) short = record { size = refl; kept = refl }
+answer-path before room (defect d) short = sets-kept pathBytes before (d .path) short room
 
-  judged-path : (setting : Setting) (s : Option Schema) (r : Option Rule) → ((x : Rule) → r ≡ some x → RuleWithin x)
-      → KeptFrom pathBytes before (pathAfter (judged setting label s r) before)
-  unfolding judged checked pathAfter
-  judged-path setting none r within = record { size = refl; kept = refl }
-  judged-path setting (some s) none within = record { size = refl; kept = refl }
-  judged-path setting (some s) (some r) within = verdict-path setting r (judge setting s (checks setting r)) (within r refl)
+module _ (label : List ℕ) (small : length label ≤ maxLabelBytes) where
+  verdict-short : (setting : Setting) (r : Rule) (v : Verdict) → RuleWithin r → numbersOf (answerOf setting label r v) .pathLength ≤ pathBytes
+  unfolding answerOf numbersOf
+  verdict-short setting r (allPass n) within = omega arith
+  verdict-short setting r (failsAt n c d) within = path-length label r (c .number) (c .place) small within
 
-  pub sheet-path : (takes : Takes) (setting : Setting) (schema sheet : List ℕ)
-      → KeptFrom pathBytes before (pathAfter (sheetAnswer takes setting label schema sheet) before)
+  judged-short : (setting : Setting) (s : Option Schema) (r : Option Rule) → ((x : Rule) → r ≡ some x → RuleWithin x)
+      → numbersOf (judged setting label s r) .pathLength ≤ pathBytes
+  unfolding judged checked numbersOf
+  judged-short setting none r within = omega arith
+  judged-short setting (some s) none within = omega arith
+  judged-short setting (some s) (some r) within = verdict-short setting r (judge setting s (checks setting r)) (within r refl)
+
+  pub sheet-short : (takes : Takes) (setting : Setting) (schema sheet : List ℕ) → numbersOf (sheetAnswer takes setting label schema sheet) .pathLength ≤ pathBytes
   unfolding sheetAnswer
-  sheet-path takes setting schema sheet =
-      judged-path setting (decodeSchema schema) (takenOf takes (decodeRule sheet))
+  sheet-short takes setting schema sheet =
+      judged-short setting (decodeSchema schema) (takenOf takes (decodeRule sheet))
       (λ x e. rule-round-trip sheet x .0 (taken takes (decodeRule sheet) x e) .1)
+
+pub sheet-path : (label before : List ℕ) → length label ≤ maxLabelBytes → pathBytes ≤ length before
+    → (takes : Takes) (setting : Setting) (schema sheet : List ℕ)
+    → KeptFrom pathBytes before (pathAfter (sheetAnswer takes setting label schema sheet) before)
+sheet-path label before small room takes setting schema sheet =
+    answer-path before room (sheetAnswer takes setting label schema sheet) (sheet-short label small takes setting schema sheet)

@@ -285,23 +285,26 @@ unfolding bookRefusals bookRefusalNumbers ofSettings oneOf every
 book-refusal-listed c n e = of-first (λ (m : ℕ). oneOf m bookRefusalNumbers) n (bookRefusals c) refl (book-refused c n .0 e)
 
 -- a path buffer without room is refused, whatever else the call holds
-pub no-room-refused : (c : BookCall) → c .lent .path < pathBytes → (n : ℕ) × (bookAnswer c ≡ bookRefused n)
+pub no-room-due : (c : BookCall) → c .lent .path < pathBytes → (n : ℕ) × (settingRefusal c ≡ some n)
 unfolding askedOf
-no-room-refused c short = go (settingRefusal c) refl
+no-room-due c short = go (settingRefusal c) refl
   where
-    go : (o : Option ℕ) → settingRefusal c ≡ o → (n : ℕ) × (bookAnswer c ≡ bookRefused n)
+    go : (o : Option ℕ) → settingRefusal c ≡ o → (n : ℕ) × (settingRefusal c ≡ some n)
     go none e = absurd (omega (arith, short, roomy (askedOf c []) (c .lent) e .room))
-    go (some n) e = (n, settings-first c n e)
+    go (some n) e = (n, e)
+
+pub no-room-refused : (c : BookCall) → c .lent .path < pathBytes → (n : ℕ) × (bookAnswer c ≡ bookRefused n)
+no-room-refused c short = let (n, e) = no-room-due c short in (n, settings-first c n e)
 
 -- A kind or semantics beyond its range is refusal 1, so a number beyond both may stand for every larger one.
 
-pub kind-refused : (c : BookCall) → 8 < c .kind → bookAnswer c ≡ bookRefused 1
+kind-due : (c : BookCall) → 8 < c .kind → settingRefusal c ≡ some 1
 unfolding ofSettings firstRefusal askedOf
-kind-refused c more = settings-first c 1 (rw (outside 8 (c .kind) more))
+kind-due c more = rw (outside 8 (c .kind) more)
 
-pub semantics-refused : (c : BookCall) → 4 < c .semantics → bookAnswer c ≡ bookRefused 1
+semantics-due : (c : BookCall) → 4 < c .semantics → settingRefusal c ≡ some 1
 unfolding ofSettings firstRefusal askedOf
-semantics-refused c more = settings-first c 1 (rw (outside 4 (c .semantics) more, and-false))
+semantics-due c more = rw (outside 4 (c .semantics) more, and-false)
 
 unfoldable pub cappedBook : (most : ℕ) → BookCall → BookCall
 cappedBook most c =
@@ -315,9 +318,11 @@ cappedBook most c =
       lent = c .lent;
     }
 
-pub capped-book : (most : ℕ) (c : BookCall) → 8 < most → bookAnswer (cappedBook most c) ≡ bookAnswer c
+-- of every answer that refusal 1 decides
+pub capped-same : {A : Type 0} (f : BookCall → A) (a : A) → ((c : BookCall) → settingRefusal c ≡ some 1 → f c ≡ a) → (most : ℕ) (c : BookCall) → 8 < most
+    → f (cappedBook most c) ≡ f c
 unfolding cappedBook
-capped-book most c beyond =
+capped-same f a decides most c beyond =
     by-test (leb (c .kind) most)
     (λ k.
     let kind-low = leb-true (c .kind) most k in
@@ -329,10 +334,13 @@ capped-book most c beyond =
     rw (kind-is, semantics-is))
     (λ s.
     let semantics-high = leb-false (c .semantics) most s in
-    semantics-refused (cappedBook most c) (omega arith) ∙ sym (semantics-refused c (omega arith))))
+    decides (cappedBook most c) (semantics-due (cappedBook most c) (omega arith)) ∙ sym (decides c (semantics-due c (omega arith)))))
     (λ k.
     let kind-high = leb-false (c .kind) most k in
-    kind-refused (cappedBook most c) (omega arith) ∙ sym (kind-refused c (omega arith)))
+    decides (cappedBook most c) (kind-due (cappedBook most c) (omega arith)) ∙ sym (decides c (kind-due c (omega arith))))
+
+pub capped-book : (most : ℕ) (c : BookCall) → 8 < most → bookAnswer (cappedBook most c) ≡ bookAnswer c
+capped-book = capped-same bookAnswer (bookRefused 1) (λ c e. settings-first c 1 e)
 
 -- The eighteen numbers.
 

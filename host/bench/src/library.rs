@@ -2,16 +2,17 @@
 
 use crate::sheets::Sample;
 
-/// What a caller lends for a path and for marks, and where the numbers go.
+/// What a caller lends for a path and for marks, and where the numbers of a check or of a tally go.
 pub struct Buffers {
     path: Vec<u8>,
     marks: Vec<u8>,
     result: [u8; 32],
+    tally: [u8; 144],
 }
 
 impl Buffers {
     pub fn new() -> Self {
-        Self { path: vec![0; 32_768], marks: vec![0; 8_192], result: [0; 32] }
+        Self { path: vec![0; 32_768], marks: vec![0; 8_192], result: [0; 32], tally: [0; 144] }
     }
 }
 
@@ -67,6 +68,23 @@ extern "C" {
         result: *mut u8,
         result_length: usize,
     ) -> u32;
+    fn rulecheck_tally(
+        kind: u64,
+        semantics: u64,
+        label: *const u8,
+        label_length: usize,
+        table: *const u8,
+        table_length: usize,
+        schema: *const u8,
+        schema_length: usize,
+        book: *const u8,
+        book_length: usize,
+        path: *mut u8,
+        path_length: usize,
+        result: *mut u8,
+        result_length: usize,
+    ) -> u32;
+    fn rulecheck_count(result: *const u8, result_length: usize, index: u32) -> u64;
     fn rulecheck_check(
         kind: u64,
         semantics: u64,
@@ -114,10 +132,35 @@ pub fn check(sample: &Sample, buffers: &mut Buffers) -> u32 {
     }
 }
 
+/// A whole book under the settings and the schema of a sample; the answer is how many of its sheets are accepted.
+pub fn tally(sample: &Sample, book: &[u8], buffers: &mut Buffers) -> u64 {
+    let (schema, path, result) = (&sample.schema, &mut buffers.path, &mut buffers.tally);
+    // SAFETY: as in `check`; the library reads the first four slices and writes the last two.
+    unsafe {
+        rulecheck_tally(
+            sample.kind,
+            sample.semantics,
+            b"rule".as_ptr(),
+            4,
+            b"".as_ptr(),
+            0,
+            schema.as_ptr(),
+            schema.len(),
+            book.as_ptr(),
+            book.len(),
+            path.as_mut_ptr(),
+            path.len(),
+            result.as_mut_ptr(),
+            result.len(),
+        );
+        rulecheck_count(result.as_ptr(), result.len(), 2)
+    }
+}
+
 /// One whole check that marks constant conditions, under the stock table; the answer is the number.
 pub fn mark(sample: &Sample, buffers: &mut Buffers) -> u32 {
     let (schema, rule) = (&sample.schema, &sample.rule);
-    let Buffers { path, marks, result } = buffers;
+    let Buffers { path, marks, result, .. } = buffers;
     // SAFETY: as in `check`; the list of marks is lent like the path.
     unsafe {
         rulecheck_check(

@@ -1,7 +1,9 @@
 //! Measures the library beside the Rust on the same sheets and writes the figures, and a plot, into a document: `bench DOCUMENT`.
 //! `bench once GROUP SIDE SIZE` makes a single call for valgrind to count, `bench time GROUP SIDE SIZE` prints how many nanoseconds it takes;
-//! `bench plain` prints the figures only, without counting; `bench marks` prints what it costs to mark constant conditions.
+//! `bench plain` prints the figures only, without counting; `bench marks` prints what it costs to mark constant conditions; `bench books DOCUMENT` writes the
+//! figures of rule books alone.
 
+mod books;
 mod library;
 mod measure;
 mod pairs;
@@ -21,6 +23,9 @@ use library::Buffers;
 use report::{Acceptance, Figures, Row};
 use sheets::{Group, Sample, GROUPS, NUMBERS};
 use std::process::ExitCode;
+
+const USAGE: &str =
+    "usage: bench DOCUMENT | bench plain | bench marks | bench books DOCUMENT | bench once GROUP SIDE SIZE | bench time GROUP SIDE SIZE";
 
 /// Who answers.
 #[derive(Clone, Copy)]
@@ -47,12 +52,15 @@ fn main() -> ExitCode {
     let words: Vec<String> = std::env::args().skip(1).collect();
     let words: Vec<&str> = words.iter().map(String::as_str).collect();
     let done = match words[..] {
+        ["once", "book", side, size] => on_book(side, size, |call| measure::counted_call(call)),
+        ["time", "book", side, size] => on_book(side, size, |call| println!("{:.0}", measure::time(call))),
+        ["books", document] => report::write(document, &report::book_parts(&books::rows(true))),
         ["once", group, side, size] => on_sample(group, side, size, |call| measure::counted_call(call)),
         ["time", group, side, size] => on_sample(group, side, size, |call| println!("{:.0}", measure::time(call))),
         ["marks"] => marks(),
         ["plain"] => all(false).map(|figures| println!("{}", figures.tables())),
         [document] => all(true).and_then(|figures| figures.write(document)),
-        _ => Err("usage: bench DOCUMENT | bench plain | bench marks | bench once GROUP SIDE SIZE | bench time GROUP SIDE SIZE".to_owned()),
+        _ => Err(USAGE.to_owned()),
     };
     match done {
         Ok(()) => ExitCode::SUCCESS,
@@ -61,6 +69,11 @@ fn main() -> ExitCode {
             ExitCode::FAILURE
         }
     }
+}
+
+/// Hands on the call of one side for a book of that size.
+fn on_book(side: &str, size: &str, measured: impl FnOnce(&mut dyn FnMut() -> bool)) -> Result<(), String> {
+    books::on_book(side, size.parse().map_err(|_| "the size is no number")?, measured)
 }
 
 /// Hands on the call of one side for the sample of that group and size.
@@ -116,7 +129,8 @@ fn all(counting: bool) -> Result<Figures, String> {
     let stack = sheets::deepest().into_iter().map(|(name, sample)| (name, stack::depth(&sample).0)).collect();
     eprintln!("bench: pairs of schemas");
     let pairs = pairs::compared();
-    Ok(Figures { rows, numbers, acceptance, pairs, stack })
+    let books = books::rows(counting);
+    Ok(Figures { rows, numbers, acceptance, pairs, stack, books })
 }
 
 fn row(group: &'static Group, counting: bool) -> Result<Row, String> {

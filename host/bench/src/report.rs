@@ -1,8 +1,8 @@
 //! The figures as tables, and the document that they go into.
 
 use crate::pairs::Compared;
-use crate::plot;
 use crate::sheets::Group;
+use crate::{books, plot};
 use std::fs;
 use std::path::Path;
 
@@ -49,17 +49,34 @@ pub struct Figures {
     pub pairs: Vec<Compared>,
     /// What a call takes of the stack, in bytes.
     pub stack: Vec<(&'static str, usize)>,
+    pub books: Vec<books::Row>,
+}
+
+/// A part of the document, and the name of its place.
+type Part = (&'static str, String);
+
+/// Rule books.
+pub fn book_parts(rows: &[books::Row]) -> [Part; 2] {
+    [("books", books::table(rows)), ("book counts", books::counts(rows))]
+}
+
+/// Puts each part where the document has a place for it.
+pub fn write(document: &str, parts: &[Part]) -> Result<(), String> {
+    let mut text = fs::read_to_string(document).map_err(|error| format!("{document}: {error}"))?;
+    for (name, part) in parts {
+        text = placed(&text, name, part).ok_or_else(|| format!("{document} has no place for {name}"))?;
+    }
+    fs::write(document, text).map_err(|error| format!("{document}: {error}"))
 }
 
 impl Figures {
     pub fn tables(&self) -> String {
-        [self.checks(), self.counts(), self.long_numbers(), self.acceptances(), self.comparisons(), self.stacks()].join("\n")
+        let own = [self.checks(), self.counts(), self.long_numbers(), self.acceptances(), self.comparisons(), self.stacks()];
+        own.into_iter().chain(book_parts(&self.books).map(|(_, part)| part)).collect::<Vec<_>>().join("\n")
     }
 
     /// Puts each table, the processor's name and the plot where the document has a place for them.
     pub fn write(&self, document: &str) -> Result<(), String> {
-        let path = Path::new(document);
-        let mut text = fs::read_to_string(path).map_err(|error| format!("{document}: {error}"))?;
         let parts = [
             ("processor", processor()),
             ("checks", self.checks()),
@@ -69,11 +86,10 @@ impl Figures {
             ("pairs", self.comparisons()),
             ("stack", self.stacks()),
         ];
-        for (name, part) in parts {
-            text = placed(&text, name, &part).ok_or_else(|| format!("{document} has no place for {name}"))?;
-        }
-        let plot = path.with_file_name("benchmarks.svg");
-        fs::write(plot, plot::svg(&self.rows)).and_then(|()| fs::write(path, text)).map_err(|error| error.to_string())
+        write(document, &parts)?;
+        write(document, &book_parts(&self.books))?;
+        let plot = Path::new(document).with_file_name("benchmarks.svg");
+        fs::write(plot, plot::svg(&self.rows)).map_err(|error| error.to_string())
     }
 
     fn checks(&self) -> String {

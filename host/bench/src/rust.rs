@@ -17,7 +17,11 @@ pub fn build(sample: &Sample) -> Option<Built> {
 
 /// Whether the Rust accepts.
 pub fn validate(sample: &Sample, built: &Built) -> bool {
-    let schemas = &built.schemas;
+    validates(sample, &built.schemas, &built.rule)
+}
+
+/// The same for a rule under schemas that are built.
+pub fn validates(sample: &Sample, schemas: &Schemas, rule: &Rule) -> bool {
     let setting = Setting {
         kind: sample.kind,
         semantics: sample.semantics,
@@ -26,7 +30,7 @@ pub fn validate(sample: &Sample, built: &Built) -> bool {
         label: "rule",
         table: None,
     };
-    match &built.rule {
+    match rule {
         Rule::Rule(rule) => entry::rule(rule, &setting),
         Rule::Template(value) => entry::template(value, &setting),
     }

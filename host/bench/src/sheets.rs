@@ -146,14 +146,25 @@ pub fn typical(entries: usize) -> Sample {
             plain(1, &format!("lot_{i:02}_note"))
         )
     });
-    let bound = |i: usize| format!("C,10,0,\n{}{}", text(&format!("$fields.lot_{i:02}.weight")), number("0"));
-    let conditions = each(3, |i| {
-        let i = i * (blocks - 1) / 2;
-        let body = format!("C,8,0,\n{}{}", text("$bar.steel"), text("S355"));
-        format!("{}C,20,3,bar\n{}{body}", bound(i), text(&format!("$fields.lot_{i:02}_bars")))
-    });
-    let rule = format!("R,4,-,lots\nC,2,8,\n{conditions}{}C,1,1,\n", bound(blocks - 1));
+    let rule = of_blocks([0, (blocks - 1) / 2, blocks - 1, blocks - 1]);
     Sample::new(format!("H,0,{},-,0\n{parts}", 3 * blocks), rule)
+}
+
+/// A rule of 30 entries: bounds and quantifiers on three blocks, and a bound on a fourth.
+fn of_blocks([first, second, third, last]: [usize; 4]) -> String {
+    let bound = |i: usize| format!("C,10,0,\n{}{}", text(&format!("$fields.lot_{i:02}.weight")), number("0"));
+    let conditions: String = [first, second, third]
+        .map(|i| {
+            let body = format!("C,8,0,\n{}{}", text("$bar.steel"), text("S355"));
+            format!("{}C,20,3,bar\n{}{body}", bound(i), text(&format!("$fields.lot_{i:02}_bars")))
+        })
+        .concat();
+    format!("R,4,-,lots\nC,2,8,\n{conditions}{}C,1,1,\n", bound(last))
+}
+
+/// The rule at that place of a book for the schema of 611 entries, each on other blocks than the one before.
+pub fn book_rule(at: usize) -> Vec<u8> {
+    of_blocks([at, at + 7, at + 23, at + 41].map(|i| i % 61)).into_bytes()
 }
 
 /// Two letters, rising.

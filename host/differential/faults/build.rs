@@ -25,11 +25,11 @@ fn main() {
         let path = folder.join("mod.rs");
         modules.push_str(&format!("#[allow(dead_code, unused)]\n#[path = {path:?}]\npub mod fault_{index};\n"));
         rows.push_str(&format!(
-            "    ({:?}, Faulty {{ answer: fault_{index}::answer, key_answer: fault_{index}::key_answer, load_answer: fault_{index}::load_answer }}),\n",
+            "    ({:?}, Faulty {{ answer: fault_{index}::answer, key_answer: fault_{index}::key_answer, load_answer: fault_{index}::load_answer, tally_answer: fault_{index}::tally_answer, wall_answer: fault_{index}::wall_answer }}),\n",
             fault.name
         ));
     }
-    let table = format!("pub const FAULTS: &[(&str, Faulty)] = &[\n{rows}];\n");
+    let table = format!("const FAULTS: &[(&str, Faulty)] = &[\n{rows}];\n");
     fs::write(out.join("faults.rs"), format!("{modules}\n{table}")).expect("the folder can be written to");
 }
 

@@ -4,7 +4,7 @@
 
 mod sheets;
 
-use entity_rules::{Check, Kind, Semantics, check_rule, widens};
+use entity_rules::{Check, Kind, Semantics, check_rule, tally, widens};
 use std::error::Error;
 use std::path::Path;
 use std::{env, fs};
@@ -38,6 +38,17 @@ fn check() -> Result<(), Box<dyn Error>> {
         println!("branch, under {table}: {}", checked.verdict);
     }
     let wider = sheets::wider().sheet()?;
+    let book = sheets::book()?;
+    for (name, schema) in [("as it was", &schema), ("as it has grown", &wider)] {
+        let tally = tally(
+            Kind::Precondition,
+            Semantics::Service1,
+            "mill",
+            schema,
+            &book,
+        )?;
+        println!("the book, under the pattern {name}: {tally}");
+    }
     println!("pattern, as it has grown: {}", widens(&schema, &wider)?);
     println!("pattern, as it was: {}", widens(&wider, &schema)?);
     Ok(())

@@ -1,6 +1,8 @@
-//! A mill's pattern record as it was and as it has grown, rules that an operation on it must meet, and one that the mill's own name table allows.
+//! A mill's pattern record as it was and as it has grown, rules that an operation on it must meet, a book of them, and one that the mill's own name table allows.
 
-use entity_rules::{Condition, Field, FieldKind, Kind, Name, Rule, Schema, Table};
+use entity_rules::{
+    Book, Condition, Field, FieldKind, Kind, Name, Rule, Schema, Table, Template, Value,
+};
 use std::error::Error;
 
 /// A pattern: its name, when it was drawn, and the bars that it names. Whoever releases it says who and when.
@@ -62,6 +64,43 @@ pub fn fits() -> Rule {
     Rule::new(Condition::gte("$fields.loom.width", "$fields.bars.count")).name("fits")
 }
 
+/// The mill's book of what a release must meet, with a defect in some of it.
+pub fn book() -> Result<Book, Box<dyn Error>> {
+    let bars = |body| Condition::for_all("bar", "$fields.bars", body);
+    let rules = [
+        release(),
+        misspelt(),
+        fits(),
+        Rule::new(Condition::exists("$args.by")).name("signed"),
+        Rule::new(bars(Condition::gt("$bar.number", 0))).name("numbered from one"),
+        // The name was left blank.
+        Rule::new(Condition::ne("$fields.name", "")).name(" "),
+        // The tension is a field of the grown record.
+        Rule::new(bars(Condition::lte("$bar.tension", 9.5))).name("not too tight"),
+        // There is no 31st of April.
+        Rule::new(Condition::after("$fields.drawn", "2024-04-31")).name("new drawings only"),
+        // A name is no collection.
+        Rule::new(Condition::for_any(
+            "mark",
+            "$fields.name",
+            Condition::truthy("$mark"),
+        )),
+        Rule::new(Condition::any([])).name("to be written"),
+        Rule::new(Condition::after("$args.on", "$fields.drawn")).name("not before it is drawn"),
+    ];
+    let mut book = Book::new();
+    for rule in rules {
+        book.extend([rule.sheet()?]);
+    }
+    let event = Value::object([("by", "$args.by"), ("pattern", "$fields.name")]);
+    book.extend([Template::new(event).sheet()?]);
+    // The last one was cut while it was copied.
+    let mut cut = release().sheet()?.into_bytes();
+    cut.truncate(99);
+    book.extend([cut]);
+    Ok(book)
+}
+
 /// Which way a release takes goes by the state that the pattern is in.
 pub fn branch() -> Rule {
     Rule::new(Condition::eq("$state", "drawn")).name("from the drawing board")
@@ -85,15 +124,16 @@ pub fn own() -> Table {
 pub type File = (&'static str, Vec<u8>);
 
 /// All files of this folder.
-pub fn files() -> Result<[File; 8], Box<dyn Error>> {
+pub fn files() -> Result<[File; 9], Box<dyn Error>> {
     Ok([
-        ("pattern.schema", pattern().sheet()?),
-        ("wider.schema", wider().sheet()?),
-        ("release.rule", release().sheet()?),
-        ("misspelt.rule", misspelt().sheet()?),
-        ("fits.rule", fits().sheet()?),
-        ("branch.rule", branch().sheet()?),
-        ("season.rule", season().sheet()?),
+        ("pattern.schema", pattern().sheet()?.into()),
+        ("wider.schema", wider().sheet()?.into()),
+        ("release.rule", release().sheet()?.into()),
+        ("misspelt.rule", misspelt().sheet()?.into()),
+        ("fits.rule", fits().sheet()?.into()),
+        ("branch.rule", branch().sheet()?.into()),
+        ("season.rule", season().sheet()?.into()),
         ("own.table", own().sheet()?),
+        ("mill.book", book()?.bytes().to_vec()),
     ])
 }

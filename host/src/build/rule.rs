@@ -5,6 +5,7 @@ use super::part::{Built, Part, length_or_dash, lent, text};
 use super::value::Value;
 use crate::entries::Operator;
 use crate::numbered::numbered;
+use crate::sheets::RuleSheet;
 
 numbered! {
     /// What [`Condition::compare`] asks.
@@ -346,14 +347,14 @@ impl Rule {
     /// # Errors
     ///
     /// If a part of it or the whole passes a limit of sheets.
-    pub fn sheet(&self) -> Result<Vec<u8>, BuildError> {
+    pub fn sheet(&self) -> Result<RuleSheet, BuildError> {
         let name = text("name", self.name.as_deref().unwrap_or_default())?;
         let message = text("message", self.message.as_deref().unwrap_or_default())?;
         let lengths = [&self.name, &self.message].map(|text| length_or_dash(text.as_deref()));
         let mut part = Part::of_rule();
         part.add_entry(&format!("R,{},", lengths.join(",")), &[name, message])?;
         part.add(lent(&self.condition.part)?)?;
-        Ok(part.sheet())
+        Ok(RuleSheet::new(part.sheet()))
     }
 }
 
@@ -395,10 +396,10 @@ impl Template {
     /// # Errors
     ///
     /// If a part of it or the whole passes a limit of sheets.
-    pub fn sheet(&self) -> Result<Vec<u8>, BuildError> {
+    pub fn sheet(&self) -> Result<RuleSheet, BuildError> {
         let mut part = Part::of_rule();
         part.add_entry("T", &[])?;
         part.add(lent(&self.value.part)?)?;
-        Ok(part.sheet())
+        Ok(RuleSheet::new(part.sheet()))
     }
 }

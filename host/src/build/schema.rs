@@ -3,6 +3,7 @@
 use super::error::{BuildError, Nesting};
 use super::part::{Built, Part, length_or_dash, lent, text};
 use crate::numbered::numbered;
+use crate::sheets::SchemaSheet;
 use std::collections::btree_map::{BTreeMap, Entry};
 
 numbered! {
@@ -360,14 +361,14 @@ impl Schema {
     /// # Errors
     ///
     /// If a part of it or the whole passes a limit of sheets, or a name stands twice beside itself.
-    pub fn sheet(&self) -> Result<Vec<u8>, BuildError> {
+    pub fn sheet(&self) -> Result<SchemaSheet, BuildError> {
         let mut part = Part::of_schema();
         part.add_entry(&self.head(), &[])?;
         self.fields.add_to(&mut part)?;
         if let Some(arguments) = &self.arguments {
             arguments.fields.add_to(&mut part)?;
         }
-        Ok(part.sheet())
+        Ok(SchemaSheet::new(part.sheet()))
     }
 
     fn head(&self) -> String {

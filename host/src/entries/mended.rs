@@ -39,10 +39,10 @@ impl Given {
         entries: Entries,
     ) -> Option<Malformed> {
         let (sheet, limit) = reader.sheet();
-        let line = sheet
-            .get(self.start..)?
-            .split(|&byte| byte == b'\n')
-            .next()?;
+        // A sheet that ends before the line does was cut.
+        let texts = sheet.get(self.start..)?;
+        let end = texts.iter().position(|&byte| byte == b'\n')?;
+        let line = texts.get(..end)?;
         let fitting = self.last.checked_add(line.len())?.checked_sub(self.total)?;
         if fitting == self.last {
             return None;

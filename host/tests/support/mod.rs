@@ -2,6 +2,8 @@
 
 #![allow(dead_code, reason = "no test uses all of it")]
 
+pub mod tool;
+
 use entity_rules::{Kind, Refusal, Semantics, check};
 
 const EMPTY_SCHEMA: &[u8] = b"H,0,0,-,0\n";
@@ -15,6 +17,23 @@ pub fn takes_schema(sheet: &[u8]) -> bool {
 /// Whether the library takes a rule sheet.
 pub fn takes_rule(sheet: &[u8]) -> bool {
     check(Kind::Invariant, Semantics::Kernel1, "", EMPTY_SCHEMA, sheet) != Err(Refusal::RuleSheet)
+}
+
+/// A fixed list of the folder vectors, behind its first lines.
+pub fn list(name: &str) -> Vec<u8> {
+    let file = format!("{}/vectors/{name}", env!("CARGO_MANIFEST_DIR"));
+    let list = std::fs::read(file).expect("a list");
+    let mut rest = list.as_slice();
+    while rest.first() == Some(&b'#') {
+        line(&mut rest);
+    }
+    rest.to_vec()
+}
+
+/// The numbers of a line.
+pub fn numbers(line: &str) -> Vec<u64> {
+    let numbers = line.split(',').map(str::parse);
+    numbers.collect::<Result<_, _>>().expect("numbers")
 }
 
 /// Takes a line off a list.

@@ -17,6 +17,19 @@ pub fn load_answer(table: &[u8], buffer_len: usize) -> (u32, Vec<u8>) {
     (load_table(table, &mut buffer), buffer)
 }
 
+/// The same for a rule book.
+pub fn tally_answer(call: &differential::model::BookCall) -> differential::model::TallyNumbers {
+    let &differential::model::BookCall { kind, semantics, label, table, schema, book, path_len, result_len } = call;
+    tally(&BookCall { kind, semantics, label, table, schema, book, path_len, result_len })
+}
+
+/// The same for a wall sheet.
+pub fn wall_answer(call: &differential::model::WallCall) -> ([u64; 2], Vec<u8>) {
+    let &differential::model::BookCall { kind, semantics, label, table, schema, book, path_len, result_len } = &call.book;
+    let book = BookCall { kind, semantics, label, table, schema, book, path_len, result_len };
+    wall(&WallCall { book, pages_len: call.pages_len })
+}
+
 fn own(answer: Answer) -> differential::model::Answer {
     let Answer { number, family, detail, place, over_place, passed, path } = answer;
     differential::model::Answer { number, family, detail, place, over_place, passed, path }

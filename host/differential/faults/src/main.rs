@@ -1,9 +1,10 @@
 //! Asks each faulty model until it answers otherwise than the library: on the known edges, on generated cases, on the published samples, on
-//! keys, and last on tables: `faults [CASES] [SEED]`.
+//! keys, on rule books and their wall sheets, and last on tables: `faults [CASES] [SEED]`.
 
 pub use differential::trees;
 
-use differential::model::{Answer, Call, KeyCall};
+use differential::model::{Answer, BookCall, Call, KeyCall, TallyNumbers, WallCall};
+use harness::books::{self, BookCase};
 use harness::case::Case;
 use harness::edges::edges;
 use harness::generate::{self, names::STOCK};
@@ -13,6 +14,7 @@ use harness::longest::longest;
 use harness::published::sample_cases;
 use harness::random::Random;
 use harness::tables::{self, LoadCase};
+use harness::walls::{self, Printed, WallCase};
 use std::panic::{catch_unwind, AssertUnwindSafe};
 use std::process::ExitCode;
 
@@ -22,6 +24,8 @@ struct Faulty {
     answer: fn(&Call) -> Answer,
     key_answer: fn(&KeyCall) -> Answer,
     load_answer: fn(&[u8], usize) -> (u32, Vec<u8>),
+    tally_answer: fn(&BookCall) -> TallyNumbers,
+    wall_answer: fn(&WallCall) -> Printed,
 }
 
 /// What the models are asked.
@@ -29,6 +33,8 @@ enum Question {
     Case(Case),
     Key(KeyCase),
     Load(LoadCase),
+    Book(BookCase),
+    Wall(WallCase),
 }
 
 include!(concat!(env!("OUT_DIR"), "/faults.rs"));
@@ -65,7 +71,7 @@ fn main() -> ExitCode {
     }
 }
 
-/// All questions, each with the words for it: so many generated cases, as many keys, as many cases under a table, and as many tables to load.
+/// All questions, each with the words for it: so many generated cases, as many keys, a twentieth as many books and wall sheets, as many cases under a table, and as many tables to load.
 fn questions(cases: u64, seed: u64) -> impl Iterator<Item = (String, Question)> {
     let named = |name: &'static str| move |case| (name.to_owned(), Question::Case(case));
     let known = edges().into_iter().chain(longest()).map(named("a known edge"));
@@ -76,6 +82,12 @@ fn questions(cases: u64, seed: u64) -> impl Iterator<Item = (String, Question)> 
     let known_keys = keys::edges::edges().into_iter().map(|case| ("a known edge of keys".to_owned(), Question::Key(case)));
     let key =
         move |number| (format!("key {number} of seed {seed}"), Question::Key(keys::generate::case(&mut Random::of_case(seed, number)).1));
+    let known_books = books::edges::edges().into_iter().map(|case| ("a known book".to_owned(), Question::Book(case)));
+    let book = move |number| {
+        (format!("book {number} of seed {seed}"), Question::Book(books::generate::case(&mut Random::of_case(seed, number)).1))
+    };
+    let known_walls = walls::edges::edges().into_iter().chain([walls::edges::large()]);
+    let known_walls = known_walls.map(|case| ("a known wall sheet".to_owned(), Question::Wall(case)));
     let known_tables = tables::edges::edges().into_iter().map(named("a known edge of tables"));
     let known_loads = tables::edges::loads().into_iter().map(|case| ("a known load".to_owned(), Question::Load(case)));
     let table = move |number| {
@@ -85,6 +97,7 @@ fn questions(cases: u64, seed: u64) -> impl Iterator<Item = (String, Question)> 
         [(format!("table {number} of seed {seed}"), Question::Case(case)), (format!("load {number} of seed {seed}"), Question::Load(load))]
     };
     let cases_and_keys = known.chain((0..cases).map(made)).chain(samples).chain(known_keys).chain((0..cases).map(key));
+    let cases_and_keys = cases_and_keys.chain(known_books).chain((0..cases / 20).map(book)).chain(known_walls);
     cases_and_keys.chain(known_tables).chain(known_loads).chain((0..cases).flat_map(table))
 }
 
@@ -93,6 +106,8 @@ fn difference(question: &Question, faulty: Faulty) -> Option<String> {
     let held = || match question {
         Question::Case(case) => library::hold(case, &(faulty.answer)(&case.call()), Extent::Some),
         Question::Key(case) => library::keys::hold(case, &(faulty.key_answer)(&case.call()), Extent::Some),
+        Question::Book(case) => library::books::hold(case, &(faulty.tally_answer)(&case.call()), Extent::Some),
+        Question::Wall(case) => library::walls::hold(case, &(faulty.wall_answer)(&case.call()), Extent::Some),
         Question::Load(case) => {
             let (number, buffer) = (faulty.load_answer)(&case.table, case.buffer_len);
             let loaded = if number == 0 { case.table.as_slice() } else { &[] };

@@ -1,6 +1,7 @@
 //! Holds the library, a plain model of docs/FORMAT.md and the Rust that it describes against each other.
 
 pub mod agreement;
+pub mod books;
 pub mod bound;
 pub mod case;
 pub mod changes;
@@ -30,5 +31,6 @@ pub mod slips;
 pub mod tables;
 pub mod tally;
 pub mod vectors;
+pub mod walls;
 pub mod widened;
 pub mod widens;

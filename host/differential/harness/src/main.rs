@@ -1,6 +1,8 @@
 //! The commands of the comparison. See README.md beside the script `run`.
 
-use harness::{compare, exhaustive, fuzzed, instants, keys, leaves, marks, memory, moved, published, tables, vectors, widened, widens};
+use harness::{
+    books, compare, exhaustive, fuzzed, instants, keys, leaves, marks, memory, moved, published, tables, vectors, walls, widened, widens,
+};
 use std::collections::BTreeMap;
 use std::process::ExitCode;
 
@@ -24,6 +26,13 @@ const USAGE: &str = "usage: differential COMMAND [OPTION..]
                                    as moved, each rule under one table
   tables-vectors --out FILE --loads FILE [--seed S]
                                    writes the fixed lists of checks under tables, and of tables to load, with their answers
+  books [--cases N] [--seed S]     known rule books, then N generated ones (50,000): the tally of library and model against single checks
+                                   by library, model and Rust
+  books-vectors --out FILE [--seed S]
+                                   writes the fixed list of rule books and their tallies
+  walls [--cases N] [--seed S]     known rule books, then N generated ones (20,000): their pages by library and model
+  walls-vectors --out FILE [--seed S]
+                                   writes the fixed list of rule books and their pages
   instants [--cases N] [--seed S]  known texts, then N generated ones: which are instants, and their fields
   instants-vectors --out FILE [--seed S]
                                    writes the fixed list of texts and their fields; the library is not asked
@@ -91,6 +100,24 @@ fn run(arguments: &[String]) -> Result<(), Trouble> {
             let [checks, loads] = ["out", "loads"].map(|name| options.get(name).copied());
             let files = checks.zip(loads).ok_or_else(|| Trouble::Usage("tables-vectors needs --out FILE and --loads FILE".to_owned()))?;
             tables::vectors::vectors(files.0, files.1, numeral(&options, "seed", 1)?).map_err(Trouble::Failed)
+        }
+        "books" => {
+            let options = options(rest, &["cases", "seed"])?;
+            books::run::books(numeral(&options, "cases", 50_000)?, numeral(&options, "seed", 1)?).map_err(Trouble::Failed)
+        }
+        "books-vectors" => {
+            let options = options(rest, &["out", "seed"])?;
+            let file = options.get("out").ok_or_else(|| Trouble::Usage("books-vectors needs --out FILE".to_owned()))?;
+            books::vectors::vectors(file, numeral(&options, "seed", 1)?).map_err(Trouble::Failed)
+        }
+        "walls" => {
+            let options = options(rest, &["cases", "seed"])?;
+            walls::run::walls(numeral(&options, "cases", 20_000)?, numeral(&options, "seed", 1)?).map_err(Trouble::Failed)
+        }
+        "walls-vectors" => {
+            let options = options(rest, &["out", "seed"])?;
+            let file = options.get("out").ok_or_else(|| Trouble::Usage("walls-vectors needs --out FILE".to_owned()))?;
+            walls::vectors::vectors(file, numeral(&options, "seed", 1)?).map_err(Trouble::Failed)
         }
         "widens" => {
             let options = options(rest, &["cases", "seed"])?;

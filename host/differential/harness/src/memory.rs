@@ -2,6 +2,7 @@
 //!
 //! The two buffers that are written hold nothing yet, so that whatever depends on their contents shows.
 
+use crate::books::{self, BookCase};
 use crate::case::Case;
 use crate::edges::edges;
 use crate::generate::{self, names::STOCK};
@@ -12,11 +13,12 @@ use crate::longest::longest;
 use crate::random::Random;
 use crate::tables::{self, LoadCase};
 use crate::vectors;
+use crate::walls::{self, WallCase};
 use crate::widens::{self, WidensCase};
 use differential::model;
 
-/// The known edges, the list of answers, then so many generated cases, and the same of keys, of tables, of loads, of instants and of pairs of schemas; an error is a
-/// difference from the model.
+/// The known edges, the list of answers, then so many generated cases, and the same of keys, of tables, of loads, of instants, of pairs of schemas, of books and of wall
+/// sheets; an error is a difference from the model.
 pub fn memory(list: &str, cases: u64, seed: u64) -> Result<(), String> {
     let known: Vec<Case> = edges().into_iter().chain(longest()).collect();
     for case in &known {
@@ -66,6 +68,24 @@ pub fn memory(list: &str, cases: u64, seed: u64) -> Result<(), String> {
         let (_, case) = widens::generate::case(&mut Random::of_case(seed, number));
         one_pair(&case).map_err(|trouble| format!("pair {number} of seed {seed}: {trouble}"))?;
     }
+    let known_books = books::edges::edges();
+    for case in &known_books {
+        one_book(case)?;
+    }
+    // A book has many sheets.
+    let books = cases / 20;
+    for number in 0..books {
+        let (_, case) = books::generate::case(&mut Random::of_case(seed, number));
+        one_book(&case).map_err(|trouble| format!("book {number} of seed {seed}: {trouble}"))?;
+    }
+    let known_walls = walls::edges::edges();
+    for case in &known_walls {
+        one_wall(case)?;
+    }
+    for number in 0..books {
+        let (_, case) = walls::generate::case(&mut Random::of_case(seed, number));
+        one_wall(&case).map_err(|trouble| format!("wall sheet {number} of seed {seed}: {trouble}"))?;
+    }
     println!("{} known edges, {} cases of {list}, {cases} generated ones (seed {seed}): answers as the model's", known.len(), listed.len());
     println!("{} known edges of keys, {cases} generated ones (seed {seed}): answers as the model's", known_keys.len());
     println!(
@@ -75,6 +95,8 @@ pub fn memory(list: &str, cases: u64, seed: u64) -> Result<(), String> {
     );
     println!("{} known instants, {cases} generated ones (seed {seed}): answers as the model's", known_texts.len());
     println!("{} known pairs of schemas, {cases} generated ones (seed {seed}): answers as the model's", known_pairs.len());
+    println!("{} known books, {books} generated ones (seed {seed}): answers as the model's", known_books.len());
+    println!("{} known wall sheets, {books} generated ones (seed {seed}): answers as the model's", known_walls.len());
     Ok(())
 }
 
@@ -109,6 +131,28 @@ fn one_pair(case: &WidensCase) -> Result<(), String> {
         Ok(())
     } else {
         Err(format!("a pair of schemas is answered {found:?}, not {wanted:?}"))
+    }
+}
+
+fn one_book(case: &BookCase) -> Result<(), String> {
+    let expected = model::tally(&case.call());
+    let found = raw::fresh_tally(case);
+    let wanted = (expected[0] as u32, (case.result_len >= model::TALLY_BYTES).then_some(expected));
+    if found == wanted {
+        Ok(())
+    } else {
+        Err(format!("a book is answered {found:?}, not {wanted:?}"))
+    }
+}
+
+fn one_wall(case: &WallCase) -> Result<(), String> {
+    let (numbers, pages) = model::wall(&case.call());
+    let found = raw::fresh_wall(case);
+    let wanted = (numbers[0] as u32, (case.book.result_len >= model::WALL_BYTES).then_some(numbers), pages);
+    if found == wanted {
+        Ok(())
+    } else {
+        Err(format!("a wall sheet is answered {:?}, not {numbers:?}, or its pages differ", found.1))
     }
 }
 

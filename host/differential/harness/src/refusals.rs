@@ -1,10 +1,13 @@
 //! A second reading of the refusals, which the Rust does not know: a list of what is still to come instead of recursion, the text and
 //! number rules of `str` and serde_json, a table by the places of its marks.
 
+use crate::books::BookCase;
 use crate::case::Case;
 use crate::keys::KeyCase;
 use crate::library::RESULT_BYTES;
+use crate::walls::WallCase;
 use crate::widens::WidensCase;
+use differential::model::TALLY_BYTES;
 
 pub const MAX_SHEET_BYTES: usize = 30_000;
 pub const MAX_SCHEMA_ENTRIES: usize = 1_024;
@@ -70,6 +73,42 @@ pub fn widens_refusal(case: &WidensCase) -> [u32; 2] {
     let tests = [case.result_len >= RESULT_BYTES, is_schema(&case.first), is_schema(&case.second)];
     let refusals = [[3, 0], [4, 1], [4, 2]];
     refusals.into_iter().zip(tests).find(|(_, passes)| !passes).map_or([0, 0], |(refusal, _)| refusal)
+}
+
+/// The refusal that answers a call for a rule book, or 0.
+pub fn book_refusal(case: &BookCase) -> u32 {
+    let is_known = (1..=8).contains(&case.kind) && (1..=4).contains(&case.semantics);
+    let is_label = case.label.len() <= MAX_LABEL_BYTES && std::str::from_utf8(&case.label).is_ok();
+    let is_wide = case.path_len >= MIN_PATH_BYTES && case.result_len >= TALLY_BYTES;
+    let table = &case.table[..case.table.len().min(TABLE_BYTES)];
+    let is_lent = table.is_empty() || is_table(table);
+    let is_book = sheets_in(&case.book).is_some();
+    first_failing([1, 2, 3, 34, 37, 38], &[is_known, is_label, is_wide, is_book, is_lent, are_marks_sound(table)])
+}
+
+/// The refusal that answers a call for a wall sheet, or 0: those of its book, with 33 behind 34. A page has 58 sheets and 4,860 bytes.
+pub fn wall_refusal(case: &WallCase) -> u32 {
+    let of_book = book_refusal(&BookCase { result_len: if case.book.result_len < 16 { 0 } else { TALLY_BYTES }, ..case.book.clone() });
+    let pages = sheets_in(&case.book.book).map_or(0, |sheets| (sheets + 57) / 58);
+    match of_book {
+        0 | 37 | 38 if pages * 4_860 > case.pages_len => 33,
+        other => other,
+    }
+}
+
+/// How many sheets a file has, if it is what those are written as that lie behind its lengths, however these are spelled and as far as the file goes.
+fn sheets_in(file: &[u8]) -> Option<usize> {
+    let (mut rest, mut written, mut count) = (file, Vec::new(), 0);
+    while let Some(comma) = rest.iter().position(|byte| *byte == b',') {
+        let length: u128 = std::str::from_utf8(&rest[..comma]).ok()?.parse().ok()?;
+        let (_, behind) = rest.split_at(comma + 1);
+        let (sheet, others) = behind.split_at(length.min(behind.len() as u128) as usize);
+        written.extend_from_slice(format!("{},", sheet.len()).as_bytes());
+        written.extend_from_slice(sheet);
+        rest = others;
+        count += 1;
+    }
+    (written == file).then_some(count)
 }
 
 /// The refusal of the first test that does not pass, or 0.

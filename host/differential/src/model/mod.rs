@@ -1,6 +1,7 @@
 //! A plain model of docs/FORMAT.md: trees and recursion, the check list as a list, obvious before fast. It is written from the
 //! format alone, so that the checker and the Rust can both be held against it.
 
+pub mod book;
 pub mod checks;
 pub mod instant;
 mod keys;
@@ -13,6 +14,7 @@ mod sheets;
 pub mod table;
 pub mod text;
 mod walks;
+pub mod wall;
 mod widening;
 
 #[cfg(test)]
@@ -23,11 +25,13 @@ use checks::{Binders, Check, Question};
 use settings::Setting;
 use table::Table;
 
+pub use book::{sheets, tally, write_book, BookCall, TallyNumbers, TALLY_BYTES};
 pub use keys::{check_key, KeyCall, MAX_KEY_BYTES};
 pub use program::rulecheck;
 pub use sheets::{decode_rule, decode_schema, write_rule, write_schema};
 pub use table::load_table;
 pub use walks::is_ordinal;
+pub use wall::{wall, WallCall, PAGE_BYTES, PAGE_SHEETS, WALL_BYTES};
 pub use widening::{first_breach, is_widening, only_marks_opened, widens, Breach};
 
 pub const MAX_LABEL_BYTES: usize = 256;

@@ -39,7 +39,7 @@ fn call(file: &[u8]) -> Option<Call<'_>> {
 
 /// A numeral without leading zeros and the comma after it. A value past 64 bits counts as the largest: no setting and no count is
 /// so large.
-fn numeral(file: &[u8]) -> Option<(u64, &[u8])> {
+pub(super) fn numeral(file: &[u8]) -> Option<(u64, &[u8])> {
     let end = file.iter().position(|&byte| byte == b',')?;
     let digits = &file[..end];
     let has_leading_zero = digits.len() > 1 && digits[0] == b'0';
@@ -54,7 +54,7 @@ fn numeral(file: &[u8]) -> Option<(u64, &[u8])> {
     Some((value, &file[end + 1..]))
 }
 
-fn bytes(file: &[u8], count: u64) -> Option<(&[u8], &[u8])> {
+pub(super) fn bytes(file: &[u8], count: u64) -> Option<(&[u8], &[u8])> {
     file.split_at_checked(usize::try_from(count).ok()?)
 }
 

@@ -8,9 +8,12 @@ use std::str::FromStr;
 
 pub const HELP: &str = "\
 Checks rules, templates and key paths against the schema of their record, and schemas against
-those that come after them; reads instants.
+those that come after them; tallies rule books; reads instants.
 
 usage: entity-rules check SCHEMA RULE.. --kind KIND --semantics SEMANTICS [OPTION..]
+       entity-rules tally SCHEMA BOOK --kind KIND --semantics SEMANTICS [OPTION..]
+       entity-rules wall SCHEMA BOOK --kind KIND --semantics SEMANTICS [OPTION..]
+       entity-rules book RULE.. > BOOK
        entity-rules path SCHEMA PATH.. --semantics SEMANTICS [OPTION..]
        entity-rules widens OLD NEW [--json] [--quiet]
        entity-rules upgrade OLD NEW RULE.. --kind KIND --semantics SEMANTICS [OPTION..]
@@ -20,6 +23,10 @@ usage: entity-rules check SCHEMA RULE.. --kind KIND --semantics SEMANTICS [OPTIO
        entity-rules table
 
   check    whether rules and templates are accepted, or their first defect
+  tally    how many sheets of a rule book are accepted, refused, and have a defect of each number
+  wall     prints a rule book for the wall, on pages of 80 columns and 60 lines: for each sheet its
+           serial number, the number, family and place of its answer, the checks passed, the path
+  book     writes the rule book of the sheets in these files to standard output
   path     whether paths of the record's fields can be read
   widens   whether the schema NEW is a widening of OLD, so that what was accepted stays accepted;
            what grew, or the first breach
@@ -27,29 +34,34 @@ usage: entity-rules check SCHEMA RULE.. --kind KIND --semantics SEMANTICS [OPTIO
            accepted stay so by the theorem and are not checked again; all others are checked
            under both
   instant  whether texts are instants, and their fields
-  show     prints schema sheets, rules, templates and name tables as trees, each entry with its
-           number
+  show     prints schema sheets, rules, templates, rule books and name tables as trees, each entry
+           with its number
   explain  what a number of an answer means, as 18 or, with a detail, 18.3; with an example
   table    prints the stock name table
 
   SCHEMA, OLD, NEW    files that hold a schema sheet; one of all files may be -, which is standard
                       input
-  RULE                files that hold rule sheets or templates
+  RULE                files that hold a rule sheet, a template or a rule book; a file that begins
+                      with a digit is a book, and each of its sheets counts as a rule of its own
+  BOOK                a file of sheets, each with its length in bytes and a comma before it
   PATH                a path of the record's fields, without `$fields.` before it
   TEXT                a text that may be an instant
-  --kind KIND         check, upgrade: invariant, precondition, create_template,
+  --kind KIND         check, tally, wall, upgrade: invariant, precondition, create_template,
                       operation_template, outcome_selector, create_selector, create_set or
                       create_outcome_template, or as the format spells them (CreateSet)
   --semantics SEMANTICS
                       kernel/1, service/1, service/2 or service/3
   --reader READER     path: kernel or projection, who will read the path (default: kernel)
-  --table FILE        check, upgrade: a file that holds a name table, which says what each kind may
-                      read (default: the stock table, which the command `table` prints); it may be -
-  --label TEXT        check, upgrade: what each path begins with (default: the rule's file name
-                      without its end)
+  --table FILE        check, tally, wall, upgrade: a file that holds a name table, which says what
+                      each kind may read (default: the stock table, which the command `table`
+                      prints); it may be -
+  --label TEXT        check, wall, upgrade: what each path begins with (default: the file's name
+                      without its end, and, but for wall, in brackets the serial number of a sheet
+                      in a book)
   --constants         check: under a rule that is accepted, its conditions that are always true or
                       always false, since they compare two dates that are written in the rule
-  --json              one line of JSON for each rule, path, text or pair of schemas, and no summary
+  --json              one line of JSON for each rule, path, text, book or pair of schemas, and no
+                      summary
   --sarif             check: one SARIF 2.1.0 log, by which editors and code hosts show defects
                       where they stand
   --quiet             print nothing for what is accepted, for a widening and for a rule that fares
@@ -62,6 +74,9 @@ Examples, in the crate's folder examples/mill:
   entity-rules check pattern.schema release.rule --kind precondition --semantics service/1
   entity-rules check pattern.schema branch.rule --kind outcome_selector --semantics service/1 \\
       --table own.table
+  entity-rules tally pattern.schema mill.book --kind precondition --semantics service/1
+  entity-rules wall pattern.schema mill.book --kind precondition --semantics service/1
+  entity-rules book release.rule misspelt.rule > two.book
   entity-rules path pattern.schema bars.count --semantics service/1 --reader projection
   entity-rules widens pattern.schema wider.schema
   entity-rules upgrade pattern.schema wider.schema release.rule misspelt.rule \\
@@ -76,24 +91,39 @@ Colours and a progress bar appear on a terminal only. NO_COLOR, set to anything 
 switches the colours off; TERM=dumb switches off both.
 ";
 
-const COMMANDS: &str =
-    "the command `check`, `path`, `widens`, `upgrade`, `instant`, `show`, `explain` or `table`";
+const COMMANDS: &str = "the command `check`, `tally`, `wall`, `book`, `path`, `widens`, `upgrade`, `instant`, `show`, `explain` or `table`";
 
 /// What the command line asks for.
 #[derive(Debug, PartialEq)]
 pub enum Command {
     Help,
     Version,
-    /// Prints the stock table.
-    Table,
+    Check(Arguments),
+    Tally(BookRun),
+    Wall(BookRun),
+    /// Writes the book of these files.
+    Book(Vec<PathBuf>),
+    Widens(Pair),
+    Upgrade(Upgrade),
+    Instants(Instants),
     /// Prints sheets as trees.
     Show(Vec<PathBuf>),
     /// Says what a number means.
     Explain(explain::Asked),
-    Check(Arguments),
-    Widens(Pair),
-    Upgrade(Upgrade),
-    Instants(Instants),
+    /// Prints the stock table.
+    Table,
+}
+
+/// What `tally` or `wall` is given.
+#[derive(Debug, PartialEq)]
+pub struct BookRun {
+    pub schema: PathBuf,
+    pub book: PathBuf,
+    pub kind: Kind,
+    pub semantics: Semantics,
+    pub label: Option<String>,
+    pub table: Option<PathBuf>,
+    pub output: Output,
 }
 
 /// What `widens` is given.
@@ -196,11 +226,18 @@ pub fn parse(words: impl IntoIterator<Item = OsString>) -> Result<Command, Strin
     let mut words = words.into_iter();
     match words.next() {
         Some(command) if command == "check" => options(words)?.check().map(Command::Check),
+        Some(command) if command == "tally" => options(words)?.tally().map(Command::Tally),
+        Some(command) if command == "wall" => options(words)?.wall().map(Command::Wall),
+        Some(command) if command == "book" => options(words)?
+            .files("book", "file RULE")
+            .map(Command::Book),
         Some(command) if command == "path" => options(words)?.path().map(Command::Check),
         Some(command) if command == "widens" => options(words)?.widens().map(Command::Widens),
         Some(command) if command == "upgrade" => options(words)?.upgrade().map(Command::Upgrade),
         Some(command) if command == "instant" => options(words)?.instant().map(Command::Instants),
-        Some(command) if command == "show" => options(words)?.show().map(Command::Show),
+        Some(command) if command == "show" => {
+            options(words)?.files("show", "file").map(Command::Show)
+        }
         Some(command) if command == "explain" => {
             let words: Vec<OsString> = words.collect();
             explain::parse(&words).map(Command::Explain)
@@ -274,6 +311,52 @@ impl Options {
         self.rules("check", schema, &rules)
     }
 
+    fn tally(self) -> Result<BookRun, String> {
+        not_for("tally", &[("--label", self.label.is_some())])?;
+        self.book_run("tally")
+    }
+
+    fn wall(self) -> Result<BookRun, String> {
+        let given = [("--json", self.output.json), ("--quiet", self.output.quiet)];
+        not_for("wall", &given)?;
+        self.book_run("wall")
+    }
+
+    /// What a command about a whole book is given.
+    fn book_run(self, command: &str) -> Result<BookRun, String> {
+        self.once(command)?;
+        let given = [
+            ("--reader", self.reader.is_some()),
+            ("--sarif", self.output.sarif),
+            ("--constants", self.output.constants),
+        ];
+        not_for(command, &given)?;
+        let [schema, book] = self.words.as_slice() else {
+            return Err(format!("{command}: expected the files SCHEMA and BOOK"));
+        };
+        Ok(BookRun {
+            schema: schema.into(),
+            book: book.into(),
+            kind: self.kind(command)?,
+            semantics: self.semantics(command)?,
+            label: self.label,
+            table: self.table,
+            output: self.output,
+        })
+    }
+
+    fn kind(&self, command: &str) -> Result<Kind, String> {
+        self.kind
+            .ok_or_else(|| missing(command, "--kind KIND", Kind::ALL))
+    }
+
+    fn semantics(&self, command: &str) -> Result<Semantics, String> {
+        self.semantics.ok_or_else(|| {
+            let option = "--semantics SEMANTICS";
+            missing(command, option, Semantics::ALL)
+        })
+    }
+
     fn widens(self) -> Result<Pair, String> {
         self.only_output("widens")?;
         self.once("widens")?;
@@ -326,9 +409,7 @@ impl Options {
         rules: &[OsString],
     ) -> Result<Arguments, String> {
         not_for(command, &[("--reader", self.reader.is_some())])?;
-        let kind = self
-            .kind
-            .ok_or_else(|| missing(command, "--kind KIND", Kind::ALL))?;
+        let kind = self.kind(command)?;
         let asked = Asked::Rules {
             files: rules.iter().map(PathBuf::from).collect(),
             kind,
@@ -352,13 +433,14 @@ impl Options {
         self.arguments("path", schema, Asked::Keys { paths, reader })
     }
 
-    fn show(self) -> Result<Vec<PathBuf>, String> {
-        self.only_output("show")?;
+    /// What a command is given that takes files and no option.
+    fn files(self, command: &str, file: &str) -> Result<Vec<PathBuf>, String> {
+        self.only_output(command)?;
         let given = [("--json", self.output.json), ("--quiet", self.output.quiet)];
-        not_for("show", &given)?;
-        self.once("show")?;
+        not_for(command, &given)?;
+        self.once(command)?;
         match self.words.is_empty() {
-            true => Err("show: expected at least one file".to_owned()),
+            true => Err(format!("{command}: expected at least one {file}")),
             false => Ok(self.words.iter().map(PathBuf::from).collect()),
         }
     }
@@ -405,14 +487,10 @@ impl Options {
     }
 
     fn arguments(self, command: &str, schema: PathBuf, asked: Asked) -> Result<Arguments, String> {
-        let semantics = self.semantics.ok_or_else(|| {
-            let option = "--semantics SEMANTICS";
-            missing(command, option, Semantics::ALL)
-        })?;
         Ok(Arguments {
             schema,
             asked,
-            semantics,
+            semantics: self.semantics(command)?,
             output: self.output,
         })
     }
@@ -539,6 +617,88 @@ mod tests {
     }
 
     #[test]
+    fn a_tally_takes_one_book() {
+        let run = BookRun {
+            schema: "s".into(),
+            book: "b".into(),
+            kind: Kind::Invariant,
+            semantics: Semantics::Kernel1,
+            label: None,
+            table: Some("t".into()),
+            output: Output {
+                json: true,
+                quiet: true,
+                ..Output::default()
+            },
+        };
+        let settings = "--kind invariant --semantics kernel/1";
+        assert_eq!(
+            parsed(&format!("tally s b {settings} --table t --json --quiet")),
+            Ok(Command::Tally(run))
+        );
+        for words in ["", "s", "s b c"] {
+            let expected = "tally: expected the files SCHEMA and BOOK";
+            assert_eq!(error(&format!("tally {words} {settings}")), expected);
+        }
+        for option in ["--label x", "--sarif", "--constants"] {
+            let (name, _) = option.split_once(' ').unwrap_or((option, ""));
+            let expected = format!("tally: {name} is no option of this command");
+            assert_eq!(error(&format!("tally s b {settings} {option}")), expected);
+        }
+        assert!(error("tally s b").starts_with("tally: expected --kind KIND, one of"));
+        assert!(
+            error("tally s b --kind invariant")
+                .starts_with("tally: expected --semantics SEMANTICS")
+        );
+        assert_eq!(
+            error(&format!("tally - - {settings}")),
+            "tally: expected `-`, standard input, at most once"
+        );
+    }
+
+    #[test]
+    fn a_wall_sheet_takes_a_label() {
+        let settings = "--kind invariant --semantics kernel/1";
+        let label = |line: &str| match parsed(&format!("wall s b {settings} {line}")) {
+            Ok(Command::Wall(run)) => run.label,
+            _ => Some("no wall sheet".to_owned()),
+        };
+        assert_eq!(label("--label x").as_deref(), Some("x"));
+        assert_eq!(label(""), None);
+        for option in ["--json", "--quiet", "--reader kernel", "--sarif"] {
+            let (name, _) = option.split_once(' ').unwrap_or((option, ""));
+            let expected = format!("wall: {name} is no option of this command");
+            assert_eq!(error(&format!("wall s b {settings} {option}")), expected);
+        }
+        assert_eq!(
+            error(&format!("wall s {settings}")),
+            "wall: expected the files SCHEMA and BOOK"
+        );
+    }
+
+    #[test]
+    fn books_are_written_and_sheets_shown_from_files_alone() {
+        let files = || vec!["a".into(), "-".into()];
+        assert_eq!(parsed("book a -"), Ok(Command::Book(files())));
+        assert_eq!(parsed("show a -"), Ok(Command::Show(files())));
+        assert_eq!(error("book"), "book: expected at least one file RULE");
+        assert_eq!(error("show"), "show: expected at least one file");
+        for option in [
+            "--json",
+            "--quiet",
+            "--kind invariant",
+            "--label x",
+            "--sarif",
+        ] {
+            let (name, _) = option.split_once(' ').unwrap_or((option, ""));
+            for command in ["book", "show"] {
+                let expected = format!("{command}: {name} is no option of this command");
+                assert_eq!(error(&format!("{command} a {option}")), expected);
+            }
+        }
+    }
+
+    #[test]
     fn instants_are_any_words() {
         let expected = |texts: &[&str], json| {
             Ok(Command::Instants(Instants {
@@ -583,7 +743,7 @@ mod tests {
 
     #[test]
     fn errors_say_what_was_expected() {
-        let commands = "expected the command `check`, `path`, `widens`, `upgrade`, `instant`, `show`, `explain` or `table`";
+        let commands = format!("expected {COMMANDS}");
         assert_eq!(error(""), commands);
         assert_eq!(error("chekc"), format!("{commands}, not \"chekc\""));
         assert_eq!(

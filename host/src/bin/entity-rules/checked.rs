@@ -3,20 +3,19 @@
 use crate::arguments::{Arguments, Asked, Output};
 use crate::blame::{self, Blame, Readable};
 use crate::constant::{self, Always};
+use crate::files::{Fault, NoSheet, Rule, Rules, Sheet, Unreadable, fault, read_sheet};
 use crate::hint::{hint, no_member};
 use crate::outline::reached;
-use crate::region::{Position, Region};
+use crate::region::Region;
 use crate::widened::Tree;
-use entity_rules::entries::{Content, Entry, Malformed, read_rule, read_schema};
-use entity_rules::limits::{MAX_SHEET_BYTES, MAX_TEXT_BYTES, TABLE_BYTES};
+use entity_rules::entries::{Content, read_rule, read_schema};
+use entity_rules::limits::TABLE_BYTES;
 use entity_rules::{
     Check, Defect, Detail, Instant, Kind, PathVerdict, Reader, ReferenceFault, Refusal, Semantics,
     Table, TableError, Verdict, check_path, instant,
 };
 use std::ffi::{OsStr, OsString};
-use std::fs::File;
-use std::io::{self, Read};
-use std::path::{Path, PathBuf};
+use std::path::Path;
 
 /// What was asked about, and what came of it.
 pub struct Checked<'a> {
@@ -27,23 +26,43 @@ pub struct Checked<'a> {
 /// What an outcome is about, as the command line names it.
 #[derive(Clone, Copy)]
 pub enum Subject<'a> {
-    /// The file of a rule or template.
+    /// The file of a rule or template, or a whole book.
     File(&'a Path),
+    /// A sheet of a book, by its serial number from 1.
+    InBook { book: &'a Path, serial: usize },
     /// A path of the record's fields.
     Key(&'a OsStr),
     /// A text that is read as an instant.
     Text(&'a OsStr),
 }
 
+impl Subject<'_> {
+    /// What paths begin with where the command line does not say it: a file's name without its end, with the serial number of a sheet in a book.
+    /// A name that is no UTF-8 is no label, which is the library's to say.
+    pub fn label(self) -> Vec<u8> {
+        let stem = |file: &Path| {
+            let stem = file.file_stem().unwrap_or_default();
+            stem.as_encoded_bytes().to_vec()
+        };
+        match self {
+            Self::File(file) => stem(file),
+            Self::InBook { book, serial } => [stem(book), format!("[{serial}]").into()].concat(),
+            Self::Key(_) | Self::Text(_) => Vec::new(),
+        }
+    }
+}
+
 /// What is checked against the schema: one of what the command line asks for.
 #[derive(Clone, Copy)]
 pub enum Question<'a> {
-    /// The rule or template in a file.
+    /// A rule or template.
     Rule {
-        file: &'a Path,
+        rule: Rule<'a>,
         kind: Kind,
         label: Option<&'a str>,
     },
+    /// A file that should hold one, and does not.
+    NoRule { file: &'a Path, why: &'a NoSheet },
     /// A path of the record's fields.
     Key { path: &'a OsStr, reader: Reader },
 }
@@ -51,22 +70,24 @@ pub enum Question<'a> {
 impl<'a> Question<'a> {
     pub fn subject(self) -> Subject<'a> {
         match self {
-            Self::Rule { file, .. } => Subject::File(file),
+            Self::Rule { rule, .. } => rule.subject,
+            Self::NoRule { file, .. } => Subject::File(file),
             Self::Key { path, .. } => Subject::Key(path),
         }
     }
 }
 
 impl Asked {
-    /// Each question, in the order given.
-    pub fn questions(&self) -> Vec<Question<'_>> {
+    /// Each question, in the order given; the rules are those of the files that it names.
+    pub fn questions<'a>(&'a self, rules: &'a Rules<'_>) -> Vec<Question<'a>> {
         match self {
-            Self::Rules {
-                files, kind, label, ..
-            } => {
+            Self::Rules { kind, label, .. } => {
                 let (kind, label) = (*kind, label.as_deref());
-                let rule = |file| Question::Rule { file, kind, label };
-                files.iter().map(PathBuf::as_path).map(rule).collect()
+                let question = |rule| match rule {
+                    Ok(rule) => Question::Rule { rule, kind, label },
+                    Err((file, why)) => Question::NoRule { file, why },
+                };
+                rules.all().into_iter().map(question).collect()
             }
             Self::Keys { paths, reader } => {
                 let reader = *reader;
@@ -119,32 +140,13 @@ pub struct Spot {
     pub text: String,
 }
 
-/// Where a sheet stops being one, or a table breaks a condition.
-#[derive(Clone)]
-pub struct Fault {
-    pub file: PathBuf,
-    pub line: usize,
-    /// The character of the line, from 1.
-    pub column: usize,
-    pub malformed: Malformed,
-}
-
-/// A file that cannot be read.
-#[derive(Clone)]
-pub struct Unreadable {
-    pub file: PathBuf,
-    pub sheet: Sheet,
-    pub reason: String,
-}
-
-/// What a file should hold.
-#[derive(Clone, Copy, PartialEq, Eq)]
-pub enum Sheet {
-    Schema,
-    Rule,
-    Table,
-    /// Any of these.
-    Any,
+impl From<NoSheet> for Outcome {
+    fn from(why: NoSheet) -> Self {
+        match why {
+            NoSheet::Unreadable(unreadable) => Self::Unreadable(unreadable),
+            NoSheet::Refused { refusal, fault } => Self::Refused { refusal, fault },
+        }
+    }
 }
 
 impl Outcome {
@@ -188,12 +190,12 @@ impl Outcome {
 /// What all questions share: the schema, and a name table where one is given.
 pub struct Shared {
     schema: Result<Vec<u8>, Unreadable>,
-    table: Result<Names, NoTable>,
+    table: Result<Names, NoSheet>,
 }
 
 /// The table as it is lent, no bytes for the stock table, and what it says.
-struct Names {
-    lent: Vec<u8>,
+pub struct Names {
+    pub lent: Vec<u8>,
     table: Table,
 }
 
@@ -206,41 +208,33 @@ impl Names {
     }
 }
 
-/// Why there is no table.
-enum NoTable {
-    Unreadable(Unreadable),
-    Refused {
-        refusal: Refusal,
-        fault: Option<Fault>,
-    },
-}
-
 impl Shared {
-    pub fn new(arguments: &Arguments) -> Self {
-        let table = match &arguments.asked {
-            Asked::Rules {
-                table: Some(file), ..
-            } => load(file),
-            _ => Ok(Names::stock()),
-        };
+    pub fn new(schema: &Path, table: Option<&Path>) -> Self {
         Self {
-            schema: read_sheet(&arguments.schema, Sheet::Schema),
-            table,
+            schema: read_sheet(schema, Sheet::Schema),
+            table: table.map_or_else(|| Ok(Names::stock()), load),
         }
+    }
+
+    /// What a command that checks rules or paths is given.
+    pub fn of(arguments: &Arguments) -> Self {
+        let table = match &arguments.asked {
+            Asked::Rules { table, .. } => table.as_deref(),
+            Asked::Keys { .. } => None,
+        };
+        Self::new(&arguments.schema, table)
     }
 }
 
 /// Loads the table of a file.
-fn load(file: &Path) -> Result<Names, NoTable> {
-    let sheet = read_sheet(file, Sheet::Table).map_err(NoTable::Unreadable)?;
-    let refused = |error: TableError| NoTable::Refused {
-        refusal: error.refusal(),
-        fault: error.fault().map(|malformed| Fault {
-            file: file.to_owned(),
-            line: line_of(&sheet, malformed.byte),
-            column: Position::new(&sheet, malformed.byte).column,
-            malformed,
-        }),
+fn load(file: &Path) -> Result<Names, NoSheet> {
+    let sheet = read_sheet(file, Sheet::Table)?;
+    let refused = |error: TableError| {
+        let fault = error.fault();
+        NoSheet::Refused {
+            refusal: error.refusal(),
+            fault: fault.map(|malformed| Fault::new(file, &sheet, &malformed)),
+        }
     };
     let mut lent = vec![0; TABLE_BYTES];
     Table::load(&sheet, &mut lent).map_err(refused)?;
@@ -251,13 +245,11 @@ fn load(file: &Path) -> Result<Names, NoTable> {
 impl<'a> Checked<'a> {
     pub fn new(arguments: &Arguments, shared: &Shared, question: Question<'a>) -> Self {
         let outcome = match (shared.ready(), question) {
-            (Err(outcome), _) => *outcome,
-            (Ok((names, schema)), Question::Rule { file, kind, label }) => {
-                match read_sheet(file, Sheet::Rule) {
-                    Ok(rule) => rule_outcome(arguments, names, schema, (file, &rule), kind, label),
-                    Err(unreadable) => Outcome::Unreadable(unreadable),
-                }
+            (Err(why), _) => why.into(),
+            (Ok((names, schema)), Question::Rule { rule, kind, label }) => {
+                rule_outcome(arguments, names, schema, rule, kind, label)
             }
+            (Ok(_), Question::NoRule { why, .. }) => why.clone().into(),
             (Ok((_, schema)), Question::Key { path, reader }) => {
                 key_outcome(arguments, schema, path, reader)
             }
@@ -284,22 +276,16 @@ impl Shared {
         self.schema.as_deref()
     }
 
-    /// The table and the schema, or what comes of every question where one of them is missing.
-    fn ready(&self) -> Result<(&Names, &[u8]), Box<Outcome>> {
-        let outcome = match (&self.table, &self.schema) {
-            (Ok(names), Ok(schema)) => return Ok((names, schema)),
-            (Err(NoTable::Unreadable(unreadable)), _) | (_, Err(unreadable)) => {
-                Outcome::Unreadable(unreadable.clone())
-            }
-            (Err(NoTable::Refused { refusal, fault }), _) => Outcome::Refused {
-                refusal: *refusal,
-                fault: fault.clone(),
-            },
-        };
-        Err(Box::new(outcome))
+    /// The table and the schema, or why one of them is missing.
+    pub fn ready(&self) -> Result<(&Names, &[u8]), NoSheet> {
+        match (&self.table, &self.schema) {
+            (Ok(names), Ok(schema)) => Ok((names, schema)),
+            (Err(why), _) => Err(why.clone()),
+            (_, Err(unreadable)) => Err(unreadable.clone().into()),
+        }
     }
 
-    /// What comes of a question, and, for a rule of which it is wanted then, what comes of it under another schema. The rule's file is read once.
+    /// What comes of a question, and, for a rule of which it is wanted then, what comes of it under another schema.
     pub fn outcomes(
         &self,
         arguments: &Arguments,
@@ -307,60 +293,30 @@ impl Shared {
         question: Question<'_>,
         is_wanted: impl Fn(&Outcome) -> bool,
     ) -> (Outcome, Option<Outcome>) {
-        let (Ok((names, schema)), Question::Rule { file, kind, label }) = (self.ready(), question)
+        let (Ok((names, schema)), Question::Rule { rule, kind, label }) = (self.ready(), question)
         else {
             return (Checked::new(arguments, self, question).outcome, None);
         };
-        let rule = match read_sheet(file, Sheet::Rule) {
-            Ok(rule) => rule,
-            Err(unreadable) => return (Outcome::Unreadable(unreadable), None),
-        };
-        let under =
-            |schema: &[u8]| rule_outcome(arguments, names, schema, (file, &rule), kind, label);
+        let under = |schema: &[u8]| rule_outcome(arguments, names, schema, rule, kind, label);
         let outcome = under(schema);
         let after = is_wanted(&outcome).then(|| under(other));
         (outcome, after)
     }
 }
 
-/// A file's bytes, or those of standard input for `-`.
-pub fn read_sheet(file: &Path, sheet: Sheet) -> Result<Vec<u8>, Unreadable> {
-    let bytes = match file.as_os_str() == "-" {
-        true => start(io::stdin()),
-        false => File::open(file).and_then(start),
-    };
-    bytes.map_err(|error| Unreadable {
-        file: file.to_owned(),
-        sheet,
-        reason: error.to_string(),
-    })
-}
-
-/// As much as is needed of a sheet that is too long: the limit, and the rest of the entry that passes it, which has two texts at most.
-fn start(input: impl Read) -> io::Result<Vec<u8>> {
-    let most = MAX_TEXT_BYTES
-        .saturating_mul(4)
-        .saturating_add(MAX_SHEET_BYTES);
-    let most = u64::try_from(most).unwrap_or(u64::MAX);
-    let mut bytes = Vec::new();
-    input.take(most).read_to_end(&mut bytes)?;
-    Ok(bytes)
-}
-
-/// What comes of a rule's file that was read.
+/// What comes of a rule.
 fn rule_outcome(
     arguments: &Arguments,
     names: &Names,
     schema: &[u8],
-    (file, rule): (&Path, &[u8]),
+    rule: Rule<'_>,
     kind: Kind,
     label: Option<&str>,
 ) -> Outcome {
-    // A name that is no UTF-8 is no label, which is the library's to say.
-    let stem = file.file_stem().unwrap_or_default().as_encoded_bytes();
-    let label = label.map_or(stem, str::as_bytes);
+    let own = rule.subject.label();
+    let label = label.map_or(&*own, str::as_bytes);
     let check = Check::new(kind, arguments.semantics, label).table(&names.lent);
-    let checked = check.run(schema, rule);
+    let checked = check.run(schema, rule.bytes);
     let constants = checked
         .as_ref()
         .map_or(&[][..], |checked| &checked.constants);
@@ -383,9 +339,9 @@ fn rule_outcome(
         }
         Err(refusal @ Refusal::RuleSheet) => Outcome::Refused {
             refusal,
-            fault: fault(file, rule, read_rule),
+            fault: rule.fault(),
         },
-        Err(refusal) => refused(arguments, schema, refusal),
+        Err(refusal) => refused(&arguments.schema, schema, refusal),
     }
 }
 
@@ -397,7 +353,7 @@ fn key_outcome(arguments: &Arguments, schema: &[u8], path: &OsStr, reader: Reade
             blame: key_blame(arguments.semantics, schema, path, fault).map(Box::new),
             hint: no_member(arguments.semantics, fault),
         },
-        Err(refusal) => refused(arguments, schema, refusal),
+        Err(refusal) => refused(&arguments.schema, schema, refusal),
     }
 }
 
@@ -405,7 +361,7 @@ fn key_outcome(arguments: &Arguments, schema: &[u8], path: &OsStr, reader: Reade
 pub fn sheets_outcome(
     kind: Kind,
     semantics: Semantics,
-    [(schema_file, schema), rule]: [(&Path, &[u8]); 2],
+    [(schema_file, schema), (rule_file, rule)]: [(&Path, &[u8]); 2],
 ) -> Outcome {
     let names = Names::stock();
     let arguments = Arguments {
@@ -417,6 +373,7 @@ pub fn sheets_outcome(
         semantics,
         output: Output::default(),
     };
+    let rule = Rule::of_file(rule_file, rule);
     rule_outcome(&arguments, &names, schema, rule, kind, None)
 }
 
@@ -431,17 +388,17 @@ fn key_blame(
 }
 
 /// A refusal that is not the rule's, with the schema's fault if it is that one.
-fn refused(arguments: &Arguments, schema: &[u8], refusal: Refusal) -> Outcome {
+fn refused(file: &Path, schema: &[u8], refusal: Refusal) -> Outcome {
     let fault = match refusal {
-        Refusal::SchemaSheet => fault(&arguments.schema, schema, read_schema),
+        Refusal::SchemaSheet => fault(file, schema, read_schema),
         _ => None,
     };
     Outcome::Refused { refusal, fault }
 }
 
 /// A defect with the entries that it names, the part of a reference that is at fault, and a hint.
-fn located(defect: Defect, schema: &[u8], rule: &[u8], readable: &Readable<'_>) -> Outcome {
-    let entries = read_rule(rule).unwrap_or_default();
+fn located(defect: Defect, schema: &[u8], rule: Rule<'_>, readable: &Readable<'_>) -> Outcome {
+    let entries = read_rule(rule.bytes).unwrap_or_default();
     let entry = |place: u32| entries.get(usize::try_from(place).ok()?.checked_sub(1)?);
     let text = match entry(defect.place).map(|entry| entry.content) {
         Some(Content::String(text)) => text,
@@ -457,8 +414,8 @@ fn located(defect: Defect, schema: &[u8], rule: &[u8], readable: &Readable<'_>) 
         let entry = entry(place)?;
         Some(Spot {
             place,
-            line: line_of(rule, entry.byte),
-            region: Box::new(Region::of_entry(rule, entry.byte, part)),
+            line: rule.line_of(entry.byte),
+            region: Box::new(rule.region(entry.byte, part)),
             text: entry.to_string(),
         })
     };
@@ -472,28 +429,4 @@ fn located(defect: Defect, schema: &[u8], rule: &[u8], readable: &Readable<'_>) 
         hint: hint(readable, defect.detail, text),
         defect,
     }
-}
-
-/// What reads the entries of a sheet.
-pub type SheetReader = for<'a> fn(&'a [u8]) -> Result<Vec<Entry<'a>>, Malformed>;
-
-/// Where a file's sheet stops being one.
-pub fn fault(file: &Path, sheet: &[u8], read: SheetReader) -> Option<Fault> {
-    let malformed = read(sheet).err()?;
-    Some(Fault {
-        file: file.to_owned(),
-        line: line_of(sheet, malformed.byte),
-        column: Position::new(sheet, malformed.byte).column,
-        malformed,
-    })
-}
-
-/// The line on which a byte stands, from 1. A text may hold line ends, so this is not the entry's number.
-pub fn line_of(sheet: &[u8], byte: usize) -> usize {
-    let ends = sheet
-        .iter()
-        .take(byte)
-        .filter(|&&byte| byte == b'\n')
-        .count();
-    ends.saturating_add(1)
 }

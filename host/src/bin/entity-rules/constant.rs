@@ -1,6 +1,6 @@
 //! Constant conditions of a rule, with what a person wants to know about them.
 
-use crate::checked::line_of;
+use crate::files::Rule;
 use crate::json::Object;
 use crate::outline::reached;
 use crate::report::visible;
@@ -19,16 +19,16 @@ pub struct Always {
 }
 
 /// The constant conditions of a rule, whose paths begin with the label.
-pub fn all(label: &[u8], rule: &[u8], constants: &[Constant]) -> Vec<Always> {
+pub fn all(label: &[u8], rule: Rule<'_>, constants: &[Constant]) -> Vec<Always> {
     let label = String::from_utf8_lossy(label);
-    let entries = read_rule(rule).unwrap_or_default();
+    let entries = read_rule(rule.bytes).unwrap_or_default();
     let always = |constant: &Constant| {
         let place = usize::try_from(constant.entry).ok()?;
         let behind = entries.get(place.checked_sub(1)?..)?;
         Some(Always {
             holds: constant.holds,
             place: constant.entry,
-            line: line_of(rule, behind.first()?.byte),
+            line: rule.line_of(behind.first()?.byte),
             path: format!("{label}{}", reached(&entries, constant.entry)?.path),
             text: condition(behind)?,
         })

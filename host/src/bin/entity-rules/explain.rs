@@ -4,8 +4,8 @@ use crate::checked::{Checked, Subject, sheets_outcome};
 use crate::report::{self, Palette};
 use entity_rules::limits::TABLE_BYTES;
 use entity_rules::{
-    Check, DefectNumber, Detail, Kind, PathVerdict, Reader, ReferenceFault, Refusal, Semantics,
-    Table, Verdict, check_path,
+    Book, Check, DefectNumber, Detail, Kind, PathVerdict, Reader, ReferenceFault, Refusal,
+    Semantics, Table, Verdict, check_path,
 };
 use std::path::Path;
 
@@ -17,7 +17,7 @@ pub struct Asked {
 }
 
 /// The numbers that can be asked for.
-const EXPECTED: &str = "explain: expected a number of an answer, 0 to 5, 11 to 22, 35, 37 or 38, or one of these with a detail, as 18.3";
+const EXPECTED: &str = "explain: expected a number of an answer, 0 to 5, 11 to 22, 33 to 35, 37 or 38, or one of these with a detail, as 18.3";
 
 /// Reads `18` or `18.3`.
 pub fn parse(words: &[std::ffi::OsString]) -> Result<Asked, String> {
@@ -89,6 +89,8 @@ fn refusal(number: u32) -> Option<Refusal> {
         Refusal::Width,
         Refusal::SchemaSheet,
         Refusal::RuleSheet,
+        Refusal::Output,
+        Refusal::BookForm,
         Refusal::Marks,
         Refusal::TableForm,
         Refusal::TableMark,
@@ -115,7 +117,7 @@ fn mend(number: u32) -> &'static str {
         1 => "Kinds go from 1 to 8, semantics from 1 to 4, readers are 1 and 2.",
         2 => "A label has at most 256 bytes, a key path 512; both are UTF-8.",
         3 => {
-            "A call is lent a path buffer of 32,768 bytes and a result of 28; only a program can meet this."
+            "A call is lent a path buffer of 32,768 bytes and a result of 28, for a check with marks 32, for a tally 144, for a wall sheet 16; only a program can meet this."
         }
         4 => "The tool names the line, the entry and the byte, and what was expected there.",
         5 => {
@@ -145,6 +147,10 @@ fn mend(number: u32) -> &'static str {
         22 => {
             "Name an array or a map of `$fields`, `$old_fields` or `$args`, or something below a bind."
         }
+        33 => "A wall sheet is lent 4,860 bytes for each page; only a program can meet this.",
+        34 => {
+            "A book has sheets and nothing between them, each with its length in bytes and a comma before it; `entity-rules book` writes one."
+        }
         35 => "A check is lent a list of 8,192 bytes for its marks; only a program can meet this.",
         37 => {
             "A name table is eight rows of 22 bytes; `entity-rules table` prints the stock table."
@@ -163,6 +169,7 @@ enum Example {
         rule: &'static str,
     },
     Key(&'static str),
+    Book(&'static str),
     Table(&'static str),
 }
 
@@ -272,6 +279,11 @@ const EXAMPLES: &[(u32, u32, Example)] = &[
         service("R,-,-,\nC,20,1,b\nV,5,9,$fields.i\nC,1,1,\n"),
     ),
     (22, 5, service("R,-,-,\nC,20,1,b\nV,5,3,$id\nC,1,1,\n")),
+    (
+        34,
+        0,
+        Example::Book("14,R,-,-,\nC,1,1,\n\n14,R,-,-,\nC,1,0,\n"),
+    ),
     (37, 0, Example::Table("N,1,1,1,1,1,1,0,0,0\n")),
     (
         38,
@@ -306,6 +318,12 @@ impl Example {
                     "\nFor example, a schema\n\n{schema}\nand the key path {path}, read by a projection under service/1, give\n\n{answer}"
                 )
             }
+            Self::Book(book) => {
+                let (book, answer) = (indented(book), indented(&told(self)));
+                format!(
+                    "\nFor example, a file\n\n{book}\ntallied as a rule book, gives\n\n{answer}"
+                )
+            }
             Self::Table(table) => {
                 let (table, answer) = (indented(table), indented(&told(self)));
                 format!("\nFor example, a name table\n\n{table}\ngives\n\n{answer}")
@@ -338,6 +356,10 @@ fn told(example: &Example) -> String {
             let number = ReferenceFault::TextCount;
             format!("{path}: {}\n", fault.unwrap_or(number))
         }
+        Example::Book(book) => match Book::read(book.as_bytes()) {
+            Ok(_) => String::new(),
+            Err(error) => format!("refused {}: {error}\n", error.refusal().number()),
+        },
         Example::Table(table) => match Table::read(table.as_bytes()) {
             Ok(_) => String::new(),
             Err(error) => format!("refused {}: {error}\n", error.number()),
@@ -377,6 +399,11 @@ fn answered(example: &Example) -> Option<(u32, u32)> {
             let verdict = check_path(semantics, reader, path, SCHEMA.as_bytes()).ok()?;
             Some((DefectNumber::Reference.number(), verdict.fault()?.number()))
         }
+        Example::Book(book) => {
+            let check = Check::new(Kind::Precondition, Semantics::Service1, "example");
+            let refused = check.tally(SCHEMA.as_bytes(), book).err()?;
+            Some((refused.number(), 0))
+        }
         Example::Table(table) => {
             let refused = Table::load(table.as_bytes(), &mut [0; TABLE_BYTES]).err()?;
             Some((refused.number(), 0))
@@ -414,7 +441,7 @@ mod tests {
                 assert!(one.example().is_some(), "{one:?}");
             }
         }
-        for number in [0, 1, 2, 3, 4, 5, 35, 37, 38] {
+        for number in [0, 1, 2, 3, 4, 5, 33, 34, 35, 37, 38] {
             assert!(asked(&number.to_string()).unwrap().text().lines().count() > 2);
         }
     }

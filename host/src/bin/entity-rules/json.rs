@@ -1,8 +1,9 @@
 //! Outcomes as JSON (RFC 8259), one object on one line.
 
 use crate::blame::{Blame, Help};
-use crate::checked::{Checked, Fault, Outcome, Spot, Subject, Unreadable};
+use crate::checked::{Checked, Outcome, Spot, Subject};
 use crate::constant::Always;
+use crate::files::{Fault, Unreadable};
 use crate::hint::INSTANT;
 use crate::report::{NO_INSTANT, explained, instant_fields, name, not_read, refused};
 use entity_rules::{Defect, DefectNumber, PathVerdict, Refusal};
@@ -20,6 +21,10 @@ pub fn line(checked: &Checked) -> String {
 pub fn subject_member(object: &mut Object, subject: Subject<'_>) {
     match subject {
         Subject::File(file) => object.given("file", file.as_os_str()),
+        Subject::InBook { book, serial } => {
+            object.given("file", book.as_os_str());
+            object.number("sheet", serial);
+        }
         Subject::Key(path) => object.given("key", path),
         Subject::Text(text) => object.given("text", text),
     }
@@ -92,11 +97,16 @@ pub fn refused_members(object: &mut Object, refusal: Refusal, fault: Option<&Fau
     object.text("word", refusal.word());
     object.text("explanation", &refused(refusal, fault));
     if let Some(fault) = fault {
-        object.given("fault_file", fault.file.as_os_str());
-        object.number("line", fault.line);
-        object.number("place", fault.malformed.entry);
-        object.number("byte", fault.malformed.byte);
+        fault_members(object, fault);
     }
+}
+
+/// Where a file is at fault.
+pub fn fault_members(object: &mut Object, fault: &Fault) {
+    object.given("fault_file", fault.file.as_os_str());
+    object.number("line", fault.at.line);
+    object.number("place", fault.place);
+    object.number("byte", fault.byte);
 }
 
 pub fn unreadable_members(object: &mut Object, unreadable: &Unreadable) {

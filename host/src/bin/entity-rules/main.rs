@@ -1,4 +1,5 @@
-//! The command-line tool: `entity-rules check SCHEMA RULE.. --kind KIND --semantics SEMANTICS`, `entity-rules path SCHEMA PATH..` for keys,
+//! The command-line tool: `entity-rules check SCHEMA RULE.. --kind KIND --semantics SEMANTICS`, `entity-rules tally SCHEMA BOOK ..` for a whole rule book,
+//! which `entity-rules book RULE..` writes and `entity-rules wall SCHEMA BOOK ..` prints for the wall, `entity-rules path SCHEMA PATH..` for keys,
 //! `entity-rules widens OLD NEW` and `entity-rules upgrade OLD NEW RULE..` for schemas that change, `entity-rules instant TEXT..`, which prints the
 //! fields of instants, `entity-rules show FILE..`, which prints sheets as trees, `entity-rules explain NUMBER`, which says what a number of an answer means, and `entity-rules table`, which prints the stock table.
 
@@ -17,6 +18,7 @@ mod blame;
 mod checked;
 mod constant;
 mod explain;
+mod files;
 mod hint;
 mod json;
 mod near;
@@ -26,21 +28,24 @@ mod region;
 mod report;
 mod sarif;
 mod show;
+mod tallied;
 mod terminal;
 mod upgraded;
 mod version;
 mod widened;
 
-use arguments::{Arguments, Command, Instants, Output, Pair, Upgrade};
-use checked::{Checked, Shared, Sheet, Subject, read_sheet};
-use entity_rules::Table;
+use arguments::{Arguments, Asked, BookRun, Command, Instants, Output, Pair, Upgrade};
+use checked::{Checked, Shared, Subject};
+use entity_rules::{Book, Table};
+use files::{Rules, Sheet, read_sheet};
 use progress::Progress;
-use report::{Palette, Tally};
+use report::{Counts, Palette};
 use sarif::Log;
 use std::env;
 use std::io::{self, ErrorKind, IsTerminal, Write};
 use std::path::{Path, PathBuf};
 use std::process::ExitCode;
+use tallied::{Tallied, Walled};
 use upgraded::{Fates, Upgraded};
 use widened::{Compared, Comparison};
 
@@ -59,7 +64,7 @@ fn main() -> ExitCode {
     }))
 }
 
-/// Says on standard error why nothing was done.
+/// Says something on standard error, most often why nothing was done.
 fn complain(message: &str) -> u8 {
     let _ = writeln!(io::stderr(), "entity-rules: {message}");
     REFUSED
@@ -74,45 +79,67 @@ fn run(command: &Command) -> io::Result<u8> {
             out.write_all(text.as_bytes())?;
             return Ok(if is_right { 0 } else { REFUSED });
         }
+        Command::Check(arguments) => return check(arguments, &mut out),
+        Command::Tally(asked) => return tally(asked, &mut out),
+        Command::Wall(asked) => return wall(asked, &mut out),
+        Command::Book(files) => return book(files, &mut out),
+        Command::Widens(pair) => return widens(pair, &mut out),
+        Command::Upgrade(asked) => return upgrade(asked, &mut out),
+        Command::Instants(asked) => return instants(asked, &mut out),
+        Command::Show(files) => return show_sheets(files, &mut out),
+        Command::Explain(asked) => out.write_all(asked.text().as_bytes())?,
         Command::Table => match Table::stock().sheet() {
             Ok(sheet) => out.write_all(&sheet)?,
             Err(error) => return Ok(complain(&error.to_string())),
         },
-        Command::Show(files) => return show_sheets(files, &mut out),
-        Command::Explain(asked) => out.write_all(asked.text().as_bytes())?,
-        Command::Check(arguments) => return check(arguments, &mut out),
-        Command::Widens(pair) => return widens(pair, &mut out),
-        Command::Upgrade(asked) => return upgrade(asked, &mut out),
-        Command::Instants(asked) => return instants(asked, &mut out),
     }
     Ok(0)
 }
 
-/// Prints every sheet as a tree.
+/// Prints every sheet as a tree, under its name where there are several.
 fn show_sheets(files: &[PathBuf], out: &mut impl Write) -> io::Result<u8> {
     let palette = Palette::new(io::stdout().is_terminal());
-    let mut status = 0;
-    for file in files {
-        match show::text(file, files.len() > 1) {
-            Ok(text) => out.write_all(text.as_bytes())?,
-            Err(outcome) => {
-                let checked = Checked {
-                    subject: Subject::File(file),
-                    outcome: *outcome,
-                };
-                out.write_all(report::text(&palette, &checked).as_bytes())?;
+    let sheets = Rules::read_any(files);
+    let sheets = sheets.all();
+    let (is_named, mut status) = (sheets.len() > 1, 0);
+    for sheet in sheets {
+        let (subject, shown) = match sheet {
+            Ok(sheet) => (sheet.subject, show::text(sheet)),
+            Err((file, why)) => (Subject::File(file), Err(why.clone())),
+        };
+        let text = match shown {
+            Ok(tree) if is_named => format!("{}\n{tree}", report::subject(subject)),
+            Ok(tree) => tree,
+            Err(why) => {
                 status = REFUSED;
+                let outcome = why.into();
+                report::text(&palette, &Checked { subject, outcome })
             }
-        }
+        };
+        out.write_all(text.as_bytes())?;
     }
     out.flush()?;
     Ok(status)
 }
 
+/// The files of rules that are named, read.
+fn rules(arguments: &Arguments) -> Rules<'_> {
+    Rules::read(match &arguments.asked {
+        Asked::Rules { files, .. } => files,
+        Asked::Keys { .. } => &[],
+    })
+}
+
+/// A bar for several of what the noun says.
+fn bar(total: usize, noun: &'static str) -> Progress<io::Stderr> {
+    let is_shown = io::stderr().is_terminal() && !terminal::is_dumb();
+    Progress::new(io::stderr(), is_shown, total, noun)
+}
+
 /// Checks every rule or path, and prints what comes of it.
 fn check(arguments: &Arguments, out: &mut impl Write) -> io::Result<u8> {
-    let shared = Shared::new(arguments);
-    let questions = arguments.asked.questions().into_iter();
+    let (shared, rules) = (Shared::of(arguments), rules(arguments));
+    let questions = arguments.asked.questions(&rules).into_iter();
     let all = questions.map(|question| Checked::new(arguments, &shared, question));
     print(all, arguments.asked.noun(), arguments.output, out)
 }
@@ -132,12 +159,11 @@ fn print<'a>(
 ) -> io::Result<u8> {
     let total = all.len();
     let palette = Palette::new(io::stdout().is_terminal());
-    let has_bar = io::stderr().is_terminal() && !terminal::is_dumb();
-    let mut progress = Progress::new(io::stderr(), has_bar, total, noun);
-    let mut tally = Tally::default();
+    let mut progress = bar(total, noun);
+    let mut counts = Counts::default();
     let mut log = output.sarif.then(Log::default);
     for checked in all {
-        tally.count(&checked.outcome);
+        counts.count(&checked.outcome);
         if let Some(log) = &mut log {
             log.add(&checked);
         } else if !(output.quiet && checked.outcome.is_plain()) {
@@ -150,16 +176,77 @@ fn print<'a>(
         }
     }
     progress.clear();
-    let status = tally.status();
+    let status = counts.status();
     let is_for_people = !output.json && log.is_none();
     if let Some(log) = log {
         out.write_all(log.text().as_bytes())?;
     }
     if is_for_people && total > 1 && !(output.quiet && status == 0) {
-        writeln!(out, "{}", tally.summary(total, noun))?;
+        writeln!(out, "{}", counts.summary(total, noun))?;
     }
     out.flush()?;
     Ok(status)
+}
+
+/// Tallies a rule book, and prints what comes of it.
+fn tally(asked: &BookRun, out: &mut impl Write) -> io::Result<u8> {
+    let tallied = Tallied::new(asked, |sheets| bar(sheets, "sheets"));
+    let status = tallied.status();
+    if !(asked.output.quiet && status == 0) {
+        let palette = Palette::new(io::stdout().is_terminal());
+        let text = match asked.output.json {
+            true => tallied.line(),
+            false => tallied.text(&palette),
+        };
+        out.write_all(text.as_bytes())?;
+    }
+    out.flush()?;
+    Ok(status)
+}
+
+/// Prints a rule book for the wall. Nothing but its pages goes to standard output.
+fn wall(asked: &BookRun, out: &mut impl Write) -> io::Result<u8> {
+    match Walled::new(asked) {
+        Err(text) => Ok(complain(text.trim_end())),
+        Ok(walled) => {
+            if let Some(note) = &walled.note {
+                complain(note.trim_end());
+            }
+            out.write_all(walled.pages.as_bytes())?;
+            out.flush()?;
+            Ok(walled.status)
+        }
+    }
+}
+
+/// Writes the book of the sheets in these files, or nothing if one of them cannot be read. A sheet that is none is noted.
+fn book(files: &[PathBuf], out: &mut impl Write) -> io::Result<u8> {
+    if io::stdout().is_terminal() {
+        let expected =
+            "expected standard output to be a file, as in `entity-rules book RULE.. > BOOK`";
+        return Ok(complain(&format!("book: {expected}")));
+    }
+    let mut book = Book::new();
+    for rule in Rules::read_whole(files).all() {
+        match rule {
+            Ok(rule) => {
+                book.extend([rule.bytes]);
+                if let Some(fault) = rule.fault() {
+                    let place = report::name(fault.file.as_os_str());
+                    let note = format!("{place}:{}: written, though no rule sheet", fault.at.line);
+                    complain(&format!("{note}: {}", fault.told));
+                }
+            }
+            Err((file, why)) => {
+                let (subject, outcome) = (Subject::File(file), why.clone().into());
+                let text = report::text(&Palette::new(false), &Checked { subject, outcome });
+                return Ok(complain(text.trim_end()));
+            }
+        }
+    }
+    out.write_all(book.bytes())?;
+    out.flush()?;
+    Ok(0)
 }
 
 /// Holds two schemas against each other, and prints what comes of it.
@@ -185,7 +272,7 @@ fn show_compared(compared: &Compared, output: Output, out: &mut impl Write) -> i
 fn upgrade(asked: &Upgrade, out: &mut impl Write) -> io::Result<u8> {
     let (arguments, files) = (&asked.check, [&*asked.check.schema, &*asked.new]);
     let [old_file, new_file] = files;
-    let shared = Shared::new(arguments);
+    let shared = Shared::of(arguments);
     let new = read_sheet(new_file, Sheet::Schema);
     let compared = match (shared.schema(), &new) {
         (Ok(old), Ok(new)) => Compared::of((old_file, old), (new_file, new)),
@@ -213,11 +300,11 @@ fn upgrade_rules(
     out: &mut impl Write,
 ) -> io::Result<u8> {
     let output = arguments.output;
-    let questions = arguments.asked.questions();
+    let rules = rules(arguments);
+    let questions = arguments.asked.questions(&rules);
     let total = questions.len();
     let palette = Palette::new(io::stdout().is_terminal());
-    let has_bar = io::stderr().is_terminal() && !terminal::is_dumb();
-    let mut progress = Progress::new(io::stderr(), has_bar, total, arguments.asked.noun());
+    let mut progress = bar(total, arguments.asked.noun());
     let mut fates = Fates::default();
     for question in questions {
         let upgraded = Upgraded::new(arguments, shared, new, is_widening, question);

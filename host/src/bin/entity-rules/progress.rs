@@ -40,7 +40,12 @@ impl<W: Write> Progress<W> {
 
     /// One more is checked.
     pub fn step(&mut self) {
-        self.done = self.done.saturating_add(1);
+        self.steps(1);
+    }
+
+    /// So many more are checked.
+    pub fn steps(&mut self, count: usize) {
+        self.done = self.done.saturating_add(count);
         let now = Instant::now();
         if self.is_on && self.next.is_some_and(|next| next <= now) {
             self.next = now.checked_add(PAUSE);

@@ -16,9 +16,16 @@ pub struct Position {
 
 impl Region {
     /// A place between two characters.
-    pub fn at(line: usize, column: usize) -> Self {
-        let start = Position { line, column };
+    pub fn at(start: Position) -> Self {
         Self { start, end: start }
+    }
+
+    /// The same in the file in which its sheet begins at this place.
+    pub fn behind(self, start: Position) -> Self {
+        Self {
+            start: self.start.behind(start),
+            end: self.end.behind(start),
+        }
     }
 
     /// Some bytes of a sheet.
@@ -51,6 +58,10 @@ impl Region {
 }
 
 impl Position {
+    /// Before the first character.
+    pub const START: Self = Self { line: 1, column: 1 };
+
+    /// The place of a byte. A text may hold line ends, so its line is not the entry's number.
     pub fn new(sheet: &[u8], byte: usize) -> Self {
         let before = sheet.get(..byte).unwrap_or(sheet);
         let lines = before.split(|&byte| byte == b'\n');
@@ -60,6 +71,18 @@ impl Position {
         Self {
             line: lines.count(),
             column: letters.saturating_add(1),
+        }
+    }
+
+    /// The same in the file in which its sheet begins at this place.
+    pub fn behind(self, start: Self) -> Self {
+        let sum = |start: usize, own: usize| start.saturating_add(own).saturating_sub(1);
+        Self {
+            line: sum(start.line, self.line),
+            column: match self.line {
+                1 => sum(start.column, self.column),
+                _ => self.column,
+            },
         }
     }
 }
@@ -79,6 +102,17 @@ mod tests {
             [0, 1, 3, 4, 5, 6, 99].map(position),
             [(1, 1), (1, 2), (1, 3), (2, 1), (2, 2), (2, 3), (2, 3)]
         );
+    }
+
+    #[test]
+    fn only_the_first_line_of_a_sheet_stands_behind_what_is_before_it() {
+        let file = b"2,a\n4,b\ncd";
+        for byte in 0..5 {
+            let start = Position::new(file, 6);
+            let place = Position::new(&file[6..], byte);
+            assert_eq!(place.behind(start), Position::new(file, 6 + byte));
+            assert_eq!(place.behind(Position::START), place);
+        }
     }
 
     #[test]

@@ -1,8 +1,9 @@
 //! Outcomes in words.
 
 use crate::blame::Blame;
-use crate::checked::{Checked, Fault, Outcome, Sheet, Spot, Subject, Unreadable};
+use crate::checked::{Checked, Outcome, Spot, Subject};
 use crate::constant::Always;
+use crate::files::{Fault, Sheet, Unreadable};
 use crate::hint::INSTANT;
 use crate::terminal::{columns, is_dumb, is_plain};
 use entity_rules::{Defect, DefectNumber, Instant, PathVerdict, Refusal};
@@ -66,8 +67,7 @@ pub fn text(palette: &Palette, checked: &Checked) -> String {
                 blame.as_deref(),
                 hint,
             );
-            let line = at.as_ref().map(|spot| format!(":{}", spot.line));
-            let place = format!("{subject}{}", line.unwrap_or_default());
+            let place = placed(checked.subject, at.as_ref().map(|spot| spot.line));
             let explanation = explained(defect.explanation(), blame.as_deref());
             defect_text(palette, &place, defect.number, &explanation, &rows)
         }
@@ -120,7 +120,7 @@ pub fn refused_text(
         &format!("refused {} ({})", refusal.number(), refusal.word()),
     );
     let place = match fault {
-        Some(fault) => format!("{}:{}", name(fault.file.as_os_str()), fault.line),
+        Some(fault) => format!("{}:{}", name(fault.file.as_os_str()), fault.at.line),
         None => subject.to_owned(),
     };
     format!("{place}: {word}: {}\n", refused(refusal, fault))
@@ -128,10 +128,19 @@ pub fn refused_text(
 
 /// What an outcome is about, as it is printed.
 pub fn subject(subject: Subject<'_>) -> String {
-    name(match subject {
-        Subject::File(file) => file.as_os_str(),
-        Subject::Key(text) | Subject::Text(text) => text,
-    })
+    placed(subject, None)
+}
+
+/// The same with the line of the file, where one is known.
+fn placed(subject: Subject<'_>, line: Option<usize>) -> String {
+    let line = line.map(|line| format!(":{line}")).unwrap_or_default();
+    match subject {
+        Subject::File(file) => format!("{}{line}", name(file.as_os_str())),
+        Subject::InBook { book, serial } => {
+            format!("{}{line}: sheet {serial}", name(book.as_os_str()))
+        }
+        Subject::Key(text) | Subject::Text(text) => name(text),
+    }
 }
 
 /// A file's name, a path or a text, as it is printed.
@@ -246,7 +255,7 @@ fn string_marks(spot: &Spot, blame: &Blame) -> String {
 /// Why a call was refused.
 pub fn refused(refusal: Refusal, fault: Option<&Fault>) -> String {
     match (refusal, fault) {
-        (_, Some(fault)) => fault.malformed.to_string(),
+        (_, Some(fault)) => fault.told.clone(),
         (Refusal::Label, None) => format!("{refusal}; expected another, as by --label"),
         (refusal, None) => refusal.to_string(),
     }
@@ -258,6 +267,7 @@ pub fn not_read(unreadable: &Unreadable) -> String {
         Sheet::Schema => "schema sheet",
         Sheet::Rule => "rule sheet",
         Sheet::Table => "name table",
+        Sheet::Book => "rule book",
         Sheet::Any => "sheet",
     };
     let reason = &unreadable.reason;
@@ -278,7 +288,7 @@ pub fn visible(text: &str) -> String {
 
 /// How many rules, paths or texts there were of each outcome.
 #[derive(Default)]
-pub struct Tally {
+pub struct Counts {
     accepted: usize,
     defects: usize,
     refused: usize,
@@ -287,7 +297,7 @@ pub struct Tally {
     checks_nothing: bool,
 }
 
-impl Tally {
+impl Counts {
     pub fn count(&mut self, outcome: &Outcome) {
         if outcome.blames_what_is_shared() {
             self.checks_nothing = true;
@@ -363,7 +373,7 @@ mod tests {
 
     #[test]
     fn the_status_is_that_of_the_worst() {
-        let tally = |accepted, defects, refused, unreadable| Tally {
+        let counts = |accepted, defects, refused, unreadable| Counts {
             accepted,
             defects,
             refused,
@@ -371,16 +381,16 @@ mod tests {
             checks_nothing: false,
         };
         let worst = [
-            tally(2, 0, 0, 0),
-            tally(1, 1, 0, 0),
-            tally(1, 1, 1, 0),
-            tally(0, 0, 1, 0),
-            tally(1, 1, 0, 1),
+            counts(2, 0, 0, 0),
+            counts(1, 1, 0, 0),
+            counts(1, 1, 1, 0),
+            counts(0, 0, 1, 0),
+            counts(1, 1, 0, 1),
         ];
-        assert_eq!(worst.map(|tally| tally.status()), [0, 1, 2, 2, 2]);
-        let checks_nothing = Tally {
+        assert_eq!(worst.map(|counts| counts.status()), [0, 1, 2, 2, 2]);
+        let checks_nothing = Counts {
             checks_nothing: true,
-            ..Tally::default()
+            ..Counts::default()
         };
         assert_eq!(checks_nothing.status(), 2);
     }

@@ -76,7 +76,7 @@ impl Log {
 
 fn subject(subject: Subject<'_>) -> &OsStr {
     match subject {
-        Subject::File(file) => file.as_os_str(),
+        Subject::File(file) | Subject::InBook { book: file, .. } => file.as_os_str(),
         Subject::Key(text) | Subject::Text(text) => text,
     }
 }
@@ -118,9 +118,7 @@ fn found(outcome: &Outcome) -> Option<Found> {
             id: refusal.number().to_string(),
             meaning: refusal.to_string(),
             message: refused(*refusal, fault.as_ref()),
-            region: fault
-                .as_ref()
-                .map(|fault| Region::at(fault.line, fault.column)),
+            region: fault.as_ref().map(|fault| Region::at(fault.at)),
             path: None,
         }),
         Outcome::Unreadable(unreadable) => Some(Found {

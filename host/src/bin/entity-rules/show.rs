@@ -1,30 +1,24 @@
 //! Sheets as trees, an entry on each line with its number.
 
-use crate::checked::{Outcome, Sheet, SheetReader, fault, read_sheet};
+use crate::checked::Subject;
+use crate::files::{NoSheet, Rule, SheetReader};
 use crate::outline::{Standing, standings};
-use crate::report::{name, visible};
+use crate::report::visible;
 use entity_rules::entries::{Content, Entry, read_rule, read_schema, read_table};
 use entity_rules::{Name, Operator, Refusal};
-use std::path::Path;
 
-/// The tree of a file's sheet, under its name where there are several.
-pub fn text(file: &Path, is_named: bool) -> Result<String, Box<Outcome>> {
-    let sheet = read_sheet(file, Sheet::Any)
-        .map_err(|unreadable| Box::new(Outcome::Unreadable(unreadable)))?;
-    let (read, refusal): (SheetReader, Refusal) = match sheet.first() {
-        Some(b'H') => (read_schema, Refusal::SchemaSheet),
-        Some(b'N') => (read_table, Refusal::TableForm),
+/// The tree of a sheet, or why it has none. A book holds rules and templates only.
+pub fn text(sheet: Rule<'_>) -> Result<String, NoSheet> {
+    let (read, refusal): (SheetReader, Refusal) = match (sheet.subject, sheet.bytes.first()) {
+        (Subject::File(_), Some(b'H')) => (read_schema, Refusal::SchemaSheet),
+        (Subject::File(_), Some(b'N')) => (read_table, Refusal::TableForm),
         _ => (read_rule, Refusal::RuleSheet),
     };
-    let entries = read(&sheet).map_err(|_| {
-        let fault = fault(file, &sheet, read);
-        Box::new(Outcome::Refused { refusal, fault })
+    let entries = read(sheet.bytes).map_err(|_| NoSheet::Refused {
+        refusal,
+        fault: sheet.fault_by(read),
     })?;
-    let head = match is_named {
-        true => format!("{}\n", name(file.as_os_str())),
-        false => String::new(),
-    };
-    Ok(head + &tree(&entries))
+    Ok(tree(&entries))
 }
 
 fn tree(entries: &[Entry<'_>]) -> String {

@@ -1,13 +1,14 @@
 -- `entity_rules::book::rulecheck_tally` meets its contract: the tally, with the lent part of the path buffer back in its place.
 use mathlib.Core.Path.{refl}
-use Rattle.entity_rules.proofs.BookEntries.{tally-within, tally-answered, first-fits}
+use Rattle.entity_rules.proofs.CountSteps.{lent-within}
+use Rattle.entity_rules.proofs.BookEntries.{tally-answered, first-fits}
 use native.Mathlib.Omega.{arith}
 use borrow.Author.Needs.{needs}
 use Rattle.entity_rules.proofs.book.rulecheck_tally.Statement.{statement}
 use Rattle.entity_rules.proofs.book.rulecheck_tally.Tie as tie
 
-tally-lent-requires : tie.Need-tally-lent-requires
-tally-lent-requires c κs = search needs
+lent-for-requires : tie.Need-lent-for-requires
+lent-for-requires c κs = search needs
 
 setting-requires : tie.Need-setting-requires
 setting-requires c κs = search needs
@@ -22,7 +23,7 @@ part-tally-start : tie.Need-part-tally-start
 part-tally-start c = search needs
 
 part-tally-end : tie.Need-part-tally-end
-part-tally-end c = rw (c .before .before .tally-lent .ensures) (tally-within _ _)
+part-tally-end c = rw (c .before .before .lent-for .ensures) (lent-within _ _ _)
 
 slice-aggregate-tally : tie.Need-slice-aggregate-tally
 slice-aggregate-tally c = search needs
@@ -30,14 +31,17 @@ slice-aggregate-tally c = search needs
 tally-requires : tie.Need-tally-requires
 tally-requires c κs = search needs
 
-write-tally-requires : tie.Need-write-tally-requires
-write-tally-requires c κs = search needs
+slice-aggregate-write-counts : tie.Need-slice-aggregate-write-counts
+slice-aggregate-write-counts c = search needs
+
+write-counts-requires : tie.Need-write-counts-requires
+write-counts-requires c κs = search needs
 
 array-read-result : tie.Need-array-read-result
 array-read-result c = search needs
 
 cast-result : tie.Need-cast-result
-cast-result c = omega (arith, first-fits _ (c .before .before .before .before .before .before .before .tally .ensures))
+cast-result c = omega (arith, first-fits _ (c .before .before .before .before .before .before .before .before .tally .ensures))
 
 same-length : tie.Need-same-length
 same-length c = search needs
@@ -47,19 +51,19 @@ same-length-2 c = search needs
 
 returns : tie.Need-returns
 returns c =
-    let called = c .before .before .before .before .before .before .before in
-    let a = c .before .before .before .before .before .before .before .before .before .before .before .before .before .before .before .before .before .before .before .args in
+    let called = c .before .before .before .before .before .before .before .before in
+    let a = c .before .before .before .before .before .before .before .before .before .before .before .before .before .before .before .before .before .before .before .before .args in
     let last = called .tally .last .1 .1 .1 .1 .1 .1 in
     tally-answered (a .kind) (a .semantics) (a .label .now) (a .table .now) (a .schema .now) (a .book .now) (a .path .now) (a .result .now)
     (called .tally .result) (last .0) (last .1 .0)
-    (c .before .before .before .before .before .before .before .before .before .before .before .setting .ensures) (c .before .before .before .before .before .before .before .before .before .before .setting2 .ensures) (c .before .before .before .before .before .before .before .before .before .before .before .before .tally-lent .ensures) (called .tally .ensures)
-    (omega (arith, c .before .before .before .before .before .before .before .before .before .before .before .before .before .before .before .before .before .before .before .good .1 .1 .1 .1 .1 .0)) (c .before .before .write-tally .ensures) refl
+    (c .before .before .before .before .before .before .before .before .before .before .before .before .setting .ensures) (c .before .before .before .before .before .before .before .before .before .before .before .setting2 .ensures) (c .before .before .before .before .before .before .before .before .before .before .before .before .before .lent-for .ensures) (called .tally .ensures)
+    (omega (arith, c .before .before .before .before .before .before .before .before .before .before .before .before .before .before .before .before .before .before .before .before .good .1 .1 .1 .1 .1 .0)) (c .before .before .write-counts .ensures) refl
 
 pub rulecheck-tally-spec : {M : Type 1} → statement M
 rulecheck-tally-spec =
     tie.close
     (tie.spec
-    tally-lent-requires
+    lent-for-requires
     setting-requires
     setting-requires-2
     sub-tally
@@ -67,7 +71,8 @@ rulecheck-tally-spec =
     part-tally-end
     slice-aggregate-tally
     tally-requires
-    write-tally-requires
+    slice-aggregate-write-counts
+    write-counts-requires
     array-read-result
     cast-result
     same-length

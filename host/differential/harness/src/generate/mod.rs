@@ -80,6 +80,17 @@ impl<'n> Setting<'n> {
         Scope { kind: self.kind, names: self.names, service: self.semantics > 1, schema, binders: Vec::new(), slip }
     }
 
+    /// A rule or template for the schema, in which something slips now and then.
+    pub fn sheet(&self, random: &mut Random, schema: &Schema, slip: usize) -> Sheet {
+        let scope = self.scope(schema, slip);
+        let depth = random.between(1, 5);
+        if random.chance(15) {
+            scope.template(random)
+        } else {
+            scope.rule(random, depth)
+        }
+    }
+
     pub fn case(&self, schema: &Schema, sheet: &Sheet) -> Case {
         let case = Case::new(self.kind, self.semantics, self.label.as_bytes(), write_schema(schema), write_rule(sheet));
         case.under(self.names.lent.clone())
@@ -102,9 +113,7 @@ impl<'n> Pair<'n> {
     pub fn under(setting: Setting<'n>, random: &mut Random, slip: usize) -> Self {
         let fields = random.between(1, 4);
         let schema = schemas::schema(random, fields);
-        let scope = setting.scope(&schema, slip);
-        let depth = random.between(1, 5);
-        let sheet = if random.chance(15) { scope.template(random) } else { scope.rule(random, depth) };
+        let sheet = setting.sheet(random, &schema, slip);
         Self { setting, schema, sheet }
     }
 

@@ -1,12 +1,16 @@
 //! The buffers that are lent, each amid bytes that the library must not touch.
 
+use super::books::TallyLent;
+use super::walls::WallLent;
 use super::{numbers, raw, Entry, Lent, Slot};
+use crate::books::BookCase;
 use crate::case::Case;
 use crate::keys::KeyCase;
 use crate::random::Random;
 use crate::refusals::MIN_PATH_BYTES;
+use crate::walls::{Printed, WallCase};
 use crate::widens::WidensCase;
-use differential::model::{Answer, MARKS_BYTES};
+use differential::model::{Answer, TallyNumbers, MARKS_BYTES};
 
 /// Bytes before and behind what is lent.
 const AROUND: usize = 128;
@@ -14,8 +18,8 @@ const PATH_ARENA: usize = AROUND + MIN_PATH_BYTES + 2 * AROUND;
 const MARKS_ARENA: usize = AROUND + MARKS_BYTES + 2 * AROUND;
 const RESULT_ARENA: usize = 4 * AROUND;
 
-/// Indexes far past every result; times four they wrap to one inside it, in 32 bits.
-const FAR: [u32; 4] = [1 << 30, (1 << 30) + 1, 3 << 30, u32::MAX];
+/// Indexes far past every result; times four or eight they wrap to one inside it, in 32 bits.
+const FAR: [u32; 6] = [1 << 29, (1 << 29) + 1, 1 << 30, (1 << 30) + 1, 3 << 30, u32::MAX];
 
 /// Two patterns, the second the first with every bit turned, so that no byte can be written and not be seen under both.
 pub struct Arena {
@@ -102,6 +106,58 @@ impl Arena {
         self.result(slot, expected)
     }
 
+    /// Makes the call for a rule book, whose inputs must keep their bytes as well, amid others.
+    pub fn tally(&mut self, case: &BookCase, lent: &TallyLent, expected: &TallyNumbers) -> Result<(), String> {
+        self.book(case, lent, &expected.map(u64::to_le_bytes).concat(), |inputs, path, result| raw::tally(case, inputs, path, result))
+    }
+
+    /// Makes the call for a wall sheet, which has a buffer of its own for the pages, amid other bytes.
+    pub fn wall(&mut self, case: &WallCase, lent: &WallLent, (numbers, pages): &Printed) -> Result<(), String> {
+        let whole = lent.pages + 2 * AROUND;
+        let mut found: Vec<u8> = self.patterns[lent.tally.slot.pattern].iter().copied().cycle().take(whole).collect();
+        let mut wanted = found.clone();
+        wanted[AROUND..AROUND + pages.len()].copy_from_slice(pages);
+        let own = &mut found[AROUND..AROUND + lent.pages];
+        let result = numbers.map(u64::to_le_bytes).concat();
+        self.book(&case.book, &lent.tally, &result, |inputs, path, result| raw::wall(case, inputs, [path, own, result]))?;
+        match differs(&found, &wanted) {
+            Some(at) => Err(format!("byte {} of the pages is {}, not {}", at as isize - AROUND as isize, found[at], wanted[at])),
+            None => Ok(()),
+        }
+    }
+
+    /// Makes a call for a book, by a function of its inputs, path buffer and result. The first number of the result is what it returns.
+    fn book(
+        &mut self,
+        case: &BookCase,
+        lent: &TallyLent,
+        expected: &[u8],
+        call: impl FnOnce([&[u8]; 4], &mut [u8], &mut [u8]) -> u32,
+    ) -> Result<(), String> {
+        let slot = &lent.slot;
+        let around = &self.patterns[slot.pattern][..AROUND];
+        let inputs = case.inputs().map(|input| [around, input, around].concat());
+        let untouched = inputs.clone();
+        let [label, table, schema, book] = &inputs;
+        let own = |input: &Vec<u8>| AROUND..input.len() - AROUND;
+        let given = [label, table, schema, book].map(|input| &input[own(input)]);
+        let path = &mut self.paths[slot.pattern][AROUND..AROUND + lent.path];
+        let start = AROUND + slot.shift;
+        let result = &mut self.results[slot.pattern][start..start + slot.length];
+        let number = call(given, path, result);
+        if !expected.starts_with(&u64::from(number).to_le_bytes()) {
+            return Err(format!("it returns {number}"));
+        }
+        counts(result)?;
+        if inputs != untouched {
+            return Err("a byte of its inputs, or around them, has changed".to_owned());
+        }
+        self.written(slot, expected)?;
+        // After a tally or a wall sheet as much is free as a path buffer must have.
+        let free = if number == 0 { MIN_PATH_BYTES } else { 0 };
+        self.kept_path(slot.pattern, free)
+    }
+
     /// Calls a function on an input, which must keep its bytes, and a buffer amid others: what is written lies at its start, and all else is as it was.
     pub fn write(
         &mut self,
@@ -148,15 +204,20 @@ impl Arena {
         }
     }
 
-    /// The numbers where there is room, all else as it was; then the pattern again.
+    /// The numbers where there is room for all of them, all else as it was; then the pattern again.
     fn result(&mut self, slot: &Slot, expected: &[u32]) -> Result<(), String> {
+        let bytes: Vec<u8> = expected.iter().copied().flat_map(u32::to_le_bytes).collect();
+        self.written(slot, &bytes)
+    }
+
+    /// The same for their bytes.
+    fn written(&mut self, slot: &Slot, bytes: &[u8]) -> Result<(), String> {
         let pattern = &self.patterns[slot.pattern][..RESULT_ARENA];
         let found = &mut self.results[slot.pattern];
         let mut wanted = pattern.to_vec();
-        if slot.length >= 4 * expected.len() {
-            let bytes: Vec<u8> = expected.iter().copied().flat_map(u32::to_le_bytes).collect();
+        if slot.length >= bytes.len() {
             let start = AROUND + slot.shift;
-            wanted[start..start + bytes.len()].copy_from_slice(&bytes);
+            wanted[start..start + bytes.len()].copy_from_slice(bytes);
         }
         if let Some(at) = differs(found, &wanted) {
             let place = at as isize - (AROUND + slot.shift) as isize;
@@ -168,11 +229,17 @@ impl Arena {
 
     /// The path at the start, all else as it was; then the pattern again.
     fn path(&mut self, lent: &Lent, expected: &Answer) -> Result<(), String> {
-        let (pattern, found) = (&self.patterns[lent.pattern], &mut self.paths[lent.pattern]);
-        let end = AROUND + expected.path.len();
-        if found[AROUND..end] != expected.path {
-            return Err(format!("the path is {:?}", String::from_utf8_lossy(&found[AROUND..end])));
+        let found = &self.paths[lent.pattern][AROUND..AROUND + expected.path.len()];
+        if found != expected.path {
+            return Err(format!("the path is {:?}", String::from_utf8_lossy(found)));
         }
+        self.kept_path(lent.pattern, expected.path.len())
+    }
+
+    /// The path buffer as it was but for so many bytes at its start; then the pattern again.
+    fn kept_path(&mut self, pattern: usize, free: usize) -> Result<(), String> {
+        let (pattern, found) = (&self.patterns[pattern], &mut self.paths[pattern]);
+        let end = AROUND + free;
         found[AROUND..end].copy_from_slice(&pattern[AROUND..end]);
         match differs(found, pattern) {
             Some(at) => Err(format!("byte {} of the path buffer is {}, not {}", at as isize - AROUND as isize, found[at], pattern[at])),
@@ -187,6 +254,20 @@ fn differs(one: &[u8], other: &[u8]) -> Option<usize> {
         return None;
     }
     one.iter().zip(other).position(|(one, other)| one != other)
+}
+
+/// Every index into a tally and past it, read by `rulecheck_count`.
+fn counts(result: &[u8]) -> Result<(), String> {
+    let near = 0..result.len() as u32 / 8 + 2;
+    for index in near.chain(FAR) {
+        let found = raw::count(result, index);
+        let wanted = (index as usize).checked_mul(8).and_then(|start| result.get(start..)?.first_chunk());
+        let wanted = wanted.map_or(0, |bytes| u64::from_le_bytes(*bytes));
+        if found != wanted {
+            return Err(format!("rulecheck_count gives {found} for index {index}, the bytes say {wanted}"));
+        }
+    }
+    Ok(())
 }
 
 /// Every index into the result and past it, read by `rulecheck_field`.

@@ -1,10 +1,12 @@
 //! The library under its C functions, held against what the model answers: every byte of the buffers and around them, and every number.
 
 mod arena;
+pub mod books;
 pub mod instants;
 pub mod keys;
 pub mod raw;
 pub mod tables;
+pub mod walls;
 pub mod widens;
 
 use crate::agreement::line;

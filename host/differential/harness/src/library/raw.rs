@@ -1,10 +1,12 @@
 //! The C functions on slices.
 
 use super::{Entry, CHECK_RESULT_BYTES, RESULT_BYTES};
+use crate::books::BookCase;
 use crate::case::Case;
 use crate::keys::KeyCase;
+use crate::walls::WallCase;
 use crate::widens::WidensCase;
-use differential::model::MARKS_BYTES;
+use differential::model::{TallyNumbers, MARKS_BYTES, PAGE_BYTES, TALLY_BYTES, WALL_BYTES};
 use std::mem::MaybeUninit;
 
 /// An entry that takes one sort of sheet.
@@ -81,6 +83,44 @@ extern "C" {
         result: *mut u8,
         result_length: usize,
     ) -> u32;
+
+    fn rulecheck_tally(
+        kind: u64,
+        semantics: u64,
+        label: *const u8,
+        label_length: usize,
+        table: *const u8,
+        table_length: usize,
+        schema: *const u8,
+        schema_length: usize,
+        book: *const u8,
+        book_length: usize,
+        path: *mut u8,
+        path_length: usize,
+        result: *mut u8,
+        result_length: usize,
+    ) -> u32;
+
+    fn rulecheck_wall(
+        kind: u64,
+        semantics: u64,
+        label: *const u8,
+        label_length: usize,
+        table: *const u8,
+        table_length: usize,
+        schema: *const u8,
+        schema_length: usize,
+        book: *const u8,
+        book_length: usize,
+        path: *mut u8,
+        path_length: usize,
+        pages: *mut u8,
+        pages_length: usize,
+        result: *mut u8,
+        result_length: usize,
+    ) -> u32;
+
+    fn rulecheck_count(result: *const u8, result_length: usize, index: u32) -> u64;
 
     fn rulecheck_field(result: *const u8, result_length: usize, index: u32) -> u32;
 
@@ -225,6 +265,104 @@ pub fn fresh_widens(case: &WidensCase) -> (u32, Option<[u32; 7]>) {
         let number = rulecheck_widens(first.as_ptr(), first.len(), second.as_ptr(), second.len(), lent, result.len());
         (number, written(&result))
     }
+}
+
+/// Tallies the book of a case: label, table, schema and book are lent from places of their own.
+pub fn tally(case: &BookCase, inputs: [&[u8]; 4], path: &mut [u8], result: &mut [u8]) -> u32 {
+    // SAFETY: pointers and lengths are those of slices, and no two of them overlap.
+    unsafe { call_tally(case, inputs, (path.as_mut_ptr(), path.len()), (result.as_mut_ptr(), result.len())) }
+}
+
+/// # Safety
+///
+/// Each pointer of a buffer leads to as many bytes as its length says, and nothing else refers to these.
+unsafe fn call_tally(case: &BookCase, inputs: [&[u8]; 4], path: (*mut u8, usize), result: (*mut u8, usize)) -> u32 {
+    let [label, table, schema, book] = inputs;
+    rulecheck_tally(
+        case.kind,
+        case.semantics,
+        label.as_ptr(),
+        label.len(),
+        table.as_ptr(),
+        table.len(),
+        schema.as_ptr(),
+        schema.len(),
+        book.as_ptr(),
+        book.len(),
+        path.0,
+        path.1,
+        result.0,
+        result.1,
+    )
+}
+
+/// A tally with buffers fresh from the allocator and copies of the inputs, as `fresh`.
+pub fn fresh_tally(case: &BookCase) -> (u32, Option<TallyNumbers>) {
+    let inputs = case.inputs().map(|input| input.to_vec().into_boxed_slice());
+    let (mut path, mut result) = (Box::<[u8]>::new_uninit_slice(case.path_len), Box::<[u8]>::new_uninit_slice(case.result_len));
+    let (path_lent, result_lent) = ((path.as_mut_ptr().cast(), path.len()), (result.as_mut_ptr().cast(), result.len()));
+    let [label, table, schema, book] = &inputs;
+    // SAFETY: the boxes are as long as said, and only read again after the call, which wrote the result if it has room.
+    unsafe {
+        let number = call_tally(case, [label, table, schema, book], path_lent, result_lent);
+        let written = result.get(..TALLY_BYTES).map(|written| std::slice::from_raw_parts(written.as_ptr().cast::<u8>(), TALLY_BYTES));
+        (number, written.map(|written| std::array::from_fn(|index| count(written, index as u32))))
+    }
+}
+
+/// Prints the book of a case, whose inputs are lent from places of their own; path buffer, pages and result are written.
+pub fn wall(case: &WallCase, inputs: [&[u8]; 4], buffers: [&mut [u8]; 3]) -> u32 {
+    // SAFETY: pointers and lengths are those of slices, and no two of them overlap.
+    unsafe { call_wall(case, inputs, buffers.map(|buffer| (buffer.as_mut_ptr(), buffer.len()))) }
+}
+
+/// # Safety
+///
+/// Each pointer of a buffer leads to as many bytes as its length says, and nothing else refers to these.
+unsafe fn call_wall(case: &WallCase, inputs: [&[u8]; 4], [path, pages, result]: [(*mut u8, usize); 3]) -> u32 {
+    let [label, table, schema, book] = inputs;
+    rulecheck_wall(
+        case.book.kind,
+        case.book.semantics,
+        label.as_ptr(),
+        label.len(),
+        table.as_ptr(),
+        table.len(),
+        schema.as_ptr(),
+        schema.len(),
+        book.as_ptr(),
+        book.len(),
+        path.0,
+        path.1,
+        pages.0,
+        pages.1,
+        result.0,
+        result.1,
+    )
+}
+
+/// A wall sheet with buffers fresh from the allocator and copies of the inputs, as `fresh`: the number, both numbers of the result where it has room, and the pages.
+pub fn fresh_wall(case: &WallCase) -> (u32, Option<[u64; 2]>, Vec<u8>) {
+    let inputs = case.book.inputs().map(|input| input.to_vec().into_boxed_slice());
+    let [mut path, mut pages, mut result] = [case.book.path_len, case.pages_len, case.book.result_len].map(Box::<[u8]>::new_uninit_slice);
+    let buffers = [&mut path, &mut pages, &mut result].map(|buffer| (buffer.as_mut_ptr().cast(), buffer.len()));
+    let [label, table, schema, book] = &inputs;
+    // SAFETY: the boxes are as long as said, and only read again after the call, which wrote the result if it has room, and as many pages as that says.
+    unsafe {
+        let number = call_wall(case, [label, table, schema, book], buffers);
+        let Some(written) = result.get(..WALL_BYTES) else {
+            return (number, None, Vec::new());
+        };
+        let written = std::slice::from_raw_parts(written.as_ptr().cast::<u8>(), WALL_BYTES);
+        let numbers = [count(written, 0), count(written, 1)];
+        let printed = std::slice::from_raw_parts(pages.as_ptr().cast::<u8>(), numbers[1] as usize * PAGE_BYTES);
+        (number, Some(numbers), printed.to_vec())
+    }
+}
+
+pub fn count(result: &[u8], index: u32) -> u64 {
+    // SAFETY: pointer and length are those of a slice.
+    unsafe { rulecheck_count(result.as_ptr(), result.len(), index) }
 }
 
 /// Loads a table into a buffer.

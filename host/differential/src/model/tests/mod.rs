@@ -1,5 +1,6 @@
 //! The model against the answers that docs/FORMAT.md gives, worked out by hand.
 
+mod books;
 mod collections;
 mod defects;
 mod edges;
@@ -8,6 +9,7 @@ mod references;
 mod refusals;
 mod sheets;
 mod tables;
+mod walls;
 mod widenings;
 
 use super::*;

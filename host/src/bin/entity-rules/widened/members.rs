@@ -1,6 +1,6 @@
 //! Two schema sheets side by side, read for people: what an entry is called, and what has grown. Whether one is a widening of the other is the library's to say.
 
-use crate::checked::line_of;
+use crate::region::Position;
 use entity_rules::entries::{Content, Entry, read_schema};
 use entity_rules::{FieldKind, Name};
 
@@ -187,7 +187,7 @@ impl<'a, I: Iterator<Item = (&'a Entry<'a>, usize)>> Reading<'a, I> {
     fn member(&self, (entry, place): (&Entry, usize), path: &str, text: String) -> Member {
         Member {
             place,
-            line: line_of(self.sheet, entry.byte),
+            line: Position::new(self.sheet, entry.byte).line,
             path: path.to_owned(),
             text,
             kind: None,

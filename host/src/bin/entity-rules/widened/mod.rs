@@ -4,7 +4,7 @@ pub mod json;
 mod members;
 pub mod report;
 
-use crate::checked::{Fault, Sheet, Unreadable, fault, read_sheet};
+use crate::files::{Fault, Sheet, Unreadable, fault, read_sheet};
 use entity_rules::entries::read_schema;
 use entity_rules::{Breach, BreachReason, FieldKind, Refusal, Widening, widens};
 use std::path::Path;

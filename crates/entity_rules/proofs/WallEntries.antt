@@ -1,0 +1,72 @@
+-- A book's wall sheet as a C function makes it.
+use Prim.Native.Nat.{ℕ, _+_, _^_, _-_, _<_, _≤_, min}
+use native.Mathlib.Omega.{arith}
+use mathlib.Core.List.{List, _++_}
+use mathlib.Core.Path.{_≡_, refl, ap, _∙_}
+use lib.ListN.{length, take, drop, getD, length-take, replicate, length-replicate}
+use Rattle.validation.specs.Result.{pathBytes, scratchWords}
+use Rattle.rule_book.specs.Tally.{bookCallOf}
+use Rattle.rule_book.specs.TallyLaws.{cappedBook}
+use Rattle.wall.specs.Wall.{WallAnswer, wallRefused, printed, wallAnswer, wallNumbers, pagesAfter, wallFreed, WallRun, wallCallOf, MeetsWall}
+use Rattle.wall.specs.WallLaws.{no-room-refused, capped-wall, wall-first, wall-within}
+use Rattle.wall.specs.Printing.{wallRunOf}
+use Rattle.entity_rules.specs.Counts.{countsAfter, lentFor}
+use Rattle.entity_rules.specs.BookEntry.{bookCallFor}
+use Rattle.entity_rules.specs.WallEntry.{wallBytes, wallCallFor, wallEntryAnswer, wallRefusalOf, WallAnswered}
+use Rattle.entity_rules.proofs.CountSteps.{lent-nothing, lent-within, path-home, in-eight}
+
+first-refusal : (a : WallAnswer) → getD (wallNumbers a) 0 0 ≡ wallRefusalOf a
+unfolding wallNumbers wallRefusalOf
+first-refusal (wallRefused n) = refl
+first-refusal (printed answers) = refl
+
+freed-refused : (a : WallAnswer) (n : ℕ) → a ≡ wallRefused n → wallFreed pathBytes a ≡ 0
+unfolding wallFreed
+freed-refused a n e = rw e
+
+module _ (kind semantics : ℕ) (label table schema book path pages result : List ℕ) where
+  abbrev answer : WallAnswer
+  answer = wallEntryAnswer kind semantics label table schema book (length path) (length pages) (length result)
+
+  made : (k s lent : ℕ) (numbers last pagesNow scratchNow : List ℕ)
+      → k ≡ min kind 9
+      → s ≡ min semantics 9
+      → lent ≡ lentFor wallBytes (length path) (length result)
+      → wallAnswer (wallCallOf (wallRunOf k s label table schema book (take (lent - 0) path) pages (replicate scratchWords 0) numbers last pagesNow scratchNow)) ≡ answer
+  unfolding wallCallOf bookCallOf wallEntryAnswer wallCallFor bookCallFor cappedBook
+  made k s lent numbers last pagesNow scratchNow ek es el =
+      let part : length (take (lent - 0) path) ≡ lent = simp length-take (omega (arith, lent-within wallBytes (length path) (length result))) in
+      rw (length-replicate {A = ℕ} scratchWords 0, part, ek, es, el)
+      (capped-wall 9 (bookCallFor wallBytes kind semantics label table schema book (length path) (length result)) (length pages) (omega arith))
+
+  pub wall-answered : {k s lent r : ℕ} (numbers last pagesNow scratchNow : List ℕ) {resultNow : List ℕ}
+      → k ≡ min kind 9
+      → s ≡ min semantics 9
+      → lent ≡ lentFor wallBytes (length path) (length result)
+      → MeetsWall (wallRunOf k s label table schema book (take (lent - 0) path) pages (replicate scratchWords 0) numbers last pagesNow scratchNow)
+      → 38 + length book < 2 ^ 64
+      → resultNow ≡ countsAfter numbers result
+      → r ≡ getD numbers 0 0
+      → WallAnswered answer path (last ++ drop (lent - 0) path) pages pagesNow result resultNow r
+  unfolding wallEntryAnswer wallCallFor bookCallFor
+  wall-answered {k} {s} {lent} numbers last pagesNow scratchNow ek es el m small w n =
+      let same = made k s lent numbers last pagesNow scratchNow ek es el in
+      let call = wallCallFor kind semantics label table schema book (length path) (length pages) (length result) in
+      let stands : numbers ≡ wallNumbers answer = m .result ∙ ap wallNumbers same in
+      record {
+        number = n ∙ ap (λ (l : List ℕ). getD l 0 0) stands ∙ first-refusal answer;
+        path =
+            path-home (wallFreed pathBytes answer) wallBytes path result lent last el
+            (λ short.
+            let none = lent-nothing wallBytes (length path) (length result) short in
+            let due = no-room-refused call (omega arith) in
+            freed-refused answer (due .0) (due .1))
+            (rw same at (m .path));
+        pages = m .pages ∙ ap (λ (a : WallAnswer). pagesAfter a pages) same;
+        result = w ∙ ap (λ (l : List ℕ). countsAfter l result) stands;
+        small = in-eight _ _ small (wall-within call);
+      }
+
+-- the first number fits what is returned
+pub first-fits : (r : WallRun) → MeetsWall r → getD (r .run .result) 0 0 ≤ 38
+first-fits r m = rw (m .result) (wall-first (wallCallOf r))

@@ -1,0 +1,4 @@
+pub mod Edges
+pub mod LineSteps
+pub mod PageSteps
+pub mod CallSteps

@@ -1,0 +1,12 @@
+-- `wall::refused` meets its contract: the number, and no page.
+use Rattle.wall.specs.Wall.{wallNumbers}
+use mathlib.Core.Path.{refl}
+use Rattle.wall.proofs.refused.Statement.{statement}
+use Rattle.wall.proofs.refused.Tie as tie
+
+returns : tie.Need-returns
+unfolding wallNumbers
+returns c = refl
+
+pub refused-spec : {M : Type 1} → statement M
+refused-spec = tie.close (tie.spec returns)

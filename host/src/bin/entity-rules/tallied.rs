@@ -1,0 +1,319 @@
+//! A rule book, tallied or printed for the wall.
+
+use crate::arguments::BookRun;
+use crate::checked::{Checked, Outcome, Shared, Subject};
+use crate::files::{Fault, NoSheet, Sheet, fault, read_sheet};
+use crate::json::{Object, fault_members, outcome_members, subject_member};
+use crate::progress::Progress;
+use crate::report::{self, Colour, Palette, refused_text};
+use entity_rules::entries::read_schema;
+use entity_rules::{Book, BookSheet, Check, DefectNumber, Refusal, Tally};
+use std::io::Write;
+
+/// So many sheets are tallied by one call, between which a bar can show how far it is. The schema is read once in each.
+const PART: usize = 256;
+
+/// How many characters the bar of a row has at most.
+const WIDTH: usize = 30;
+
+/// A book and what came of it.
+pub struct Tallied<'a> {
+    subject: Subject<'a>,
+    result: Result<Counted, NoSheet>,
+}
+
+struct Counted {
+    tally: Tally,
+    /// Where the schema stops being one, if the sheets are refused for that.
+    fault: Option<Fault>,
+}
+
+impl Counted {
+    /// The exit status: that of the worst sheet.
+    fn status(&self) -> u8 {
+        match (self.tally.defects(), self.tally.refused()) {
+            (0, 0) => 0,
+            (_, 0) => 1,
+            _ => 2,
+        }
+    }
+}
+
+impl<'a> Tallied<'a> {
+    /// Reads what is asked for and tallies it; the bar is for that many sheets.
+    pub fn new<W: Write>(asked: &'a BookRun, bar: impl FnOnce(usize) -> Progress<W>) -> Self {
+        Self {
+            subject: Subject::File(&asked.book),
+            result: counted(asked, bar),
+        }
+    }
+
+    /// The exit status: that of the worst sheet, or of what keeps the book from being tallied.
+    pub fn status(&self) -> u8 {
+        self.result.as_ref().map_or(2, Counted::status)
+    }
+
+    /// What is printed for it.
+    pub fn text(self, palette: &Palette) -> String {
+        let subject = self.subject;
+        match self.result {
+            Ok(counted) => table(palette, &report::subject(subject), &counted),
+            Err(why) => {
+                let outcome = Outcome::from(why);
+                report::text(palette, &Checked { subject, outcome })
+            }
+        }
+    }
+
+    /// Its line of JSON.
+    pub fn line(self) -> String {
+        let mut object = Object::new();
+        subject_member(&mut object, self.subject);
+        match self.result {
+            Ok(counted) => members(&mut object, &counted),
+            Err(why) => outcome_members(&mut object, &why.into()),
+        }
+        object.line()
+    }
+}
+
+fn counted<W: Write>(
+    asked: &BookRun,
+    bar: impl FnOnce(usize) -> Progress<W>,
+) -> Result<Counted, NoSheet> {
+    let read = Read::new(asked)?;
+    let parts = parts(&read.book);
+    let mut progress = bar(parts.iter().map(|(_, sheets)| sheets).sum());
+    let tallied = parts.into_iter().map(|(part, sheets)| {
+        let tally = read.check(b"").tally(&read.schema, part);
+        progress.steps(sheets);
+        tally
+    });
+    let tally = tallied.sum::<Result<Tally, Refusal>>();
+    progress.clear();
+    read.counted(tally)
+}
+
+/// The files that a command about a book names.
+struct Read<'a> {
+    asked: &'a BookRun,
+    /// The name table as it is lent.
+    table: Vec<u8>,
+    schema: Vec<u8>,
+    book: Vec<u8>,
+}
+
+impl<'a> Read<'a> {
+    fn new(asked: &'a BookRun) -> Result<Self, NoSheet> {
+        let shared = Shared::new(&asked.schema, asked.table.as_deref());
+        let (names, schema) = shared.ready()?;
+        Ok(Self {
+            asked,
+            table: names.lent.clone(),
+            schema: schema.to_vec(),
+            book: read_sheet(&asked.book, Sheet::Book)?,
+        })
+    }
+
+    fn check<'b>(&'b self, label: &'b [u8]) -> Check<'b> {
+        let BookRun {
+            kind, semantics, ..
+        } = self.asked;
+        Check::new(*kind, *semantics, label).table(&self.table)
+    }
+
+    /// A refusal, with the book's fault if it is that one.
+    fn refused(&self, refusal: Refusal) -> NoSheet {
+        let fault = match (refusal, Book::read(&self.book)) {
+            (Refusal::BookForm, Err(error)) => {
+                Some(Fault::of_book(&self.asked.book, &self.book, &error))
+            }
+            _ => None,
+        };
+        NoSheet::Refused { refusal, fault }
+    }
+
+    /// A tally, with the schema's fault if sheets are refused for that.
+    fn counted(&self, tally: Result<Tally, Refusal>) -> Result<Counted, NoSheet> {
+        let tally = tally.map_err(|refusal| self.refused(refusal))?;
+        let fault = match tally.schema_refused {
+            0 => None,
+            _ => fault(&self.asked.schema, &self.schema, read_schema),
+        };
+        Ok(Counted { tally, fault })
+    }
+}
+
+/// A book, printed for the wall.
+pub struct Walled {
+    pub pages: String,
+    pub status: u8,
+    /// What else is to be said.
+    pub note: Option<String>,
+}
+
+impl Walled {
+    /// Reads what is asked for and prints it; an error is the text of what keeps it from that.
+    pub fn new(asked: &BookRun) -> Result<Self, String> {
+        let subject = Subject::File(&asked.book);
+        let own = subject.label();
+        let label = asked.label.as_deref().map_or(&*own, str::as_bytes);
+        let walled = || {
+            let read = Read::new(asked)?;
+            let counted = read.counted(read.check(label).tally(&read.schema, &read.book))?;
+            let pages = read.check(label).wall(&read.schema, &read.book);
+            Ok((pages.map_err(|refusal| read.refused(refusal))?, counted))
+        };
+        let plain = Palette::new(false);
+        let (pages, counted) = walled().map_err(|why: NoSheet| {
+            let outcome = why.into();
+            report::text(&plain, &Checked { subject, outcome })
+        })?;
+        let name = report::subject(subject);
+        let note = match &counted {
+            Counted { tally, .. } if tally.read == 0 => Some(nothing(&name)),
+            Counted { fault, .. } => fault
+                .as_ref()
+                .map(|fault| refused_text(&plain, &name, Refusal::SchemaSheet, Some(fault))),
+        };
+        Ok(Self {
+            pages,
+            status: counted.status(),
+            note,
+        })
+    }
+}
+
+fn nothing(subject: &str) -> String {
+    format!("{subject}: no sheets, nothing to check\n")
+}
+
+/// The book in parts that are books, each with the number of its sheets; all of it where it has none or is no book, for the library to say so.
+fn parts(book: &[u8]) -> Vec<(&[u8], usize)> {
+    let sheets = Book::read(book).unwrap_or_default();
+    if sheets.is_empty() {
+        return vec![(book, 0)];
+    }
+    let mut start = 0;
+    let part = |sheets: &[BookSheet<'_>]| {
+        let end = |last: &BookSheet<'_>| last.byte.saturating_add(last.bytes.len());
+        let end = sheets.last().map_or(start, end);
+        let part = book.get(start..end).unwrap_or_default();
+        start = end;
+        (part, sheets.len())
+    };
+    sheets.chunks(PART).map(part).collect()
+}
+
+/// A row for each number that a sheet can be answered with: its number, its word, how often it came, and the colour of its bar.
+fn rows(tally: &Tally) -> Vec<(u32, &'static str, u64, Colour)> {
+    let refused = [
+        (Refusal::SchemaSheet, tally.schema_refused),
+        (Refusal::RuleSheet, tally.rule_refused),
+    ];
+    let refused = refused.map(|(one, count)| (one.number(), one.word(), count, Colour::Yellow));
+    let defects = DefectNumber::ALL
+        .iter()
+        .map(|one| (one.number(), one.word(), tally.count(*one), Colour::Red));
+    let accepted = (0, "accepted", tally.accepted, Colour::Green);
+    [accepted]
+        .into_iter()
+        .chain(refused)
+        .chain(defects)
+        .collect()
+}
+
+/// A tally in words, with a row for each number.
+fn table(palette: &Palette, subject: &str, counted: &Counted) -> String {
+    let Counted { tally, fault } = counted;
+    let mut text = match fault {
+        Some(_) => refused_text(palette, subject, Refusal::SchemaSheet, fault.as_ref()),
+        None => String::new(),
+    };
+    if tally.read == 0 {
+        return nothing(subject);
+    }
+    text.push_str(&format!("{subject}: tally of {tally}\n"));
+    let width = tally.read.to_string().len();
+    for (number, word, count, colour) in rows(tally) {
+        text.push_str(&format!("  {number:>2}  {word:<12}  {count:>width$}"));
+        if count > 0 {
+            let (share, bar) = share(count, tally.read);
+            text.push_str(&format!("  {share:>6}  {}", palette.paint(colour, &bar)));
+        }
+        text.push('\n');
+    }
+    text
+}
+
+/// The share of a count in a total, which is not 0: in hundredths, and as a bar that is never empty.
+fn share(count: u64, total: u64) -> (String, String) {
+    let of = |parts: u128| {
+        let parts = u128::from(count).saturating_mul(parts);
+        parts.checked_div(total.into()).unwrap_or(0)
+    };
+    let tenths = of(1_000);
+    let (whole, tenth) = (tenths.checked_div(10), tenths.checked_rem(10));
+    let share = format!("{}.{}%", whole.unwrap_or(0), tenth.unwrap_or(0));
+    let width = u128::try_from(WIDTH).unwrap_or(0);
+    let length = usize::try_from(of(width)).unwrap_or(WIDTH);
+    (share, "#".repeat(length.max(1)))
+}
+
+fn members(object: &mut Object, counted: &Counted) {
+    let Counted { tally, fault } = counted;
+    object.text("verdict", "tallied");
+    object.number("number", 0);
+    object.number("read", tally.read);
+    object.number("accepted", tally.accepted);
+    object.number("schema_refused", tally.schema_refused);
+    object.number("rule_refused", tally.rule_refused);
+    let mut found = Object::new();
+    for number in DefectNumber::ALL {
+        found.number(number.word(), tally.count(*number));
+    }
+    object.object("found", &found);
+    object.number("passed", tally.passed);
+    if let Some(fault) = fault {
+        object.text("explanation", &fault.told);
+        fault_members(object, fault);
+    }
+}
+
+#[cfg(test)]
+mod tests {
+    use super::*;
+
+    #[test]
+    fn shares_are_rounded_down_and_bars_are_never_empty() {
+        for (count, total, share_of, length) in [
+            (1, 1, "100.0%", 30),
+            (1, 3, "33.3%", 10),
+            (2, 3, "66.6%", 20),
+            (1, 1_000, "0.1%", 1),
+            (1, 100_000, "0.0%", 1),
+            (u64::MAX - 1, u64::MAX, "99.9%", 29),
+            (u64::MAX, u64::MAX, "100.0%", 30),
+        ] {
+            assert_eq!(
+                share(count, total),
+                (share_of.to_owned(), "#".repeat(length))
+            );
+        }
+    }
+
+    #[test]
+    fn parts_are_books_and_make_up_the_book() {
+        for sheets in [1, 255, 256, 257, 512, 513] {
+            let book: Book = (0..sheets).map(|at| "R".repeat(at % 13)).collect();
+            let parts = parts(book.bytes());
+            let bytes: Vec<&[u8]> = parts.iter().map(|(part, _)| *part).collect();
+            assert_eq!(bytes.concat(), book.bytes());
+            for (part, sheets) in parts {
+                assert_eq!(Book::read(part).map(|sheets| sheets.len()), Ok(sheets));
+            }
+        }
+        assert_eq!(parts(b""), [(&b""[..], 0)]);
+        assert_eq!(parts(b"0,1"), [(&b"0,1"[..], 0)]);
+    }
+}
