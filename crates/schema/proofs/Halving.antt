@@ -139,9 +139,9 @@ module _ (members : Members) (name : Text) (low high : ℕ) (b : Between members
         }
 
 -- the member that has the name
-pub found-at : (s w : List ℕ) (k i : ℕ) (members : Members) (name : Text) → MembersRise none members → (m : MemberAt s w k i members maxSlots) → sameBytes (m .name) name ≡ true
+pub found-at : (s w : List ℕ) (k i : ℕ) (members : Members) (name : Text) → MembersRise none members → k + i < maxSlots → (m : MemberAt s w k i members maxSlots) → sameBytes (m .name) name ≡ true
     → FoundAt s w name members (k + i)
-found-at s w k i members name rises m e =
+found-at s w k i members name rises slot m e =
     let q = sameBytes-equal (m .name) name e in
     record {
       f = m .f;
@@ -152,6 +152,7 @@ found-at s w k i members name rises m e =
             low = m .low;
             indexed = m .indexed;
             rises = member-rises none i members (m .name) (m .f) rises (m .is);
+            slot = slot;
             room = m .room;
           };
     }
@@ -226,4 +227,6 @@ module _ (s w : List ℕ) (first count : ℕ) (name : Text) (low high : ℕ) (na
       pub narrowed-found : (o : Bool) → sameBytes (head .name) name ≡ true
           → LookedUp s w (record { opened = o; first = first; count = count }) name (At (first + middle))
       narrowed-found o e t h =
-          found-at s w first middle (t .members) name (h .rises) (middle-at o t h) (rw (middle-named o t h) at e)
+          let slots = h .slots in
+          let within = narrowed .within in
+          found-at s w first middle (t .members) name (h .rises) (omega arith) (middle-at o t h) (rw (middle-named o t h) at e)

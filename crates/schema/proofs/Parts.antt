@@ -23,11 +23,11 @@ pub headless-parts : (s w : List ℕ) (k : ℕ) (r : IndexedField) → fieldHead
 headless-parts s w k r n (field e kind o tag items members) holds =
     absurd (Option·none-ne-some _ (sym n ∙ holds .indexed .1 .reads))
 
-items-element : (s w : List ℕ) (k low : ℕ) (items : Items) → ItemsAt s w k low items → ItemsRise items → low + belowItems items ≤ maxSlots
+items-element : (s w : List ℕ) (k low : ℕ) (items : Items) → ItemsAt s w k low items → ItemsRise items → k + elements items ≤ maxSlots → low + belowItems items ≤ maxSlots
     → ElementAt s w (elementFrom (hasElement items) k) items
-unfolding elementFrom hasElement belowItems
-items-element s w k low absent at rises room = tt
-items-element s w k low (element f) at rises room = record { name = []; low = low; indexed = at; rises = rises; room = room }
+unfolding elementFrom hasElement elements belowItems
+items-element s w k low absent at rises slot room = tt
+items-element s w k low (element f) at rises slot room = record { name = []; low = low; indexed = at; rises = rises; slot = omega arith; room = room }
 
 pub indexed-parts : (s w : List ℕ) (k : ℕ) (head : FieldHead) (place child elems : ℕ) (el : ElementSlot)
     → Knows fieldHead s (placeWord w k / 4096) (fieldOf s head) → place ≡ placeWord w k → child ≡ childWord w k
@@ -56,7 +56,7 @@ indexed-parts s w k head place child elems el known p c n l (field e kind o tag 
       tagged = ap (λ (h : Entries.FieldHead). h .tag) q;
       elements =
           rw (l, has, low)
-          (items-element s w (holds .low) (holds .low + (elements items + countOf members)) items (at .3) (holds .rises .0) (omega arith));
+          (items-element s w (holds .low) (holds .low + (elements items + countOf members)) items (at .3) (holds .rises .0) (omega arith) (omega arith));
       members =
           record {
             marked = ap (λ (h : Entries.FieldHead). h .isOpen) q;
