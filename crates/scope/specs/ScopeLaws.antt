@@ -1,9 +1,11 @@
 -- A scope as it starts, and with one binder more.
-use Prim.Native.Nat.{ℕ, _<_}
+use Prim.Native.Nat.{ℕ, _<_, _≤_}
 use mathlib.Core.Bool.{Bool}
 use mathlib.Core.List.{List, [], _∷_}
 use mathlib.Core.Option.{Option}
 use mathlib.Core.Path.{_≡_, _∙_}
+use lib.ListN.{length}
+use Rattle.definition.specs.Limits.{maxSheetBytes}
 use Rattle.sheet.specs.Parts.{partOf}
 use Rattle.sheet.specs.declared.part.Part.{Part}
 use Rattle.definition.specs.Tree as Tree
@@ -29,10 +31,10 @@ scope-unbound sheet rule words x service y s r setting t u v names reader at = r
 }
 
 pub scope-bound : (sheet rule words : List ℕ) (scope : Scope) (name : Part) (element : Element) (r : Scope) (f : Option Field) (setting : Setting) (t : Tree.Schema)
-    (env : Environment) → Binds scope name element r → scope .count < 31 → BoundElement sheet words element f → ScopeAt sheet rule words scope setting t env
+    (env : Environment) → length rule ≤ maxSheetBytes → Binds scope name element r → scope .count < 31 → BoundElement sheet words element f → ScopeAt sheet rule words scope setting t env
     → ScopeAt sheet rule words r setting t (record { name = partOf rule name; element = f } ∷ env)
-scope-bound sheet rule words scope name element r f setting t env b room e at = record {
+scope-bound sheet rule words scope name element r f setting t env small b room e at = record {
   set = record { service = b .service ∙ at .set .service; names = rw (b .row) (at .set .names); reader = rw (b .reader) (at .set .reader) };
   schema = rw (b .schema) (at .schema);
-  binders = b .binders room sheet rule words env f (at .binders) e;
+  binders = b .binders room sheet rule words env f small (at .binders) e;
 }
