@@ -20,7 +20,6 @@ use Rattle.rule.specs.Index.{startOf, endOf, RuleAt}
 use Rattle.validation.specs.Check.{Check, check, failsIf, literalCheck, literals, literalsOfConditions, literalChecks, isBlankText, depth, references, checks}
 use Rattle.validation.specs.Judge.{outcome, environment, judge}
 use Rattle.scope.specs.Scopes.{chainOf, ChainAt, ScopeAt}
-use Rattle.scope.specs.declared.binder.Binder.{Binder}
 use Rattle.scope.specs.declared.binder.Scope.{Scope}
 use Rattle.judge.specs.Depth.{DepthIs}
 use Rattle.value_checks.specs.Shown.{overOf, shownOf, goOn}
@@ -47,7 +46,7 @@ pub begin-judges : (setting : Setting) (tree : Schema) (cs : List Check) (r : Pr
 unfolding shownBy shownWith goOn judge
 begin-judges setting tree cs r g = g .shows
 
-no-binders : (schema sheet words : List ℕ) (n : ℕ) (bs : List Binder) → ChainAt schema sheet words (chainOf n bs) [] → n ≡ 0
+no-binders : (schema sheet words : List ℕ) (n : ℕ) (bs : List ℕ) → ChainAt schema sheet words (chainOf n bs) [] → n ≡ 0
 unfolding chainOf
 no-binders schema sheet words zero bs c = refl
 no-binders schema sheet words (suc n) bs c = absurd c

@@ -61,6 +61,7 @@ pub record SettingAt (scope : Scope) (setting : Setting) : Type 0 where
 
 -- a scope of the code, beside the setting, the schema and the binders that it stands for
 pub record ScopeAt (sheet rule words : List ℕ) (scope : Scope) (setting : Setting) (t : Tree.Schema) (env : Environment) : Type 0 where
+  pub small : length rule ≤ maxSheetBytes
   pub set : SettingAt scope setting
   pub schema : SchemaAt sheet words (scope .schema) t
   pub binders : EnvironmentAt sheet rule words scope env

@@ -6,6 +6,7 @@ use mathlib.Core.List.{List, [], _∷_}
 use mathlib.Core.Option.{Option, none, some, IsSome}
 use mathlib.Core.Path.{_≡_, refl, sym, ap, _∙_}
 use lib.Dec.{eqb}
+use Rattle.definition.specs.Limits.{maxSheetBytes}
 use Rattle.definition.specs.Tree as Tree
 use Rattle.definition.specs.Tree.{Rule}
 use Rattle.definition.specs.Within.{ruleEntries, RuleFrom, RuleWithin}
@@ -99,20 +100,20 @@ module _ (set : Code.Setting) {schema sheet : List ℕ} {s : Schema} {words : Li
     setting = settingBy set
 
     -- what the code shows, of the setting as it was handed over
-    shows : (t : Tree.Schema) (x : Rule) → SchemaAt schema words s t → RuleAt sheet words x
+    shows : (t : Tree.Schema) (x : Rule) → length sheet ≤ maxSheetBytes → SchemaAt schema words s t → RuleAt sheet words x
         → shownBy a ≡ shownOf (judge setting t (checks setting x))
-    shows t x at rat = j .shows setting t x (scope-unbound schema sheet words (set .row) (set .service) Kernel s scope setting t u refl refl refl at) rat
+    shows t x short at rat = j .shows setting t x (scope-unbound schema sheet words (set .row) (set .service) Kernel s scope setting t short u refl refl refl at) rat
 
-    checked-shows : (label : List ℕ) (t : Tree.Schema) (x : Rule) {o : Shown} → SchemaAt schema words s t → RuleAt sheet words x → shownBy a ≡ o
+    checked-shows : (label : List ℕ) (t : Tree.Schema) (x : Rule) {o : Shown} → length sheet ≤ maxSheetBytes → SchemaAt schema words s t → RuleAt sheet words x → shownBy a ≡ o
         → checked setting label t x ≡ answerShown setting label x o
     unfolding checked
-    checked-shows label t x at rat f =
+    checked-shows label t x short at rat f =
         answer-shown setting label x (judge setting t (checks setting x))
-        ∙ ap (answerShown setting label x) (sym (shows t x at rat) ∙ f)
+        ∙ ap (answerShown setting label x) (sym (shows t x short at rat) ∙ f)
 
-    shown-small : (t : Tree.Schema) (x : Rule) {o : Shown} → SchemaAt schema words s t → RuleAt sheet words x → RuleWithin x → shownBy a ≡ o → ShownWithin x o
-    shown-small t x at rat within f =
-        rw (sym (shows t x at rat) ∙ f) at (shown-within setting t x (within .numbers))
+    shown-small : (t : Tree.Schema) (x : Rule) {o : Shown} → length sheet ≤ maxSheetBytes → SchemaAt schema words s t → RuleAt sheet words x → RuleWithin x → shownBy a ≡ o → ShownWithin x o
+    shown-small t x short at rat within f =
+        rw (sym (shows t x short at rat) ∙ f) at (shown-within setting t x (within .numbers))
 
     pub answer-accepted : {label before : List ℕ} {r : Outcome}
         → a .verdict ≡ Pass
@@ -121,12 +122,12 @@ module _ (set : Code.Setting) {schema sheet : List ℕ} {s : Schema} {words : Li
     unfolding shownBy shownWith answerShown pathAfter
     answer-accepted {label} v q =
         record {
-          tells = λ t x at rat within small room.
+          tells = λ t x at rat within short small room.
               let f : shownBy a ≡ passes (a .passed) = rw v in
-              let few = shown-small t x at rat within f in
+              let few = shown-small t x short at rat within f in
               let entries = within .entries in
               let same : p ≡ a .passed = n .same (omega arith) in
-              rw (checked-shows label t x at rat f) (record { result = rw same at q; path = refl });
+              rw (checked-shows label t x short at rat f) (record { result = rw same at q; path = refl });
         }
 
     pub answer-defect : {label before after : List ℕ} {fault : Fault} {entry : ℕ} {over : Over} {found : Finding} {place size family overPlace overPlace′ written : ℕ}
@@ -143,9 +144,9 @@ module _ (set : Code.Setting) {schema sheet : List ℕ} {s : Schema} {words : Li
     unfolding shownBy shownWith answerShown pathAfter numbersOf
     answer-defect {label} {before} {after} {fault} {entry} {over} {found = found} {place} {size} {family} {overPlace} {overPlace′} {written} v finding placed wrote family-is over-is over-narrow narrow-size =
         record {
-          tells = λ t x at rat within small room.
+          tells = λ t x at rat within short small room.
               let f : shownBy a ≡ fails (a .passed) (numberOf fault) entry (overBy over) (detailOf fault) = rw v in
-              let w = shown-small t x at rat within f in
+              let w = shown-small t x short at rat within f in
               let entries = within .entries in
               let few = w .few in
               let near = w .placed in
@@ -160,7 +161,7 @@ module _ (set : Code.Setting) {schema sheet : List ℕ} {s : Schema} {words : Li
               let count = stands .count in
               let fits = path-length label x (numberOf fault) entry small within in
               let size-is : size ≡ written = narrow-size .same (omega arith) in
-              rw (checked-shows label t x at rat f) (record {
+              rw (checked-shows label t x short at rat f) (record {
                 result = λ i.
                     record {
                       number = finding .number i;

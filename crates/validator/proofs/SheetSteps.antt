@@ -102,7 +102,7 @@ module _ {takes : Takes} {setting : Setting} {label schema sheet pathBefore befo
             stands = rw e (λ y d. indexed-so sheet after (rule .tree) y (sym (rule .reads) ∙ d) (rule .indexed));
             tells = λ is small room.
                 let good = still-read schema (SchemaRead.Good s) (rule .kept) (rw e at is) in
-                let within = rule-round-trip sheet (rule .tree) .0 (rule .reads) .1 in
+                let written = rule-round-trip sheet (rule .tree) .0 (rule .reads) in
                 rw (good .reads, rule .reads, taken)
-                (n .tells (good .tree) (rule .tree) (good .indexed) (rule .indexed) within small room);
+                (n .tells (good .tree) (rule .tree) (good .indexed) (rule .indexed) (written .1) (rw (written .0) (written .1 .bytes)) small room);
           }

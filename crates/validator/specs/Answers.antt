@@ -3,6 +3,7 @@ use Prim.Native.Nat.{ℕ, _<_, _≤_}
 use mathlib.Core.List.{List}
 use mathlib.Core.Path.{_≡_}
 use lib.ListN.{length}
+use Rattle.definition.specs.Limits.{maxSheetBytes}
 use Rattle.definition.specs.Tree as Tree
 use Rattle.definition.specs.Tree.{Rule}
 use Rattle.definition.specs.Within.{RuleWithin}
@@ -27,6 +28,7 @@ pub record Answered (setting : Setting) (label schema sheet : List ℕ) (s : Sch
       → SchemaAt schema words s t
       → RuleAt sheet words x
       → RuleWithin x
+      → length sheet ≤ maxSheetBytes
       → length label ≤ maxLabelBytes
       → pathBytes ≤ length before
       → Tells (checked setting label t x) before after r
