@@ -1,5 +1,5 @@
 -- Words written and words kept.
-use Prim.Native.Nat.{ℕ, _+_, _-_, _*_, _/_, _%_, _≤_, _<_}
+use Prim.Native.Nat.{ℕ, _+_, _-_, _*_, _≤_, _<_}
 use mathlib.Core.List.{List}
 use mathlib.Core.Path.{_≡_, refl, _∙_}
 use native.Mathlib.Omega.{arith}
@@ -8,7 +8,6 @@ use lib.Seq.{getD-set-same, getD-set-other}
 use Rattle.schema.specs.Index.{firstWord}
 use Rattle.schema.specs.Kept.{Kept, SlotKept}
 use Rattle.schema.specs.Fields.{SlotFits, SlotPut}
-use Rattle.sheet.specs.Places.{NamePlaced, maxPrefix}
 use Rattle.sheet.specs.declared.part.Part.{Part}
 
 pub kept-all : (a : List ℕ) → Kept a a
@@ -42,47 +41,31 @@ module _ (words : List ℕ) (i v w : ℕ) where
       getD-set-other (set words i v) (i + 1) j w 0 (λ e. h (omega arith) (omega arith))
       ∙ getD-set-other words i j v 0 (λ e. h (omega arith) (omega arith))
 
--- the three numbers that the second word is made of
-second-word : (w start child : ℕ) (name : Part) → child < 4096 → NamePlaced start maxPrefix name
-    → w ≡ name .len * 131072 + (name .start - start) * 4096 + child
-    → (w % 4096 ≡ child) × (start + w / 4096 % 32 ≡ name .start) × (w / 131072 ≡ name .len)
-second-word w start child name h placed e =
-    let near = placed .near in
-    let after = placed .after in
-    (omega arith, omega arith, omega arith)
+-- a part by its two numbers
+pub part-is : (start len : ℕ) (p : Part) → start ≡ p .start → len ≡ p .len → _≡_ {A = Part} (record { start = start; len = len }) p
+part-is start len p e f = rw (e, f)
 
-name-made : (place w start entry : ℕ) (name : Part) → place ≡ start * 4096 + entry → entry < 4096
-    → start + w / 4096 % 32 ≡ name .start → w / 131072 ≡ name .len
-    → _≡_ {A = Part} (record { start = place / 4096 + w / 4096 % 32; len = w / 131072 }) name
-name-made place w start entry name p h from size =
-    let q : place / 4096 ≡ start = omega arith in
-    rw (q, from, size)
-
-module _ (words : List ℕ) (k start entry child : ℕ) (name : Part) (fits : SlotFits words k start entry child name) where
-  abbrev slot-word : ℕ
-  slot-word = name .len * 131072 + (name .start - start) * 4096 + child
-
-  pub slot-put : SlotPut words (set (set words (firstWord + 2 * k) (start * 4096 + entry)) (firstWord + 2 * k + 1) slot-word) k start entry child name
-  slot-put =
-      let i = firstWord + 2 * k in
-      let v = start * 4096 + entry in
-      let w = slot-word in
-      let first = two-first words i v w (omega arith) in
-      let second = two-second words i v w (omega arith) in
-      let parts = second-word _ start child name (omega arith) (fits .named) second in
-      record {
-        kept =
-            record {
-              size = length-set (set words i v) (i + 1) w ∙ length-set words i v;
-              lower = λ j h. two-other words i v w j (omega arith);
-              upper = λ j h. two-other words i v w j (omega arith);
-            };
-        place = first;
-        childAt = parts .0;
-        named = name-made _ _ start entry name first (fits .number) (parts .1) (parts .2);
-        others =
-            λ j p q. record {
-              place = two-other words i v w (firstWord + 2 * j) (λ a b. p (omega arith) (omega arith));
-              name = two-other words i v w (firstWord + 2 * j + 1) (λ a b. p (omega arith) (omega arith));
-            };
-      }
+pub slot-put : (words : List ℕ) (k start entry child : ℕ) (name : Part) (v w : ℕ) → SlotFits words k start entry child name
+    → v ≡ start * 4096 + entry → w ≡ name .len * 131072 + (name .start - start) * 4096 + child
+    → SlotPut words (set (set words (firstWord + 2 * k) v) (firstWord + 2 * k + 1) w) k start entry child name
+slot-put words k start entry child name v w fits one two =
+    let i = firstWord + 2 * k in
+    let first = two-first words i v w (omega arith) in
+    let second = two-second words i v w (omega arith) in
+    let placed = fits .named in
+    record {
+      kept =
+          record {
+            size = length-set (set words i v) (i + 1) w ∙ length-set words i v;
+            lower = λ j h. two-other words i v w j (omega arith);
+            upper = λ j h. two-other words i v w j (omega arith);
+          };
+      place = first ∙ one;
+      childAt = omega arith;
+      named = part-is _ _ name (omega arith) (omega arith);
+      others =
+          λ j p q. record {
+            place = two-other words i v w (firstWord + 2 * j) (λ a b. p (omega arith) (omega arith));
+            name = two-other words i v w (firstWord + 2 * j + 1) (λ a b. p (omega arith) (omega arith));
+          };
+    }

@@ -1,5 +1,7 @@
 -- `schema::index::name_of_slot` meets its contract: two words say where the name stands.
+use native.Mathlib.Omega.{arith}
 use borrow.Author.Needs.{needs}
+use Rattle.schema.proofs.Slots.{part-is}
 use Rattle.schema.proofs.index.name_of_slot.Statement.{statement}
 use Rattle.schema.proofs.index.name_of_slot.Tie as tie
 
@@ -19,7 +21,8 @@ add-t9 : tie.Need-add-t9
 add-t9 c = search needs
 
 returns : tie.Need-returns
-returns c = rw (c .name-word .ensures, c .before .place-word .ensures)
+returns c =
+    part-is _ _ _ (omega (arith, c .name-word .ensures, c .before .place-word .ensures)) (omega (arith, c .name-word .ensures))
 
 pub name-of-slot-spec : {M : Type 1} → statement M
 name-of-slot-spec = tie.close (tie.spec place-word-requires cast-place name-word-requires cast-more add-t9 returns)

@@ -60,7 +60,7 @@ same-length c = simp length-set
 returns : tie.Need-returns
 returns c =
     let a = c .before .before .args in
-    slot-put (a .words .now) (a .k) (a .start) (a .entry) (a .child) (a .name) (c .before .before .pre)
+    slot-put (a .words .now) (a .k) (a .start) (a .entry) (a .child) (a .name) _ _ (c .before .before .pre) (omega arith) (omega arith)
 
 pub put-slot-spec : {M : Type 1} → statement M
 put-slot-spec =
