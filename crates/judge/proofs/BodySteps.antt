@@ -3,14 +3,16 @@ use Prim.Native.Nat.{ℕ, _+_, _*_, _-_, _≤_, _<_}
 use native.Mathlib.Omega.{arith}
 use mathlib.Core.Bool.{Bool, true, false, cond, _||_}
 use mathlib.Core.List.{List, [], _∷_, append-nil}
-use mathlib.Core.Option.{none, some}
+use mathlib.Core.Logic.{⊎-elim}
+use mathlib.Core.Option.{Option, none, some, Option·none-ne-some, Option·some-injective}
 use mathlib.Core.Path.{_≡_, refl, sym, ap, _∙_}
 use lib.ListN.{drop}
 use lib.Dec.{eqb}
-use borrow.Author.Tests.{ne-eqb, le-leb, lt-leb}
+use borrow.Author.Tests.{eq-eqb, ne-eqb, le-leb, lt-leb}
 use Rattle.sheet.specs.Entries.{ConditionHead, literalHead, manyHead, negationHead, oneHead, twoHead, comparisonHead, quantifierHead, conditionHead}
-use Rattle.sheet.specs.Places.{ReadsTo, conditionOf}
-use Rattle.sheet.specs.declared.rule_heads.ConditionHead.{ConditionHead as Head}
+use Rattle.sheet.specs.Parts.{partOf}
+use Rattle.sheet.specs.Places.{ReadsTo}
+use Rattle.sheet.specs.declared.part.Part.{Part}
 use Rattle.definition.specs.Tree.{Text, Schema, Value, string, Condition, literal, many, negation, one, two, comparison, quantifier, Conditions, noConditions, condition}
 use Rattle.definition.specs.Tree as Tree
 use Rattle.reference.specs.Setting.{Setting}
@@ -18,7 +20,7 @@ use Rattle.reference.specs.Path.{Segments, cut, extend, split}
 use Rattle.reference.specs.Walk.{refused}
 use Rattle.reference.specs.Reference.{Environment, collection}
 use Rattle.definition.specs.Within.{conditionEntries, conditionsEntries, valueEntries}
-use Rattle.rule.specs.Index.{startOf, countOfConditions, ValueAt}
+use Rattle.rule.specs.Index.{startOf, ValueAt}
 use Rattle.walk.specs.Answers.{collectionDetail, CollectedIs}
 use Rattle.walk.specs.Dots.{Cuts}
 use Rattle.walk.specs.declared.path.Dot.the-variants.{At, Nowhere}
@@ -27,26 +29,29 @@ use Rattle.walk.specs.declared.answer.Collected.the-variants as Collected
 use Rattle.walk.specs.declared.answer.CollectionFault.the-variants.{NotString}
 use Rattle.validation.specs.Check.{Binder, check, failsIf, entryOf, isString, hasDot, operatorCheck, isEmpty, operand, compareSide, body, bodies, depth, depthOfConditions}
 use Rattle.validation.specs.Judge.{outcome}
+use Rattle.value_checks.specs.Kinds.{OperatorAt}
 use Rattle.value_checks.specs.Nodes.{IsCondition, AreConditions, Behind}
-use Rattle.value_checks.specs.Verdicts.{numberOf, detailOf, isDefect, sideDetail, failed, GoesOn, PassedOn, Failed, Required}
+use Rattle.value_checks.specs.Verdicts.{numberOf, detailOf, isDefect, sideDetail, failed, GoesOn, PassedOn, Failed}
 use Rattle.scope.specs.Collections.{CollectionIs}
 use Rattle.value_checks.specs.Frames.{Frame, frame, Stands, ReferencesIn, PairJudged, side}
-use Rattle.judge.specs.Bodies.{operatorIn, OperatorJudged, CollectionOf, BodyJudged, BodiesJudged, QuantifierJudged}
+use Rattle.judge.specs.Bodies.{OperatorJudged, NonemptyJudged, OperandsJudged, bindBy, BindAt, CollectionOf, BodyJudged, BodiesJudged, QuantifierJudged}
+use Rattle.judge.specs.declared.body.BindRead.{BindRead}
+use Rattle.judge.specs.declared.body.BindRead.the-variants as BindRead
 use Rattle.scope.specs.declared.binder.Scope.{Scope}
 use Rattle.value_checks.specs.declared.verdict.Over.{Over}
 use Rattle.value_checks.specs.declared.verdict.Side.the-variants.{Left, Right}
-use Rattle.value_checks.specs.declared.verdict.Fault.the-variants.{Operator, Empty}
+use Rattle.value_checks.specs.declared.verdict.Fault.the-variants.{Operator}
 use Rattle.value_checks.specs.declared.verdict.Progress.{Progress}
 use Rattle.value_checks.proofs.Going.{goes-nothing, goes-then, goes-absorbed}
-use Rattle.value_checks.proofs.NodeSteps.{same-head, condition-unread, tailOf, first-stands, tail-stands, none-left, none-ends}
+use Rattle.value_checks.proofs.NodeSteps.{has-operator, condition-size, tailOf, first-stands, tail-stands, none-left, none-ends}
 use Rattle.value_checks.proofs.LiteralSteps.{settled-outcome}
 use Rattle.value_checks.proofs.ReferenceSteps.{references-judged}
 use Rattle.value_checks.proofs.OperandSteps.{asked-outcome}
 
 -- Operators.
 
-module _ {scope : Scope} {over : Over} {h : Head} {i : ℕ} {a r : Progress} (op : ℕ) (said : (rule : List ℕ) → op ≡ operatorIn (conditionOf rule h)) where
-  pub operator-early : op < 18 → PassedOn a r → OperatorJudged scope over h i a r
+module _ {scope : Scope} {over : Over} {op i : ℕ} {a r : Progress} where
+  pub operator-early : op < 18 → PassedOn a r → OperatorJudged scope over op i a r
   unfolding operatorCheck failsIf
   operator-early l p =
       record {
@@ -54,11 +59,10 @@ module _ {scope : Scope} {over : Over} {h : Head} {i : ℕ} {a r : Progress} (op
         goes =
             λ schema rule words setting tree binders env s.
             p .goes (outcome setting tree) _
-            (asked-outcome setting tree binders env 15 (i + 1) _ none (s .bound)
-            (rw (sym (said rule), lt-leb 18 op l)));
+            (asked-outcome setting tree binders env 15 (i + 1) _ none (s .bound) (rw (lt-leb 18 op l)));
       }
 
-  pub operator-service : 18 ≤ op → scope .service ≡ true → PassedOn a r → OperatorJudged scope over h i a r
+  pub operator-service : 18 ≤ op → scope .service ≡ true → PassedOn a r → OperatorJudged scope over op i a r
   unfolding operatorCheck failsIf
   operator-service l t p =
       record {
@@ -67,11 +71,10 @@ module _ {scope : Scope} {over : Over} {h : Head} {i : ℕ} {a r : Progress} (op
             λ schema rule words setting tree binders env s.
             let m : setting .isService ≡ true = sym (s .scoped .set .service) ∙ t in
             p .goes (outcome setting tree) _
-            (asked-outcome setting tree binders env 15 (i + 1) _ none (s .bound)
-            (rw (sym (said rule), le-leb 18 op l, m)));
+            (asked-outcome setting tree binders env 15 (i + 1) _ none (s .bound) (rw (le-leb 18 op l, m)));
       }
 
-  pub operator-fails : 18 ≤ op → scope .service ≡ false → Failed a Operator (i + 1) over r → OperatorJudged scope over h i a r
+  pub operator-fails : 18 ≤ op → scope .service ≡ false → Failed a Operator (i + 1) over r → OperatorJudged scope over op i a r
   unfolding operatorCheck failsIf check numberOf detailOf
   operator-fails l t p =
       record {
@@ -81,8 +84,7 @@ module _ {scope : Scope} {over : Over} {h : Head} {i : ℕ} {a r : Progress} (op
             let m : setting .isService ≡ false = sym (s .scoped .set .service) ∙ t in
             p .goes (outcome setting tree) _ []
             (record { numbered = refl; placed = refl; held = s .held })
-            (asked-outcome setting tree binders env 15 (i + 1) _ (some 0) (s .bound)
-            (rw (sym (said rule), le-leb 18 op l, m)));
+            (asked-outcome setting tree binders env 15 (i + 1) _ (some 0) (s .bound) (rw (le-leb 18 op l, m)));
       }
 
 -- Binds.
@@ -106,6 +108,35 @@ dot-at t d cuts = sym (dot-parts t ∙ ap (λ (s : Segments). isMore (s .others)
 
 pub dot-nowhere : (t : Text) → Cuts t Nowhere → false ≡ hasDot t
 dot-nowhere t cuts = sym (dot-parts t ∙ ap (λ (s : Segments). isMore (s .others)) cuts)
+
+unfoldable pub bindIn : ConditionHead → Option Text
+bindIn (literalHead truth) = none
+bindIn (manyHead op count) = none
+bindIn negationHead = none
+bindIn (oneHead op) = none
+bindIn (twoHead op) = none
+bindIn (comparisonHead which) = none
+bindIn (quantifierHead op bind) = some bind
+
+module _ {rule words : List ℕ} {i at : ℕ} (start : at ≡ startOf words i) where
+  pub bind-bad : conditionHead (drop at rule) ≡ none → BindAt rule words i BindRead.Bad
+  bind-bad e =
+      record {
+        is = λ op bind rest reads.
+            let p : conditionHead (drop (startOf words i) rule) ≡ none = rw (sym start) e in
+            let z : _≡_ {A = ℕ} 0 1 = cc in
+            absurd (omega arith);
+      }
+
+  pub bind-read : {h : ConditionHead} {next : ℕ} {r : BindRead} → ReadsTo conditionHead rule at h next → bindBy rule r ≡ bindIn h → BindAt rule words i r
+  unfolding bindIn
+  bind-read {h} {next} {r} t same =
+      record {
+        is = λ op bind rest reads.
+            let p : conditionHead (drop (startOf words i) rule) ≡ some (h, drop next rule) = rw (sym start) (t .reads) in
+            let q : _≡_ {A = ConditionHead × List ℕ} (h, drop next rule) (quantifierHead op bind, rest) = cc in
+            same ∙ ap (λ (x : ConditionHead × List ℕ). bindIn (x .0)) q;
+      }
 
 -- Collections.
 
@@ -135,21 +166,113 @@ module _ {schema rule words : List ℕ} {scope : Scope} {i : ℕ} where
   unfolding collectionDetail
   collection-other g = record { leads = λ setting tree env v s w. (1, [], no-text tree env v (g v w), λ h. refl) }
 
--- A condition, by its head.
+-- The values of a condition that holds none.
 
-abbrev pub Inner : Frame → (i end left : ℕ) → (b r : Progress) → ConditionHead → Type 0
-Inner f i end left b r (literalHead truth) = r ≡ b
-Inner f i end left b r (manyHead op n) = (d : Progress) × Required b (eqb n 0) Empty (i + 1) (f .over) d × BodiesJudged f (i + 1) end (left - 1) d r
-Inner f i end left b r negationHead = BodiesJudged f (i + 1) end (left - 1) b r
-Inner f i end left b r (oneHead op) = ReferencesIn f (i + 1) (end - (i + 1)) b r
-Inner f i end left b r (twoHead op) = PairJudged f (operand op) (operand op) (i + 1) end b r
-Inner f i end left b r (comparisonHead which) = PairJudged f (side Left) (side Right) (i + 1) end b r
-Inner f i end left b r (quantifierHead op bind) = QuantifierJudged f bind i end (left - 1) b r
+module _ {f : Frame} {op start end : ℕ} {a r : Progress} where
+  pub operands-exists : op ≤ 5 → ReferencesIn f start (end - start) a r → OperandsJudged f op start end a r
+  operands-exists h p =
+      record {
+        atMost = omega (arith, p .atMost);
+        one = λ q. p;
+        two = λ low high. absurd (omega arith);
+        comparison = λ q. absurd (omega arith);
+      }
 
-empty-count : (cs : Conditions) → isEmpty cs ≡ eqb (countOfConditions cs) 0
-unfolding isEmpty countOfConditions
-empty-count noConditions = refl
-empty-count (condition c others) = sym (ne-eqb (countOfConditions others + 1) 0 (λ e. omega arith))
+  pub operands-two : 5 < op → op < 18 → PairJudged f (operand op) (operand op) start end a r → OperandsJudged f op start end a r
+  operands-two h k p =
+      record {
+        atMost = p .atMost;
+        one = λ q. absurd (⊎-elim (λ e. omega arith) (λ e. omega arith) q);
+        two = λ low high. p;
+        comparison = λ q. absurd (omega arith);
+      }
+
+  pub operands-comparison : op ≡ 18 → PairJudged f (side Left) (side Right) start end a r → OperandsJudged f op start end a r
+  operands-comparison h p =
+      record {
+        atMost = p .atMost;
+        one = λ q. absurd (⊎-elim (λ e. omega arith) (λ e. omega arith) q);
+        two = λ low high. absurd (omega arith);
+        comparison = λ q. p;
+      }
+
+  pub operands-truthy : 18 < op → ReferencesIn f start (end - start) a r → OperandsJudged f op start end a r
+  operands-truthy h p =
+      record {
+        atMost = omega (arith, p .atMost);
+        one = λ q. p;
+        two = λ low high. absurd (omega arith);
+        comparison = λ q. absurd (omega arith);
+      }
+
+-- A condition, by its operator.
+
+pub record Inner (f : Frame) (i end left op : ℕ) (b r : Progress) : Type 0 where
+  pub literal : op ≤ 1 → r ≡ b
+  pub conditions : 2 ≤ op → op ≤ 4
+      → (d : Progress) × NonemptyJudged (f .over) op i end b d × BodiesJudged f (i + 1) end (left - 1) d r
+  pub operands : 5 ≤ op → op ≤ 19 → OperandsJudged f op (i + 1) end b r
+  pub quantifier : 20 ≤ op → (own : ℕ) (bind : Text) (rest : List ℕ)
+      → conditionHead (drop (startOf (f .words) i) (f .rule)) ≡ some (quantifierHead own bind, rest)
+      → QuantifierJudged f bind i end (left - 1) b r
+
+module _ {f : Frame} {i end left op : ℕ} {b : Progress} where
+  pub inner-literal : op ≤ 1 → Inner f i end left op b b
+  inner-literal h =
+      record {
+        literal = λ p. refl;
+        conditions = λ p q. absurd (omega arith);
+        operands = λ p q. absurd (omega arith);
+        quantifier = λ p. absurd (omega arith);
+      }
+
+  pub inner-conditions : {d r : Progress} → 1 < op → op ≤ 4 → NonemptyJudged (f .over) op i end b d → BodiesJudged f (i + 1) end (left - 1) d r → Inner f i end left op b r
+  inner-conditions {d} {r} h k n j =
+      record {
+        literal = λ p. absurd (omega arith);
+        conditions = λ p q. (d, n, j);
+        operands = λ p q. absurd (omega arith);
+        quantifier = λ p. absurd (omega arith);
+      }
+
+  pub inner-operands : {r : Progress} → 4 < op → op ≤ 19 → OperandsJudged f op (i + 1) end b r → Inner f i end left op b r
+  inner-operands h k j =
+      record {
+        literal = λ p. absurd (omega arith);
+        conditions = λ p q. absurd (omega arith);
+        operands = λ p q. j;
+        quantifier = λ p. absurd (omega arith);
+      }
+
+  pub inner-quantifier : {x : BindRead} {p : Part} {r : Progress} → 19 < op → BindAt (f .rule) (f .words) i x → x ≡ BindRead.Is p
+      → QuantifierJudged f (partOf (f .rule) p) i end (left - 1) b r
+      → Inner f i end left op b r
+  unfolding bindBy
+  inner-quantifier {x} {p} {r} h k e j =
+      record {
+        literal = λ p. absurd (omega arith);
+        conditions = λ p q. absurd (omega arith);
+        operands = λ p q. absurd (omega arith);
+        quantifier = λ q own bind rest reads.
+            let s : _≡_ {A = Option Text} (some (partOf (f .rule) p)) (some bind) = rw e at (k .is own bind rest reads) in
+            rw (Option·some-injective (partOf (f .rule) p) bind s) at j;
+      }
+
+  -- a quantifier that stands there has a bind
+  pub inner-unbound : {x : BindRead} → 19 < op → BindAt (f .rule) (f .words) i x → x ≡ BindRead.Bad → Inner f i end left op b b
+  unfolding bindBy
+  inner-unbound {x} h k e =
+      record {
+        literal = λ p. absurd (omega arith);
+        conditions = λ p q. absurd (omega arith);
+        operands = λ p q. absurd (omega arith);
+        quantifier = λ q own bind rest reads. absurd (Option·none-ne-some bind (rw e at (k .is own bind rest reads)));
+      }
+
+empty-end : (cs : Conditions) (i end : ℕ) → end ≡ i + 1 + conditionsEntries cs → isEmpty cs ≡ eqb (i + 1) end
+unfolding isEmpty conditionsEntries
+empty-end noConditions i end e = sym (eq-eqb (i + 1) end (omega arith))
+empty-end (condition c others) i end e = let m : 1 ≤ conditionEntries c = condition-size c in sym (ne-eqb (i + 1) end (λ q. omega arith))
 
 pub depth-some : (c : Condition) → 1 ≤ depth c
 unfolding depth
@@ -169,73 +292,67 @@ module _ {schema rule words : List ℕ} {scope : Scope} {over : Over} {i end lef
         goes = λ setting tree binders env c s w d k. absurd (omega (arith, depth-some c, d, z));
       }
 
-  pub body-bad : {at : ℕ} → at ≡ startOf words i → conditionHead (drop at rule) ≡ none → BodyJudged (frame schema rule words scope over) i end left a a
-  body-bad start r =
-      record {
-        atMost = omega arith;
-        goes = λ setting tree binders env c s w d k. absurd (condition-unread rule words i c (w .stands) start r);
-      }
-
-module _ (schema rule words : List ℕ) (scope : Scope) (over : Over) (i end left : ℕ) {a b : Progress} (r : Progress) {h : Head} (some-left : left ≡ 0 → ⊥) (judged : OperatorJudged scope over h i a b) (inner : Inner (frame schema rule words scope over) i end left b r (conditionOf rule h)) where
-  module _ (setting : Setting) (tree : Schema) (binders : List Binder) (env : Environment) {at next : ℕ} (start : at ≡ startOf words i) (reads : ReadsTo conditionHead rule at (conditionOf rule h) next) (s : Stands (frame schema rule words scope over) setting tree binders env) where
-    -- the operator's check, by the head that the tree has
-    operator-goes : (k : ConditionHead) → conditionOf rule h ≡ k → GoesOn (outcome setting tree) a (operatorCheck setting binders (i + 1) (operatorIn k) ∷ []) b
-    operator-goes k e = rw e at (judged .goes schema rule words setting tree binders env s)
-
-    inner-by : (k : ConditionHead) → conditionOf rule h ≡ k → Inner (frame schema rule words scope over) i end left b r k
-    inner-by k e = rw e at inner
+module _ (schema rule words : List ℕ) (scope : Scope) (over : Over) (i end left : ℕ) {at op : ℕ} {a b : Progress} (r : Progress) (some-left : left ≡ 0 → ⊥) (start : at ≡ startOf words i) (kind : OperatorAt rule at op) (judged : OperatorJudged scope over op i a b) (inner : Inner (frame schema rule words scope over) i end left op b r) where
+  module _ (setting : Setting) (tree : Schema) (binders : List Binder) (env : Environment) (s : Stands (frame schema rule words scope over) setting tree binders env) where
+    -- the operator's check, by the operator that the tree has
+    operator-goes : (own : ℕ) → op ≡ own → GoesOn (outcome setting tree) a (operatorCheck setting binders (i + 1) own ∷ []) b
+    operator-goes own e = rw e at (judged .goes schema rule words setting tree binders env s)
 
     body-goes : (c : Condition) → IsCondition rule words i end c → depth c ≤ left → scope .count + left ≤ 32 → GoesOn (outcome setting tree) a (body setting binders c) r
-    unfolding body operatorIn depth depthOfConditions conditionEntries conditionsEntries bodies sideDetail compareSide numberOf detailOf check
+    unfolding body depth depthOfConditions conditionEntries conditionsEntries bodies sideDetail compareSide numberOf detailOf check
     body-goes (literal e truth) w d k =
-        let q = same-head start reads (w .stands) in
-        rw (w .stands .isEntry, inner-by _ q) (operator-goes _ q)
-    body-goes (many e op children) w d k =
-        let q = same-head start reads (w .stands .0) in
-        let n = inner-by _ q in
+        let p : op ≡ 1 = has-operator rule words i start kind (literal e truth) (w .stands) in
+        rw (w .stands .isEntry, inner .literal (omega arith)) (operator-goes 1 p)
+    body-goes (many e own children) w d k =
+        let p = has-operator rule words i start kind (many e own children) (w .stands) in
+        let n = inner .conditions (p .1) (omega (arith, p .2)) in
         rw (w .stands .0 .isEntry)
-        (goes-then (operator-goes _ q)
+        (goes-then (operator-goes own (p .0))
         (goes-then
-        (n .1 .goes (outcome setting tree) (check 16 (i + 1) binders (failsIf (isEmpty children) 0))
+        (n .1 .many (p .2) .goes (outcome setting tree) (check 16 (i + 1) binders (failsIf (isEmpty children) 0))
         (record { numbered = refl; placed = refl; held = s .held })
-        (settled-outcome setting tree binders env 16 (i + 1) (isEmpty children) 0 (s .bound) ∙ ap (λ (x : Bool). failed x 0) (empty-count children)))
+        (settled-outcome setting tree binders env 16 (i + 1) (isEmpty children) 0 (s .bound)
+        ∙ ap (λ (x : Bool). failed x 0) (empty-end children i end (omega (arith, w .ends)))))
         (n .2 .goes setting tree binders env children s (record { stand = w .stands .1; ends = omega (arith, w .ends) }) (omega arith) (omega arith))))
     body-goes (negation e child) w d k =
-        let q = same-head start reads (w .stands .0) in
-        let g = (inner-by _ q) .goes setting tree binders env (condition child noConditions) s (record { stand = (w .stands .1, tt); ends = omega (arith, w .ends) }) (omega arith) (omega arith) in
-        rw (w .stands .0 .isEntry) (goes-then (operator-goes _ q) (rw append-nil at g))
-    body-goes (one e op v) w d k =
-        let q = same-head start reads (w .stands .0) in
+        let p : op ≡ 4 = has-operator rule words i start kind (negation e child) (w .stands) in
+        let n = inner .conditions (omega arith) (omega arith) in
+        let same : n .0 ≡ b = n .1 .other (omega arith) in
+        let g = n .2 .goes setting tree binders env (condition child noConditions) s (record { stand = (w .stands .1, tt); ends = omega (arith, w .ends) }) (omega arith) (omega arith) in
+        rw (w .stands .0 .isEntry) (goes-then (operator-goes 4 p) (rw (append-nil, same) at g))
+    body-goes (one e own v) w d k =
+        let p = has-operator rule words i start kind (one e own v) (w .stands) in
+        let n = ⊎-elim (λ q. inner .operands (omega arith) (omega arith)) (λ q. inner .operands (omega arith) (omega arith)) (p .1) in
         rw (w .stands .0 .isEntry)
-        (goes-then (operator-goes _ q)
-        (references-judged (inner-by _ q) setting tree binders env v s (record { stands = w .stands .1; ends = omega (arith, w .ends) })))
-    body-goes (two e op left right) w d k =
-        let q = same-head start reads (w .stands .0) in
+        (goes-then (operator-goes own (p .0))
+        (references-judged (n .one (p .1)) setting tree binders env v s (record { stands = w .stands .1; ends = omega (arith, w .ends) })))
+    body-goes (two e own left right) w d k =
+        let p = has-operator rule words i start kind (two e own left right) (w .stands) in
+        let n = inner .operands (omega (arith, p .1)) (omega (arith, p .2)) in
+        let g : PairJudged (frame schema rule words scope over) (operand own) (operand own) (i + 1) end b r = rw (p .0) at (n .two (p .1) (p .2)) in
         rw (w .stands .0 .isEntry)
-        (goes-then (operator-goes _ q)
-        ((inner-by _ q) .goes setting tree binders env (i + 1 + valueEntries left) left right s
+        (goes-then (operator-goes own (p .0))
+        (g .goes setting tree binders env (i + 1 + valueEntries left) left right s
         (record { stands = w .stands .1; ends = refl })
         (record { stands = w .stands .2; ends = omega (arith, w .ends) })))
     body-goes (comparison e which left right) w d k =
-        let q = same-head start reads (w .stands .0) in
+        let p : op ≡ 18 = has-operator rule words i start kind (comparison e which left right) (w .stands) in
+        let n = inner .operands (omega arith) (omega arith) in
         rw (w .stands .0 .isEntry)
-        (goes-then (operator-goes _ q)
-        ((inner-by _ q) .goes setting tree binders env (i + 1 + valueEntries left) left right s
+        (goes-then (operator-goes 18 p)
+        (n .comparison p .goes setting tree binders env (i + 1 + valueEntries left) left right s
         (record { stands = w .stands .1; ends = refl })
         (record { stands = w .stands .2; ends = omega (arith, w .ends) })))
-    body-goes (quantifier e op bind in-value that) w d k =
-        let q = same-head start reads (w .stands .0) in
+    body-goes (quantifier e own bind in-value that) w d k =
+        let p = has-operator rule words i start kind (quantifier e own bind in-value that) (w .stands) in
+        let n = inner .quantifier (p .1) own bind (w .stands .0 .rest) (w .stands .0 .reads) in
         rw (w .stands .0 .isEntry)
-        (goes-then (operator-goes _ q)
-        ((inner-by _ q) .goes setting tree binders env in-value that s (w .stands .1) (w .stands .2) (omega (arith, w .ends)) (omega arith) (omega arith)))
+        (goes-then (operator-goes own (p .0))
+        (n .goes setting tree binders env in-value that s (w .stands .1) (w .stands .2) (omega (arith, w .ends)) (omega arith) (omega arith)))
 
-  pub body-judged : {at next : ℕ}
-      → at ≡ startOf words i
-      → ReadsTo conditionHead rule at (conditionOf rule h) next
-      → r .passed ≤ a .passed + 8 * (end - i)
-      → BodyJudged (frame schema rule words scope over) i end left a r
-  body-judged start reads most =
-      record { atMost = most; goes = λ setting tree binders env c s w d k. body-goes setting tree binders env start reads s c w d k }
+  pub body-judged : r .passed ≤ a .passed + 8 * (end - i) → BodyJudged (frame schema rule words scope over) i end left a r
+  body-judged most =
+      record { atMost = most; goes = λ setting tree binders env c s w d k. body-goes setting tree binders env s c w d k }
 
 -- Several conditions.
 

@@ -2,17 +2,14 @@
 use Prim.Native.Nat.{ℕ, _+_, _-_, _≤_, _<_, min, max}
 use native.Mathlib.Omega.{arith}
 use mathlib.Core.List.{List}
-use mathlib.Core.Option.{none}
 use mathlib.Core.Path.{_≡_, refl, sym, ap, _∙_}
-use lib.ListN.{drop}
-use Rattle.sheet.specs.Entries.{ConditionHead, conditionHead}
-use Rattle.sheet.specs.Places.{ReadsTo}
 use Rattle.definition.specs.Tree.{Condition, literal, many, negation, one, two, comparison, quantifier, Conditions, noConditions, condition}
 use Rattle.rule.specs.Index.{startOf}
 use Rattle.validation.specs.Check.{depth, depthOfConditions}
-use Rattle.value_checks.specs.Nodes.{AreConditions, Behind, childrenOf, ChildrenAt}
+use Rattle.value_checks.specs.Kinds.{OperatorAt}
+use Rattle.value_checks.specs.Nodes.{AreConditions, Behind, childrenOf, ChildrenFrom}
 use Rattle.judge.specs.Depth.{DepthIs, DepthsAre}
-use Rattle.value_checks.proofs.NodeSteps.{condition-unread, children-stand, tailOf, first-stands, tail-stands, none-left, none-ends}
+use Rattle.value_checks.proofs.NodeSteps.{children-stand, tailOf, first-stands, tail-stands, none-left, none-ends}
 
 depth-children : (c : Condition) → depth c ≡ 1 + depthOfConditions (childrenOf c)
 unfolding depth depthOfConditions childrenOf
@@ -28,23 +25,19 @@ module _ {rule words : List ℕ} {i end left : ℕ} where
   pub depth-zero : left ≡ 0 → DepthIs rule words i end left 0
   depth-zero z = record { most = omega arith; exact = λ c w. omega arith }
 
-  pub depth-bad : {at : ℕ} → (left ≡ 0 → ⊥) → at ≡ startOf words i → conditionHead (drop at rule) ≡ none → DepthIs rule words i end left 1
-  depth-bad some-left start r =
-      record { most = omega arith; exact = λ c w. absurd (condition-unread rule words i c (w .stands) start r) }
-
-  pub depth-step : {at next from d : ℕ} {h : ConditionHead}
+  pub depth-step : {at op from d : ℕ}
       → (left ≡ 0 → ⊥)
       → at ≡ startOf words i
-      → ReadsTo conditionHead rule at h next
-      → ChildrenAt words i end from h
+      → OperatorAt rule at op
+      → ChildrenFrom words op i end from
       → DepthsAre rule words from end (left - 1) d
       → DepthIs rule words i end left (1 + d)
-  depth-step {at} {next} {from} {d} {h} some-left start r k p =
+  depth-step {at} {op} {from} {d} some-left start kind k p =
       record {
         most = omega (arith, p .most);
         exact =
             λ c w.
-            let e : d ≡ min (left - 1) (depthOfConditions (childrenOf c)) = p .exact (childrenOf c) (children-stand rule words i end start r c w k) in
+            let e : d ≡ min (left - 1) (depthOfConditions (childrenOf c)) = p .exact (childrenOf c) (children-stand start kind k c w) in
             let f : depth c ≡ 1 + depthOfConditions (childrenOf c) = depth-children c in
             omega arith;
       }

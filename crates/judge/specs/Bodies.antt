@@ -2,45 +2,63 @@
 use Prim.Native.Nat.{ℕ, suc, _+_, _*_, _-_, _≤_}
 use mathlib.Core.Bool.{_||_}
 use mathlib.Core.List.{List, [], _∷_, _++_}
+use mathlib.Core.Logic.{_⊎_}
+use mathlib.Core.Option.{Option, none, some}
 use mathlib.Core.Path.{_≡_}
+use lib.Dec.{eqb}
+use lib.ListN.{drop}
 use Rattle.text.specs.Blank.{isBlank}
-use Rattle.sheet.specs.Entries.{ConditionHead, literalHead, manyHead, negationHead, oneHead, twoHead, comparisonHead, quantifierHead}
-use Rattle.sheet.specs.Places.{conditionOf}
-use Rattle.sheet.specs.declared.rule_heads.ConditionHead.{ConditionHead as Head}
+use Rattle.sheet.specs.Entries.{quantifierHead, conditionHead}
+use Rattle.sheet.specs.Parts.{partOf}
 use Rattle.definition.specs.Tree.{Text, Schema, Value, Condition, Conditions}
 use Rattle.reference.specs.Setting.{Setting}
 use Rattle.reference.specs.Reference.{Environment, collection}
 use Rattle.definition.specs.Within.{conditionEntries, valueEntries}
-use Rattle.rule.specs.Index.{ValueAt, ConditionAt}
+use Rattle.rule.specs.Index.{startOf, ValueAt, ConditionAt}
 use Rattle.walk.specs.Answers.{CollectedIs}
 use Rattle.walk.specs.declared.answer.Collected.{Collected}
-use Rattle.validation.specs.Check.{Binder, check, failsIf, walkable, references, hasDot, operatorCheck, body, bodies, depth, depthOfConditions}
+use Rattle.validation.specs.Check.{Binder, check, failsIf, walkable, references, hasDot, operatorCheck, operand, body, bodies, depth, depthOfConditions}
 use Rattle.validation.specs.Judge.{outcome}
 use Rattle.value_checks.specs.Nodes.{IsCondition, AreConditions}
-use Rattle.value_checks.specs.Verdicts.{GoesOn}
+use Rattle.value_checks.specs.Verdicts.{GoesOn, Required}
 use Rattle.scope.specs.Scopes.{ScopeAt}
-use Rattle.value_checks.specs.Frames.{Frame, frame, Stands}
+use Rattle.value_checks.specs.Frames.{Frame, frame, Stands, ReferencesIn, PairJudged, side}
 use Rattle.scope.specs.declared.binder.Scope.{Scope}
+use Rattle.value_checks.specs.declared.verdict.Fault.the-variants.{Empty}
 use Rattle.value_checks.specs.declared.verdict.Over.{Over}
+use Rattle.value_checks.specs.declared.verdict.Side.the-variants.{Left, Right}
 use Rattle.value_checks.specs.declared.verdict.Progress.{Progress}
+use Rattle.judge.specs.declared.body.BindRead.{BindRead}
+use Rattle.judge.specs.declared.body.BindRead.the-variants as BindRead
 
--- the operator's number, which a literal's, a negation's and a comparison's head leave out
-unfoldable pub operatorIn : ConditionHead → ℕ
-operatorIn (literalHead truth) = 1
-operatorIn (manyHead op count) = op
-operatorIn negationHead = 4
-operatorIn (oneHead op) = op
-operatorIn (twoHead op) = op
-operatorIn (comparisonHead which) = 18
-operatorIn (quantifierHead op bind) = op
-
-pub record OperatorJudged (scope : Scope) (over : Over) (h : Head) (i : ℕ) (a r : Progress) : Type 0 where
+pub record OperatorJudged (scope : Scope) (over : Over) (op i : ℕ) (a r : Progress) : Type 0 where
   pub atMost : r .passed ≤ a .passed + 1
   pub goes : (schema rule words : List ℕ) (setting : Setting) (tree : Schema) (binders : List Binder) (env : Environment)
       → Stands (frame schema rule words scope over) setting tree binders env
-      → GoesOn (outcome setting tree) a
-      (operatorCheck setting binders (i + 1) (operatorIn (conditionOf rule h)) ∷ [])
-      r
+      → GoesOn (outcome setting tree) a (operatorCheck setting binders (i + 1) op ∷ []) r
+
+-- `all` and `any` are asked whether they end right after their own word
+pub record NonemptyJudged (over : Over) (op i end : ℕ) (a r : Progress) : Type 0 where
+  pub atMost : r .passed ≤ a .passed + 1
+  pub many : op ≤ 3 → Required a (eqb (i + 1) end) Empty (i + 1) over r
+  pub other : 4 ≤ op → r ≡ a
+
+-- the values of a condition with operator `op`
+pub record OperandsJudged (f : Frame) (op start end : ℕ) (a r : Progress) : Type 0 where
+  pub atMost : r .passed ≤ a .passed + (end - start) + 2
+  pub one : (op ≡ 5) ⊎ (op ≡ 19) → ReferencesIn f start (end - start) a r
+  pub two : 6 ≤ op → op ≤ 17 → PairJudged f (operand op) (operand op) start end a r
+  pub comparison : op ≡ 18 → PairJudged f (side Left) (side Right) start end a r
+
+unfoldable pub bindBy : List ℕ → BindRead → Option Text
+bindBy rule (BindRead.Is p) = some (partOf rule p)
+bindBy rule BindRead.Bad = none
+
+-- the bind of a quantifier whose entry is that of word `i`
+pub record BindAt (rule words : List ℕ) (i : ℕ) (r : BindRead) : Type 0 where
+  pub is : (op : ℕ) (bind : Text) (rest : List ℕ)
+      → conditionHead (drop (startOf words i) rule) ≡ some (quantifierHead op bind, rest)
+      → bindBy rule r ≡ some bind
 
 -- what the value of word `i` leads to as the value of `in`
 pub record CollectionOf (schema rule words : List ℕ) (scope : Scope) (i : ℕ) (r : Collected) : Type 0 where

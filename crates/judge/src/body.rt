@@ -11,7 +11,9 @@ use sheet::rule_heads::ConditionHead;
 use sheet::rule_heads::ConditionRead;
 use sheet::rule_heads::LITERAL;
 use sheet::rule_heads::NOT;
+use sheet::rule_heads::TRUTHY;
 use sheet::rule_heads::condition_head;
+use value_checks::kind::operator_at;
 use value_checks::node::behind;
 use value_checks::operand::Form;
 use value_checks::operand::form_of;
@@ -31,48 +33,91 @@ use walk::path::Dot;
 use walk::path::first_dot;
 ghost use mathlib.Core.Path.{_≡_};
 ghost use mathlib.Core.Bool.{_||_};
-ghost use mathlib.Core.List.{List};
-ghost use Prim.Native.Nat.{ℕ, _+_, _*_, _-_, _<_, _≤_};
+ghost use Prim.Native.Nat.{_+_, _*_, _-_, _<_, _≤_};
 ghost use Rattle.text.specs.Blank.{isBlank};
 ghost use Rattle.sheet.specs.Parts.{partOf};
-ghost use Rattle.sheet.specs.Places.{conditionOf};
 ghost use Rattle.validation.specs.Check.{hasDot};
 ghost use Rattle.value_checks.specs.Verdicts.{HasRoom};
 ghost use Rattle.value_checks.specs.Frames.{frame};
-ghost use Rattle.judge.specs.Bodies.{operatorIn, OperatorJudged, CollectionOf, BodyJudged, BodiesJudged, QuantifierJudged};
+ghost use Rattle.judge.specs.Bodies.{OperatorJudged, NonemptyJudged, OperandsJudged, BindAt, CollectionOf, BodyJudged, BodiesJudged, QuantifierJudged};
 
-fn operator_of(head: ConditionHead) -> usize
-    ensures { λ r. ⌜ ((rule : List ℕ) → r ≡ operatorIn (conditionOf rule head)) ⌝ }
-{
-    match head {
-        ConditionHead::Literal(_) => LITERAL,
-        ConditionHead::Many(op, _) => op,
-        ConditionHead::Negation => NOT,
-        ConditionHead::One(op) => op,
-        ConditionHead::Two(op) => op,
-        ConditionHead::Comparison(_) => COMPARE,
-        ConditionHead::Quantifier(op, _) => op,
-    }
+// The operator's number, as NOT is.
+const EXISTS: usize = 5;
+
+// The bind of a quantifier.
+pub enum BindRead {
+    Is(Part),
+    Bad,
 }
 
 // Operators from 18 on are there under service alone.
-fn validate_operator(
-    a: Progress,
-    scope: Scope,
-    over: Over,
-    head: ConditionHead,
-    i: usize,
-) -> Progress
+fn validate_operator(a: Progress, scope: Scope, over: Over, op: usize, i: usize) -> Progress
     requires { ⌜ HasRoom a 1 × (i < 4096) ⌝ }
-    ensures { λ r. ⌜ OperatorJudged scope over head i a r ⌝ }
+    ensures { λ r. ⌜ OperatorJudged scope over op i a r ⌝ }
 {
-    if operator_of(head) < COMPARE {
+    if op < COMPARE {
         return pass(a);
     }
     if scope.service {
         return pass(a);
     }
     fail(a, Fault::Operator, i + 1, over)
+}
+
+// `all` and `any` hold a condition: at word `i` they do not end right after their own entry.
+fn validate_nonempty(a: Progress, over: Over, op: usize, i: usize, end: usize) -> Progress
+    requires { ⌜ HasRoom a 1 × (i < 4096) ⌝ }
+    ensures { λ r. ⌜ NonemptyJudged over op i end a r ⌝ }
+{
+    if op < NOT {
+        return require(a, i + 1 == end, Fault::Empty, i + 1, over);
+    }
+    a
+}
+
+// The values of a condition that holds no condition, from word `start` up to word `end`, by its operator.
+fn validate_operands(
+    a: Progress,
+    schema: &[u8],
+    rule: &[u8],
+    words: &[u32],
+    scope: Scope,
+    over: Over,
+    op: usize,
+    start: usize,
+    end: usize,
+) -> Progress
+    requires { ⌜ HasRoom a (end - start + 2) × (start ≤ end) × (end < 4096) ⌝ }
+    ensures { λ r. ⌜ OperandsJudged (frame (now (schema .entry)) (now (rule .entry)) (now (words .entry)) scope over) op start end a r ⌝ }
+{
+    if op <= EXISTS {
+        return validate_references(a, schema, rule, words, scope, over, start, end);
+    }
+    if COMPARE < op {
+        return validate_references(a, schema, rule, words, scope, over, start, end);
+    }
+    if op == COMPARE {
+        return validate_comparison(a, schema, rule, words, scope, over, start, end);
+    }
+    validate_pair(a, schema, rule, words, scope, over, op, start, end)
+}
+
+// The bind of the quantifier at word `i`.
+fn bind_of(rule: &[u8], words: &[u32], i: usize) -> BindRead
+    ensures { λ r. ⌜ BindAt (now (rule .entry)) (now (words .entry)) i r ⌝ }
+{
+    let ConditionRead::Is(head, _) = condition_head(rule, start_of(words, i)) else {
+        return BindRead::Bad;
+    };
+    match head {
+        ConditionHead::Literal(_) => BindRead::Bad,
+        ConditionHead::Many(_, _) => BindRead::Bad,
+        ConditionHead::Negation => BindRead::Bad,
+        ConditionHead::One(_) => BindRead::Bad,
+        ConditionHead::Two(_) => BindRead::Bad,
+        ConditionHead::Comparison(_) => BindRead::Bad,
+        ConditionHead::Quantifier(_, name) => BindRead::Is(name),
+    }
 }
 
 fn has_dot(text: &[u8]) -> bool
@@ -122,32 +167,22 @@ pub fn validate_condition_body(
     if left == 0 {
         return a;
     }
-    let ConditionRead::Is(head, _) = condition_head(rule, start_of(words, i)) else {
-        return a;
-    };
-    let b = validate_operator(a, scope, over, head, i);
-    match head {
-        ConditionHead::Literal(_) => b,
-        ConditionHead::Many(_, count) => {
-            let d = require(b, count == 0, Fault::Empty, i + 1, over);
-            validate_conditions(d, schema, rule, words, scope, over, i + 1, end, left - 1)
-        }
-        ConditionHead::Negation => {
-            validate_conditions(b, schema, rule, words, scope, over, i + 1, end, left - 1)
-        }
-        ConditionHead::One(_) => {
-            validate_references(b, schema, rule, words, scope, over, i + 1, end)
-        }
-        ConditionHead::Two(op) => {
-            validate_pair(b, schema, rule, words, scope, over, op, i + 1, end)
-        }
-        ConditionHead::Comparison(_) => {
-            validate_comparison(b, schema, rule, words, scope, over, i + 1, end)
-        }
-        ConditionHead::Quantifier(_, name) => {
-            validate_quantifier(b, schema, rule, words, scope, over, name, i, end, left - 1)
-        }
+    let op = operator_at(rule, start_of(words, i));
+    let b = validate_operator(a, scope, over, op, i);
+    if op <= LITERAL {
+        return b;
     }
+    if op <= NOT {
+        let d = validate_nonempty(b, over, op, i, end);
+        return validate_conditions(d, schema, rule, words, scope, over, i + 1, end, left - 1);
+    }
+    if op <= TRUTHY {
+        return validate_operands(b, schema, rule, words, scope, over, op, i + 1, end);
+    }
+    let BindRead::Is(name) = bind_of(rule, words, i) else {
+        return b;
+    };
+    validate_quantifier(b, schema, rule, words, scope, over, name, i, end, left - 1)
 }
 
 // The conditions from word `start` on, which end at `end`.

@@ -1,7 +1,6 @@
 // How deep conditions nest: siblings by a loop, children by recursion.
 use rule::index::start_of;
-use sheet::rule_heads::ConditionRead;
-use sheet::rule_heads::condition_head;
+use value_checks::kind::operator_at;
 use value_checks::node::behind;
 use value_checks::node::children_from;
 ghost use mathlib.Core.Path.{_≡_};
@@ -25,10 +24,8 @@ pub fn condition_depth(rule: &[u8], words: &[u32], i: usize, end: usize, left: u
     if left == 0 {
         return 0;
     }
-    let ConditionRead::Is(head, _) = condition_head(rule, start_of(words, i)) else {
-        return 1;
-    };
-    let start = children_from(words, head, i, end);
+    let op = operator_at(rule, start_of(words, i));
+    let start = children_from(words, op, i, end);
     1 + conditions_depth(rule, words, start, end, left - 1)
 }
 

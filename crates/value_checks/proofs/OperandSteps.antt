@@ -1,5 +1,5 @@
 -- Operands, step by step.
-use Prim.Native.Nat.{ℕ, _+_, _-_, _≤_}
+use Prim.Native.Nat.{ℕ, _+_, _-_, _≤_, _<_}
 use native.Mathlib.Omega.{arith}
 use mathlib.Core.Bool.{Bool, true, false, not, cond, _&&_, false≢true}
 use mathlib.Core.List.{List, [], _∷_}
@@ -13,16 +13,18 @@ use Rattle.timestamp.specs.declared.Fields.{Fields}
 use Rattle.sheet.specs.Entries.{ValueHead, constantHead, numberHead, stringHead, arrayHead, objectHead, valueHead}
 use Rattle.sheet.specs.Places.{ReadsTo}
 use Rattle.sheet.specs.Parts.{partOf}
+use Rattle.sheet.specs.RuleHeadLaws.{ValueHeadFits, valueHead-exact}
 use Rattle.sheet.specs.declared.part.Part.{Part}
 use Rattle.definition.specs.Tree.{Text, Schema, Value, constant, number, string, array, object}
 use Rattle.reference.specs.Setting.{Setting}
 use Rattle.reference.specs.Reference.{Environment, beginsWithDollar}
 use Rattle.definition.specs.Within.{valueEntries}
-use Rattle.rule.specs.Index.{startOf, endOf, ValueAt}
+use Rattle.rule.specs.Index.{startOf, endOf, EntryAt, ValueAt}
 use Rattle.rule.specs.IndexLaws.{value-next}
 use Rattle.validation.specs.Check.{Binder, Question, settled, Check, check, failsIf, isNone, entryOf, isString, isHolder, referenceText, references, instantText, instantForm, instantOperand, affixOperand, compareSide, operand}
 use Rattle.validation.specs.Constant.{literalText, literalInstant}
 use Rattle.validation.specs.Judge.{CheckOutcome, outcome, environment, answer, answerIn}
+use Rattle.value_checks.specs.Kinds.{typeIn, TypeAt}
 use Rattle.value_checks.specs.Nodes.{Behind}
 use Rattle.value_checks.specs.Verdicts.{numberOf, detailOf, instantDetail, GoesOn, PassedOn, Failed}
 use Rattle.value_checks.specs.Frames.{Frame, Stands, IsReference, ReferencesIn, OperandJudged, PairJudged, FormIs, formOf, literalBy, ReadAs, side}
@@ -59,6 +61,29 @@ module _ (rule words : List ℕ) (i : ℕ) {at : ℕ} (start : at ≡ startOf wo
       reads-some (string e t) a = clash _ _ (a .reads)
       reads-some (array e values) a = clash _ _ (a .0 .reads)
       reads-some (object e pairs) a = clash _ _ (a .0 .reads)
+
+  module _ {digit : ℕ} (kind : TypeAt rule at digit) where
+    -- the digit of the value that stands there
+    digit-is : {size e : ℕ} {h : ValueHead} → EntryAt valueHead rule words i size e h → (digit ≡ 48 + typeIn h) × ValueHeadFits h
+    digit-is {h = h} a =
+        let k : TypeAt rule (startOf words i) digit = rw start at kind in
+        (k .is h (a .rest) (a .reads), valueHead-exact .sound (drop (startOf words i) rule) h (a .rest) (a .reads) .1)
+
+    pub form-early : digit < 53 → (v : Value) → ValueAt rule words i v → FormIs rule Form.Other v
+    unfolding isHolder isString typeIn
+    form-early l (constant e type) a = (refl, refl)
+    form-early l (number e digits) a = (refl, refl)
+    form-early l (string e t) a = absurd (omega (arith, digit-is a .0))
+    form-early l (array e values) a = absurd (omega (arith, digit-is (a .0) .0))
+    form-early l (object e pairs) a = absurd (omega (arith, digit-is (a .0) .0))
+
+    pub form-late : 53 < digit → (v : Value) → ValueAt rule words i v → FormIs rule Form.Holder v
+    unfolding isHolder isString typeIn
+    form-late l (constant e type) a = absurd (omega (arith, digit-is a .0, digit-is a .1 .1))
+    form-late l (number e digits) a = absurd (omega (arith, digit-is a .0))
+    form-late l (string e t) a = absurd (omega (arith, digit-is a .0))
+    form-late l (array e values) a = (refl, refl)
+    form-late l (object e pairs) a = (refl, refl)
 
   pub form-bad : valueHead (drop at rule) ≡ none → (v : Value) → ValueAt rule words i v → FormIs rule Form.Other v
   form-bad r v a = absurd (value-unread v a r)

@@ -1,4 +1,7 @@
 // The literal pass: whether the numbers that a condition compares are finite.
+use crate::kind::NUMBER;
+use crate::kind::operator_at;
+use crate::kind::type_at;
 use crate::node::behind;
 use crate::node::children_from;
 use crate::verdict::Fault;
@@ -8,28 +11,28 @@ use crate::verdict::has_failed;
 use crate::verdict::require;
 use rule::index::start_of;
 use sheet::part::bytes_of;
+use sheet::rule_heads::COMPARE;
 use sheet::rule_heads::CONTAINS;
-use sheet::rule_heads::ConditionHead;
-use sheet::rule_heads::ConditionRead;
 use sheet::rule_heads::EQ;
 use sheet::rule_heads::TRUTHY;
 use sheet::rule_heads::ValueHead;
 use sheet::rule_heads::ValueRead;
-use sheet::rule_heads::condition_head;
 use sheet::rule_heads::value_head;
 ghost use mathlib.Core.Path.{_≡_};
-ghost use mathlib.Core.List.{List};
-ghost use Prim.Native.Nat.{ℕ, _-_, _<_, _≤_};
+ghost use Prim.Native.Nat.{_-_, _<_, _≤_};
 ghost use Rattle.value_checks.specs.Verdicts.{HasRoom};
 ghost use Rattle.value_checks.specs.Literals.{isObserved, LiteralsJudged, ObservedJudged, ConditionLiterals};
-ghost use Rattle.sheet.specs.Places.{conditionOf};
 
 // The entry of word `i`, if it is a number.
 fn validate_literal(a: Progress, rule: &[u8], words: &[u32], i: usize) -> Progress
     requires { ⌜ HasRoom a 1 × (i < 4096) ⌝ }
     ensures { λ r. ⌜ LiteralsJudged (now (rule .entry)) (now (words .entry)) i 1 a r ⌝ }
 {
-    let ValueRead::Is(head, _) = value_head(rule, start_of(words, i)) else {
+    let at = start_of(words, i);
+    if type_at(rule, at) != NUMBER {
+        return a;
+    }
+    let ValueRead::Is(head, _) = value_head(rule, at) else {
         return a;
     };
     match head {
@@ -61,24 +64,17 @@ fn validate_literals(a: Progress, rule: &[u8], words: &[u32], start: usize, end:
     so_far
 }
 
-// Whether the literal pass looks into the condition's values.
-fn is_observed(head: ConditionHead) -> bool
-    ensures { λ r. ⌜ ((rule : List ℕ) → r ≡ isObserved (conditionOf rule head)) ⌝ }
+// Whether the literal pass looks into the values of a condition with that operator.
+fn is_observed(op: usize) -> bool
+    ensures { λ r. ⌜ r ≡ isObserved op ⌝ }
 {
-    match head {
-        ConditionHead::Literal(_) => false,
-        ConditionHead::Many(_, _) => false,
-        ConditionHead::Negation => false,
-        ConditionHead::One(op) => op == TRUTHY,
-        ConditionHead::Two(op) => {
-            if op < EQ {
-                return false;
-            }
-            op <= CONTAINS
-        }
-        ConditionHead::Comparison(_) => true,
-        ConditionHead::Quantifier(_, _) => false,
+    if COMPARE <= op {
+        return op <= TRUTHY;
     }
+    if op < EQ {
+        return false;
+    }
+    op <= CONTAINS
 }
 
 // The numbers from word `start` up to word `end`, where they are the values of a condition that the pass looks into.
@@ -86,14 +82,14 @@ fn validate_observed(
     a: Progress,
     rule: &[u8],
     words: &[u32],
-    head: ConditionHead,
+    op: usize,
     start: usize,
     end: usize,
 ) -> Progress
     requires { ⌜ HasRoom a (end - start) × (end ≤ 4096) ⌝ }
-    ensures { λ r. ⌜ ObservedJudged (now (rule .entry)) (now (words .entry)) head start end a r ⌝ }
+    ensures { λ r. ⌜ ObservedJudged (now (rule .entry)) (now (words .entry)) op start end a r ⌝ }
 {
-    if is_observed(head) {
+    if is_observed(op) {
         return validate_literals(a, rule, words, start, end);
     }
     a
@@ -117,11 +113,9 @@ pub fn unobservable_condition_literals(
         if has_failed(so_far) {
             return so_far;
         }
-        let ConditionRead::Is(head, _) = condition_head(rule, start_of(words, i)) else {
-            return so_far;
-        };
-        let next = children_from(words, head, i, behind(words, i, end));
-        so_far = validate_observed(so_far, rule, words, head, i + 1, next);
+        let op = operator_at(rule, start_of(words, i));
+        let next = children_from(words, op, i, behind(words, i, end));
+        so_far = validate_observed(so_far, rule, words, op, i + 1, next);
         i = next;
     }
     so_far

@@ -1,4 +1,6 @@
 // Operands: what a value is asked besides its references.
+use crate::kind::STRING;
+use crate::kind::type_at;
 use crate::node::behind;
 use crate::references::is_reference;
 use crate::references::validate_references;
@@ -44,11 +46,19 @@ pub enum InstantRead {
     Bad(InstantFault),
 }
 
-// The value of word `i`.
+// The value of word `i`: only a text is read.
 pub fn form_of(rule: &[u8], words: &[u32], i: usize) -> Form
     ensures { λ r. ⌜ ((v : Value) → ValueAt (now (rule .entry)) (now (words .entry)) i v → FormIs (now (rule .entry)) r v) ⌝ }
 {
-    let ValueRead::Is(head, _) = value_head(rule, start_of(words, i)) else {
+    let at = start_of(words, i);
+    let digit = type_at(rule, at);
+    if digit < STRING {
+        return Form::Other;
+    }
+    if STRING < digit {
+        return Form::Holder;
+    }
+    let ValueRead::Is(head, _) = value_head(rule, at) else {
         return Form::Other;
     };
     match head {

@@ -1,4 +1,6 @@
 // The references of a value: its strings that begin with `$`, but not with `$$`.
+use crate::kind::STRING;
+use crate::kind::type_at;
 use crate::verdict::Fault;
 use crate::verdict::Over;
 use crate::verdict::Progress;
@@ -48,7 +50,11 @@ fn validate_value_reference(
     requires { ⌜ HasRoom a 1 × (i < 4096) ⌝ }
     ensures { λ r. ⌜ ReferencesIn (frame (now (schema .entry)) (now (rule .entry)) (now (words .entry)) scope over) i 1 a r ⌝ }
 {
-    let ValueRead::Is(head, _) = value_head(rule, start_of(words, i)) else {
+    let at = start_of(words, i);
+    if type_at(rule, at) != STRING {
+        return a;
+    }
+    let ValueRead::Is(head, _) = value_head(rule, at) else {
         return a;
     };
     match head {

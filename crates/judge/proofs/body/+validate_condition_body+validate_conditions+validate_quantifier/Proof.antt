@@ -1,9 +1,7 @@
 -- `judge::body::validate_condition_body`, `validate_conditions` and `validate_quantifier` meet their contracts: what is left of the depth falls.
 use native.Mathlib.Omega.{arith}
-use mathlib.Core.Path.{refl}
-use Rattle.sheet.specs.Places.{conditionOf}
 use Rattle.value_checks.specs.Frames.{frame}
-use Rattle.judge.proofs.BodySteps.{body-zero, body-bad, body-judged, BodiesLeft, bodies-begin, bodies-next, bodies-stopped, bodies-all}
+use Rattle.judge.proofs.BodySteps.{body-zero, inner-literal, inner-conditions, inner-operands, inner-quantifier, inner-unbound, body-judged, BodiesLeft, bodies-begin, bodies-next, bodies-stopped, bodies-all}
 use Rattle.judge.proofs.QuantifierSteps.{quantifier-known, quantifier-unknown, quantifier-refused}
 use borrow.Author.Needs.{needs}
 use Prim.Native.Nat.{ℕ, _+_, _-_, _*_, _<_, _≤_}
@@ -18,12 +16,14 @@ use Rattle.judge.proofs.body.+validate_condition_body+validate_conditio
 use Rattle.judge.proofs.body.validate_quantifier.Reads as validate-quantifier
 use Rattle.judge.proofs.body.validate_quantifier.Kinds as validate-quantifier-kinds
 use Rattle.judge.proofs.body.+validate_condition_body+validate_conditions+validate_quantifier.Lts-validate_quantifier as validate-quantifier-lts
+use Rattle.judge.proofs.body.bind_of.Reads as bind-of-reads
 use Rattle.judge.proofs.body.collection_of.Reads as collection-of-reads
 use Rattle.judge.proofs.body.is_wrong_bind.Reads as is-wrong-bind-reads
+use Rattle.judge.proofs.body.validate_nonempty.Reads as validate-nonempty-reads
+use Rattle.judge.proofs.body.validate_operands.Reads as validate-operands-reads
 use Rattle.judge.proofs.body.validate_operator.Reads as validate-operator-reads
+use Rattle.value_checks.proofs.kind.operator_at.Reads as operator-at-reads
 use Rattle.value_checks.proofs.node.behind.Reads as behind-reads
-use Rattle.value_checks.proofs.operand.validate_comparison.Reads as validate-comparison-reads
-use Rattle.value_checks.proofs.operand.validate_pair.Reads as validate-pair-reads
 use Rattle.value_checks.proofs.references.validate_references.Reads as validate-references-reads
 use Rattle.scope.proofs.binder.bind.Reads as bind-reads
 use Rattle.value_checks.proofs.verdict.fail.Reads as fail-reads
@@ -32,7 +32,6 @@ use Rattle.value_checks.proofs.verdict.pass.Reads as pass-reads
 use Rattle.value_checks.proofs.verdict.require.Reads as require-reads
 use Rattle.rule.proofs.index.start_of.Reads as start-of-reads
 use Rattle.sheet.proofs.part.bytes_of.Reads as bytes-of-reads
-use Rattle.sheet.proofs.rule_heads.condition_head.Reads as condition-head-reads
 use Rattle.judge.proofs.body.+validate_condition_body+validate_conditions+validate_quantifier.{
   statement,
 }
@@ -101,20 +100,18 @@ abbrev cs-validate-condition-body : ℕ → validate-condition-body-lts.Claims
 cs-validate-condition-body t = (
   start-of-reads.Asked,
   start-of-reads.Learnt,
-  condition-head-reads.Asked,
-  condition-head-reads.Learnt,
+  operator-at-reads.Asked,
+  operator-at-reads.Learnt,
   validate-operator-reads.Asked,
   validate-operator-reads.Learnt,
-  require-reads.Asked,
-  require-reads.Learnt,
+  validate-nonempty-reads.Asked,
+  validate-nonempty-reads.Learnt,
   validate-conditions-below t,
   validate-conditions.Post,
-  validate-references-reads.Asked,
-  validate-references-reads.Learnt,
-  validate-pair-reads.Asked,
-  validate-pair-reads.Learnt,
-  validate-comparison-reads.Asked,
-  validate-comparison-reads.Learnt,
+  validate-operands-reads.Asked,
+  validate-operands-reads.Learnt,
+  bind-of-reads.Asked,
+  bind-of-reads.Learnt,
   validate-quantifier-below t,
   validate-quantifier.Post,
 )
@@ -156,170 +153,77 @@ cs-validate-quantifier t = (
 validate-condition-body-returns : (t : ℕ) → validate-condition-body-lts.Need-returns (cs-validate-condition-body t) (validate-condition-body-at t) validate-condition-body.Post
 validate-condition-body-returns t c = body-zero (c .if1 .taken)
 
-validate-condition-body-start-of-requires :
-    (t : ℕ) → validate-condition-body-lts.Need-start-of-requires (cs-validate-condition-body t) (validate-condition-body-at t) validate-condition-body.Post
+validate-condition-body-start-of-requires : (t : ℕ) → validate-condition-body-lts.Need-start-of-requires (cs-validate-condition-body t) (validate-condition-body-at t) validate-condition-body.Post
 validate-condition-body-start-of-requires t c κs = search needs
 
-validate-condition-body-condition-head-requires :
-    (t : ℕ) → validate-condition-body-lts.Need-condition-head-requires (cs-validate-condition-body t) (validate-condition-body-at t) validate-condition-body.Post
-validate-condition-body-condition-head-requires t c κs = search needs
+validate-condition-body-operator-at-requires : (t : ℕ) → validate-condition-body-lts.Need-operator-at-requires (cs-validate-condition-body t) (validate-condition-body-at t) validate-condition-body.Post
+validate-condition-body-operator-at-requires t c κs = search needs
 
-validate-condition-body-enum-known-head :
-    (t : ℕ) → validate-condition-body-lts.Need-enum-known-head (cs-validate-condition-body t) (validate-condition-body-at t) validate-condition-body.Post
-validate-condition-body-enum-known-head t c = search needs
+validate-condition-body-validate-operator-requires : (t : ℕ) → validate-condition-body-lts.Need-validate-operator-requires (cs-validate-condition-body t) (validate-condition-body-at t) validate-condition-body.Post
+validate-condition-body-validate-operator-requires t c κs = (record { fits = omega (arith, c .before .before .before .before .before .before .pre .1 .0 .fits, c .before .before .before .before .before .before .pre .1 .1, c .before .before .before .before .before .before .pre .1 .2) }, omega (arith, c .before .before .before .before .before .before .pre .1 .0 .fits, c .before .before .before .before .before .before .pre .1 .1, c .before .before .before .before .before .before .pre .1 .2))
+
+validate-condition-body-returns-2 : (t : ℕ) → validate-condition-body-lts.Need-returns-2 (cs-validate-condition-body t) (validate-condition-body-at t) validate-condition-body.Post
+validate-condition-body-returns-2 t c =
+    body-judged (c .before .before .before .before .before .before .before .before .args .schema .now) (c .before .before .before .before .before .before .before .before .args .rule .now) (c .before .before .before .before .before .before .before .before .args .words .now) (c .before .before .before .before .before .before .before .before .args .scope) (c .before .before .before .before .before .before .before .before .args .over) (c .before .before .before .before .before .before .before .before .args .i) (c .before .before .before .before .before .before .before .before .args .end) (c .before .before .before .before .before .before .before .before .args .left) _ (c .before .before .before .before .if1 .left) (c .before .before .before .start-of .ensures) (c .before .before .operator-at .ensures) (c .before .validate-operator .ensures)
+    (inner-literal (omega (arith, c .if2 .taken)))
+    (omega (arith, c .before .before .before .before .before .before .before .before .pre .1 .1, c .before .validate-operator .ensures .atMost))
+
+validate-condition-body-validate-nonempty-requires : (t : ℕ) → validate-condition-body-lts.Need-validate-nonempty-requires (cs-validate-condition-body t) (validate-condition-body-at t) validate-condition-body.Post
+validate-condition-body-validate-nonempty-requires t c κs = (record { fits = omega (arith, c .before .before .before .before .before .before .before .before .before .pre .1 .0 .fits, c .before .before .before .before .before .before .before .before .before .pre .1 .1, c .before .before .before .before .before .before .before .before .before .pre .1 .2, c .before .before .validate-operator .ensures .atMost) }, omega (arith, c .before .before .before .before .before .before .before .before .before .pre .1 .0 .fits, c .before .before .before .before .before .before .before .before .before .pre .1 .1, c .before .before .before .before .before .before .before .before .before .pre .1 .2))
+
+validate-condition-body-add-validate-conditions : (t : ℕ) → validate-condition-body-lts.Need-add-validate-conditions (cs-validate-condition-body t) (validate-condition-body-at t) validate-condition-body.Post
+validate-condition-body-add-validate-conditions t c = omega (arith, c .before .before .before .before .before .before .before .before .before .before .pre .1 .0 .fits, c .before .before .before .before .before .before .before .before .before .before .pre .1 .1, c .before .before .before .before .before .before .before .before .before .before .pre .1 .2)
+
+validate-condition-body-sub-validate-conditions : (t : ℕ) → validate-condition-body-lts.Need-sub-validate-conditions (cs-validate-condition-body t) (validate-condition-body-at t) validate-condition-body.Post
+validate-condition-body-sub-validate-conditions t c = omega (arith, c .before .before .before .before .before .before .if1 .left)
+
+validate-condition-body-validate-conditions-requires : (t : ℕ) → validate-condition-body-lts.Need-validate-conditions-requires (cs-validate-condition-body t) (validate-condition-body-at t) validate-condition-body.Post
+validate-condition-body-validate-conditions-requires t c κs = (omega (arith, c .before .before .before .before .before .before .before .before .before .before .pre .0, c .before .before .before .before .before .before .if1 .left), (record { fits = omega (arith, c .before .before .before .before .before .before .before .before .before .before .pre .1 .0 .fits, c .before .before .before .before .before .before .before .before .before .before .pre .1 .1, c .before .before .before .before .before .before .before .before .before .before .pre .1 .2, c .before .before .before .validate-operator .ensures .atMost, c .validate-nonempty .ensures .atMost) }, c .before .before .before .before .before .before .before .before .before .before .pre .1 .2))
+
+validate-condition-body-returns-3 : (t : ℕ) → validate-condition-body-lts.Need-returns-3 (cs-validate-condition-body t) (validate-condition-body-at t) validate-condition-body.Post
+validate-condition-body-returns-3 t c =
+    body-judged (c .before .before .before .before .before .before .before .before .before .before .before .args .schema .now) (c .before .before .before .before .before .before .before .before .before .before .before .args .rule .now) (c .before .before .before .before .before .before .before .before .before .before .before .args .words .now) (c .before .before .before .before .before .before .before .before .before .before .before .args .scope) (c .before .before .before .before .before .before .before .before .before .before .before .args .over) (c .before .before .before .before .before .before .before .before .before .before .before .args .i) (c .before .before .before .before .before .before .before .before .before .before .before .args .end) (c .before .before .before .before .before .before .before .before .before .before .before .args .left) _ (c .before .before .before .before .before .before .before .if1 .left) (c .before .before .before .before .before .before .start-of .ensures) (c .before .before .before .before .before .operator-at .ensures) (c .before .before .before .before .validate-operator .ensures)
+    (inner-conditions (omega (arith, c .before .before .before .if2 .left)) (omega (arith, c .before .before .if3 .taken)) (c .before .validate-nonempty .ensures) (c .validate-conditions .ensures))
+    (omega (arith, c .before .before .before .before .before .before .before .before .before .before .before .pre .1 .1, c .before .before .before .before .validate-operator .ensures .atMost, c .before .validate-nonempty .ensures .atMost, c .validate-conditions .ensures .atMost))
+
+validate-condition-body-add-validate-operands : (t : ℕ) → validate-condition-body-lts.Need-add-validate-operands (cs-validate-condition-body t) (validate-condition-body-at t) validate-condition-body.Post
+validate-condition-body-add-validate-operands t c = omega (arith, c .before .before .before .before .before .before .before .before .before .before .pre .1 .0 .fits, c .before .before .before .before .before .before .before .before .before .before .pre .1 .1, c .before .before .before .before .before .before .before .before .before .before .pre .1 .2)
+
+validate-condition-body-validate-operands-requires : (t : ℕ) → validate-condition-body-lts.Need-validate-operands-requires (cs-validate-condition-body t) (validate-condition-body-at t) validate-condition-body.Post
+validate-condition-body-validate-operands-requires t c κs = (record { fits = omega (arith, c .before .before .before .before .before .before .before .before .before .before .pre .1 .0 .fits, c .before .before .before .before .before .before .before .before .before .before .pre .1 .1, c .before .before .before .before .before .before .before .before .before .before .pre .1 .2, c .before .before .before .validate-operator .ensures .atMost) }, omega (arith, c .before .before .before .before .before .before .before .before .before .before .pre .1 .1), c .before .before .before .before .before .before .before .before .before .before .pre .1 .2)
+
+validate-condition-body-returns-4 : (t : ℕ) → validate-condition-body-lts.Need-returns-4 (cs-validate-condition-body t) (validate-condition-body-at t) validate-condition-body.Post
+validate-condition-body-returns-4 t c =
+    body-judged (c .before .before .before .before .before .before .before .before .before .before .before .args .schema .now) (c .before .before .before .before .before .before .before .before .before .before .before .args .rule .now) (c .before .before .before .before .before .before .before .before .before .before .before .args .words .now) (c .before .before .before .before .before .before .before .before .before .before .before .args .scope) (c .before .before .before .before .before .before .before .before .before .before .before .args .over) (c .before .before .before .before .before .before .before .before .before .before .before .args .i) (c .before .before .before .before .before .before .before .before .before .before .before .args .end) (c .before .before .before .before .before .before .before .before .before .before .before .args .left) _ (c .before .before .before .before .before .before .before .if1 .left) (c .before .before .before .before .before .before .start-of .ensures) (c .before .before .before .before .before .operator-at .ensures) (c .before .before .before .before .validate-operator .ensures)
+    (inner-operands (omega (arith, c .before .before .if3 .left)) (omega (arith, c .before .if4 .taken)) (c .validate-operands .ensures))
+    (omega (arith, c .before .before .before .before .before .before .before .before .before .before .before .pre .1 .1, c .before .before .before .before .validate-operator .ensures .atMost, c .validate-operands .ensures .atMost))
+
+validate-condition-body-bind-of-requires : (t : ℕ) → validate-condition-body-lts.Need-bind-of-requires (cs-validate-condition-body t) (validate-condition-body-at t) validate-condition-body.Post
+validate-condition-body-bind-of-requires t c κs = search needs
+
+validate-condition-body-enum-known-name : (t : ℕ) → validate-condition-body-lts.Need-enum-known-name (cs-validate-condition-body t) (validate-condition-body-at t) validate-condition-body.Post
+validate-condition-body-enum-known-name t c = search needs
 
 validate-condition-body-enum-told : (t : ℕ) → validate-condition-body-lts.Need-enum-told (cs-validate-condition-body t) (validate-condition-body-at t) validate-condition-body.Post
 validate-condition-body-enum-told t c = search needs
 
-validate-condition-body-returns-2 : (t : ℕ) → validate-condition-body-lts.Need-returns-2 (cs-validate-condition-body t) (validate-condition-body-at t) validate-condition-body.Post
-validate-condition-body-returns-2 t c = body-bad (c .before .before .before .start-of .ensures) (rw (c .enum-told .given .1) at (c .before .before .condition-head .ensures))
-
-validate-condition-body-validate-operator-requires :
-    (t : ℕ) → validate-condition-body-lts.Need-validate-operator-requires (cs-validate-condition-body t) (validate-condition-body-at t) validate-condition-body.Post
-validate-condition-body-validate-operator-requires t c κs = (record { fits = omega (arith, c .before .before .before .before .before .before .before .before .before .pre .1 .0 .fits, c .before .before .before .before .before .before .before .before .before .pre .1 .1, c .before .before .before .before .before .before .before .before .before .pre .1 .2) }, omega (arith, c .before .before .before .before .before .before .before .before .before .pre .1 .0 .fits, c .before .before .before .before .before .before .before .before .before .pre .1 .1, c .before .before .before .before .before .before .before .before .before .pre .1 .2))
-
-validate-condition-body-enum-told-2 : (t : ℕ) → validate-condition-body-lts.Need-enum-told-2 (cs-validate-condition-body t) (validate-condition-body-at t) validate-condition-body.Post
-validate-condition-body-enum-told-2 t c = search needs
-
-validate-condition-body-enum-known-head-2 :
-    (t : ℕ) → validate-condition-body-lts.Need-enum-known-head-2 (cs-validate-condition-body t) (validate-condition-body-at t) validate-condition-body.Post
-validate-condition-body-enum-known-head-2 t c = search needs
-
-validate-condition-body-add-require : (t : ℕ) → validate-condition-body-lts.Need-add-require (cs-validate-condition-body t) (validate-condition-body-at t) validate-condition-body.Post
-validate-condition-body-add-require t c = omega (arith, c .before .before .before .before .before .before .before .before .before .before .before .before .before .pre .1 .0 .fits, c .before .before .before .before .before .before .before .before .before .before .before .before .before .pre .1 .1, c .before .before .before .before .before .before .before .before .before .before .before .before .before .pre .1 .2)
-
-validate-condition-body-require-requires :
-    (t : ℕ) → validate-condition-body-lts.Need-require-requires (cs-validate-condition-body t) (validate-condition-body-at t) validate-condition-body.Post
-validate-condition-body-require-requires t c κs = record { fits = omega (arith, c .before .before .before .before .before .before .before .before .before .before .before .before .before .pre .1 .0 .fits, c .before .before .before .before .before .before .before .before .before .before .before .before .before .pre .1 .1, c .before .before .before .before .before .before .before .before .before .before .before .before .before .pre .1 .2, c .before .before .before .validate-operator .ensures .atMost) }
-
-validate-condition-body-add-validate-conditions :
-    (t : ℕ) → validate-condition-body-lts.Need-add-validate-conditions (cs-validate-condition-body t) (validate-condition-body-at t) validate-condition-body.Post
-validate-condition-body-add-validate-conditions t c = omega (arith, c .before .before .before .before .before .before .before .before .before .before .before .before .before .before .pre .1 .0 .fits, c .before .before .before .before .before .before .before .before .before .before .before .before .before .before .pre .1 .1, c .before .before .before .before .before .before .before .before .before .before .before .before .before .before .pre .1 .2)
-
-validate-condition-body-sub-validate-conditions :
-    (t : ℕ) → validate-condition-body-lts.Need-sub-validate-conditions (cs-validate-condition-body t) (validate-condition-body-at t) validate-condition-body.Post
-validate-condition-body-sub-validate-conditions t c = omega (arith, c .before .before .before .before .before .before .before .before .before .before .if1 .left)
-
-validate-condition-body-validate-conditions-requires :
-    (t : ℕ) → validate-condition-body-lts.Need-validate-conditions-requires (cs-validate-condition-body t) (validate-condition-body-at t) validate-condition-body.Post
-validate-condition-body-validate-conditions-requires t c κs = (omega (arith, c .before .before .before .before .before .before .before .before .before .before .before .before .before .before .pre .0, c .before .before .before .before .before .before .before .before .before .before .if1 .left), (record { fits = omega (arith, c .before .before .before .before .before .before .before .before .before .before .before .before .before .before .pre .1 .0 .fits, c .before .before .before .before .before .before .before .before .before .before .before .before .before .before .pre .1 .1, c .before .before .before .before .before .before .before .before .before .before .before .before .before .before .pre .1 .2, c .before .before .before .before .validate-operator .ensures .atMost, c .require .ensures .atMost) }, c .before .before .before .before .before .before .before .before .before .before .before .before .before .before .pre .1 .2))
-
-validate-condition-body-enum-told-3 : (t : ℕ) → validate-condition-body-lts.Need-enum-told-3 (cs-validate-condition-body t) (validate-condition-body-at t) validate-condition-body.Post
-validate-condition-body-enum-told-3 t c = search needs
-
-validate-condition-body-add-validate-conditions-2 :
-    (t : ℕ) → validate-condition-body-lts.Need-add-validate-conditions-2 (cs-validate-condition-body t) (validate-condition-body-at t) validate-condition-body.Post
-validate-condition-body-add-validate-conditions-2 t c = omega (arith, c .before .before .before .before .before .before .before .before .before .before .before .before .pre .1 .0 .fits, c .before .before .before .before .before .before .before .before .before .before .before .before .pre .1 .1, c .before .before .before .before .before .before .before .before .before .before .before .before .pre .1 .2)
-
-validate-condition-body-sub-validate-conditions-2 :
-    (t : ℕ) → validate-condition-body-lts.Need-sub-validate-conditions-2 (cs-validate-condition-body t) (validate-condition-body-at t) validate-condition-body.Post
-validate-condition-body-sub-validate-conditions-2 t c = omega (arith, c .before .before .before .before .before .before .before .before .if1 .left)
-
-validate-condition-body-validate-conditions-requires-2 :
-    (t : ℕ) → validate-condition-body-lts.Need-validate-conditions-requires-2 (cs-validate-condition-body t) (validate-condition-body-at t) validate-condition-body.Post
-validate-condition-body-validate-conditions-requires-2 t c κs = (omega (arith, c .before .before .before .before .before .before .before .before .before .before .before .before .pre .0, c .before .before .before .before .before .before .before .before .if1 .left), (record { fits = omega (arith, c .before .before .before .before .before .before .before .before .before .before .before .before .pre .1 .0 .fits, c .before .before .before .before .before .before .before .before .before .before .before .before .pre .1 .1, c .before .before .before .before .before .before .before .before .before .before .before .before .pre .1 .2, c .before .before .validate-operator .ensures .atMost) }, c .before .before .before .before .before .before .before .before .before .before .before .before .pre .1 .2))
-
-validate-condition-body-enum-told-4 : (t : ℕ) → validate-condition-body-lts.Need-enum-told-4 (cs-validate-condition-body t) (validate-condition-body-at t) validate-condition-body.Post
-validate-condition-body-enum-told-4 t c = search needs
-
-validate-condition-body-add-validate-references :
-    (t : ℕ) → validate-condition-body-lts.Need-add-validate-references (cs-validate-condition-body t) (validate-condition-body-at t) validate-condition-body.Post
-validate-condition-body-add-validate-references t c = omega (arith, c .before .before .before .before .before .before .before .before .before .before .before .before .pre .1 .0 .fits, c .before .before .before .before .before .before .before .before .before .before .before .before .pre .1 .1, c .before .before .before .before .before .before .before .before .before .before .before .before .pre .1 .2)
-
-validate-condition-body-validate-references-requires :
-    (t : ℕ) → validate-condition-body-lts.Need-validate-references-requires (cs-validate-condition-body t) (validate-condition-body-at t) validate-condition-body.Post
-validate-condition-body-validate-references-requires t c κs = (record { fits = omega (arith, c .before .before .before .before .before .before .before .before .before .before .before .before .pre .1 .0 .fits, c .before .before .before .before .before .before .before .before .before .before .before .before .pre .1 .1, c .before .before .before .before .before .before .before .before .before .before .before .before .pre .1 .2, c .before .before .validate-operator .ensures .atMost) }, omega (arith, c .before .before .before .before .before .before .before .before .before .before .before .before .pre .1 .0 .fits, c .before .before .before .before .before .before .before .before .before .before .before .before .pre .1 .1, c .before .before .before .before .before .before .before .before .before .before .before .before .pre .1 .2))
-
-validate-condition-body-enum-known-head-3 :
-    (t : ℕ) → validate-condition-body-lts.Need-enum-known-head-3 (cs-validate-condition-body t) (validate-condition-body-at t) validate-condition-body.Post
-validate-condition-body-enum-known-head-3 t c = search needs
-
-validate-condition-body-add-validate-pair :
-    (t : ℕ) → validate-condition-body-lts.Need-add-validate-pair (cs-validate-condition-body t) (validate-condition-body-at t) validate-condition-body.Post
-validate-condition-body-add-validate-pair t c = omega (arith, c .before .before .before .before .before .before .before .before .before .before .before .before .before .pre .1 .0 .fits, c .before .before .before .before .before .before .before .before .before .before .before .before .before .pre .1 .1, c .before .before .before .before .before .before .before .before .before .before .before .before .before .pre .1 .2)
-
-validate-condition-body-validate-pair-requires :
-    (t : ℕ) → validate-condition-body-lts.Need-validate-pair-requires (cs-validate-condition-body t) (validate-condition-body-at t) validate-condition-body.Post
-validate-condition-body-validate-pair-requires t c κs = (record { fits = omega (arith, c .before .before .before .before .before .before .before .before .before .before .before .before .before .pre .1 .0 .fits, c .before .before .before .before .before .before .before .before .before .before .before .before .before .pre .1 .1, c .before .before .before .before .before .before .before .before .before .before .before .before .before .pre .1 .2, c .before .before .before .validate-operator .ensures .atMost) }, omega (arith, c .before .before .before .before .before .before .before .before .before .before .before .before .before .pre .1 .0 .fits, c .before .before .before .before .before .before .before .before .before .before .before .before .before .pre .1 .1, c .before .before .before .before .before .before .before .before .before .before .before .before .before .pre .1 .2), c .before .before .before .before .before .before .before .before .before .before .before .before .before .pre .1 .2)
-
-validate-condition-body-enum-told-5 : (t : ℕ) → validate-condition-body-lts.Need-enum-told-5 (cs-validate-condition-body t) (validate-condition-body-at t) validate-condition-body.Post
-validate-condition-body-enum-told-5 t c = search needs
-
-validate-condition-body-add-validate-comparison :
-    (t : ℕ) → validate-condition-body-lts.Need-add-validate-comparison (cs-validate-condition-body t) (validate-condition-body-at t) validate-condition-body.Post
-validate-condition-body-add-validate-comparison t c = omega (arith, c .before .before .before .before .before .before .before .before .before .before .before .before .pre .1 .0 .fits, c .before .before .before .before .before .before .before .before .before .before .before .before .pre .1 .1, c .before .before .before .before .before .before .before .before .before .before .before .before .pre .1 .2)
-
-validate-condition-body-validate-comparison-requires :
-    (t : ℕ) → validate-condition-body-lts.Need-validate-comparison-requires (cs-validate-condition-body t) (validate-condition-body-at t) validate-condition-body.Post
-validate-condition-body-validate-comparison-requires t c κs = (record { fits = omega (arith, c .before .before .before .before .before .before .before .before .before .before .before .before .pre .1 .0 .fits, c .before .before .before .before .before .before .before .before .before .before .before .before .pre .1 .1, c .before .before .before .before .before .before .before .before .before .before .before .before .pre .1 .2, c .before .before .validate-operator .ensures .atMost) }, omega (arith, c .before .before .before .before .before .before .before .before .before .before .before .before .pre .1 .0 .fits, c .before .before .before .before .before .before .before .before .before .before .before .before .pre .1 .1, c .before .before .before .before .before .before .before .before .before .before .before .before .pre .1 .2), c .before .before .before .before .before .before .before .before .before .before .before .before .pre .1 .2)
-
-validate-condition-body-enum-known-head-4 :
-    (t : ℕ) → validate-condition-body-lts.Need-enum-known-head-4 (cs-validate-condition-body t) (validate-condition-body-at t) validate-condition-body.Post
-validate-condition-body-enum-known-head-4 t c = search needs
-
-validate-condition-body-sub-validate-quantifier :
-    (t : ℕ) → validate-condition-body-lts.Need-sub-validate-quantifier (cs-validate-condition-body t) (validate-condition-body-at t) validate-condition-body.Post
-validate-condition-body-sub-validate-quantifier t c = omega (arith, c .before .before .before .before .before .before .before .before .before .if1 .left)
-
-validate-condition-body-validate-quantifier-requires :
-    (t : ℕ) → validate-condition-body-lts.Need-validate-quantifier-requires (cs-validate-condition-body t) (validate-condition-body-at t) validate-condition-body.Post
-validate-condition-body-validate-quantifier-requires t c κs = (omega (arith, c .before .before .before .before .before .before .before .before .before .before .before .before .before .pre .0, c .before .before .before .before .before .before .before .before .before .if1 .left), (record { fits = omega (arith, c .before .before .before .before .before .before .before .before .before .before .before .before .before .pre .1 .0 .fits, c .before .before .before .before .before .before .before .before .before .before .before .before .before .pre .1 .1, c .before .before .before .before .before .before .before .before .before .before .before .before .before .pre .1 .2, c .before .before .before .validate-operator .ensures .atMost) }, c .before .before .before .before .before .before .before .before .before .before .before .before .before .pre .1 .1, c .before .before .before .before .before .before .before .before .before .before .before .before .before .pre .1 .2))
-
-validate-condition-body-returns-3 : (t : ℕ) → validate-condition-body-lts.Need-returns-3 (cs-validate-condition-body t) (validate-condition-body-at t) validate-condition-body.Post
-unfolding conditionOf
-validate-condition-body-returns-3 t c =
-    body-judged (c .before .before .before .before .before .before .before .before .before .before .before .before .args .schema .now) (c .before .before .before .before .before .before .before .before .before .before .before .before .args .rule .now) (c .before .before .before .before .before .before .before .before .before .before .before .before .args .words .now) (c .before .before .before .before .before .before .before .before .before .before .before .before .args .scope) (c .before .before .before .before .before .before .before .before .before .before .before .before .args .over) (c .before .before .before .before .before .before .before .before .before .before .before .before .args .i) (c .before .before .before .before .before .before .before .before .before .before .before .before .args .end) (c .before .before .before .before .before .before .before .before .before .before .before .before .args .left) _ (c .before .before .before .before .before .before .before .before .if1 .left) (c .before .before .validate-operator .ensures)
-    (rw (c .enum-told2 .given .1) refl)
-    (c .before .before .before .before .before .before .before .start-of .ensures) (rw (c .before .before .before .before .head .given .1) at (c .before .before .before .before .before .before .condition-head .ensures) .0)
-    (omega (arith, c .before .before .before .before .before .before .before .before .before .before .before .before .pre .1 .1, c .before .before .validate-operator .ensures .atMost))
-
-validate-condition-body-returns-4 : (t : ℕ) → validate-condition-body-lts.Need-returns-4 (cs-validate-condition-body t) (validate-condition-body-at t) validate-condition-body.Post
-unfolding conditionOf
-validate-condition-body-returns-4 t c =
-    body-judged (c .before .before .before .before .before .before .before .before .before .before .before .before .before .before .before .args .schema .now) (c .before .before .before .before .before .before .before .before .before .before .before .before .before .before .before .args .rule .now) (c .before .before .before .before .before .before .before .before .before .before .before .before .before .before .before .args .words .now) (c .before .before .before .before .before .before .before .before .before .before .before .before .before .before .before .args .scope) (c .before .before .before .before .before .before .before .before .before .before .before .before .before .before .before .args .over) (c .before .before .before .before .before .before .before .before .before .before .before .before .before .before .before .args .i) (c .before .before .before .before .before .before .before .before .before .before .before .before .before .before .before .args .end) (c .before .before .before .before .before .before .before .before .before .before .before .before .before .before .before .args .left) _ (c .before .before .before .before .before .before .before .before .before .before .before .if1 .left) (c .before .before .before .before .before .validate-operator .ensures)
-    (rw (c .before .before .before .head2 .given .1) (c .before .require .result, c .before .require .ensures, c .validate-conditions .ensures))
-    (c .before .before .before .before .before .before .before .before .before .before .start-of .ensures) (rw (c .before .before .before .before .before .before .before .head .given .1) at (c .before .before .before .before .before .before .before .before .before .condition-head .ensures) .0)
-    (omega (arith, c .before .before .before .before .before .before .before .before .before .before .before .before .before .before .before .pre .1 .1, c .before .before .before .before .before .validate-operator .ensures .atMost, c .before .require .ensures .atMost, c .validate-conditions .ensures .atMost))
-
 validate-condition-body-returns-5 : (t : ℕ) → validate-condition-body-lts.Need-returns-5 (cs-validate-condition-body t) (validate-condition-body-at t) validate-condition-body.Post
-unfolding conditionOf
 validate-condition-body-returns-5 t c =
-    body-judged (c .before .before .before .before .before .before .before .before .before .before .before .before .before .args .schema .now) (c .before .before .before .before .before .before .before .before .before .before .before .before .before .args .rule .now) (c .before .before .before .before .before .before .before .before .before .before .before .before .before .args .words .now) (c .before .before .before .before .before .before .before .before .before .before .before .before .before .args .scope) (c .before .before .before .before .before .before .before .before .before .before .before .before .before .args .over) (c .before .before .before .before .before .before .before .before .before .before .before .before .before .args .i) (c .before .before .before .before .before .before .before .before .before .before .before .before .before .args .end) (c .before .before .before .before .before .before .before .before .before .before .before .before .before .args .left) _ (c .before .before .before .before .before .before .before .before .before .if1 .left) (c .before .before .before .validate-operator .ensures)
-    (rw (c .before .enum-told3 .given .1) (c .validate-conditions2 .ensures))
-    (c .before .before .before .before .before .before .before .before .start-of .ensures) (rw (c .before .before .before .before .before .head .given .1) at (c .before .before .before .before .before .before .before .condition-head .ensures) .0)
-    (omega (arith, c .before .before .before .before .before .before .before .before .before .before .before .before .before .pre .1 .1, c .before .before .before .validate-operator .ensures .atMost, c .validate-conditions2 .ensures .atMost))
+    body-judged (c .before .before .before .before .before .before .before .before .before .before .before .before .before .args .schema .now) (c .before .before .before .before .before .before .before .before .before .before .before .before .before .args .rule .now) (c .before .before .before .before .before .before .before .before .before .before .before .before .before .args .words .now) (c .before .before .before .before .before .before .before .before .before .before .before .before .before .args .scope) (c .before .before .before .before .before .before .before .before .before .before .before .before .before .args .over) (c .before .before .before .before .before .before .before .before .before .before .before .before .before .args .i) (c .before .before .before .before .before .before .before .before .before .before .before .before .before .args .end) (c .before .before .before .before .before .before .before .before .before .before .before .before .before .args .left) _ (c .before .before .before .before .before .before .before .before .before .if1 .left) (c .before .before .before .before .before .before .before .before .start-of .ensures) (c .before .before .before .before .before .before .before .operator-at .ensures) (c .before .before .before .before .before .before .validate-operator .ensures)
+    (inner-unbound (omega (arith, c .before .before .before .if4 .left)) (c .before .before .bind-of .ensures) (c .enum-told .given .1))
+    (omega (arith, c .before .before .before .before .before .before .before .before .before .before .before .before .before .pre .1 .1, c .before .before .before .before .before .before .validate-operator .ensures .atMost))
+
+validate-condition-body-sub-validate-quantifier : (t : ℕ) → validate-condition-body-lts.Need-sub-validate-quantifier (cs-validate-condition-body t) (validate-condition-body-at t) validate-condition-body.Post
+validate-condition-body-sub-validate-quantifier t c = omega (arith, c .before .before .before .before .before .before .before .before .before .before .if1 .left)
+
+validate-condition-body-validate-quantifier-requires : (t : ℕ) → validate-condition-body-lts.Need-validate-quantifier-requires (cs-validate-condition-body t) (validate-condition-body-at t) validate-condition-body.Post
+validate-condition-body-validate-quantifier-requires t c κs = (omega (arith, c .before .before .before .before .before .before .before .before .before .before .before .before .before .before .pre .0, c .before .before .before .before .before .before .before .before .before .before .if1 .left), (record { fits = omega (arith, c .before .before .before .before .before .before .before .before .before .before .before .before .before .before .pre .1 .0 .fits, c .before .before .before .before .before .before .before .before .before .before .before .before .before .before .pre .1 .1, c .before .before .before .before .before .before .before .before .before .before .before .before .before .before .pre .1 .2, c .before .before .before .before .before .before .before .validate-operator .ensures .atMost) }, c .before .before .before .before .before .before .before .before .before .before .before .before .before .before .pre .1 .1, c .before .before .before .before .before .before .before .before .before .before .before .before .before .before .pre .1 .2))
 
 validate-condition-body-returns-6 : (t : ℕ) → validate-condition-body-lts.Need-returns-6 (cs-validate-condition-body t) (validate-condition-body-at t) validate-condition-body.Post
-unfolding conditionOf
 validate-condition-body-returns-6 t c =
-    body-judged (c .before .before .before .before .before .before .before .before .before .before .before .before .before .args .schema .now) (c .before .before .before .before .before .before .before .before .before .before .before .before .before .args .rule .now) (c .before .before .before .before .before .before .before .before .before .before .before .before .before .args .words .now) (c .before .before .before .before .before .before .before .before .before .before .before .before .before .args .scope) (c .before .before .before .before .before .before .before .before .before .before .before .before .before .args .over) (c .before .before .before .before .before .before .before .before .before .before .before .before .before .args .i) (c .before .before .before .before .before .before .before .before .before .before .before .before .before .args .end) (c .before .before .before .before .before .before .before .before .before .before .before .before .before .args .left) _ (c .before .before .before .before .before .before .before .before .before .if1 .left) (c .before .before .before .validate-operator .ensures)
-    (rw (c .before .enum-told4 .given .1) (c .validate-references .ensures))
-    (c .before .before .before .before .before .before .before .before .start-of .ensures) (rw (c .before .before .before .before .before .head .given .1) at (c .before .before .before .before .before .before .before .condition-head .ensures) .0)
-    (omega (arith, c .before .before .before .before .before .before .before .before .before .before .before .before .before .pre .1 .1, c .before .before .before .validate-operator .ensures .atMost, c .validate-references .ensures .atMost))
-
-validate-condition-body-returns-7 : (t : ℕ) → validate-condition-body-lts.Need-returns-7 (cs-validate-condition-body t) (validate-condition-body-at t) validate-condition-body.Post
-unfolding conditionOf
-validate-condition-body-returns-7 t c =
-    body-judged (c .before .before .before .before .before .before .before .before .before .before .before .before .before .before .args .schema .now) (c .before .before .before .before .before .before .before .before .before .before .before .before .before .before .args .rule .now) (c .before .before .before .before .before .before .before .before .before .before .before .before .before .before .args .words .now) (c .before .before .before .before .before .before .before .before .before .before .before .before .before .before .args .scope) (c .before .before .before .before .before .before .before .before .before .before .before .before .before .before .args .over) (c .before .before .before .before .before .before .before .before .before .before .before .before .before .before .args .i) (c .before .before .before .before .before .before .before .before .before .before .before .before .before .before .args .end) (c .before .before .before .before .before .before .before .before .before .before .before .before .before .before .args .left) _ (c .before .before .before .before .before .before .before .before .before .before .if1 .left) (c .before .before .before .before .validate-operator .ensures)
-    (rw (c .before .before .head3 .given .1) (c .validate-pair .ensures))
-    (c .before .before .before .before .before .before .before .before .before .start-of .ensures) (rw (c .before .before .before .before .before .before .head .given .1) at (c .before .before .before .before .before .before .before .before .condition-head .ensures) .0)
-    (omega (arith, c .before .before .before .before .before .before .before .before .before .before .before .before .before .before .pre .1 .1, c .before .before .before .before .validate-operator .ensures .atMost, c .validate-pair .ensures .atMost))
-
-validate-condition-body-returns-8 : (t : ℕ) → validate-condition-body-lts.Need-returns-8 (cs-validate-condition-body t) (validate-condition-body-at t) validate-condition-body.Post
-unfolding conditionOf
-validate-condition-body-returns-8 t c =
-    body-judged (c .before .before .before .before .before .before .before .before .before .before .before .before .before .args .schema .now) (c .before .before .before .before .before .before .before .before .before .before .before .before .before .args .rule .now) (c .before .before .before .before .before .before .before .before .before .before .before .before .before .args .words .now) (c .before .before .before .before .before .before .before .before .before .before .before .before .before .args .scope) (c .before .before .before .before .before .before .before .before .before .before .before .before .before .args .over) (c .before .before .before .before .before .before .before .before .before .before .before .before .before .args .i) (c .before .before .before .before .before .before .before .before .before .before .before .before .before .args .end) (c .before .before .before .before .before .before .before .before .before .before .before .before .before .args .left) _ (c .before .before .before .before .before .before .before .before .before .if1 .left) (c .before .before .before .validate-operator .ensures)
-    (rw (c .before .enum-told5 .given .1) (c .validate-comparison .ensures))
-    (c .before .before .before .before .before .before .before .before .start-of .ensures) (rw (c .before .before .before .before .before .head .given .1) at (c .before .before .before .before .before .before .before .condition-head .ensures) .0)
-    (omega (arith, c .before .before .before .before .before .before .before .before .before .before .before .before .before .pre .1 .1, c .before .before .before .validate-operator .ensures .atMost, c .validate-comparison .ensures .atMost))
-
-validate-condition-body-returns-9 : (t : ℕ) → validate-condition-body-lts.Need-returns-9 (cs-validate-condition-body t) (validate-condition-body-at t) validate-condition-body.Post
-unfolding conditionOf
-validate-condition-body-returns-9 t c =
-    body-judged (c .before .before .before .before .before .before .before .before .before .before .before .before .before .before .args .schema .now) (c .before .before .before .before .before .before .before .before .before .before .before .before .before .before .args .rule .now) (c .before .before .before .before .before .before .before .before .before .before .before .before .before .before .args .words .now) (c .before .before .before .before .before .before .before .before .before .before .before .before .before .before .args .scope) (c .before .before .before .before .before .before .before .before .before .before .before .before .before .before .args .over) (c .before .before .before .before .before .before .before .before .before .before .before .before .before .before .args .i) (c .before .before .before .before .before .before .before .before .before .before .before .before .before .before .args .end) (c .before .before .before .before .before .before .before .before .before .before .before .before .before .before .args .left) _ (c .before .before .before .before .before .before .before .before .before .before .if1 .left) (c .before .before .before .before .validate-operator .ensures)
-    (rw (c .before .before .head4 .given .1) (c .validate-quantifier .ensures))
-    (c .before .before .before .before .before .before .before .before .before .start-of .ensures) (rw (c .before .before .before .before .before .before .head .given .1) at (c .before .before .before .before .before .before .before .before .condition-head .ensures) .0)
-    (omega (arith, c .before .before .before .before .before .before .before .before .before .before .before .before .before .before .pre .1 .1, c .before .before .before .before .validate-operator .ensures .atMost, c .validate-quantifier .ensures .atMost))
+    body-judged (c .before .before .before .before .before .before .before .before .before .before .before .before .before .before .before .args .schema .now) (c .before .before .before .before .before .before .before .before .before .before .before .before .before .before .before .args .rule .now) (c .before .before .before .before .before .before .before .before .before .before .before .before .before .before .before .args .words .now) (c .before .before .before .before .before .before .before .before .before .before .before .before .before .before .before .args .scope) (c .before .before .before .before .before .before .before .before .before .before .before .before .before .before .before .args .over) (c .before .before .before .before .before .before .before .before .before .before .before .before .before .before .before .args .i) (c .before .before .before .before .before .before .before .before .before .before .before .before .before .before .before .args .end) (c .before .before .before .before .before .before .before .before .before .before .before .before .before .before .before .args .left) _ (c .before .before .before .before .before .before .before .before .before .before .before .if1 .left) (c .before .before .before .before .before .before .before .before .before .before .start-of .ensures) (c .before .before .before .before .before .before .before .before .before .operator-at .ensures) (c .before .before .before .before .before .before .before .before .validate-operator .ensures)
+    (inner-quantifier (omega (arith, c .before .before .before .before .before .if4 .left)) (c .before .before .before .before .bind-of .ensures) (c .before .before .name .given .1) (c .validate-quantifier .ensures))
+    (omega (arith, c .before .before .before .before .before .before .before .before .before .before .before .before .before .before .before .pre .1 .1, c .before .before .before .before .before .before .before .before .validate-operator .ensures .atMost, c .validate-quantifier .ensures .atMost))
 
 abbrev validate-conditions-Inv-loop : validate-conditions-lts.InvT-loop
 validate-conditions-Inv-loop schema rule words scope over start end left so-far₀ i₀ so-far i = (start ≤ i) × (i - start ≤ end - start) × BodiesLeft (frame schema rule words scope over) start i end left so-far₀ so-far
@@ -470,41 +374,24 @@ pub +validate-condition-body+validate-conditions+validate-quantifier-spec :
     validate-condition-body.Post
     (validate-condition-body-returns t)
     (validate-condition-body-start-of-requires t)
-    (validate-condition-body-condition-head-requires t)
-    (validate-condition-body-enum-known-head t)
-    (validate-condition-body-enum-told t)
-    (validate-condition-body-returns-2 t)
+    (validate-condition-body-operator-at-requires t)
     (validate-condition-body-validate-operator-requires t)
-    (validate-condition-body-enum-told-2 t)
-    (validate-condition-body-enum-known-head-2 t)
-    (validate-condition-body-add-require t)
-    (validate-condition-body-require-requires t)
+    (validate-condition-body-returns-2 t)
+    (validate-condition-body-validate-nonempty-requires t)
     (validate-condition-body-add-validate-conditions t)
     (validate-condition-body-sub-validate-conditions t)
     (validate-condition-body-validate-conditions-requires t)
-    (validate-condition-body-enum-told-3 t)
-    (validate-condition-body-add-validate-conditions-2 t)
-    (validate-condition-body-sub-validate-conditions-2 t)
-    (validate-condition-body-validate-conditions-requires-2 t)
-    (validate-condition-body-enum-told-4 t)
-    (validate-condition-body-add-validate-references t)
-    (validate-condition-body-validate-references-requires t)
-    (validate-condition-body-enum-known-head-3 t)
-    (validate-condition-body-add-validate-pair t)
-    (validate-condition-body-validate-pair-requires t)
-    (validate-condition-body-enum-told-5 t)
-    (validate-condition-body-add-validate-comparison t)
-    (validate-condition-body-validate-comparison-requires t)
-    (validate-condition-body-enum-known-head-4 t)
+    (validate-condition-body-returns-3 t)
+    (validate-condition-body-add-validate-operands t)
+    (validate-condition-body-validate-operands-requires t)
+    (validate-condition-body-returns-4 t)
+    (validate-condition-body-bind-of-requires t)
+    (validate-condition-body-enum-known-name t)
+    (validate-condition-body-enum-told t)
+    (validate-condition-body-returns-5 t)
     (validate-condition-body-sub-validate-quantifier t)
     (validate-condition-body-validate-quantifier-requires t)
-    (validate-condition-body-returns-3 t)
-    (validate-condition-body-returns-4 t)
-    (validate-condition-body-returns-5 t)
-    (validate-condition-body-returns-6 t)
-    (validate-condition-body-returns-7 t)
-    (validate-condition-body-returns-8 t)
-    (validate-condition-body-returns-9 t))
+    (validate-condition-body-returns-6 t))
     (λ t. validate-conditions-lts.spec (cs-validate-conditions t)
     (validate-conditions-at t)
     validate-conditions.Post

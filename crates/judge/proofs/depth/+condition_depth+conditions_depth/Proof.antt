@@ -1,6 +1,6 @@
 -- `judge::depth::condition_depth` and `conditions_depth` meet their contracts: what is left of the depth falls.
 use native.Mathlib.Omega.{arith}
-use Rattle.judge.proofs.DepthSteps.{depth-zero, depth-bad, depth-step, DepthsLeft, depths-begin, depths-next, depths-all}
+use Rattle.judge.proofs.DepthSteps.{depth-zero, depth-step, DepthsLeft, depths-begin, depths-next, depths-all}
 use borrow.Author.Needs.{needs}
 use Prim.Native.Nat.{ℕ, _+_, _-_, _*_, _<_, _≤_}
 use borrow.Fn.Kinds.{In}
@@ -15,7 +15,7 @@ use Rattle.judge.proofs.depth.greater.Reads as greater-reads
 use Rattle.value_checks.proofs.node.behind.Reads as behind-reads
 use Rattle.value_checks.proofs.node.children_from.Reads as children-from-reads
 use Rattle.rule.proofs.index.start_of.Reads as start-of-reads
-use Rattle.sheet.proofs.rule_heads.condition_head.Reads as condition-head-reads
+use Rattle.value_checks.proofs.kind.operator_at.Reads as operator-at-reads
 use Rattle.judge.proofs.depth.+condition_depth+conditions_depth.{statement}
 use Rattle.judge.proofs.depth.+condition_depth+conditions_depth.Tie.{close}
 
@@ -61,8 +61,8 @@ abbrev cs-condition-depth : ℕ → condition-depth-lts.Claims
 cs-condition-depth t = (
   start-of-reads.Asked,
   start-of-reads.Learnt,
-  condition-head-reads.Asked,
-  condition-head-reads.Learnt,
+  operator-at-reads.Asked,
+  operator-at-reads.Learnt,
   children-from-reads.Asked,
   children-from-reads.Learnt,
   conditions-depth-below t,
@@ -85,37 +85,23 @@ condition-depth-returns t c = depth-zero (c .if1 .taken)
 condition-depth-start-of-requires : (t : ℕ) → condition-depth-lts.Need-start-of-requires (cs-condition-depth t) (condition-depth-at t) condition-depth.Post
 condition-depth-start-of-requires t c κs = search needs
 
-condition-depth-condition-head-requires :
-    (t : ℕ) → condition-depth-lts.Need-condition-head-requires (cs-condition-depth t) (condition-depth-at t) condition-depth.Post
-condition-depth-condition-head-requires t c κs = search needs
-
-condition-depth-enum-known-head : (t : ℕ) → condition-depth-lts.Need-enum-known-head (cs-condition-depth t) (condition-depth-at t) condition-depth.Post
-condition-depth-enum-known-head t c = search needs
-
-condition-depth-enum-told : (t : ℕ) → condition-depth-lts.Need-enum-told (cs-condition-depth t) (condition-depth-at t) condition-depth.Post
-condition-depth-enum-told t c = search needs
-
-condition-depth-returns-2 : (t : ℕ) → condition-depth-lts.Need-returns-2 (cs-condition-depth t) (condition-depth-at t) condition-depth.Post
-condition-depth-returns-2 t c = depth-bad (c .before .before .before .before .if1 .left) (c .before .before .before .start-of .ensures) (rw (c .enum-told .given .1) at (c .before .before .condition-head .ensures))
+condition-depth-operator-at-requires : (t : ℕ) → condition-depth-lts.Need-operator-at-requires (cs-condition-depth t) (condition-depth-at t) condition-depth.Post
+condition-depth-operator-at-requires t c κs = search needs
 
 condition-depth-children-from-requires : (t : ℕ) → condition-depth-lts.Need-children-from-requires (cs-condition-depth t) (condition-depth-at t) condition-depth.Post
-condition-depth-children-from-requires t c κs = c .before .before .before .before .before .before .before .before .pre .1
+condition-depth-children-from-requires t c κs = c .before .before .before .before .before .pre .1
 
 condition-depth-sub-conditions-depth : (t : ℕ) → condition-depth-lts.Need-sub-conditions-depth (cs-condition-depth t) (condition-depth-at t) condition-depth.Post
-condition-depth-sub-conditions-depth t c = omega (arith, c .before .before .before .before .before .before .if1 .left)
+condition-depth-sub-conditions-depth t c = omega (arith, c .before .before .before .if1 .left)
 
-condition-depth-conditions-depth-requires :
-    (t : ℕ) → condition-depth-lts.Need-conditions-depth-requires (cs-condition-depth t) (condition-depth-at t) condition-depth.Post
-condition-depth-conditions-depth-requires t c κs = (omega (arith, c .before .before .before .before .before .before .before .before .before .pre .0, c .before .before .before .before .before .before .if1 .left), c .before .before .before .before .before .before .before .before .before .pre .1 .1)
+condition-depth-conditions-depth-requires : (t : ℕ) → condition-depth-lts.Need-conditions-depth-requires (cs-condition-depth t) (condition-depth-at t) condition-depth.Post
+condition-depth-conditions-depth-requires t c κs = (omega (arith, c .before .before .before .before .before .before .pre .0, c .before .before .before .if1 .left), c .before .before .before .before .before .before .pre .1 .1)
 
 condition-depth-add-result : (t : ℕ) → condition-depth-lts.Need-add-result (cs-condition-depth t) (condition-depth-at t) condition-depth.Post
 condition-depth-add-result t c = omega (arith, c .conditions-depth .ensures .most)
 
-condition-depth-returns-3 : (t : ℕ) → condition-depth-lts.Need-returns-3 (cs-condition-depth t) (condition-depth-at t) condition-depth.Post
-condition-depth-returns-3 t c =
-    depth-step (c .before .before .before .before .before .before .before .if1 .left) (c .before .before .before .before .before .before .start-of .ensures)
-    (rw (c .before .before .before .head .given .1) at (c .before .before .before .before .before .condition-head .ensures) .0)
-    (c .before .children-from .ensures .first (c .before .before .before .before .before .before .before .before .before .before .args .rule .now)) (c .conditions-depth .ensures)
+condition-depth-returns-2 : (t : ℕ) → condition-depth-lts.Need-returns-2 (cs-condition-depth t) (condition-depth-at t) condition-depth.Post
+condition-depth-returns-2 t c = depth-step (c .before .before .before .before .if1 .left) (c .before .before .before .start-of .ensures) (c .before .before .operator-at .ensures) (c .before .children-from .ensures) (c .conditions-depth .ensures)
 
 abbrev conditions-depth-Inv-loop : conditions-depth-lts.InvT-loop
 conditions-depth-Inv-loop rule words start end left most₀ i₀ most i = (most ≤ left) × DepthsLeft rule words start i end left most
@@ -160,15 +146,12 @@ pub +condition-depth+conditions-depth-spec : {M : Type 1} → statement M
     condition-depth.Post
     (condition-depth-returns t)
     (condition-depth-start-of-requires t)
-    (condition-depth-condition-head-requires t)
-    (condition-depth-enum-known-head t)
-    (condition-depth-enum-told t)
-    (condition-depth-returns-2 t)
+    (condition-depth-operator-at-requires t)
     (condition-depth-children-from-requires t)
     (condition-depth-sub-conditions-depth t)
     (condition-depth-conditions-depth-requires t)
     (condition-depth-add-result t)
-    (condition-depth-returns-3 t))
+    (condition-depth-returns-2 t))
     λ t. conditions-depth-lts.spec (cs-conditions-depth t)
     (conditions-depth-at t)
     conditions-depth.Post
