@@ -13,6 +13,7 @@ use sheet::rule_heads::LITERAL;
 use sheet::rule_heads::NOT;
 use sheet::rule_heads::TRUTHY;
 use sheet::rule_heads::condition_head;
+use value_checks::kind::EXISTS;
 use value_checks::kind::operator_at;
 use value_checks::node::behind;
 use value_checks::operand::Form;
@@ -40,9 +41,6 @@ ghost use Rattle.validation.specs.Check.{hasDot};
 ghost use Rattle.value_checks.specs.Verdicts.{HasRoom};
 ghost use Rattle.value_checks.specs.Frames.{frame};
 ghost use Rattle.judge.specs.Bodies.{OperatorJudged, NonemptyJudged, OperandsJudged, BindAt, CollectionOf, BodyJudged, BodiesJudged, QuantifierJudged};
-
-// The operator's number, as NOT is.
-const EXISTS: usize = 5;
 
 // The bind of a quantifier.
 pub enum BindRead {

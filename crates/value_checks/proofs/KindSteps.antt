@@ -1,7 +1,7 @@
 -- The kind of an entry by its bytes: what is read is the entry as it is written, of which the bytes at fixed places compute.
 use Prim.Native.Nat.{ℕ, _+_, _*_, _/_, _%_, _≤_, _<_}
 use native.Mathlib.Omega.{arith}
-use mathlib.Core.List.{List, [], _∷_, _++_}
+use mathlib.Core.List.{List, _++_}
 use mathlib.Core.Logic.{⊎-elim}
 use mathlib.Core.Option.{some}
 use mathlib.Core.Path.{_≡_, refl, sym, ap, _∙_}
@@ -10,9 +10,8 @@ use lib.ListN.{length, getD, drop, List·getD-eq-default}
 use lib.Seq.{getD-drop}
 use borrow.Author.Tests.{ltb-true, ltb-false}
 use Rattle.sheet.specs.Ascii.{ascii}
-use Rattle.sheet.specs.Numeral.{decimalOf}
 use Rattle.sheet.specs.NumeralLaws.{decimalOf-one, decimalOf-last}
-use Rattle.sheet.specs.Entries.{ConditionHead, literalHead, manyHead, negationHead, oneHead, twoHead, comparisonHead, quantifierHead, conditionHead, ValueHead, constantHead, numberHead, stringHead, arrayHead, objectHead, valueHead}
+use Rattle.sheet.specs.Entries.{ConditionHead, literalHead, manyHead, negationHead, oneHead, twoHead, comparisonHead, quantifierHead, conditionHead, ValueHead, constantHead, numberHead, stringHead, arrayHead, objectHead}
 use Rattle.sheet.specs.Write.{writeItem, writeOperator, writeConditionHead, writeType, writeValueHead}
 use Rattle.sheet.specs.ReaderLaws.{by-test}
 use Rattle.sheet.specs.RuleHeadLaws.{ConditionHeadFits, conditionHead-exact, ValueHeadFits, valueHead-exact}

@@ -1,5 +1,4 @@
 -- `value_checks::kind::operator_at` meets its contract: a comma after the first digit, or a second digit.
-use native.Mathlib.Omega.{arith}
 use borrow.Author.Needs.{needs}
 use Rattle.value_checks.proofs.KindSteps.{operator-one, operator-two}
 use Rattle.value_checks.proofs.kind.operator_at.Statement.{statement}
