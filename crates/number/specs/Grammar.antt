@@ -40,7 +40,7 @@ someDigits (b ∷ ds) s = some (record { digits = b ∷ ds; rest = s })
 unfoldable pub digits : List ℕ → Option Read
 digits s = someDigits (run s) (past s)
 
--- no zero leads, unless it is all
+-- no zero leads, unless it is the only digit
 unfoldable pub leads : List ℕ → Bool
 leads [] = false
 leads (b ∷ []) = true

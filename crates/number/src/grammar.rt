@@ -69,7 +69,7 @@ fn digits(s: &[u8], at: usize) -> Run
     if at < end { Run::To(end) } else { Run::Nothing }
 }
 
-// No zero leads, unless it is all.
+// No zero leads, unless it is the only digit.
 fn int(s: &[u8], at: usize) -> Run
     ensures { λ r. ⌜ Ends (int (drop at (now (s .entry)))) (now (s .entry)) at r ⌝ }
 {

@@ -370,7 +370,7 @@ fn start_of(s: &[u8]) -> usize
     at
 }
 
-// Where the White_Space at the end of a text begins: after the last code point, or byte of none, that is not White_Space.
+// Where the White_Space at the end of a text begins: after the last code point, or byte of no code point, that is not White_Space.
 fn end_of(s: &[u8]) -> usize
     ensures { λ r. ⌜ EndsAt (now (s .entry)) r ⌝ }
 {
