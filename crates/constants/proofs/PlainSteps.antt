@@ -1,4 +1,4 @@
--- Conditions that have no mark, told by their operator.
+-- Conditions that have no mark, known by their operator.
 use Prim.Native.Nat.{ℕ, _<_, _≤_}
 use native.Mathlib.Omega.{arith}
 use mathlib.Core.Bool.{Bool, true, false}

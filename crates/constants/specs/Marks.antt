@@ -31,7 +31,7 @@ truthBy Constant.No = none
 pub record LiteralAt (rule words : List ℕ) (i : ℕ) (r : Literal) : Type 0 where
   pub fields : (v : Value) → ValueAt rule words i v → literalInstant v ≡ instantBy r
 
--- two operands, one behind the other
+-- two operands, one after the other
 pub record PairIs (rule words : List ℕ) (op start : ℕ) (r : Constant) : Type 0 where
   pub truth : (left right : Value) → ValueAt rule words start left → ValueAt rule words (start + valueEntries left) right
       → constantOf op left right ≡ truthBy r
@@ -42,7 +42,7 @@ pub record ConstantAt (rule words : List ℕ) (op i : ℕ) (r : Constant) : Type
   pub early : op ≤ 5 → truthBy r ≡ none
   pub late : 8 ≤ op → truthBy r ≡ none
 
--- an entry's mark behind so many others, where it has one
+-- an entry's mark after so many others, where it has one
 pub record MarkedOn (count entry : ℕ) (constant : Constant) (before after : List ℕ) (r : ℕ) : Type 0 where
   pub most : r ≤ count + 1
   pub counted : r ≡ count + length (markIf entry (truthBy constant))
@@ -65,7 +65,7 @@ pub record Unmarked (rule words : List ℕ) (start end i : ℕ) : Type 0 where
   pub stand : (cs : Conditions) (w : AreConditions rule words start end cs) → AreConditions rule words i end (rest cs w)
   pub same : (cs : Conditions) (w : AreConditions rule words start end cs) → marksOfConditions cs ≡ marksOfConditions (rest cs w)
 
--- the marks of the conditions that stand there
+-- the marks of the conditions that are there
 pub record ConditionsMarked (rule words : List ℕ) (start end : ℕ) (before after : List ℕ) (count : ℕ) : Type 0 where
   pub marks : (cs : Conditions) → AreConditions rule words start end cs → MarksAre (marksOfConditions cs) before after count
 

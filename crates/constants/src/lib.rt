@@ -94,7 +94,7 @@ fn mark_of(entry: usize, truth: bool) -> u32
     if truth { twice + 1 } else { twice }
 }
 
-// Behind `count` marks that of an entry, if its condition is constant; how many there are then.
+// Writes the mark of an entry after `count` others, if its condition is constant; how many there are then.
 fn mark(count: usize, entry: usize, constant: Constant, marks: &mut [u8]) -> usize
     requires { ⌜ (count ≤ 4096) × (entry ≤ 4096) ⌝ }
     ensures { λ r. ⌜ MarkedOn count entry constant (now (marks .entry)) (now (marks .exit)) r ⌝ }

@@ -193,7 +193,7 @@ pub extern "C" fn rulecheck_finite(text: &[u8]) -> u32
 }
 
 // The fields of the instant that `text` is: year, month, day, hour, minute, second, nanoseconds. `fields` takes at least 28 bytes, as a result does,
-// and keeps them where the answer is not 0: 3 for too few, 20 for no instant.
+// and keeps them where the answer is not 0: 3 for too few, 20 where `text` is not an instant.
 #[no_mangle]
 pub extern "C" fn rulecheck_instant(text: &[u8], fields: &mut [u8]) -> u32
     ensures { λ r. ⌜ InstantAnswered (now (text .entry)) (now (fields .entry)) (now (fields .exit)) r ⌝ }

@@ -1,4 +1,4 @@
-// The single check in full, which is lent a name table and a mark list. Its result has the count of marks behind the seven numbers.
+// The single check in full, which is lent a name table and a mark list. Its result has the count of marks after the seven numbers.
 use crate::path_lent;
 use crate::setting;
 use buffer::put_numbers;

@@ -1,4 +1,4 @@
--- Each way through the code, as a law: what stands in the lent bytes is the output.
+-- Each way through the code, as a law: what is in the lent bytes is the output.
 use Prim.Native.Nat.{ℕ, _<_, _^_}
 use mathlib.Core.List.{List, []}
 use mathlib.Core.Option.{none, some, Option·map}

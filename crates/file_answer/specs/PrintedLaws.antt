@@ -1,4 +1,4 @@
--- Every path fits the lent buffer, and the whole output stands where there is room.
+-- Every path fits the lent buffer, and where there is room, the whole output is written.
 use Prim.Native.Nat.{ℕ, _≤_}
 use mathlib.Core.Bool.{Bool, true, false, cond, not, _&&_}
 use mathlib.Core.List.{List}
@@ -22,7 +22,7 @@ use Rattle.location.specs.LengthLaws.{path-length}
 use Rattle.check_file.specs.Output.{pathIn}
 use Rattle.file_answer.specs.Printed.{maxOutput, Printed}
 
--- where there is room, the whole output stands in front of `next`
+-- where there is room, the whole output is in front of `next`
 pub printed-whole : {output before after : List ℕ} {next : ℕ} → Printed output before after next → maxOutput ≤ length before
     → take next after ≡ output
 printed-whole p room = wrote-front (p .wrote) (omega (arith, p .short))

@@ -56,7 +56,7 @@ fn answer(
     )
 }
 
-// Writes what is printed at the start of `out`, and returns how many bytes that are. 32,835 bytes are room enough; what does not fit
+// Writes what is printed at the start of `out`, and returns how many bytes that is. 32,835 bytes are room enough; what does not fit
 // is left out.
 pub fn output(file: &[u8], out: &mut [u8]) -> usize
     ensures { λ r. ⌜ Printed (outputOf (now (file .entry))) (now (out .entry)) (now (out .exit)) r ⌝ }

@@ -36,7 +36,7 @@ pub record RuleWritten (sheet words : List ℕ) (defect place : ℕ) (before aft
       → behindLabel defect place tree ≡ some p
       → Wrote before after at p next
 
--- with the way from word `j` on, written behind `here`, the way from the value at word `i` stands behind `at`
+-- with the way from word `j` on, written from `here` on, the way from the value at word `i` is written from `at` on
 pub record ValueLeads (sheet words : List ℕ) (target i : ℕ) (before : List ℕ) (at j : ℕ) (now : List ℕ) (here : ℕ) : Type 0 where
   pub leads : (after : List ℕ) (next : ℕ)
       → ValueWritten sheet words target j now after here next

@@ -1,4 +1,4 @@
--- What stands in a path for a part of a condition, by the condition's head.
+-- What a path has for a part of a condition, by the condition's head.
 use Prim.Native.Nat.{ℕ}
 use mathlib.Core.Bool.{Bool, true, false, cond}
 use mathlib.Core.List.{[], _∷_, _++_}
@@ -38,7 +38,7 @@ isWhole defect (twoHead op) = false
 isWhole defect (comparisonHead which) = eqb defect 17
 isWhole defect (quantifierHead op bind) = false
 
--- what stands behind the path of the condition for a defect at its own entry
+-- what follows the path of the condition for a defect at its own entry
 unfoldable pub ownPart : (defect : ℕ) → ConditionHead → Text
 ownPart defect (literalHead truth) = []
 ownPart defect (manyHead op count) = []

@@ -1,4 +1,4 @@
--- A path behind its label is no longer than the rule's sheet: each part of the path is paid for by entries on the way to the defect.
+-- A path without its label is no longer than the rule's sheet: each part of the path is paid for by entries on the way to the defect.
 use Prim.Native.Nat.{ℕ, zero, suc, _+_, _/_, _%_, _≤_}
 use native.Mathlib.Omega.{arith}
 use mathlib.Core.Bool.{Bool, true, false, cond}

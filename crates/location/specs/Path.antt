@@ -12,7 +12,7 @@ use Rattle.buffer.specs.Wrote.{Wrote}
 abbrev pub placeBound : ℕ
 placeBound = 4294967296
 
--- for every tree of which the words are the index, the label and the way to the entry `place` stand in the buffer from its beginning
+-- for every tree of which the words are the index, the label and the way to the entry `place` are in the buffer from its beginning
 pub record PathWritten (label sheet words : List ℕ) (defect place : ℕ) (before after : List ℕ) (next : ℕ) : Type 0 where
   pub written : (tree : Rule) (p : Text)
       → RuleAt sheet words tree

@@ -1,4 +1,4 @@
--- What a call learns of the path it wrote: of a defect that has a path, all of it stands in a buffer of 32,768 bytes.
+-- What a call learns of the path it wrote: of a defect that has a path, all of it is in a buffer of 32,768 bytes.
 use Prim.Native.Nat.{ℕ, _≤_}
 use native.Mathlib.Omega.{arith}
 use mathlib.Core.List.{List, [], _++_}

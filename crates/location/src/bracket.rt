@@ -1,10 +1,10 @@
-// Indexes in brackets, as they stand in a path.
+// Indexes in brackets, as a path has them.
 use buffer::push;
 use buffer::put_decimal;
 ghost use Rattle.buffer.specs.Wrote.{Wrote};
 ghost use Rattle.validation.specs.Location.{index};
 
-// Writes `[n]`; the place behind it is returned.
+// Writes `[n]`; the place after it is returned.
 pub fn put_index(path: &mut [u8], at: usize, n: usize) -> usize
     ensures { λ r. ⌜ Wrote (now (path .entry)) (now (path .exit)) at (index n) r ⌝ }
 {

@@ -26,7 +26,7 @@ ghost use Rattle.sheet.specs.Places.{conditionOf};
 
 // How the descent goes on.
 pub enum Next {
-    // Down from the condition at a word, behind a place in the path.
+    // Down from the condition at a word, after a place in the path.
     Condition(usize, usize),
     // Down from the value at a word.
     Value(usize, usize),

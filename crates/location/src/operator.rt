@@ -1,4 +1,4 @@
-// Operators by number, as they stand in a path.
+// Operators by number, as they are spelled in a path.
 use buffer::push;
 use buffer::put;
 ghost use Prim.Native.Nat.{_≤_, _<_};

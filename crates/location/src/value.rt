@@ -15,7 +15,7 @@ ghost use Rattle.location.specs.Descent.{ValueWritten, ValueLeads};
 ghost use Rattle.location.specs.Keys.{KeyWritten};
 ghost use Rattle.location.specs.Path.{placeBound};
 
-// A word further down, and the place behind what stands in the path for the way to it.
+// A word further down, and the place after what the path has for the way to it.
 pub struct Step {
     pub word: usize,
     pub at: usize,

@@ -15,7 +15,7 @@ pub fn wide(word: u32) -> usize
     word as usize
 }
 
-// The first sibling, from the one at word `from` on, whose subtree ends behind word `target`.
+// The first sibling, from the one at word `from` on, whose subtree ends after word `target`.
 pub fn find_sibling(words: &[u32], target: usize, from: usize) -> Sibling
     requires { ⌜ from ≤ target ⌝ }
     ensures { λ r. ⌜ Reaches (now (words .entry)) target from 0 (r .word) (r .index) × (from ≤ r .word) × (r .word ≤ target) ⌝ }

@@ -51,7 +51,7 @@ is-tallied c t e =
 
 -- Every sheet is counted once.
 
--- how often a number stands among these
+-- how often a number occurs among these
 unfoldable hits : List ℕ → ℕ → ℕ
 hits [] n = 0
 hits (m ∷ ms) n = cond (eqb n m) 1 0 + hits ms n

@@ -1,5 +1,5 @@
 // Reads sheets, good and damaged, and writes which are accepted: + or - for each, 64 to a line, then how many.
-// Before each sheet stand eight bytes: S for a schema sheet or R for a rule sheet, its length in six digits, and 0A.
+// Before each sheet come eight bytes: S for a schema sheet or R for a rule sheet, its length in six digits, and 0A.
 use definition::limits::SCRATCH_WORDS;
 use libc::STDIN_FILENO;
 use libc::STDOUT_FILENO;
@@ -10,7 +10,7 @@ ghost use lib.ListN.{length};
 
 const HEAD_BYTES: usize = 8;
 
-// The digit at a place; what is no digit counts as 0.
+// The digit at a place; what is not a digit counts as 0.
 fn digit(s: &[u8], at: usize) -> usize
     ensures { λ r. ⌜ r ≤ 9 ⌝ }
 {
@@ -63,7 +63,7 @@ fn accepts(letter: u8, sheet: &[u8]) -> bool {
     }
 }
 
-// One sheet's verdict, and a line's end behind every 64th.
+// One sheet's verdict, and a line's end after every 64th.
 fn write_verdict(accepted: bool, count: u64) {
     if accepted {
         io::write_all(STDOUT_FILENO, b"+");

@@ -10,9 +10,9 @@ ghost use Rattle.text.specs.Blank.{isBlank, trim};
 ghost use Rattle.text.specs.Decodes.{Decodes, AsciiAt, PassedTo, BehindPoint, StartsAt, EndsAt};
 ghost use Rattle.text.specs.Digits.{Digits, highBits};
 
-// What stands at an offset of a text.
+// What is at an offset of a text.
 pub enum Decoded {
-    // A code point, and the offset behind its bytes.
+    // A code point, and the offset after its bytes.
     CodePoint(u32, usize),
     // No code point begins there, or the text has ended.
     Malformed,
@@ -49,7 +49,7 @@ fn is_utf8_2(a: u8, b: u8) -> bool
     is_between(0xC2, 0xDF, a) && is_tail(b)
 }
 
-// Whether b may stand behind a, the first of three bytes.
+// Whether b may follow a, the first of three bytes.
 fn is_second_of_3(a: u8, b: u8) -> bool
     ensures { λ r. ⌜ r ≡ isSecondOf3 a b ⌝ }
 {
@@ -67,7 +67,7 @@ fn is_utf8_3(a: u8, b: u8, c: u8) -> bool
     is_second_of_3(a, b) && is_tail(c)
 }
 
-// Whether b may stand behind a, the first of four bytes.
+// Whether b may follow a, the first of four bytes.
 fn is_second_of_4(a: u8, b: u8) -> bool
     ensures { λ r. ⌜ r ≡ isSecondOf4 a b ⌝ }
 {
@@ -226,7 +226,7 @@ fn high_bits(n: usize) -> u64
     HIGH_BITS[n]
 }
 
-// Whether so many bytes, eight at most, are ASCII. All eight are read at once, and those behind are left out.
+// Whether so many bytes, eight at most, are ASCII. All eight are read at once, and the others are left out.
 fn is_ascii_of_8(s: &[u8], at: usize, n: usize) -> bool
     requires { ⌜ (at + 8 ≤ length (now s)) × (n ≤ 8) ⌝ }
     ensures { λ r. ⌜ (r ≡ true → AsciiAt (now (s .entry)) at n) ⌝ }
@@ -253,7 +253,7 @@ pub fn is_short_ascii(s: &[u8], at: usize, len: usize) -> bool
     false
 }
 
-// Behind the pieces of 32 ASCII bytes at the start.
+// The offset after the pieces of 32 ASCII bytes at the start.
 fn behind_ascii_32(s: &[u8]) -> usize
     ensures { λ r. ⌜ PassedTo (now (s .entry)) 0 r ⌝ }
 {
@@ -268,7 +268,7 @@ fn behind_ascii_32(s: &[u8]) -> usize
     at
 }
 
-// Behind the eights of ASCII bytes that begin at an offset.
+// The offset after the eights of ASCII bytes that begin at an offset.
 fn behind_ascii(s: &[u8], from: usize) -> usize
     requires { ⌜ from ≤ length (now s) ⌝ }
     ensures { λ r. ⌜ PassedTo (now (s .entry)) from r ⌝ }
@@ -284,7 +284,7 @@ fn behind_ascii(s: &[u8], from: usize) -> usize
     at
 }
 
-// Behind the code point that begins at an offset and is not ASCII, or the offset itself where none begins.
+// The offset after the code point that begins at an offset and is not ASCII, or that offset where none begins.
 fn behind_point(s: &[u8], at: usize) -> usize
     requires { ⌜ (at < length (now s)) × (0x7F < getD (now s) at 0) ⌝ }
     ensures { λ r. ⌜ BehindPoint (now (s .entry)) at r ⌝ }
@@ -314,7 +314,7 @@ fn behind_point(s: &[u8], at: usize) -> usize
     at
 }
 
-// Whether a text is UTF-8. Eights are looked for at the start and behind each code point that is not ASCII, and not at every byte: most
+// Whether a text is UTF-8. Eights are looked for at the start and after each code point that is not ASCII, and not at every byte: most
 // texts are short.
 pub fn is_utf8(s: &[u8]) -> bool
     ensures { λ r. ⌜ r ≡ isUtf8 (now (s .entry)) ⌝ }
@@ -370,7 +370,7 @@ fn start_of(s: &[u8]) -> usize
     at
 }
 
-// Where the White_Space at the end of a text begins: behind the last code point, or byte of none, that is no White_Space.
+// Where the White_Space at the end of a text begins: after the last code point, or byte of no code point, that is not White_Space.
 fn end_of(s: &[u8]) -> usize
     ensures { λ r. ⌜ EndsAt (now (s .entry)) r ⌝ }
 {

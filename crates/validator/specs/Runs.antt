@@ -45,7 +45,7 @@ markedRunOf takes kind semantics label table schema rule pathBefore marksBefore 
       count = r .marks;
     }
 
--- what a whole call promises, and that the index of an accepted rule stands in the scratch
+-- what a whole call promises, and that the index of an accepted rule is in the scratch
 pub record MeetsIndexed (r : Run) : Type 0 where
   pub meets : Meets r
   pub indexed : r .result .number ≡ 0 → (x : Rule) → decodeRule (r .asked .rule) ≡ some x → RuleAt (r .asked .rule) (r .scratch) x

@@ -32,7 +32,7 @@ use Rattle.validator.specs.Sheets.{takesOf, takenOf, sheetAnswer, FrontO
 use Rattle.validator.specs.declared.sheets.Takes.{Takes}
 use Rattle.validator.specs.declared.outcome.Outcome.{Outcome}
 
--- The next sheet: the schema's index stands where only a rule's words have changed.
+-- The next sheet: the schema's index still holds where only a rule's words have changed.
 
 pub still-read : (schema : List ℕ) {before after : List ℕ} (read : SchemaRead) → RuleKept.Kept before after 0 maxRuleEntries → SchemaIs schema before read → SchemaIs schema after read
 still-read schema SchemaRead.Bad k is = is

@@ -46,12 +46,12 @@ pub record FrontOnly (before after : List ℕ) : Type 0 where
   pub size : length after ≡ length before
   pub kept : (i : ℕ) → scratchWords ≤ i → getD after i 0 ≡ getD before i 0
 
--- where the schema was read, the rule's index stands
+-- where the schema was read, the rule's index is in the words
 abbrev pub RuleStands : SchemaRead → (sheet words : List ℕ) → Type 0
 RuleStands SchemaRead.Bad sheet words = Unit {0}
 RuleStands (SchemaRead.Good s) sheet words = (x : Rule) → decodeRule sheet ≡ some x → RuleAt sheet words x
 
--- A check of one sheet. What reading the schema answered and left in the scratch is taken as it is, and stands for the next sheet.
+-- A check of one sheet. What reading the schema answered and left in the scratch is taken as it is, and stays for the next sheet.
 pub record SheetChecked (takes : Takes) (setting : Setting) (label schema : List ℕ) (read : SchemaRead) (sheet pathBefore path before after : List ℕ) (r : Outcome) : Type 0 where
   -- only the rule's own words have changed
   pub kept : Kept before after 0 maxRuleEntries

@@ -115,7 +115,7 @@ pub fn family_in(over: Over, family: u32) -> u32
     if family == 1 { 8 } else { family }
 }
 
-// Where the collection of the innermost quantifier stands, for family 8.
+// Where the collection of the innermost quantifier is, for family 8.
 pub fn over_place(over: Over, family: u32) -> usize
     ensures { λ r. ⌜ r ≡ overPlaceOf (overBy over) family ⌝ }
 {

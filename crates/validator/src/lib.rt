@@ -23,7 +23,7 @@ ghost use Rattle.validator.specs.Runs.{lentRunOf, runOf, markedRunOf, Me
 ghost use Rattle.validator.specs.declared.sheets.Takes.the-variants.{Any};
 
 // The whole call, with a mark list of so many bytes: settings, label and widths first, then the list, then the name table, then the sheets, then the
-// check list. Where it accepts, the rule's index stands in the scratch.
+// check list. Where it accepts, the rule's index is in the scratch.
 fn validate_lent(
     takes: Takes,
     kind: u32,

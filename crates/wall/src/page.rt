@@ -1,4 +1,4 @@
-// The pages of the wall sheet: each sheet of the book is checked, and its line written, in one go.
+// The pages of the wall sheet: each sheet of the book is checked, and its line written, in one pass.
 use crate::line::put_blank_line;
 use crate::line::put_foot;
 use crate::line::put_heading;
@@ -24,7 +24,7 @@ ghost use Rattle.wall.specs.Printing.{Given, RowPut, PagePut, PagesPut};
 // How many results a page has.
 const PER_PAGE: usize = 58;
 
-// Where the next sheet stands in the book and the next line in the pages, and 1 for a sheet that was accepted.
+// Where the next sheet is in the book and the next line in the pages, and 1 for a sheet that was accepted.
 pub struct Row {
     pub sheet: usize,
     pub line: usize,
@@ -52,7 +52,7 @@ fn one_if_accepted(number: u32) -> usize
     if number == 0 { 1 } else { 0 }
 }
 
-// The line of the sheet at `at`, or a blank one behind the last sheet.
+// The line of the sheet at `at`, or a blank one after the last sheet.
 fn put_row(
     setting: Setting,
     label: &[u8],

@@ -1,4 +1,4 @@
--- `constants::mark_conditions` meets its contract: at each turn the conditions that are left stand at the next word.
+-- `constants::mark_conditions` meets its contract: at each turn the conditions that are left begin at the next word.
 use borrow.Author.Needs.{needs}
 use native.Mathlib.Omega.{arith}
 use Prim.Native.Nat.{_-_, _≤_}
