@@ -41,14 +41,17 @@ usage: entity-rules check SCHEMA RULE.. --kind KIND --semantics SEMANTICS [OPTIO
 
   SCHEMA, OLD, NEW    files that hold a schema sheet; one of all files may be -, which is standard
                       input
-  RULE                files that hold a rule sheet, a template or a rule book; a file that begins
-                      with a digit is a book, and each of its sheets counts as a rule of its own
+  RULE                files that hold a rule sheet, a template or a rule book, or folders of such
+                      files; a file that begins with a digit is a book, and each of its sheets
+                      counts as a rule of its own
+  FILE                files that hold any of these sheets, or folders of such files
   BOOK                a file of sheets, each with its length in bytes and a comma before it
   PATH                a path of the record's fields, without `$fields.` before it
   TEXT                a text that may be an instant
   --kind KIND         check, tally, wall, upgrade: invariant, precondition, create_template,
                       operation_template, outcome_selector, create_selector, create_set or
-                      create_outcome_template, or as the format spells them (CreateSet)
+                      create_outcome_template, or as the format spells them (CreateSet); check
+                      and upgrade do without it where a list gives each file its kind
   --semantics SEMANTICS
                       kernel/1, service/1, service/2 or service/3
   --reader READER     path: kernel or projection, who will read the path (default: kernel)
@@ -70,6 +73,10 @@ usage: entity-rules check SCHEMA RULE.. --kind KIND --semantics SEMANTICS [OPTIO
   -h, --help          prints this
   -V, --version       prints which library is linked, too
 
+A folder stands for its files in the order of their names, without hidden ones and without what is
+in folders below it. If it has a file rules.list, each line of that is `FILE KIND` or `FILE KIND
+LABEL`, or begins with #: the kind and the label of that file, whatever --kind and --label say.
+
 Examples, in the crate's folder examples/mill:
   entity-rules check pattern.schema release.rule --kind precondition --semantics service/1
   entity-rules check pattern.schema branch.rule --kind outcome_selector --semantics service/1 \\
@@ -82,6 +89,7 @@ Examples, in the crate's folder examples/mill:
   entity-rules upgrade pattern.schema wider.schema release.rule misspelt.rule \\
       --kind precondition --semantics service/1
   entity-rules instant 2024-02-29 '2024-02-29 12:00:00.5Z'
+  entity-rules check pattern.schema rules --kind precondition --semantics service/1
 
 Exit status: 0 all are accepted, NEW is a widening, every rule fares as before; 1 one has a defect
 or is no instant, NEW is none, a rule's answer has changed; 2 one is refused or cannot be read, or
@@ -172,7 +180,8 @@ pub struct Output {
 pub enum Asked {
     Rules {
         files: Vec<PathBuf>,
-        kind: Kind,
+        /// The kind of files for which no list gives one.
+        kind: Option<Kind>,
         label: Option<String>,
         table: Option<PathBuf>,
     },
@@ -346,8 +355,7 @@ impl Options {
     }
 
     fn kind(&self, command: &str) -> Result<Kind, String> {
-        self.kind
-            .ok_or_else(|| missing(command, "--kind KIND", Kind::ALL))
+        self.kind.ok_or_else(|| missing_kind(command))
     }
 
     fn semantics(&self, command: &str) -> Result<Semantics, String> {
@@ -409,10 +417,9 @@ impl Options {
         rules: &[OsString],
     ) -> Result<Arguments, String> {
         not_for(command, &[("--reader", self.reader.is_some())])?;
-        let kind = self.kind(command)?;
         let asked = Asked::Rules {
             files: rules.iter().map(PathBuf::from).collect(),
-            kind,
+            kind: self.kind,
             label: self.label.clone(),
             table: self.table.clone(),
         };
@@ -504,6 +511,11 @@ fn not_for(command: &str, options: &[(&str, bool)]) -> Result<(), String> {
     }
 }
 
+/// That the option `--kind` is missing.
+pub fn missing_kind(command: &str) -> String {
+    missing(command, "--kind KIND", Kind::ALL)
+}
+
 /// That an option is missing, and what it could be.
 fn missing(command: &str, option: &str, all: &[impl ToString]) -> String {
     let names: Vec<String> = all.iter().map(ToString::to_string).collect();
@@ -548,7 +560,7 @@ mod tests {
             schema: "s".into(),
             asked: Asked::Rules {
                 files: vec!["a".into(), "b".into()],
-                kind: Kind::CreateSelector,
+                kind: Some(Kind::CreateSelector),
                 label: Some("x".to_owned()),
                 table: Some("t".into()),
             },
@@ -769,10 +781,6 @@ mod tests {
             error("check s r --kind rule")
                 .starts_with("--kind: \"rule\" is no kind; expected one of invariant,")
         );
-        assert!(
-            error("check s r")
-                .starts_with("check: expected --kind KIND, one of invariant, precondition,")
-        );
         let without_semantics = error("check s r --kind invariant");
         assert!(
             without_semantics
@@ -836,7 +844,7 @@ mod tests {
             error("upgrade o - - --kind invariant --semantics kernel/1"),
             "upgrade: expected `-`, standard input, at most once"
         );
-        assert!(error("upgrade o n r").starts_with("upgrade: expected --kind KIND, one of"));
+        assert!(error("upgrade o n r").starts_with("upgrade: expected --semantics SEMANTICS,"));
         assert_eq!(
             error("upgrade o n r --reader kernel"),
             "upgrade: --reader is no option of this command"

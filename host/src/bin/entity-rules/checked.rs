@@ -4,6 +4,7 @@ use crate::arguments::{Arguments, Asked, Output};
 use crate::blame::{self, Blame, Readable};
 use crate::constant::{self, Always};
 use crate::files::{Fault, NoSheet, Rule, Rules, Sheet, Unreadable, fault, read_sheet};
+use crate::folders::Settings;
 use crate::hint::{hint, no_member};
 use crate::outline::reached;
 use crate::region::Region;
@@ -79,15 +80,19 @@ impl<'a> Question<'a> {
 
 impl Asked {
     /// Each question, in the order given; the rules are those of the files that it names.
-    pub fn questions<'a>(&'a self, rules: &'a Rules<'_>) -> Vec<Question<'a>> {
+    pub fn questions<'a>(&'a self, rules: &'a Rules<Settings>) -> Vec<Question<'a>> {
         match self {
-            Self::Rules { kind, label, .. } => {
-                let (kind, label) = (*kind, label.as_deref());
-                let question = |rule| match rule {
-                    Ok(rule) => Question::Rule { rule, kind, label },
+            Self::Rules { .. } => {
+                let all = rules.all().into_iter();
+                all.map(|(rule, settings)| match rule {
+                    Ok(rule) => Question::Rule {
+                        rule,
+                        kind: settings.kind,
+                        label: settings.label.as_deref(),
+                    },
                     Err((file, why)) => Question::NoRule { file, why },
-                };
-                rules.all().into_iter().map(question).collect()
+                })
+                .collect()
             }
             Self::Keys { paths, reader } => {
                 let reader = *reader;

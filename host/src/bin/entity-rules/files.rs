@@ -1,6 +1,7 @@
 //! The files that the command line names, and where they are not what they should be.
 
 use crate::checked::Subject;
+use crate::folders::RuleFile;
 use crate::region::{Position, Region};
 use entity_rules::entries::{Entry, Malformed, read_rule};
 use entity_rules::limits::{MAX_SHEET_BYTES, MAX_TEXT_BYTES};
@@ -127,44 +128,53 @@ impl<'a> Rule<'a> {
     }
 }
 
-/// Files of rules, each a sheet or a book.
-pub struct Rules<'a>(Vec<(&'a Path, Result<Vec<u8>, NoSheet>)>);
+/// A sheet of a rule or template, or the file that has none, and why.
+pub type RuleOrNone<'a> = Result<Rule<'a>, (&'a Path, &'a NoSheet)>;
 
-impl<'a> Rules<'a> {
+/// What a file holds: a sheet, or a book that is of its form.
+type Held = Result<Vec<u8>, NoSheet>;
+
+/// Files of rules with their settings.
+pub struct Rules<S>(Vec<(RuleFile<S>, Held)>);
+
+impl<S> Rules<S> {
     /// As much of each sheet as its check needs, and all of a book.
-    pub fn read(files: &'a [PathBuf]) -> Self {
+    pub fn read(files: Vec<RuleFile<S>>) -> Self {
         Self::read_by(files, |file| read_sheet(file, Sheet::Rule))
     }
 
     /// The same of files that may hold other sheets instead.
-    pub fn read_any(files: &'a [PathBuf]) -> Self {
+    pub fn read_any(files: Vec<RuleFile<S>>) -> Self {
         Self::read_by(files, |file| read_sheet(file, Sheet::Any))
     }
 
     /// All of each file, however long.
-    pub fn read_whole(files: &'a [PathBuf]) -> Self {
+    pub fn read_whole(files: Vec<RuleFile<S>>) -> Self {
         Self::read_by(files, |file| read_by(file, Sheet::Rule, all))
     }
 
-    fn read_by(files: &'a [PathBuf], read: impl Fn(&Path) -> Result<Vec<u8>, Unreadable>) -> Self {
-        let files = files.iter().map(PathBuf::as_path);
-        Self(
-            files
-                .map(|file| (file, rules_of(file, read(file))))
-                .collect(),
-        )
+    fn read_by(
+        files: Vec<RuleFile<S>>,
+        read: impl Fn(&Path) -> Result<Vec<u8>, Unreadable>,
+    ) -> Self {
+        let read = |file: RuleFile<S>| {
+            let rules = rules_of(&file.file, read(&file.file));
+            (file, rules)
+        };
+        Self(files.into_iter().map(read).collect())
     }
 
-    /// Every sheet in the order given, or why a file has none.
-    pub fn all(&self) -> Vec<Result<Rule<'_>, (&Path, &NoSheet)>> {
+    /// Every sheet in the order given, or why a file has none; with the settings of its file.
+    pub fn all(&self) -> Vec<(RuleOrNone<'_>, &S)> {
         let mut all = Vec::new();
-        for &(file, ref read) in &self.0 {
+        for (RuleFile { file, settings }, read) in &self.0 {
             match read {
                 Ok(bytes) if is_book(bytes) => {
-                    all.extend(sheets(file, bytes).into_iter().map(Ok));
+                    let sheets = sheets(file, bytes).into_iter();
+                    all.extend(sheets.map(|sheet| (Ok(sheet), settings)));
                 }
-                Ok(bytes) => all.push(Ok(Rule::of_file(file, bytes))),
-                Err(no_sheet) => all.push(Err((file, no_sheet))),
+                Ok(bytes) => all.push((Ok(Rule::of_file(file, bytes)), settings)),
+                Err(no_sheet) => all.push((Err((&**file, no_sheet)), settings)),
             }
         }
         all
@@ -177,7 +187,7 @@ fn is_book(file: &[u8]) -> bool {
 }
 
 /// The bytes of a sheet, or of a book that is of its form.
-fn rules_of(file: &Path, read: Result<Vec<u8>, Unreadable>) -> Result<Vec<u8>, NoSheet> {
+fn rules_of(file: &Path, read: Result<Vec<u8>, Unreadable>) -> Held {
     let bytes = read?;
     match Book::read(&bytes) {
         Err(error) if is_book(&bytes) => Err(NoSheet::Refused {
