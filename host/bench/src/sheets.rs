@@ -1,6 +1,6 @@
 //! The sheets that are measured, made by size. All but those of early defects are accepted.
 
-use differential::model::number::bound;
+use model::number::bound;
 
 /// One check: settings, the two sheets, and the number that is answered.
 pub struct Sample {

@@ -3,9 +3,9 @@
 //! Names in a message may hold pieces of other messages. So every row is a whole sentence: either constant, or with a constant end that no value
 //! can imitate, or written anew from the parts of a reference that stands in the rule and then compared as a whole.
 
-use super::Quoted;
-use differential::trees::{Condition, Data, Operator, Sheet, Value};
+use crate::oracle::verdict::Quoted;
 use entity_core::validation::entry::readable;
+use model::trees::{Condition, Data, Operator, Sheet, Value};
 
 /// What a message says: number, detail, and the part of the rule that it quotes.
 pub struct Found {
