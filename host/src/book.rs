@@ -127,7 +127,7 @@ impl<S: AsRef<[u8]>> FromIterator<S> for Book {
 /// ```
 #[derive(Clone, Copy, Debug, PartialEq, Eq)]
 pub struct BookSheet<'a> {
-    /// How many bytes of the file stand before it.
+    /// How many bytes of the file come before it.
     pub byte: usize,
     /// The sheet, well formed or not.
     pub bytes: &'a [u8],
@@ -140,14 +140,14 @@ pub struct BookSheet<'a> {
 ///
 /// let error = Book::read(b"2,T\n7;T\n").unwrap_err();
 /// assert_eq!((error.sheet, error.byte), (2, 5));
-/// assert_eq!(error.to_string(), "sheet 2, byte 5: expected a comma behind the length");
+/// assert_eq!(error.to_string(), "sheet 2, byte 5: expected a comma after the length");
 /// assert_eq!(error.refusal(), Refusal::BookForm);
 /// ```
 #[derive(Clone, Debug, PartialEq, Eq)]
 pub struct BookError {
     /// The sheet that is not one, from 1.
     pub sheet: usize,
-    /// How many bytes of the file stand before the fault.
+    /// How many bytes of the file come before the fault.
     pub byte: usize,
     /// What was expected there.
     pub expected: String,
@@ -190,7 +190,7 @@ fn next_sheet(file: &[u8], at: usize) -> Result<BookSheet<'_>, (usize, String)> 
     }
     let comma = at.saturating_add(count);
     let Some((b',', sheet)) = behind.split_first() else {
-        return Err((comma, "a comma behind the length".to_owned()));
+        return Err((comma, "a comma after the length".to_owned()));
     };
     let left = sheet.len();
     let length = std::str::from_utf8(digits).unwrap_or_default();
@@ -242,11 +242,8 @@ mod tests {
                 "0,01,a",
                 "sheet 2, byte 2: expected a length without a 0 before it",
             ),
-            ("1", "sheet 1, byte 1: expected a comma behind the length"),
-            (
-                "1 ,a",
-                "sheet 1, byte 1: expected a comma behind the length",
-            ),
+            ("1", "sheet 1, byte 1: expected a comma after the length"),
+            ("1 ,a", "sheet 1, byte 1: expected a comma after the length"),
             (
                 "0,3,ab",
                 "sheet 2, byte 2: expected a length of at most 2, what is left of the file, not 3",

@@ -200,7 +200,7 @@ numbered! {
 /// let error = "service".parse::<Semantics>().unwrap_err();
 /// assert_eq!(
 ///     error.to_string(),
-///     "\"service\" is no semantics; expected one of kernel/1, service/1, service/2, service/3"
+///     "\"service\" is not a known semantics; expected one of kernel/1, service/1, service/2, service/3"
 /// );
 /// ```
 #[derive(Clone, Debug, PartialEq, Eq)]
@@ -218,7 +218,7 @@ impl fmt::Display for UnknownName {
         let known = self.known.join(", ");
         write!(
             f,
-            "{:?} is no {}; expected one of {known}",
+            "{:?} is not a known {}; expected one of {known}",
             self.given, self.what
         )
     }

@@ -22,7 +22,7 @@ numbered! {
         /// Even if the new kind is json: a quantifier could go over the old one.
         KindDiffers = 2, "the kind of a field differs";
         /// Elements neither come nor go.
-        ItemsDiffer = 3, "a field has an element in one of the two alone";
+        ItemsDiffer = 3, "a field has an element in only one of the two";
         /// An absent tag and an empty one differ too.
         TagDiffers = 4, "the tag of a field differs";
         /// Of the record, the arguments or a field.
@@ -143,7 +143,7 @@ impl fmt::Display for Widening {
         match self {
             Self::Marks => f.pad("a widening: nothing differs but open marks gone from 0 to 1"),
             Self::Anything => f.pad("a widening"),
-            Self::Breach(breach) => write!(f, "no widening: {breach}"),
+            Self::Breach(breach) => write!(f, "not a widening: {breach}"),
         }
     }
 }

@@ -482,9 +482,7 @@ fn names_are_read_with_or_without_their_sign() {
         assert_eq!(format!("${name}").parse(), Ok(name));
     }
     let error = "$$id".parse::<Name>().unwrap_err();
-    assert!(
-        error.to_string().starts_with(
-            "\"$$id\" is no name; expected one of id, entity, version, fields, state,"
-        )
-    );
+    assert!(error.to_string().starts_with(
+        "\"$$id\" is not a known name; expected one of id, entity, version, fields, state,"
+    ));
 }

@@ -221,10 +221,9 @@ fn folders_that_are_of_no_use_are_said_to_be_so() {
     list(b"\xff invariant\n");
     all("rules/rules.list: expected text in UTF-8");
     list(b"a rule\n");
-    assert!(
-        complaint(&folder, "show rules")
-            .starts_with("entity-rules: rules/rules.list:1: \"rule\" is no kind; expected one of")
-    );
+    assert!(complaint(&folder, "show rules").starts_with(
+        "entity-rules: rules/rules.list:1: \"rule\" is not a known kind; expected one of"
+    ));
 }
 
 #[test]

@@ -263,7 +263,7 @@ fn the_tool_says_on_standard_error_what_is_no_page() {
     };
     let nothing = "entity-rules: none: no sheets, nothing to check\n";
     assert_eq!(told("s none"), (Some(0), 0, nothing.to_owned()));
-    let refused = "entity-rules: bad:1: refused 34 (book form): sheet 1, byte 1: expected a comma behind the length\n";
+    let refused = "entity-rules: bad:1: refused 34 (book form): sheet 1, byte 1: expected a comma after the length\n";
     assert_eq!(told("s bad"), (Some(2), 0, refused.to_owned()));
     let (status, bytes, err) = told("s missing");
     assert_eq!((status, bytes), (Some(2), 0));

@@ -45,7 +45,7 @@ fn a_file_name_that_is_no_text_is_no_label() {
     assert_eq!(output.status.code(), Some(2));
     assert_eq!(
         out(&output),
-        "b\\xffd.rule: refused 2 (label): the label is over 256 bytes long, or not UTF-8; expected another, as by --label\n"
+        "b\\xffd.rule: refused 2 (label): the label is over 256 bytes long, or not UTF-8; expected another label, for instance by --label\n"
     );
     let output = run(&folder, check(&file, &["--json"]));
     assert!(out(&output).starts_with(

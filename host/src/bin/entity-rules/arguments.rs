@@ -30,17 +30,17 @@ usage: entity-rules check SCHEMA RULE.. --kind KIND --semantics SEMANTICS [OPTIO
   path     whether paths of the record's fields can be read
   widens   whether the schema NEW is a widening of OLD, so that what was accepted stays accepted;
            what grew, or the first breach
-  upgrade  how rules fare when NEW takes the place of OLD: where it is a widening, those that are
+  upgrade  what happens to rules when NEW replaces OLD: where it is a widening, those that are
            accepted stay so by the theorem and are not checked again; all others are checked
            under both
   instant  whether texts are instants, and their fields
   show     prints schema sheets, rules, templates, rule books and name tables as trees, each entry
            with its number
-  explain  what a number of an answer means, as 18 or, with a detail, 18.3; with an example
+  explain  what a number of an answer means, such as 18 or, with its detail, 18.3; with an example
   table    prints the stock name table
 
-  SCHEMA, OLD, NEW    files that hold a schema sheet; one of all files may be -, which is standard
-                      input
+  SCHEMA, OLD, NEW    files that hold a schema sheet; one of the files named may be -, which is
+                      standard input
   RULE                files that hold a rule sheet, a template or a rule book, or folders of such
                       files; a file that begins with a digit is a book, and each of its sheets
                       counts as a rule of its own
@@ -59,23 +59,23 @@ usage: entity-rules check SCHEMA RULE.. --kind KIND --semantics SEMANTICS [OPTIO
                       each kind may read (default: the stock table, which the command `table`
                       prints); it may be -
   --label TEXT        check, wall, upgrade: what each path begins with (default: the file's name
-                      without its end, and, but for wall, in brackets the serial number of a sheet
-                      in a book)
+                      without its extension; for a sheet of a book, except by wall, followed by
+                      its serial number in brackets)
   --constants         check: under a rule that is accepted, its conditions that are always true or
                       always false, since they compare two dates that are written in the rule
   --json              one line of JSON for each rule, path, text, book or pair of schemas, and no
                       summary
-  --sarif             check: one SARIF 2.1.0 log, by which editors and code hosts show defects
-                      where they stand
-  --quiet             print nothing for what is accepted, for a widening and for a rule that fares
-                      as before, and no summary if that is all
+  --sarif             check: one SARIF 2.1.0 log, from which editors and code hosts show defects
+                      in their places
+  --quiet             print nothing for what is accepted, for a widening and for a rule whose
+                      answer is as before, and no summary if that is all
   --                  all words after this are files, paths or texts
   -h, --help          prints this
-  -V, --version       prints which library is linked, too
+  -V, --version       prints the version, and which library is linked
 
-A folder stands for its files in the order of their names, without hidden ones and without what is
-in folders below it. If it has a file rules.list, each line of that is `FILE KIND` or `FILE KIND
-LABEL`, or begins with #: the kind and the label of that file, whatever --kind and --label say.
+A folder means its files in the order of their names, without hidden ones and without what is in
+folders below it. If it has a file rules.list, each line of that is `FILE KIND` or `FILE KIND LABEL`
+or begins with #. What it says of a file takes precedence over --kind and --label.
 
 Examples, in the crate's folder examples/mill:
   entity-rules check pattern.schema release.rule --kind precondition --semantics service/1
@@ -91,9 +91,9 @@ Examples, in the crate's folder examples/mill:
   entity-rules instant 2024-02-29 '2024-02-29 12:00:00.5Z'
   entity-rules check pattern.schema rules --kind precondition --semantics service/1
 
-Exit status: 0 all are accepted, NEW is a widening, every rule fares as before; 1 one has a defect
-or is no instant, NEW is none, a rule's answer has changed; 2 one is refused or cannot be read, or
-the command line is wrong.
+Exit status: 0 if all are accepted, NEW is a widening, or every rule's answer is as before; 1 if one
+has a defect or is not an instant, NEW is not a widening, or a rule's answer has changed; 2 if one
+is refused or cannot be read, or the command line is wrong.
 
 Colours and a progress bar appear on a terminal only. NO_COLOR, set to anything that is not empty,
 switches the colours off; TERM=dumb switches off both.
@@ -506,7 +506,9 @@ impl Options {
 /// That the command does not take an option that is given.
 fn not_for(command: &str, options: &[(&str, bool)]) -> Result<(), String> {
     match options.iter().find(|(_, is_given)| *is_given) {
-        Some((option, _)) => Err(format!("{command}: {option} is no option of this command")),
+        Some((option, _)) => Err(format!(
+            "{command}: {option} is not an option of this command"
+        )),
         None => Ok(()),
     }
 }
@@ -615,7 +617,7 @@ mod tests {
         );
         assert_eq!(
             error("path s a --reader store"),
-            "--reader: \"store\" is no reader; expected one of kernel, projection"
+            "--reader: \"store\" is not a known reader; expected one of kernel, projection"
         );
         for (line, option) in [
             ("path s a --kind invariant", "path: --kind"),
@@ -623,7 +625,7 @@ mod tests {
             ("path s a --table t", "path: --table"),
             ("check s r --reader kernel", "check: --reader"),
         ] {
-            let expected = format!("{option} is no option of this command");
+            let expected = format!("{option} is not an option of this command");
             assert_eq!(error(line), expected);
         }
     }
@@ -654,7 +656,7 @@ mod tests {
         }
         for option in ["--label x", "--sarif", "--constants"] {
             let (name, _) = option.split_once(' ').unwrap_or((option, ""));
-            let expected = format!("tally: {name} is no option of this command");
+            let expected = format!("tally: {name} is not an option of this command");
             assert_eq!(error(&format!("tally s b {settings} {option}")), expected);
         }
         assert!(error("tally s b").starts_with("tally: expected --kind KIND, one of"));
@@ -679,7 +681,7 @@ mod tests {
         assert_eq!(label(""), None);
         for option in ["--json", "--quiet", "--reader kernel", "--sarif"] {
             let (name, _) = option.split_once(' ').unwrap_or((option, ""));
-            let expected = format!("wall: {name} is no option of this command");
+            let expected = format!("wall: {name} is not an option of this command");
             assert_eq!(error(&format!("wall s b {settings} {option}")), expected);
         }
         assert_eq!(
@@ -704,7 +706,7 @@ mod tests {
         ] {
             let (name, _) = option.split_once(' ').unwrap_or((option, ""));
             for command in ["book", "show"] {
-                let expected = format!("{command}: {name} is no option of this command");
+                let expected = format!("{command}: {name} is not an option of this command");
                 assert_eq!(error(&format!("{command} a {option}")), expected);
             }
         }
@@ -747,7 +749,7 @@ mod tests {
         ] {
             let (name, _) = option.split_once(' ').unwrap();
             for (command, words) in [("widens", "o n"), ("instant", "a")] {
-                let expected = format!("{command}: {name} is no option of this command");
+                let expected = format!("{command}: {name} is not an option of this command");
                 assert_eq!(error(&format!("{command} {words} {option}")), expected);
             }
         }
@@ -779,7 +781,7 @@ mod tests {
         );
         assert!(
             error("check s r --kind rule")
-                .starts_with("--kind: \"rule\" is no kind; expected one of invariant,")
+                .starts_with("--kind: \"rule\" is not a known kind; expected one of invariant,")
         );
         let without_semantics = error("check s r --kind invariant");
         assert!(
@@ -847,7 +849,7 @@ mod tests {
         assert!(error("upgrade o n r").starts_with("upgrade: expected --semantics SEMANTICS,"));
         assert_eq!(
             error("upgrade o n r --reader kernel"),
-            "upgrade: --reader is no option of this command"
+            "upgrade: --reader is not an option of this command"
         );
     }
 

@@ -35,7 +35,8 @@ impl Help {
             Self::Meant(name) => format!("did you mean {}?", quoted(name)),
             Self::Has(names) => {
                 let names: Vec<String> = names.iter().map(|name| quoted(name)).collect();
-                format!("there is {}", names.join(", "))
+                let verb = if names.len() == 1 { "is" } else { "are" };
+                format!("there {verb} {}", names.join(", "))
             }
         }
     }

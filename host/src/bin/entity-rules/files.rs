@@ -36,7 +36,7 @@ pub struct Fault {
     pub at: Position,
     /// The entry of the sheet, or the sheet of the book.
     pub place: usize,
-    /// How many bytes of the sheet or book stand before the fault.
+    /// How many bytes of the sheet or book come before the fault.
     pub byte: usize,
     /// All of it in words.
     pub told: String,

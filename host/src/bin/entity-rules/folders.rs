@@ -203,7 +203,7 @@ mod tests {
         );
         let (line, told) = error("# a\na.rule invariant\nb.rule rule\n");
         assert_eq!(line, 3);
-        assert!(told.starts_with("\"rule\" is no kind; expected one of invariant, "));
+        assert!(told.starts_with("\"rule\" is not a known kind; expected one of invariant, "));
         assert_eq!(
             error("a invariant\na invariant\n"),
             (2, "expected each file once, but \"a\" again".to_owned())

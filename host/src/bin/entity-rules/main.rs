@@ -262,7 +262,10 @@ fn book(files: &[PathBuf], out: &mut impl Write) -> io::Result<u8> {
                 book.extend([rule.bytes]);
                 if let Some(fault) = rule.fault() {
                     let place = report::name(fault.file.as_os_str());
-                    let note = format!("{place}:{}: written, though no rule sheet", fault.at.line);
+                    let note = format!(
+                        "{place}:{}: written, though it is not a rule sheet",
+                        fault.at.line
+                    );
                     complain(&format!("{note}: {}", fault.told));
                 }
             }

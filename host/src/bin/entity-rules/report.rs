@@ -39,7 +39,7 @@ impl Palette {
 }
 
 /// What is said of a text that is no instant.
-pub const NO_INSTANT: &str = "the text is no instant";
+pub const NO_INSTANT: &str = "the text is not an instant";
 
 /// What is printed for one rule, path or text. A sheet that is at fault is named itself, be it the rule's, the schema's or the table's.
 pub fn text(palette: &Palette, checked: &Checked) -> String {
@@ -256,7 +256,9 @@ fn string_marks(spot: &Spot, blame: &Blame) -> String {
 pub fn refused(refusal: Refusal, fault: Option<&Fault>) -> String {
     match (refusal, fault) {
         (_, Some(fault)) => fault.told.clone(),
-        (Refusal::Label, None) => format!("{refusal}; expected another, as by --label"),
+        (Refusal::Label, None) => {
+            format!("{refusal}; expected another label, for instance by --label")
+        }
         (refusal, None) => refusal.to_string(),
     }
 }
