@@ -3,7 +3,7 @@
 use crate::verdict::Refusal;
 use std::fmt;
 
-/// A rule book: sheets of rules and templates behind one another, each with its length and a comma before it.
+/// A rule book: sheets of rules and templates one after another, each with its length and a comma before it.
 ///
 /// ```
 /// use entity_rules::{tally, Book, Condition, DefectNumber, Kind, Rule, Schema, Semantics};
@@ -47,7 +47,7 @@ impl Book {
         self
     }
 
-    /// The book as it stands in a file.
+    /// The book as it is in a file.
     ///
     /// ```
     /// let book: entity_rules::Book = ["T\nV,1,0,\n"; 2].into_iter().collect();
@@ -76,7 +76,7 @@ impl Book {
     ///
     /// # Errors
     ///
-    /// If the bytes are no book.
+    /// If the bytes are not a book.
     pub fn read(file: &[u8]) -> Result<Vec<BookSheet<'_>>, BookError> {
         let mut sheets = Vec::new();
         let mut at = 0;
@@ -182,14 +182,14 @@ impl std::error::Error for BookError {}
 fn next_sheet(file: &[u8], at: usize) -> Result<BookSheet<'_>, (usize, String)> {
     let rest = file.get(at..).unwrap_or_default();
     let count = rest.iter().take_while(|byte| byte.is_ascii_digit()).count();
-    let (digits, behind) = rest.split_at_checked(count).unwrap_or_default();
+    let (digits, after) = rest.split_at_checked(count).unwrap_or_default();
     match digits {
         [] => return Err((at, "a length, digits, before the sheet".to_owned())),
         [b'0', _, ..] => return Err((at, "a length without a 0 before it".to_owned())),
         _ => {}
     }
     let comma = at.saturating_add(count);
-    let Some((b',', sheet)) = behind.split_first() else {
+    let Some((b',', sheet)) = after.split_first() else {
         return Err((comma, "a comma after the length".to_owned()));
     };
     let left = sheet.len();

@@ -1,4 +1,4 @@
-//! The entries of a sheet, read for people: what stands at a place, or where a sheet stops being one.
+//! The entries of a sheet, read for people: what is at a place, or where a sheet stops being one.
 //!
 //! Whether a sheet is accepted is the library's to say. This reading serves to show what an answer speaks of.
 //!

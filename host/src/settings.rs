@@ -5,7 +5,7 @@ use std::fmt;
 use std::str::FromStr;
 
 numbered! {
-    /// Where a rule or template stands, and so which names it may read.
+    /// Where a rule or template is used, and so which names it may read.
     ///
     /// All may read `$id`, `$entity` and `$version`; the values below say what else, unless a [`Table`](crate::Table) says otherwise. Any kind
     /// goes with either sheet.

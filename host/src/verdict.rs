@@ -167,7 +167,7 @@ numbered! {
 }
 
 numbered! {
-    /// Why that which a quantifier goes over is no collection.
+    /// Why what a quantifier goes over is not a collection.
     ///
     /// ```
     /// assert_eq!(entity_rules::CollectionFault::NotAString.number(), 1);

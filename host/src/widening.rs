@@ -8,7 +8,7 @@ use crate::{numbers, raw};
 use std::fmt;
 
 numbered! {
-    /// Why a schema is no widening of another.
+    /// Why a schema is not a widening of another.
     ///
     /// ```
     /// use entity_rules::BreachReason;
@@ -95,7 +95,7 @@ pub enum Widening {
     Marks,
     /// It is, though not of that kind: fields are added where the old schema is closed, or arguments appear.
     Anything,
-    /// It is none, and this is the first breach.
+    /// It is not a widening, and this is the first breach.
     Breach(Breach),
 }
 
@@ -110,7 +110,7 @@ impl Widening {
         !matches!(self, Self::Breach(_))
     }
 
-    /// What is not kept, where it is no widening.
+    /// What is not kept, where it is not a widening.
     ///
     /// ```
     /// assert_eq!(entity_rules::Widening::Marks.breach(), None);

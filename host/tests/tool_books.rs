@@ -310,7 +310,7 @@ fn each_sheet_of_a_book_is_a_rule_of_its_own() {
     assert!(lines[12].ends_with(r#","fault_file":"mill.book","line":69,"place":6,"byte":97}"#));
 }
 
-/// Columns of the first line of a sheet stand behind its length.
+/// Columns of the first line of a sheet come after its length.
 #[test]
 fn what_is_at_fault_is_shown_where_it_stands_in_the_book() {
     let (_, out) = printed(

@@ -91,9 +91,9 @@ fn the_c_function_prints_every_case_and_keeps_the_other_bytes() {
         let count = (case.pages.len() / PAGE_BYTES) as u64;
         let found = [0, 1].map(|index| raw::count(&result, index));
         assert_eq!(found, [u64::from(number), count]);
-        let (printed, behind) = pages.split_at(case.pages.len());
+        let (printed, after) = pages.split_at(case.pages.len());
         assert_eq!(printed, case.pages);
-        assert!(behind.iter().all(|&byte| byte == 0xCC));
+        assert!(after.iter().all(|&byte| byte == 0xCC));
         let free = if number == 0 { PATH_BYTES } else { 0 };
         assert!(path[free..].iter().all(|&byte| byte == 0xAA));
         assert_eq!(result[WALL_BYTES..], [0xBB; 5]);

@@ -7,7 +7,7 @@ use crate::build::{CompareOp, Nesting};
 use crate::limits::MAX_RULE_ENTRIES;
 use std::collections::HashSet;
 
-/// The entries of a rule sheet, be it a rule or a template.
+/// The entries of a rule sheet, of a rule or a template.
 ///
 /// ```
 /// use entity_rules::entries::read_rule;

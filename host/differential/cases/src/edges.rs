@@ -73,7 +73,7 @@ fn long_names() -> Vec<Case> {
     there.into_iter().chain(missing.map(|name| case(name, (18, 2)))).collect()
 }
 
-/// Whether a digit of a numeral stands at a place: between it and a comma are digits alone.
+/// Whether a digit of a numeral is at a place: between it and a comma are digits alone.
 fn in_numeral(sheet: &[u8], at: usize) -> bool {
     let before = sheet[..at].iter().rev().find(|byte| !byte.is_ascii_digit());
     sheet[at].is_ascii_digit() && before == Some(&b',')
@@ -97,7 +97,7 @@ fn numerals() -> Vec<Case> {
     cases
 }
 
-/// Schemas of one entry less than there may be, as many, and one more. The rule reads the field behind all others.
+/// Schemas of one entry less than there may be, as many, and one more. The rule reads the field after all others.
 fn schema_entries() -> Vec<Case> {
     let sizes = MAX_SCHEMA_ENTRIES - 1..=MAX_SCHEMA_ENTRIES + 1;
     let made = sizes.flat_map(|entries| SHAPES.map(|shape| (entries, shape(entries))));
@@ -112,7 +112,7 @@ fn schema_entries() -> Vec<Case> {
 /// Both sheets with as many entries as they may have. The last entry of the one names the last of the other.
 fn most_entries() -> Case {
     let schema = SHAPES[0](MAX_SCHEMA_ENTRIES);
-    // The head, `all`, `exists` and its string stand beside the literals.
+    // The head, `all`, `exists` and its string come with the literals.
     let literals = (4..MAX_RULE_ENTRIES).map(|_| literal(true));
     let sheet = rule(all(literals.chain([exists(text(&last_field(&schema)))]).collect()));
     Case::new(2, 2, b"r", write_schema(&schema), write_rule(&sheet)).expecting(Expect::Detail(0, 0))
@@ -348,7 +348,7 @@ fn object_of(members: &[(&str, &str)]) -> Value {
     value(Data::Object(members.collect()))
 }
 
-/// Members in every order, and keys that stand twice, near and far; of two defects that of the member written first.
+/// Members in every order, and keys that occur twice, near and far; of two defects that of the member written first.
 fn members() -> Vec<Edge> {
     let of_keys = |keys: &[&str], answer| {
         let members: Vec<_> = keys.iter().map(|key| (*key, "$id")).collect();

@@ -1,4 +1,4 @@
-//! Random texts: instants in every spelling, and such as are none by a field, a mark or a few bytes.
+//! Random texts: instants in every spelling, and texts that fail to be instants by a field, a mark or a few bytes.
 
 use crate::generate::values::{INSTANTS, NO_INSTANTS};
 use crate::random::Random;

@@ -20,5 +20,5 @@ pub const REFUSALS: [u32; 7] = [1, 2, 3, 37, 38, 4, 5];
 /// The bytes of a result that are written.
 pub const RESULT_BYTES: usize = 28;
 
-/// The same of the entry that is lent a list of marks, whose count comes behind the seven numbers.
+/// The same of the entry that is lent a list of marks, whose count comes after the seven numbers.
 pub const CHECK_RESULT_BYTES: usize = 32;

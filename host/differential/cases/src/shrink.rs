@@ -38,7 +38,7 @@ fn candidates(case: &Case) -> Vec<Case> {
     found
 }
 
-/// No table, nothing behind it, or one mark more as in the stock table; what is no table is made shorter.
+/// No table, nothing after it, or one mark more as in the stock table; what is not a table is made shorter.
 fn tables(table: &[u8]) -> Vec<Vec<u8>> {
     if table.is_empty() {
         return Vec::new();

@@ -1,4 +1,4 @@
-//! The slips that are easy to make, as cases with the whole line that answers each. Two of them are changes of a schema that are no widenings.
+//! The slips that are easy to make, as cases with the whole line that answers each. Two of them are changes of a schema that are not widenings.
 
 use crate::case::Case;
 use crate::generate::build::{

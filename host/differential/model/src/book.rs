@@ -43,7 +43,7 @@ impl<'a> BookCall<'a> {
     }
 }
 
-/// The sheets of a file: each behind its byte length, a numeral without leading zeros, and a comma, with nothing between them or behind the last.
+/// The sheets of a file: each after its byte length, a numeral without leading zeros, and a comma, with nothing between them or after the last.
 pub fn sheets(file: &[u8]) -> Option<Vec<&[u8]>> {
     let mut sheets = Vec::new();
     let mut rest = file;

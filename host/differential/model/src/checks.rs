@@ -1,5 +1,5 @@
 //! The check list (docs/FORMAT.md, "The check list"): which checks a rule or template undergoes, and in which order. No schema is
-//! at hand here.
+//! available here.
 
 use super::instant;
 use super::number::is_finite;

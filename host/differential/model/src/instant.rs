@@ -74,7 +74,7 @@ fn days_of(year: u32, month: u32) -> u32 {
     }
 }
 
-/// `HH:MM:SS`; second 60 may stand at any time.
+/// `HH:MM:SS`; second 60 may occur at any time.
 fn clock_of(text: &[u8]) -> Option<[u32; 3]> {
     if text[2] != b':' || text[5] != b':' {
         return None;

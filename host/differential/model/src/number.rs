@@ -59,7 +59,7 @@ pub fn is_number(text: &str) -> bool {
     parts(text.as_bytes()).is_some()
 }
 
-/// Whether the magnitude is below 2^1024 - 2^970. Text that is no number is not finite.
+/// Whether the magnitude is below 2^1024 - 2^970. Text that is not a number is not finite.
 pub fn is_finite(text: &str) -> bool {
     parts(text.as_bytes()).is_some_and(|parts| {
         let (magnitude, bound) = multiplied_out(&parts, text.len());
@@ -67,7 +67,7 @@ pub fn is_finite(text: &str) -> bool {
     })
 }
 
-/// How many digits are compared with the bound's: none if the first nonzero digit stands elsewhere than the bound's first, else those up to and with the
+/// How many digits are compared with the bound's: none if the first nonzero digit is elsewhere than the bound's first, else those up to and with the
 /// first that differs, and all that the bound has if none does.
 pub fn compared(text: &str) -> usize {
     let Some(parts) = parts(text.as_bytes()) else {

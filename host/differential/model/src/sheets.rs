@@ -133,7 +133,7 @@ fn rise<'t>(texts: impl Iterator<Item = &'t String> + Clone) -> bool {
         .all(|(one, next)| one.as_bytes() < next.as_bytes())
 }
 
-/// Whether no text stands twice.
+/// Whether no text occurs twice.
 fn differ<'t>(mut texts: impl Iterator<Item = &'t String>) -> bool {
     let mut met = HashSet::new();
     texts.all(|text| met.insert(text))

@@ -28,7 +28,7 @@ impl Table {
         Self([1, 2, 3, 4, 5, 6, 7, 8].map(stock_row))
     }
 
-    /// Eight entries, `N`, the kind and nine marks, kinds rising from 1, and nothing behind them.
+    /// Eight entries, `N`, the kind and nine marks, kinds rising from 1, and nothing after them.
     pub fn decode(bytes: &[u8]) -> Option<Self> {
         let mut rows = [[false; 9]; 8];
         let mut rest = bytes;

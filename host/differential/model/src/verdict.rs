@@ -89,7 +89,7 @@ fn environment<'t>(binders: &Binders<'t>, schema: &'t Schema) -> Vec<(&'t str, O
     environment
 }
 
-/// The family of a failing check, and the place of `in` where a quantifier's body changes it. A literal's check stands in no body.
+/// The family of a failing check, and the place of `in` where a quantifier's body changes it. A literal's check is in no body.
 fn family(check: &Check, setting: &Setting) -> (u32, u32) {
     let family = match check.number {
         13 => 4,

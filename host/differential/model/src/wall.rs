@@ -43,7 +43,7 @@ pub fn wall(call: &WallCall) -> ([u64; 2], Vec<u8>) {
     }
 }
 
-/// A page behind so many others: its heading, a line for each answer, blank lines for those that are missing, and its foot.
+/// A page after so many others: its heading, a line for each answer, blank lines for those that are missing, and its foot.
 fn page(before: usize, answers: &[Answer]) -> String {
     let heading = format!("PAGE {}", column(5, before as u64 + 1));
     let serials = (before * PAGE_SHEETS + 1) as u64..;

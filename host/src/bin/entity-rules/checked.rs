@@ -39,7 +39,7 @@ pub enum Subject<'a> {
 
 impl Subject<'_> {
     /// What paths begin with where the command line does not say it: a file's name without its end, with the serial number of a sheet in a book.
-    /// A name that is no UTF-8 is no label, which is the library's to say.
+    /// A name that is not UTF-8 cannot be a label, which is for the library to say.
     pub fn label(self) -> Vec<u8> {
         let stem = |file: &Path| {
             let stem = file.file_stem().unwrap_or_default();

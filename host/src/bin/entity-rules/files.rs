@@ -91,7 +91,7 @@ pub struct Rule<'a> {
 }
 
 impl<'a> Rule<'a> {
-    /// What a file holds that is no book.
+    /// What a file holds that is not a book.
     pub fn of_file(file: &'a Path, bytes: &'a [u8]) -> Self {
         Self {
             subject: Subject::File(file),
@@ -101,14 +101,14 @@ impl<'a> Rule<'a> {
         }
     }
 
-    /// The line of the file on which a byte of the sheet stands.
+    /// The line of the file that a byte of the sheet is on.
     pub fn line_of(&self, byte: usize) -> usize {
-        Position::new(self.bytes, byte).behind(self.start).line
+        Position::new(self.bytes, byte).after(self.start).line
     }
 
-    /// Where in the file an entry stands that begins at a byte of the sheet, or this part of its text.
+    /// Where in the file an entry is that begins at a byte of the sheet, or this part of its text.
     pub fn region(&self, entry: usize, part: Option<(usize, usize)>) -> Region {
-        Region::of_entry(self.bytes, entry, part).behind(self.start)
+        Region::of_entry(self.bytes, entry, part).after(self.start)
     }
 
     /// Where it stops being a rule sheet.
@@ -123,7 +123,7 @@ impl<'a> Rule<'a> {
             Subject::InBook { serial, .. } => format!("sheet {serial}, {}", fault.told),
             _ => fault.told,
         };
-        let at = fault.at.behind(self.start);
+        let at = fault.at.after(self.start);
         Some(Fault { at, told, ..fault })
     }
 }
@@ -204,7 +204,7 @@ fn sheets<'a>(file: &'a Path, book: &'a [u8]) -> Vec<Rule<'a>> {
     let sheets = Book::read(book).unwrap_or_default().into_iter().zip(1..);
     let rule = |(sheet, serial): (BookSheet<'a>, usize)| {
         let between = book.get(before..sheet.byte).unwrap_or_default();
-        start = Position::new(between, between.len()).behind(start);
+        start = Position::new(between, between.len()).after(start);
         before = sheet.byte;
         Rule {
             subject: Subject::InBook { book: file, serial },

@@ -25,7 +25,7 @@ pub struct Settings {
     pub label: Option<String>,
 }
 
-/// The files that these words name, in their order; a folder stands for its files. The settings are those of the folder's list, where it has the file.
+/// The files that these words name, in their order; a folder means its files. The settings are those of the folder's list, where it has the file.
 pub fn expand(words: &[PathBuf]) -> Result<Vec<RuleFile<Option<Settings>>>, String> {
     let mut files = Vec::new();
     for word in words {

@@ -244,7 +244,7 @@ fn wall(asked: &BookRun, out: &mut impl Write) -> io::Result<u8> {
     }
 }
 
-/// Writes the book of the sheets in these files, or nothing if one of them cannot be read. A sheet that is none is noted.
+/// Writes the book of the sheets in these files, or nothing if one of them cannot be read. A sheet that is not well formed is noted.
 fn book(files: &[PathBuf], out: &mut impl Write) -> io::Result<u8> {
     if io::stdout().is_terminal() {
         let expected =

@@ -188,7 +188,7 @@ fn nothing(subject: &str) -> String {
     format!("{subject}: no sheets, nothing to check\n")
 }
 
-/// The book in parts that are books, each with the number of its sheets; all of it where it has none or is no book, for the library to say so.
+/// The book in parts that are books, each with the number of its sheets; all of it where it has none or is not a book, for the library to say so.
 fn parts(book: &[u8]) -> Vec<(&[u8], usize)> {
     let sheets = Book::read(book).unwrap_or_default();
     if sheets.is_empty() {

@@ -28,7 +28,7 @@ pub const SHEETS: [&str; 15] = [
     "R,-,-,\nC,1,2,\n",
 ];
 
-/// Files that are no book, alone and behind a sheet.
+/// Files that are not a book, alone and after a sheet.
 const NO_BOOKS: [&str; 24] = [
     ",",
     "R",
@@ -105,7 +105,7 @@ fn forms() -> Vec<BookCase> {
     found
 }
 
-/// Conditions 33 deep, which no other sheet here has, and a sheet far longer than a sheet may be, with others behind it.
+/// Conditions 33 deep, which no other sheet here has, and a sheet far longer than a sheet may be, with others after it.
 fn deep() -> Vec<BookCase> {
     let deep = format!("R,-,-,\n{}C,1,1,\n", "C,4,0,\n".repeat(32));
     let long = "R".repeat(70_000);

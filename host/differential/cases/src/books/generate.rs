@@ -86,7 +86,7 @@ fn without_schema(random: &mut Random) -> BookCase {
     case
 }
 
-/// A book in which a length is another, or stands in another form, or something else than a sheet stands at an end.
+/// A book in which a length is another, or is in another form, or something else than a sheet is at an end.
 fn damaged(random: &mut Random) -> BookCase {
     let (names, count) = (own_names(random), random.between(1, 12));
     let (case, sheets) = sheets(random, &names, count);

@@ -90,7 +90,7 @@ impl BookCase {
     }
 }
 
-/// Fewer sheets, larger parts left out first; what is no book is made shorter.
+/// Fewer sheets, larger parts left out first; what is not a book is made shorter.
 pub fn candidates(case: &BookCase) -> Vec<BookCase> {
     let with = |book: Vec<u8>| BookCase { book, ..case.clone() };
     let Some(sheets) = sheets(&case.book) else {

@@ -5,7 +5,7 @@ use crate::generate::names::Names;
 use crate::generate::{members, planted};
 use crate::random::Random;
 
-/// Bytes that matter in a sheet, and some that are no UTF-8.
+/// Bytes that matter in a sheet, and some that are not UTF-8.
 const BYTES: [u8; 24] = *b"\n,-0123456789HFRTCVK.$\xc3\xff";
 
 pub fn case(random: &mut Random, names: &Names) -> Case {

@@ -40,7 +40,7 @@ pub fn case(random: &mut Random, names: &Names) -> Case {
         _ if random.chance(50) => Sheet::Template(object),
         _ => rule(exists(object)),
     };
-    // Under kernel/1 no number is looked at, and these two are no references.
+    // Under kernel/1 no number is looked at, and these two are not references.
     let expect = if expect == Expect::Number(14) && setting.semantics == 1 { Expect::Number(0) } else { expect };
     setting.case(&schema, &sheet).expecting(expect)
 }
@@ -61,7 +61,7 @@ fn keys(random: &mut Random, count: usize) -> Vec<String> {
     keys
 }
 
-/// How many keys of one slot are at hand.
+/// How many keys of one slot are available.
 const ONE_SLOT: usize = 400;
 
 /// Keys that all fall into one slot of the library's table, which goes by the eight highest of these ten bits.

@@ -1,4 +1,4 @@
-//! Cases with one defect planted behind conditions that are right: number and detail are known beforehand.
+//! Cases with one defect planted after conditions that are right: number and detail are known beforehand.
 
 use crate::case::{Case, Expect};
 use crate::generate::build::{
@@ -15,7 +15,7 @@ use crate::random::Random;
 use model::trees::{Condition, Data, Field, Holder, Operator, Rule, Schema, Sheet, Value};
 use model::write_rule;
 
-/// Every number from 11 on with each of its details; those that can come about in many ways stand twice.
+/// Every number from 11 on with each of its details; those that can come about in many ways are listed twice.
 pub const TARGETS: [(u32, u32); 32] = [
     (11, 0),
     (12, 0),
@@ -229,7 +229,7 @@ impl Plant<'_> {
         }
     }
 
-    /// A value inside arrays and objects, with right values before it; a member behind it may be a defect of its own, whatever their keys.
+    /// A value inside arrays and objects, with right values before it; a member after it may be a defect of its own, whatever their keys.
     fn nested(&self, random: &mut Random, inner: Value) -> Value {
         let members = |members: [(&str, Value); 2]| object(members.map(|(key, value)| (key.to_owned(), value)).to_vec());
         match random.below(8) {

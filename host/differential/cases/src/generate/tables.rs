@@ -1,4 +1,4 @@
-//! Name tables by chance: sound ones, ones that break a condition, and bytes that are no table.
+//! Name tables by chance: sound ones, ones that break a condition, and bytes that are not a table.
 
 use crate::generate::names::Names;
 use crate::limits::TABLE_BYTES;
@@ -51,7 +51,7 @@ fn turn(random: &mut Random, table: &mut Table) {
     *mark = !*mark;
 }
 
-/// The bytes of a table, in a quarter of the cases with others behind them.
+/// The bytes of a table, in a quarter of the cases with others after them.
 pub fn lent(random: &mut Random, table: &Table) -> Vec<u8> {
     let mut bytes = table.write();
     if random.chance(25) {
@@ -94,7 +94,7 @@ pub fn unsound(random: &mut Random, table: &mut [u8]) {
 pub const DAMAGES: [fn(&mut Random, &mut Vec<u8>); 10] = [
     |random, table| table.truncate(random.between(1, TABLE_BYTES - 1)),
     |_, table| table.truncate(TABLE_BYTES - 1),
-    // No mark stands there.
+    // There is no mark there.
     |random, table| {
         let row = random.below(ROWS) * ROW_BYTES;
         let at = row + random.pick(&[0, 1, 2, 3, 5, 7, 9, 11, 13, 15, 17, 19, 21]);

@@ -33,7 +33,7 @@ const INFINITE: [&str; 8] =
 const KEPT_OUT: [&str; 6] =
     ["0e1000001", "-0.0E-9999999", "1e9223372036854775807", "1e-9223372036854774784", "0e99999999999999999999", "5E+9223372036854775000"];
 
-/// Texts that are no references.
+/// Texts that are not references.
 const TEXTS: [&str; 18] = [
     "",
     "x",
@@ -179,7 +179,7 @@ fn finite(random: &mut Random) -> String {
     format!("1{}.{}e{}", digits(random, count), digits(random, 3), random.below(280))
 }
 
-/// A number whose first digit stands at the height of the bound's, or one place off.
+/// A number whose first digit is at the height of the bound's, or one place off.
 pub fn near_bound(random: &mut Random) -> String {
     let bound = bound();
     // All digits often enough that the bound itself comes.

@@ -91,7 +91,7 @@ fn widen_field(random: &mut Random, field: &mut Field, level: Level) {
     widen(random, &mut field.open, &mut field.properties, level);
 }
 
-/// A change that is no widening; none where the schema has nothing to change that way.
+/// A change that is not a widening; nothing where the schema has nothing to change that way.
 pub fn narrowed(random: &mut Random, schema: &Schema) -> Option<Schema> {
     let mut other = schema.clone();
     match random.below(8) {

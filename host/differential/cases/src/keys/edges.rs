@@ -38,7 +38,7 @@ fn planted() -> Vec<KeyCase> {
     cases
 }
 
-/// What the first segment alone decides, in a closed and in an open record; arguments are no fields of the record.
+/// What the first segment alone decides, in a closed and in an open record; arguments are not fields of the record.
 fn roots() -> Vec<KeyCase> {
     let mut cases = Vec::new();
     for (semantics, reader) in settings() {
@@ -65,7 +65,7 @@ fn roots() -> Vec<KeyCase> {
     cases
 }
 
-/// Each combination of the refusals 1 to 4, so that every pair stands in its order, called for in several ways.
+/// Each combination of the refusals 1 to 4, so that every pair comes in its order, called for in several ways.
 fn combinations() -> Vec<KeyCase> {
     let mut random = Random::new(3);
     let mut cases = Vec::new();

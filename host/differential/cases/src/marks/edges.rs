@@ -16,7 +16,7 @@ pub fn edges() -> Vec<(Case, Vec<u32>)> {
     pairs.chain(none).chain(places()).chain(template).map(|(sheet, marks)| (accepted(&sheet), marks)).chain(defects()).collect()
 }
 
-/// Two instants, and how the first stands to the second.
+/// Two instants, and how the first compares with the second.
 const PAIRS: [(&str, &str, i32); 17] = [
     ("2024-02-29", "2024-03-01", -1),
     ("2024-01-01", "2024-01-01 00:00:00.000Z", 0),
@@ -70,7 +70,7 @@ fn accepted(sheet: &Sheet) -> Case {
     Case::new(2, 2, b"r", sheets.0, sheets.1).expecting(Expect::Number(0))
 }
 
-/// A constant condition, and a defect before or behind it: no marks.
+/// A constant condition, and a defect before or after it: no marks.
 fn defects() -> Vec<(Case, Vec<u32>)> {
     let constant = || pair(6, text("2024-01-01"), text("2024-01-02"));
     let bad = |text: &str| exists(self::text(text));

@@ -1,4 +1,4 @@
-//! Rules that compare instants: in several spellings, one field apart, equal across spellings, and such as are none.
+//! Rules that compare instants: in several spellings, one field apart, equal across spellings, and texts that are not instants.
 
 use crate::case::{Case, Expect};
 use crate::generate::build::{all, compare, condition, exists, holder, literal, not, pair, quantifier, rule, schema, text};

@@ -84,7 +84,7 @@ fn marks() -> Vec<Case> {
     cases
 }
 
-/// Paths below each root under each kind, shown and hidden; a name that is no root has no path, whatever its mark.
+/// Paths below each root under each kind, shown and hidden; a name that is not a root has no path, whatever its mark.
 fn roots() -> Vec<Case> {
     let mut cases = Vec::new();
     for kind in 1..=8 {
@@ -138,7 +138,7 @@ fn binders() -> Vec<Case> {
     cases
 }
 
-/// A table cut at each length, and with bytes behind it.
+/// A table cut at each length, and with bytes after it.
 fn lengths() -> Vec<Case> {
     let table = with_mark(5, 4, true).write();
     let cut = (1..TABLE_BYTES).map(|bytes| answered(template(5, "$state", table[..bytes].to_vec()), (37, 0)));
@@ -150,7 +150,7 @@ fn lengths() -> Vec<Case> {
     cut.chain(longer).chain([none]).collect()
 }
 
-/// Each byte of a table changed: a mark to what is no mark, any other byte to a mark, and each mark turned.
+/// Each byte of a table changed: a mark to what is not a mark, any other byte to a mark, and each mark turned.
 fn bytes() -> Vec<Case> {
     let table = Table::stock().write();
     let mut cases = Vec::new();
@@ -186,7 +186,7 @@ fn conditions() -> Vec<Case> {
     cases
 }
 
-/// Each combination of the refusals, so that every pair stands in its order, called for in several ways.
+/// Each combination of the refusals, so that every pair comes in its order, called for in several ways.
 fn combinations() -> Vec<Case> {
     let mut random = Random::new(5);
     let mut cases = Vec::new();

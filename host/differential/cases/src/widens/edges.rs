@@ -69,7 +69,7 @@ fn changes() -> Vec<Changed> {
 /// The schema around the record or the arguments, these around the field, and the field's entry.
 type Way<'a> = (fn(Holder) -> Schema, &'a dyn Fn(&Field) -> Holder, u32);
 
-/// Each change in the record, in the arguments, in an object, and in an element of an element, behind a field that has grown.
+/// Each change in the record, in the arguments, in an object, and in an element of an element, after a field that has grown.
 fn places() -> Vec<WidensCase> {
     let mut cases = Vec::new();
     for (changed, expected) in changes() {

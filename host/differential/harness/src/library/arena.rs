@@ -14,7 +14,7 @@ use model::{Answer, TallyNumbers, MARKS_BYTES};
 use std::cell::RefCell;
 use std::fmt::Debug;
 
-/// Bytes before and behind what is lent.
+/// Bytes before and after what is lent.
 const AROUND: usize = 128;
 const PATH_ARENA: usize = AROUND + MIN_PATH_BYTES + 2 * AROUND;
 const MARKS_ARENA: usize = AROUND + MARKS_BYTES + 2 * AROUND;

@@ -9,7 +9,7 @@ pub struct Lent {
     pub path: usize,
     pub marks: usize,
     pub result: usize,
-    /// Where the result begins, so that it need not stand on a boundary of four bytes.
+    /// Where the result begins, so that it need not be on a boundary of four bytes.
     pub shift: usize,
     /// Which of the patterns the buffers hold before the call.
     pub pattern: usize,

@@ -59,7 +59,7 @@ pub fn ask_key(schemas: &Schemas, semantics: u64, reader: u64, path: &str) -> Re
     }
 }
 
-/// The marks that stand in place of the Rust's name test; none for the stock table, under which the Rust is asked as it is.
+/// The marks that take the place of the Rust's name test; none for the stock table, under which the Rust is asked as it is.
 fn table(lent: &[u8]) -> Option<entry::Table> {
     let is_stock = lent.is_empty() || lent.starts_with(&Table::stock().write());
     let mark = |row: usize, mark: usize| lent.get(row * 22 + 4 + 2 * mark) == Some(&b'1');

@@ -23,7 +23,7 @@ pub struct Defect {
 #[derive(Clone, Debug, PartialEq, Eq)]
 pub enum Quoted {
     Nothing,
-    /// A string as it stands in the rule.
+    /// A string as it is in the rule.
     Text(String),
     /// A value as compact JSON.
     Json(String),
@@ -33,7 +33,7 @@ pub enum Quoted {
     Depth(usize),
     /// A quantifier's bind.
     Bind(String),
-    /// A quantifier's `in`: the text, or compact JSON of what is no string.
+    /// A quantifier's `in`: the text, or compact JSON of what is not a string.
     Over(String),
     /// A side of `compare`, by the detail alone.
     Side,

@@ -72,7 +72,7 @@ pub fn book_refusal(case: &BookCase) -> u32 {
     first_failing([1, 2, 3, 34, 37, 38], &[is_known, is_label, is_wide, is_book, is_lent, are_marks_sound(table)])
 }
 
-/// The refusal that answers a call for a wall sheet, or 0: those of its book, with 33 behind 34. A page has 58 sheets and 4,860 bytes.
+/// The refusal that answers a call for a wall sheet, or 0: those of its book, with 33 after 34. A page has 58 sheets and 4,860 bytes.
 pub fn wall_refusal(case: &WallCase) -> u32 {
     let of_book = book_refusal(&BookCase { result_len: if case.book.result_len < 16 { 0 } else { TALLY_BYTES }, ..case.book.clone() });
     let pages = sheets_in(&case.book.book).map_or(0, |sheets| (sheets + 57) / 58);
@@ -82,7 +82,7 @@ pub fn wall_refusal(case: &WallCase) -> u32 {
     }
 }
 
-/// How many sheets a file has, if it is what those are written as that lie behind its lengths, however these are spelled and as far as the file goes.
+/// How many sheets a file has, if it is what those are written as that come after its lengths, however these are spelled and as far as the file goes.
 fn sheets_in(file: &[u8]) -> Option<usize> {
     let (mut rest, mut written, mut count) = (file, Vec::new(), 0);
     while let Some(comma) = rest.iter().position(|byte| *byte == b',') {
@@ -102,7 +102,7 @@ fn first_failing<const N: usize>(refusals: [u32; N], tests: &[bool; N]) -> u32 {
     refusals.into_iter().zip(tests).find(|(_, passes)| !**passes).map_or(0, |(refusal, _)| refusal)
 }
 
-/// serde_json reads white space around a number, which is no part of its text.
+/// serde_json reads white space around a number, which is not part of its text.
 pub fn is_number(text: &str) -> bool {
     let is_bare = !text.bytes().any(|byte| byte.is_ascii_whitespace());
     is_bare && serde_json::from_str::<serde_json::Value>(text).is_ok_and(|value| value.is_number())

@@ -104,7 +104,7 @@ fn shape(sheet: &Sheet, answer: &Answer, service: bool) -> Result<(), String> {
     Ok(())
 }
 
-/// Acceptance, number, family, detail and path are the same, and what the Rust quotes stands at the places.
+/// Acceptance, number, family, detail and path are the same, and what the Rust quotes is at the places.
 pub fn same(answer: &Answer, verdict: &Verdict, sheet: &Sheet) -> Result<(), String> {
     let differ = || Err(format!("the model answers {}, the Rust {verdict:?}", line(answer)));
     let Verdict::Defect(defect) = verdict else {
@@ -167,7 +167,7 @@ fn is_over(over: Option<&str>, place: u32, sheet: &Sheet) -> bool {
     }
 }
 
-/// A string as it stands, any other value as compact JSON.
+/// A string as it is, any other value as compact JSON.
 fn describe(value: &Value) -> String {
     match &value.data {
         Data::String(text) => text.clone(),

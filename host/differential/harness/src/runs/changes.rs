@@ -4,7 +4,7 @@ use model::trees::{Field, Schema};
 use std::collections::{BTreeMap, BTreeSet};
 use std::fmt;
 
-/// Where a holder stands.
+/// The place of a holder.
 #[derive(Clone, Copy, Debug, PartialEq, Eq, PartialOrd, Ord)]
 pub enum Place {
     Record,
@@ -61,7 +61,7 @@ fn fields(place: Place, first: &Field, second: &Field, found: &mut BTreeSet<Chan
     }
 }
 
-/// How the second answer stands to the first.
+/// How the second answer compares with the first.
 #[derive(Clone, Copy, Debug, PartialEq, Eq, PartialOrd, Ord)]
 pub enum Fared {
     AcceptedAgain,

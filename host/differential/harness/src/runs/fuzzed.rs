@@ -1,5 +1,5 @@
 //! Cases as plain bytes without counts, so that a fuzzer can change them at any place: kind, semantics, buffers, the label's length, the label, then
-//! the table and both sheets. Each sheet begins with the first line that has its letter, and what stands before a schema sheet is the table.
+//! the table and both sheets. Each sheet begins with the first line that has its letter, and what comes before a schema sheet is the table.
 
 use crate::runs::vectors;
 use cases::case::Case;

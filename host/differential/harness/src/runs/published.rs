@@ -63,7 +63,7 @@ pub fn sample_cases() -> Vec<Case> {
     lines().iter().flat_map(cases).collect()
 }
 
-/// The cases that a sample stands in. Its verdict tells the answer.
+/// The cases that a sample is in. Its verdict gives the answer.
 fn cases(sample: &Sample) -> Vec<Case> {
     let Sample { kind, bytes, holds, .. } = sample;
     let empty = write_schema(&schema(holder(false, Vec::new()), None));

@@ -88,7 +88,7 @@ fn fare(cases: &[Case; 2], marks_alone: bool) -> Result<Option<Fared>, (usize, S
     promise(&first, &second, marks_alone).map(Some).ok_or_else(broken)
 }
 
-/// How the second answer stands to the first; none if the promise is broken.
+/// How the second answer compares with the first; none if the promise is broken.
 pub fn promise(first: &Answer, second: &Answer, marks_alone: bool) -> Option<Fared> {
     if first.number == 0 {
         return (first == second).then_some(Fared::AcceptedAgain);

@@ -1,13 +1,13 @@
 //! Writes the sheets that the program `sheets` is run on, and what it must write, by the model: `sheets FOLDER`.
 //!
-//! Good sheets, every limit one below, at and one above it, objects whose keys rise, fall or stand twice, numerals past 32 and 64 bits, and small
+//! Good sheets, every limit one below, at and one above it, objects whose keys rise, fall or occur twice, numerals past 32 and 64 bits, and small
 //! sheets with each byte replaced, left out or doubled, and cut at each length.
 
 use model::{decode_rule, decode_schema};
 use std::fmt::Write as _;
 use std::{env, fs, path::Path, process::exit};
 
-/// Small sheets in which every form of an entry stands. Each of their bytes is damaged, so several short ones make less of a list than a long one.
+/// Small sheets in which every form of an entry occurs. Each of their bytes is damaged, so several short ones make less of a list than a long one.
 const SCHEMAS: [&str; 2] = [
     "H,0,2,1,1\nF,1,0,0,0,1,-,a\nF,7,1,0,1,1,0,b\nF,11,0,0,0,1,3,dtag\nF,10,0,0,0,1,-,f\n",
     "H,1,2,-,0\nF,6,0,1,1,1,-,c\nF,2,0,0,0,0,-,\nF,8,0,0,0,2,-,ce\nF,9,0,0,0,2,-,cf\n",
@@ -144,7 +144,7 @@ fn object_of<K: AsRef<str>>(keys: &[K]) -> String {
     )
 }
 
-/// Keys that fall, lie in no order, or stand twice next to each other, apart, or as far apart as can be; few, and as many as a sheet can have.
+/// Keys that fall, come in no order, or occur twice next to each other, apart, or as far apart as can be; few, and as many as a sheet can have.
 fn keys(cases: &mut Cases) {
     for few in [
         ["a", "b", "c"],

@@ -128,7 +128,7 @@ fn sibling_names_rise_by_bytes() {
     for falling in [["a", "a"], ["b", "a"], ["aa", "a"], ["", ""], ["a", ""]] {
         assert_eq!(names(falling), (false, false), "{falling:?}");
     }
-    // Record and arguments are two groups; an element is no sibling of the properties.
+    // Record and arguments are two groups; an element is not a sibling of the properties.
     assert!(is_schema("H,0,1,0,1\nF,1,0,0,0,1,-,b\nF,1,0,0,0,1,-,a\n"));
     assert!(is_schema(
         "H,0,1,-,0\nF,6,0,1,1,1,-,a\nF,1,0,0,0,0,-,\nF,1,0,0,0,0,-,\n"

@@ -1,4 +1,4 @@
-//! Name tables: what a mark changes, what is no table, and loading.
+//! Name tables: what a mark changes, what is not a table, and loading.
 
 use super::*;
 use table::{load_table, NAMES, TABLE_BYTES};

@@ -1,6 +1,6 @@
 //! Instants: the model's reading held against a second one, written apart from it, and against the library's.
 //!
-//! The reader of the Rust is not at hand. Where the sources bring it, `is_instant` asks it; otherwise it asks the stand-in.
+//! The reader of the Rust is not available. Where the sources bring it, `is_instant` asks it; otherwise it asks the stand-in.
 
 pub mod run;
 pub mod vectors;
@@ -65,7 +65,7 @@ pub fn hold(text: &[u8]) -> Result<Option<Fields>, String> {
     Ok(fields)
 }
 
-/// What the model reads, with which the second reading agrees. Bytes that are no text are no instant.
+/// What the model reads, with which the second reading agrees. Bytes that are not text are not an instant.
 pub fn read(text: &[u8]) -> Result<Option<Fields>, String> {
     let Ok(text) = str::from_utf8(text) else {
         return Ok(None);

@@ -9,7 +9,7 @@ use crate::runs::keys::{report, same};
 use cases::keys::{KeyCase, READERS};
 use model::{check_key, write_schema};
 
-/// Names of the schemas, ordinals, and what parts them; no root stands before a key.
+/// Names of the schemas, ordinals, and what parts them; no root comes before a key.
 const TOKENS: [&str; 9] = ["b", ".", "0", "1", "é", "count", "value", "fields", "arr"];
 
 /// All paths of up to that many tokens.

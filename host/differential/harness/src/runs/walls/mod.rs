@@ -1,4 +1,4 @@
-//! Wall sheets: the pages of library and model, byte for byte; and what stands on them, read again, against the tally of the same book.
+//! Wall sheets: the pages of library and model, byte for byte; and what is on them, read again, against the tally of the same book.
 
 pub mod run;
 pub mod vectors;
