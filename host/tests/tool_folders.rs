@@ -240,3 +240,45 @@ fn links_are_followed_and_names_may_be_any_bytes() {
     assert!(out.starts_with("rules/link: accepted, all 4 checks passed\nrules/lost: unreadable: "));
     assert!(out.contains("\nrules/x\\xff: accepted, all 4 checks passed\n3 rules: "));
 }
+
+#[test]
+fn a_folder_is_tallied_with_the_kinds_of_its_list() {
+    let reads = "R,-,-,\nC,8,0,\nV,5,9,$to_state\nV,5,1,x\n";
+    let book = Book::new().sheet(reads).sheet(DEFECT);
+    let book = String::from_utf8(book.bytes().to_vec()).expect("UTF-8");
+    let list = "b invariant\nc.book invariant\n";
+    let files = [
+        ("a", reads),
+        ("b", reads),
+        ("c.book", &book),
+        ("d", reads),
+        ("e", "X"),
+        ("rules.list", list),
+    ];
+    let folder = rules("tallied", &files);
+    let line = format!("tally s rules {SETTINGS}");
+    let (status, out) = printed(&folder, &line);
+    assert_eq!(status, Some(2));
+    let first = "rules: tally of 6 sheets: 2 accepted, 3 with a defect, 1 refused; ";
+    assert!(out.starts_with(first), "{out}");
+    assert!(out.contains("  18  reference     2 "));
+    let (_, json) = printed(&folder, &format!("{line} --json"));
+    assert!(json.starts_with(
+        "{\"file\":\"rules\",\"verdict\":\"tallied\",\"number\":0,\"read\":6,\"accepted\":2,"
+    ));
+
+    fs::write(folder.join("rules/f"), "9,").expect("a file");
+    let (status, out) = printed(&folder, &line);
+    assert_eq!(status, Some(2));
+    assert!(
+        out.starts_with("rules/f:1: refused 34 (book form): sheet 1, byte 0: "),
+        "{out}"
+    );
+    fs::write(folder.join("rules/rules.list"), "b\n").expect("a list");
+    assert!(complaint(&folder, &line).starts_with("entity-rules: rules/rules.list:1: expected "));
+    let told = complaint(&folder, &format!("wall s rules {SETTINGS}"));
+    assert!(
+        told.contains("rules: unreadable: expected a file that holds a rule book: "),
+        "{told}"
+    );
+}

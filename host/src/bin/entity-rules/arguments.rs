@@ -45,7 +45,8 @@ usage: entity-rules check SCHEMA RULE.. --kind KIND --semantics SEMANTICS [OPTIO
                       files; a file that begins with a digit is a book, and each of its sheets
                       counts as a rule of its own
   FILE                files that hold any of these sheets, or folders of such files
-  BOOK                a file of sheets, each with its length in bytes and a comma before it
+  BOOK                a file of sheets, each with its length in bytes and a comma before it; for
+                      tally also a folder of files of rules
   PATH                a path of the record's fields, without `$fields.` before it
   TEXT                a text that may be an instant
   --kind KIND         check, tally, wall, upgrade: invariant, precondition, create_template,

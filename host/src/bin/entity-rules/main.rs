@@ -47,6 +47,7 @@ use std::env;
 use std::io::{self, ErrorKind, IsTerminal, Write};
 use std::path::{Path, PathBuf};
 use std::process::ExitCode;
+use std::slice;
 use tallied::{Tallied, Walled};
 use upgraded::{Fates, Upgraded};
 use widened::{Compared, Comparison};
@@ -141,14 +142,20 @@ fn rules(command: &str, asked: &Asked) -> Result<Rules<Settings>, u8> {
         } => settle(files, *kind, label.as_deref()),
         Asked::Keys { .. } => Ok(Vec::new()),
     };
-    files.map(Rules::read).map_err(|why| match why {
+    let rules = files.map(Rules::read);
+    rules.map_err(|why| not_settled(command, why))
+}
+
+/// Says why files cannot be checked.
+fn not_settled(command: &str, why: NotSettled) -> u8 {
+    match why {
         NotSettled::Folder(message) => complain(&message),
         NotSettled::Kind(line) => {
             let expected = arguments::missing_kind(command);
             let line = line.map(|line| format!("; or {line}")).unwrap_or_default();
             misused(&format!("{expected}{line}"))
         }
-    })
+    }
 }
 
 /// A bar for several of what the noun says.
@@ -213,9 +220,13 @@ fn print<'a>(
     Ok(status)
 }
 
-/// Tallies a rule book, and prints what comes of it.
+/// Tallies a rule book, or the files of a folder, and prints what comes of it.
 fn tally(asked: &BookRun, out: &mut impl Write) -> io::Result<u8> {
-    let tallied = Tallied::new(asked, |sheets| bar(sheets, "sheets"));
+    let files = match settle(slice::from_ref(&asked.book), Some(asked.kind), None) {
+        Ok(files) => files,
+        Err(why) => return Ok(not_settled("tally", why)),
+    };
+    let tallied = Tallied::new(asked, files, |sheets| bar(sheets, "sheets"));
     let status = tallied.status();
     if !(asked.output.quiet && status == 0) {
         let palette = Palette::new(io::stdout().is_terminal());
