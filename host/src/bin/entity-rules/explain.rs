@@ -121,7 +121,7 @@ fn mend(number: u32) -> &'static str {
         }
         4 => "The tool names the line, the entry and the byte, and what was expected there.",
         5 => {
-            "The tool names the line, the entry and the byte, and what was expected there. So does rulecheck_rule refuse a template, and rulecheck_template a rule."
+            "The tool names the line, the entry and the byte, and what was expected there. rulecheck_rule also answers 5 to a template, and rulecheck_template to a rule."
         }
         11 => "Give the rule a name that is not all white space, or none.",
         12 => "Give the rule a message that is not all white space, or none.",
