@@ -8,7 +8,7 @@ ghost use Rattle.text.specs.Utf8.{codeOf2, codeOf3, codeOf4};
 ghost use Rattle.text.specs.WhiteSpace.{isWhiteSpace};
 ghost use Rattle.text.specs.Blank.{isBlank, trim};
 ghost use Rattle.text.specs.Decodes.{Decodes, AsciiAt, PassedTo, BehindPoint, StartsAt, EndsAt};
-ghost use Rattle.text.specs.Digits.{Digits, highBits};
+ghost use Rattle.text.specs.Digits.{Digits};
 
 // What is at an offset of a text.
 pub enum Decoded {
@@ -17,19 +17,6 @@ pub enum Decoded {
     // No code point begins there, or the text has ended.
     Malformed,
 }
-
-// The highest bits of no byte, of the first, .. of eight bytes.
-const HIGH_BITS: [u64; 9] = [
-    0,
-    0x80,
-    0x8080,
-    0x808080,
-    0x80808080,
-    0x8080808080,
-    0x808080808080,
-    0x80808080808080,
-    0x8080808080808080,
-];
 
 fn is_between(low: u8, high: u8, b: u8) -> bool
     ensures { λ r. ⌜ r ≡ between low high b ⌝ }
@@ -218,23 +205,8 @@ fn is_ascii_32(s: &[u8], at: usize) -> bool
     false
 }
 
-// The highest bits of the first `n` of eight bytes.
-fn high_bits(n: usize) -> u64
-    requires { ⌜ n ≤ 8 ⌝ }
-    ensures { λ r. ⌜ r ≡ highBits n ⌝ }
-{
-    HIGH_BITS[n]
-}
-
-// Whether so many bytes, eight at most, are ASCII. All eight are read at once, and the others are left out.
-fn is_ascii_of_8(s: &[u8], at: usize, n: usize) -> bool
-    requires { ⌜ (at + 8 ≤ length (now s)) × (n ≤ 8) ⌝ }
-    ensures { λ r. ⌜ (r ≡ true → AsciiAt (now (s .entry)) at n) ⌝ }
-{
-    eight_at(s, at) & high_bits(n) == 0
-}
-
-// Whether a text of at most 16 bytes inside others is seen to be ASCII, and so UTF-8, by reading eight bytes once or twice. False says nothing.
+// Whether a text of at most 16 bytes inside others is seen to be ASCII, and so UTF-8, by reading eight bytes once or twice: of a shorter text those
+// after it too, which are seldom anything else. False says nothing.
 pub fn is_short_ascii(s: &[u8], at: usize, len: usize) -> bool
     requires { ⌜ at + len ≤ length (now s) ⌝ }
     ensures { λ r. ⌜ (r ≡ true → isUtf8 (take len (drop at (now (s .entry)))) ≡ true) ⌝ }
@@ -243,7 +215,7 @@ pub fn is_short_ascii(s: &[u8], at: usize, len: usize) -> bool
         return false;
     }
     if len <= 8 {
-        return is_ascii_of_8(s, at, len);
+        return is_ascii_8(s, at);
     }
     if len <= 16 {
         if is_ascii_8(s, at) {
