@@ -14,6 +14,9 @@
 /* The version of this header and of the crate. */
 #define ENTITY_RULES_VERSION "0.1.0"
 
+/* The same as the library's rulecheck_version() answers it. */
+#define ENTITY_RULES_VERSION_NUMBER 0x000100u
+
 #include <stddef.h>
 #include <stdint.h>
 
@@ -299,6 +302,10 @@ uint64_t rulecheck_count(const uint8_t *result, size_t result_length, uint32_t i
 
 /* One of the numbers of a result, by an index of enum entity_rules_field, of a list of marks, or of an instant's fields; 0 past the end. */
 uint32_t rulecheck_field(const uint8_t *result, size_t result_length, uint32_t index);
+
+/* The version of the library that is linked: major, minor and patch, eight bits for each of the last two. A host compares it with
+ * ENTITY_RULES_VERSION_NUMBER before its first check. */
+uint32_t rulecheck_version(void);
 
 /* Whether a text is a finite number, and how many of its digits were compared with those of 2^1024 - 2^970 for that: the count (at most 309)
  * times 2, and 1 more if it is finite. */

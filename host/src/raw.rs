@@ -22,7 +22,7 @@ mod functions;
 use functions::{
     rulecheck_check, rulecheck_count, rulecheck_field, rulecheck_finite, rulecheck_instant,
     rulecheck_load_table, rulecheck_path, rulecheck_rule, rulecheck_tally, rulecheck_template,
-    rulecheck_wall, rulecheck_widens,
+    rulecheck_version, rulecheck_wall, rulecheck_widens,
 };
 
 /// Checks a rule; the answer is the number, and `result` takes all seven numbers.
@@ -405,6 +405,17 @@ pub fn count(result: &[u8], index: u32) -> u64 {
 pub fn field(result: &[u8], index: u32) -> u32 {
     // SAFETY: pointer and length are those of a slice, which the library only reads.
     unsafe { rulecheck_field(result.as_ptr(), result.len(), index) }
+}
+
+/// The version of the library that is linked: major, minor and patch, eight bits for each of the last two.
+///
+/// ```
+/// assert_eq!(entity_rules::raw::version(), 0x00_01_00);
+/// ```
+#[must_use]
+pub fn version() -> u32 {
+    // SAFETY: the function takes nothing and touches no memory of the caller.
+    unsafe { rulecheck_version() }
 }
 
 /// Twice the number of digits that were compared with those of 2^1024 - 2^970, and 1 more if the text is a finite number.

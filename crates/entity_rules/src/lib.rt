@@ -28,8 +28,15 @@ ghost use Rattle.validator.specs.Sheets.{takesOf};
 ghost use Rattle.entity_rules.specs.Entry.{pathLent, entryAnswer, EntryAnswered};
 ghost use Rattle.entity_rules.specs.KeyEntry.{keyEntryAnswer};
 ghost use Rattle.entity_rules.specs.NumberTest.{finiteNumber};
+ghost use Rattle.entity_rules.specs.Version.{version};
 ghost use Rattle.entity_rules.specs.WidensEntry.{WidensAnswered};
 ghost use Rattle.entity_rules.specs.InstantEntry.{InstantAnswered};
+
+const MAJOR: u32 = 0;
+
+const MINOR: u32 = 1;
+
+const PATCH: u32 = 0;
 
 // Kinds end at 8 and semantics at 4, so 9 stands for all that is too large for either.
 fn setting(n: u64) -> u32
@@ -180,6 +187,14 @@ pub extern "C" fn rulecheck_field(result: &[u8], index: u32) -> u32
         return 0;
     }
     read_u32(result, at)
+}
+
+// The version of these functions, which the header has too: major, minor and patch, eight bits for each of the last two.
+#[no_mangle]
+pub extern "C" fn rulecheck_version() -> u32
+    ensures { λ r. ⌜ r ≡ version ⌝ }
+{
+    (MAJOR * 256 + MINOR) * 256 + PATCH
 }
 
 // Whether `text` is a finite number, and how many of its digits were compared for that: the count, twice, and 1 more if it is finite.

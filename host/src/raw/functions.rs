@@ -117,6 +117,7 @@ unsafe extern "C" {
 
     pub fn rulecheck_field(result: *const u8, result_length: usize, index: u32) -> u32;
 
+    pub fn rulecheck_version() -> u32;
     pub fn rulecheck_finite(text: *const u8, text_length: usize) -> u32;
 
     pub fn rulecheck_instant(
