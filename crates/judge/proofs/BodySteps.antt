@@ -3,9 +3,9 @@ use Prim.Native.Nat.{ℕ, _+_, _*_, _-_, _≤_, _<_}
 use native.Mathlib.Omega.{arith}
 use mathlib.Core.Bool.{Bool, true, false, cond, _||_}
 use mathlib.Core.List.{List, [], _∷_, append-nil}
-use mathlib.Core.Logic.{⊎-elim}
+use mathlib.Core.Logic.{_⊎_, inl, inr, ⊎-elim}
 use mathlib.Core.Option.{Option, none, some, Option·none-ne-some, Option·some-injective}
-use mathlib.Core.Path.{_≡_, refl, sym, ap, _∙_}
+use mathlib.Core.Path.{_≡_, refl, sym, ap, subst, _∙_}
 use lib.ListN.{drop}
 use lib.Dec.{eqb}
 use borrow.Author.Tests.{eq-eqb, ne-eqb, le-leb, lt-leb}
@@ -31,18 +31,20 @@ use Rattle.validation.specs.Check.{Binder, check, failsIf, entryOf, isString, h
 use Rattle.validation.specs.Judge.{outcome}
 use Rattle.value_checks.specs.Kinds.{OperatorAt}
 use Rattle.value_checks.specs.Nodes.{IsCondition, AreConditions, Behind}
-use Rattle.value_checks.specs.Verdicts.{numberOf, detailOf, isDefect, sideDetail, failed, GoesOn, PassedOn, Failed}
+use Rattle.value_checks.specs.Verdicts.{numberOf, detailOf, sideDetail, failed, going, GoesOn, PassedOn, Failed, Required}
 use Rattle.scope.specs.Collections.{CollectionIs}
 use Rattle.value_checks.specs.Frames.{Frame, frame, Stands, ReferencesIn, PairJudged, side}
-use Rattle.judge.specs.Bodies.{OperatorJudged, NonemptyJudged, OperandsJudged, bindBy, BindAt, CollectionOf, BodyJudged, BodiesJudged, QuantifierJudged}
+use Rattle.judge.specs.Bodies.{OperatorJudged, NonemptyJudged, EntryJudged, OperandsJudged, bindBy, BindAt, CollectionOf, BodyJudged, BodiesJudged, QuantifierJudged}
 use Rattle.judge.specs.declared.body.BindRead.{BindRead}
 use Rattle.judge.specs.declared.body.BindRead.the-variants as BindRead
 use Rattle.scope.specs.declared.binder.Scope.{Scope}
 use Rattle.value_checks.specs.declared.verdict.Over.{Over}
 use Rattle.value_checks.specs.declared.verdict.Side.the-variants.{Left, Right}
-use Rattle.value_checks.specs.declared.verdict.Fault.the-variants.{Operator}
+use Rattle.value_checks.specs.declared.verdict.Fault.{Fault}
+use Rattle.value_checks.specs.declared.verdict.Fault.the-variants.{Operator, Empty}
+use Rattle.value_checks.specs.declared.verdict.Verdict.the-variants.{Defect}
 use Rattle.value_checks.specs.declared.verdict.Progress.{Progress}
-use Rattle.value_checks.proofs.Going.{goes-nothing, goes-then, goes-absorbed}
+use Rattle.value_checks.proofs.Going.{goes-nothing, goes-then, goes-stopped, passed-on}
 use Rattle.value_checks.proofs.NodeSteps.{has-operator, condition-size, tailOf, first-stands, tail-stands, none-left, none-ends}
 use Rattle.value_checks.proofs.LiteralSteps.{settled-outcome}
 use Rattle.value_checks.proofs.ReferenceSteps.{references-judged}
@@ -86,6 +88,30 @@ module _ {scope : Scope} {over : Over} {op i : ℕ} {a r : Progress} where
             (record { numbered = refl; placed = refl; held = s .held })
             (asked-outcome setting tree binders env 15 (i + 1) _ (some 0) (s .bound) (rw (le-leb 18 op l, m)));
       }
+
+-- A condition's own entry.
+
+module _ {over : Over} {op i end : ℕ} {a : Progress} where
+  pub nonempty-many : {r : Progress} → 1 < op → op < 4 → Required a (eqb (i + 1) end) Empty (i + 1) over r → NonemptyJudged over op i end a r
+  nonempty-many low high p =
+      record { atMost = p .atMost; many = λ h k. p; other = λ h. absurd (⊎-elim (λ e. omega arith) (λ e. omega arith) h) }
+
+  pub nonempty-other : (op ≤ 1) ⊎ (4 ≤ op) → NonemptyJudged over op i end a a
+  nonempty-other h =
+      record { atMost = omega arith; many = λ low high. absurd (⊎-elim (λ e. omega arith) (λ e. omega arith) h); other = λ e. refl }
+
+-- operators below 18 are always there
+pub entry-early : {scope : Scope} {over : Over} {op i end n : ℕ} {r : Progress}
+    → op < 18
+    → NonemptyJudged over op i end (going (n + 1)) r
+    → EntryJudged scope over op i end (going n) r
+entry-early {n = n} l p = record { between = going (n + 1); operator = operator-early l passed-on; nonempty = p }
+
+pub entry-late : {scope : Scope} {over : Over} {op i end : ℕ} {a r : Progress}
+    → 18 ≤ op
+    → OperatorJudged scope over op i a r
+    → EntryJudged scope over op i end a r
+entry-late {r = r} l p = record { between = r; operator = p; nonempty = nonempty-other (inr (omega arith)) }
 
 -- Binds.
 
@@ -209,8 +235,7 @@ module _ {f : Frame} {op start end : ℕ} {a r : Progress} where
 
 pub record Inner (f : Frame) (i end left op : ℕ) (b r : Progress) : Type 0 where
   pub literal : op ≤ 1 → r ≡ b
-  pub conditions : 2 ≤ op → op ≤ 4
-      → (d : Progress) × NonemptyJudged (f .over) op i end b d × BodiesJudged f (i + 1) end (left - 1) d r
+  pub conditions : 2 ≤ op → op ≤ 4 → BodiesJudged f (i + 1) end (left - 1) b r
   pub operands : 5 ≤ op → op ≤ 19 → OperandsJudged f op (i + 1) end b r
   pub quantifier : 20 ≤ op → (own : ℕ) (bind : Text) (rest : List ℕ)
       → conditionHead (drop (startOf (f .words) i) (f .rule)) ≡ some (quantifierHead own bind, rest)
@@ -226,11 +251,11 @@ module _ {f : Frame} {i end left op : ℕ} {b : Progress} where
         quantifier = λ p. absurd (omega arith);
       }
 
-  pub inner-conditions : {d r : Progress} → 1 < op → op ≤ 4 → NonemptyJudged (f .over) op i end b d → BodiesJudged f (i + 1) end (left - 1) d r → Inner f i end left op b r
-  inner-conditions {d} {r} h k n j =
+  pub inner-conditions : {r : Progress} → 1 < op → op ≤ 4 → BodiesJudged f (i + 1) end (left - 1) b r → Inner f i end left op b r
+  inner-conditions h k j =
       record {
         literal = λ p. absurd (omega arith);
-        conditions = λ p q. (d, n, j);
+        conditions = λ p q. j;
         operands = λ p q. absurd (omega arith);
         quantifier = λ p. absurd (omega arith);
       }
@@ -269,6 +294,23 @@ module _ {f : Frame} {i end left op : ℕ} {b : Progress} where
         quantifier = λ q own bind rest reads. absurd (Option·none-ne-some bind (rw e at (k .is own bind rest reads)));
       }
 
+  -- nothing is asked after the entry's own checks, where one of these failed
+  pub inner-stopped : {fault : Fault} {place : ℕ} {o : Over} → b .verdict ≡ Defect fault place o → Inner f i end left op b b
+  inner-stopped t =
+      record {
+        literal = λ p. refl;
+        conditions = λ p q. record { atMost = omega arith; goes = λ setting tree binders env cs s w d k. goes-stopped t };
+        operands =
+            λ p q.
+            record {
+              atMost = omega arith;
+              one = λ h. record { atMost = omega arith; goes = λ setting tree binders env s. goes-stopped t };
+              two = λ low high. record { atMost = omega arith; goes = λ setting tree binders env m left right s w u. goes-stopped t };
+              comparison = λ h. record { atMost = omega arith; goes = λ setting tree binders env m left right s w u. goes-stopped t };
+            };
+        quantifier = λ p own bind rest reads. record { atMost = omega arith; goes = λ setting tree binders env v that s w u ends d k. goes-stopped t };
+      }
+
 empty-end : (cs : Conditions) (i end : ℕ) → end ≡ i + 1 + conditionsEntries cs → isEmpty cs ≡ eqb (i + 1) end
 unfolding isEmpty conditionsEntries
 empty-end noConditions i end e = sym (eq-eqb (i + 1) end (omega arith))
@@ -292,46 +334,54 @@ module _ {schema rule words : List ℕ} {scope : Scope} {over : Over} {i end lef
         goes = λ setting tree binders env c s w d k. absurd (omega (arith, depth-some c, d, z));
       }
 
-module _ (schema rule words : List ℕ) (scope : Scope) (over : Over) (i end left : ℕ) {at op : ℕ} {a b : Progress} (r : Progress) (some-left : left ≡ 0 → ⊥) (start : at ≡ startOf words i) (kind : OperatorAt rule at op) (judged : OperatorJudged scope over op i a b) (inner : Inner (frame schema rule words scope over) i end left op b r) where
+pub body-stopped : {f : Frame} {i end left : ℕ} {r : Progress} {fault : Fault} {place : ℕ} {o : Over} → r .verdict ≡ Defect fault place o → BodyJudged f i end left r r
+body-stopped t = record { atMost = omega arith; goes = λ setting tree binders env c s w d k. goes-stopped t }
+
+module _ (schema rule words : List ℕ) (scope : Scope) (over : Over) (i end left : ℕ) {at op : ℕ} {a b : Progress} (r : Progress) (some-left : left ≡ 0 → ⊥) (start : at ≡ startOf words i) (kind : OperatorAt rule at op) (entry : EntryJudged scope over op i end a b) (inner : Inner (frame schema rule words scope over) i end left op b r) where
   module _ (setting : Setting) (tree : Schema) (binders : List Binder) (env : Environment) (s : Stands (frame schema rule words scope over) setting tree binders env) where
     -- the operator's check, by the operator that the tree has
-    operator-goes : (own : ℕ) → op ≡ own → GoesOn (outcome setting tree) a (operatorCheck setting binders (i + 1) own ∷ []) b
-    operator-goes own e = rw e at (judged .goes schema rule words setting tree binders env s)
+    operator-goes : (own : ℕ) → op ≡ own → GoesOn (outcome setting tree) a (operatorCheck setting binders (i + 1) own ∷ []) (entry .between)
+    operator-goes own e =
+        subst (λ (x : ℕ). GoesOn (outcome setting tree) a (operatorCheck setting binders (i + 1) x ∷ []) (entry .between)) e
+        (entry .operator .goes schema rule words setting tree binders env s)
+
+    -- all that is asked of an entry but `all` and `any`
+    entry-goes : (own : ℕ) → op ≡ own → (op ≤ 1) ⊎ (4 ≤ op) → GoesOn (outcome setting tree) a (operatorCheck setting binders (i + 1) own ∷ []) b
+    entry-goes own e h =
+        subst (λ (x : Progress). GoesOn (outcome setting tree) a (operatorCheck setting binders (i + 1) own ∷ []) x) (sym (entry .nonempty .other h))
+        (operator-goes own e)
 
     body-goes : (c : Condition) → IsCondition rule words i end c → depth c ≤ left → scope .count + left ≤ 32 → GoesOn (outcome setting tree) a (body setting binders c) r
     unfolding body depth depthOfConditions conditionEntries conditionsEntries bodies sideDetail compareSide numberOf detailOf check
     body-goes (literal e truth) w d k =
         let p : op ≡ 1 = has-operator rule words i start kind (literal e truth) (w .stands) in
-        rw (w .stands .isEntry, inner .literal (omega arith)) (operator-goes 1 p)
+        rw (w .stands .isEntry, inner .literal (omega arith)) (entry-goes 1 p (inl (omega arith)))
     body-goes (many e own children) w d k =
         let p = has-operator rule words i start kind (many e own children) (w .stands) in
-        let n = inner .conditions (p .1) (omega (arith, p .2)) in
         rw (w .stands .0 .isEntry)
         (goes-then (operator-goes own (p .0))
         (goes-then
-        (n .1 .many (p .2) .goes (outcome setting tree) (check 16 (i + 1) binders (failsIf (isEmpty children) 0))
+        (entry .nonempty .many (p .1) (p .2) .goes (outcome setting tree) (check 16 (i + 1) binders (failsIf (isEmpty children) 0))
         (record { numbered = refl; placed = refl; held = s .held })
         (settled-outcome setting tree binders env 16 (i + 1) (isEmpty children) 0 (s .bound)
         ∙ ap (λ (x : Bool). failed x 0) (empty-end children i end (omega (arith, w .ends)))))
-        (n .2 .goes setting tree binders env children s (record { stand = w .stands .1; ends = omega (arith, w .ends) }) (omega arith) (omega arith))))
+        (inner .conditions (p .1) (omega (arith, p .2)) .goes setting tree binders env children s (record { stand = w .stands .1; ends = omega (arith, w .ends) }) (omega arith) (omega arith))))
     body-goes (negation e child) w d k =
         let p : op ≡ 4 = has-operator rule words i start kind (negation e child) (w .stands) in
-        let n = inner .conditions (omega arith) (omega arith) in
-        let same : n .0 ≡ b = n .1 .other (omega arith) in
-        let g = n .2 .goes setting tree binders env (condition child noConditions) s (record { stand = (w .stands .1, tt); ends = omega (arith, w .ends) }) (omega arith) (omega arith) in
-        rw (w .stands .0 .isEntry) (goes-then (operator-goes 4 p) (rw (append-nil, same) at g))
+        let g = inner .conditions (omega arith) (omega arith) .goes setting tree binders env (condition child noConditions) s (record { stand = (w .stands .1, tt); ends = omega (arith, w .ends) }) (omega arith) (omega arith) in
+        rw (w .stands .0 .isEntry) (goes-then (entry-goes 4 p (inr (omega arith))) (rw append-nil at g))
     body-goes (one e own v) w d k =
         let p = has-operator rule words i start kind (one e own v) (w .stands) in
         let n = ⊎-elim (λ q. inner .operands (omega arith) (omega arith)) (λ q. inner .operands (omega arith) (omega arith)) (p .1) in
         rw (w .stands .0 .isEntry)
-        (goes-then (operator-goes own (p .0))
+        (goes-then (entry-goes own (p .0) (inr (⊎-elim (λ q. omega arith) (λ q. omega arith) (p .1))))
         (references-judged (n .one (p .1)) setting tree binders env v s (record { stands = w .stands .1; ends = omega (arith, w .ends) })))
     body-goes (two e own left right) w d k =
         let p = has-operator rule words i start kind (two e own left right) (w .stands) in
         let n = inner .operands (omega (arith, p .1)) (omega (arith, p .2)) in
         let g : PairJudged (frame schema rule words scope over) (operand own) (operand own) (i + 1) end b r = rw (p .0) at (n .two (p .1) (p .2)) in
         rw (w .stands .0 .isEntry)
-        (goes-then (operator-goes own (p .0))
+        (goes-then (entry-goes own (p .0) (inr (omega (arith, p .1))))
         (g .goes setting tree binders env (i + 1 + valueEntries left) left right s
         (record { stands = w .stands .1; ends = refl })
         (record { stands = w .stands .2; ends = omega (arith, w .ends) })))
@@ -339,7 +389,7 @@ module _ (schema rule words : List ℕ) (scope : Scope) (over : Over) (i end lef
         let p : op ≡ 18 = has-operator rule words i start kind (comparison e which left right) (w .stands) in
         let n = inner .operands (omega arith) (omega arith) in
         rw (w .stands .0 .isEntry)
-        (goes-then (operator-goes 18 p)
+        (goes-then (entry-goes 18 p (inr (omega arith)))
         (n .comparison p .goes setting tree binders env (i + 1 + valueEntries left) left right s
         (record { stands = w .stands .1; ends = refl })
         (record { stands = w .stands .2; ends = omega (arith, w .ends) })))
@@ -347,7 +397,7 @@ module _ (schema rule words : List ℕ) (scope : Scope) (over : Over) (i end lef
         let p = has-operator rule words i start kind (quantifier e own bind in-value that) (w .stands) in
         let n = inner .quantifier (p .1) own bind (w .stands .0 .rest) (w .stands .0 .reads) in
         rw (w .stands .0 .isEntry)
-        (goes-then (operator-goes own (p .0))
+        (goes-then (entry-goes own (p .0) (inr (omega (arith, p .1))))
         (n .goes setting tree binders env in-value that s (w .stands .1) (w .stands .2) (omega (arith, w .ends)) (omega arith) (omega arith)))
 
   pub body-judged : r .passed ≤ a .passed + 8 * (end - i) → BodyJudged (frame schema rule words scope over) i end left a r
@@ -409,11 +459,11 @@ module _ {f : Frame} {i end next left : ℕ} {b d : Progress} (inside : i < end)
             (first-goes setting tree binders env (l .rest cs w) r (l .stand cs w) s (omega (arith, l .deep cs w)) n g);
       }
 
-pub bodies-stopped : {f : Frame} {start i end left : ℕ} {a b : Progress} → true ≡ isDefect (b .verdict) → i - start ≤ end - start → BodiesLeft f start i end left a b → BodiesJudged f start end left a b
-bodies-stopped {f} {start} {i} {end} {left} {a} {b} t m l =
+pub bodies-stopped : {f : Frame} {start i end left : ℕ} {a b : Progress} {fault : Fault} {place : ℕ} {o : Over} → b .verdict ≡ Defect fault place o → i - start ≤ end - start → BodiesLeft f start i end left a b → BodiesJudged f start end left a b
+bodies-stopped {b = b} t m l =
     record {
       atMost = omega (arith, l .atMost);
-      goes = λ setting tree binders env cs s w d n. l .onward setting tree binders env cs w b s d n (goes-absorbed t);
+      goes = λ setting tree binders env cs s w d n. l .onward setting tree binders env cs w b s d n (goes-stopped t);
     }
 
 pub bodies-all : {f : Frame} {start i end left : ℕ} {a b : Progress} → end ≤ i → i - start ≤ end - start → BodiesLeft f start i end left a b → BodiesJudged f start end left a b

@@ -27,7 +27,7 @@ use Rattle.validation.specs.Check.{Binder, walkable, readable, Check, check, fa
 use Rattle.validation.specs.Judge.{CheckOutcome, outcome, verdict, extend, enter, environment, answer, answerIn, decide, judgeFrom}
 use Rattle.value_checks.specs.Shown.{Shown, passes, fails, overOf, shownOf, goOn}
 use Rattle.value_checks.specs.Nodes.{Behind}
-use Rattle.value_checks.specs.Verdicts.{numberOf, detailOf, overBy, shownBy, failed, GoesOn, PassedOn, Failed, Required}
+use Rattle.value_checks.specs.Verdicts.{numberOf, detailOf, overBy, shownWith, shownBy, failed, GoesOn, PassedOn, Failed, Required}
 use Rattle.scope.specs.Scopes.{BoundElement, Binds}
 use Rattle.scope.specs.ScopeLaws.{scope-bound}
 use Rattle.value_checks.specs.Frames.{Frame, frame, Stands, ReferencesIn}
@@ -37,9 +37,11 @@ use Rattle.scope.specs.declared.binder.Element.the-variants as Element
 use Rattle.scope.specs.declared.binder.Scope.{Scope}
 use Rattle.value_checks.specs.declared.verdict.Over.{Over}
 use Rattle.value_checks.specs.declared.verdict.Over.the-variants.{In}
+use Rattle.value_checks.specs.declared.verdict.Fault.{Fault}
 use Rattle.value_checks.specs.declared.verdict.Fault.the-variants.{Bind, Collection}
+use Rattle.value_checks.specs.declared.verdict.Verdict.the-variants.{Pass, Defect}
 use Rattle.value_checks.specs.declared.verdict.Progress.{Progress}
-use Rattle.value_checks.proofs.Going.{goes-then}
+use Rattle.value_checks.proofs.Going.{goes-then, goes-stopped}
 use Rattle.value_checks.proofs.NodeSteps.{value-size}
 use Rattle.value_checks.proofs.LiteralSteps.{settled-outcome}
 use Rattle.value_checks.proofs.ReferenceSteps.{readable-outcome, references-judged}
@@ -145,6 +147,13 @@ unread-shows f setting tree binders env v {b} {d} s n g =
     (readable-outcome setting tree binders env 18 (n .entry) (n .behind) (s .bound) ∙ n .refuses)
     (shownBy b))
 
+none-fails : (d : Progress) → d .verdict ≡ Pass → Shows (shownBy d) → ⊥
+unfolding shownBy shownWith
+none-fails d e s =
+    let p : passes (d .passed) ≡ fails (s .n) (s .number) (s .place) (s .over) (s .detail) = rw e at (s .shown) in
+    let z : _≡_ {A = ℕ} 0 1 = cc in
+    omega arith
+
 known-extends : (name : Text) (env : Environment) (x : Reached) (f : Field) → x ≡ known f → extend name env x ≡ some (record { name = name; element = some f } ∷ env)
 unfolding extend
 known-extends name env x f e = rw e
@@ -152,6 +161,24 @@ known-extends name env x f e = rw e
 known-passes : (x : Reached) (f : Field) → x ≡ known f → verdict x ≡ none
 unfolding verdict
 known-passes x f e = rw e
+
+pub quantifier-misnamed : {schema rule words : List ℕ} {scope : Scope} {over : Over} (name : Part) {i end left : ℕ} {wrong : Bool} {text : Text} {a r : Progress}
+    → text ≡ partOf rule name
+    → wrong ≡ (isBlank text || hasDot text)
+    → wrong ≡ true
+    → Failed a Bind (i + 1) over r
+    → QuantifierJudged (frame schema rule words scope over) (partOf rule name) i end left a r
+unfolding numberOf detailOf check failed
+quantifier-misnamed {rule = rule} name {i} {wrong = wrong} same said t p =
+    let q : wrong ≡ (isBlank (partOf rule name) || hasDot (partOf rule name)) = rw same at said in
+    record {
+      atMost = omega (arith, p .same);
+      goes =
+          λ setting tree binders env v that s w u ends deep room.
+          p .goes (outcome setting tree) _ _ (record { numbered = refl; placed = refl; held = s .held })
+          (settled-outcome setting tree binders env 21 (i + 1) (isBlank (partOf rule name) || hasDot (partOf rule name)) 0 (s .bound)
+          ∙ ap (λ (x : Bool). failed x 0) (sym q ∙ t));
+    }
 
 module _ (schema rule words : List ℕ) (scope : Scope) (over : Over) (name : Part) (i end left : ℕ) {wrong : Bool} {text : Text} {middle : ℕ} {a b d : Progress} (inside : i < end) (k : Behind words (i + 1) end middle) (same : text ≡ partOf rule name) (said : wrong ≡ (isBlank text || hasDot text)) (bound : Required a wrong Bind (i + 1) over b) (refs : ReferencesIn (frame schema rule words scope over) (i + 1) (middle - (i + 1)) b d) where
   module _ (setting : Setting) (tree : Schema) (binders : List Binder) (env : Environment) (v : Value) (that : Condition) (s : Stands (frame schema rule words scope over) setting tree binders env) (w : ValueAt rule words (i + 1) v) (ends : end ≡ i + 1 + valueEntries v + conditionEntries that) where
@@ -171,6 +198,16 @@ module _ (schema rule words : List ℕ) (scope : Scope) (over : Over) (name : Pa
 
     over-goes : GoesOn (outcome setting tree) b (references binders v) d
     over-goes = references-judged refs setting tree binders env v s (record { stands = w; ends = middle-is })
+
+  pub quantifier-stopped : {fault : Fault} {place : ℕ} {o : Over} → d .verdict ≡ Defect fault place o → QuantifierJudged (frame schema rule words scope over) (partOf rule name) i end left a d
+  quantifier-stopped t =
+      record {
+        atMost = omega (arith, bound .atMost, refs .atMost, k .most, k .least (omega arith));
+        goes =
+            λ setting tree binders env v that s w u ends deep room.
+            goes-then (bind-goes setting tree binders env v that s w ends)
+            (goes-then (over-goes setting tree binders env v that s w ends) (goes-stopped t));
+      }
 
   -- the body, where the value is walked
   module _ {element : Element} {inner : Scope} {g r : Progress} (binds : Binds scope name element inner) (goes-on : PassedOn d g) (judged : BodiesJudged (frame schema rule words inner (In (i + 1 + 1))) middle end left g r) where
@@ -253,10 +290,11 @@ module _ (schema rule words : List ℕ) (scope : Scope) (over : Over) (name : Pa
   pub quantifier-refused : {x : Collected} {fault : CollectionFault} {place : ℕ} {r : Progress}
       → CollectionOf schema rule words scope (i + 1) x
       → x ≡ Collected.No fault place
+      → d .verdict ≡ Pass
       → Failed d (Collection fault place) (i + 1) over r
       → QuantifierJudged (frame schema rule words scope over) (partOf rule name) i end left a r
   unfolding verdict numberOf detailOf check
-  quantifier-refused {x} {fault} {place} {r} collects y p =
+  quantifier-refused {x} {fault} {place} {r} collects y none-yet p =
       record {
         atMost = omega (arith, bound .atMost, refs .atMost, p .same, k .most, k .least (omega arith));
         goes =
@@ -287,5 +325,4 @@ module _ (schema rule words : List ℕ) (scope : Scope) (over : Over) (name : Pa
       refuse setting tree binders env v s others before detail path c o listed false e =
           let n : Unread setting tree env v =
           unread setting tree env v detail place path c (leb-false detail 5 e) in
-          p .stays (outcome setting tree) (check 22 (i + 1) binders (walkable v) ∷ others)
-          ((unread-shows (frame schema rule words scope over) setting tree binders env v s n before) .shown)
+          absurd (none-fails d none-yet (unread-shows (frame schema rule words scope over) setting tree binders env v s n before))

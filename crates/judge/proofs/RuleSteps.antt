@@ -23,7 +23,7 @@ use Rattle.scope.specs.Scopes.{chainOf, ChainAt, ScopeAt}
 use Rattle.scope.specs.declared.binder.Scope.{Scope}
 use Rattle.judge.specs.Depth.{DepthIs}
 use Rattle.value_checks.specs.Shown.{overOf, shownOf, goOn}
-use Rattle.value_checks.specs.Verdicts.{numberOf, detailOf, isDefect, overBy, shownWith, shownBy, failed, GoesOn, PassedOn, Failed, Required}
+use Rattle.value_checks.specs.Verdicts.{numberOf, detailOf, overBy, shownWith, shownBy, failed, going, GoesOn, PassedOn, Failed, Required}
 use Rattle.value_checks.specs.Literals.{ConditionLiterals}
 use Rattle.value_checks.specs.Frames.{frame, Stands, ReferencesIn}
 use Rattle.judge.specs.Bodies.{BodyJudged}
@@ -31,18 +31,13 @@ use Rattle.judge.specs.Rules.{PassJudged, DefinitionJudged, RuleJudged}
 use Rattle.value_checks.specs.declared.verdict.Fault.{Fault}
 use Rattle.value_checks.specs.declared.verdict.Fault.the-variants.{Name, Message, Deep}
 use Rattle.value_checks.specs.declared.verdict.Over.the-variants.{Outside}
-use Rattle.value_checks.specs.declared.verdict.Verdict.the-variants.{Pass}
 use Rattle.value_checks.specs.declared.verdict.Progress.{Progress}
-use Rattle.value_checks.proofs.Going.{goes-nothing, goes-then, goes-absorbed}
+use Rattle.value_checks.proofs.Going.{goes-nothing, goes-then}
 use Rattle.value_checks.proofs.NodeSteps.{same-head, condition-size}
 use Rattle.value_checks.proofs.LiteralSteps.{settled-outcome}
 use Rattle.value_checks.proofs.ReferenceSteps.{references-judged}
 
--- before the first check
-abbrev pub begin : Progress
-begin = record { passed = 0; verdict = Pass }
-
-pub begin-judges : (setting : Setting) (tree : Schema) (cs : List Check) (r : Progress) → GoesOn (outcome setting tree) begin cs r → shownBy r ≡ shownOf (judge setting tree cs)
+pub begin-judges : (setting : Setting) (tree : Schema) (cs : List Check) (r : Progress) → GoesOn (outcome setting tree) (going 0) cs r → shownBy r ≡ shownOf (judge setting tree cs)
 unfolding shownBy shownWith goOn judge
 begin-judges setting tree cs r g = g .shows
 
@@ -102,12 +97,23 @@ outside-required {a} {r} {wrong} {fault} {place} n d flag setting tree p e m q =
     p .goes (outcome setting tree) _ (record { numbered = m; placed = refl; held = refl })
     (settled-outcome setting tree [] [] n place flag d refl ∙ ap (λ (x : Bool). failed x d) (sym e) ∙ ap (λ (x : ℕ). failed wrong x) q)
 
+outside-failed : {a r : Progress} {fault : Fault} {place : ℕ} (n d : ℕ) (flag : Bool) (setting : Setting) (tree : Schema) (others : List Check)
+    → Failed a fault place Outside r
+    → flag ≡ true
+    → n ≡ numberOf fault
+    → d ≡ detailOf fault
+    → GoesOn (outcome setting tree) a (check n place [] (failsIf flag d) ∷ others) r
+unfolding check overOf overBy environment failed
+outside-failed {place = place} n d flag setting tree others p e m q =
+    p .goes (outcome setting tree) _ others (record { numbered = m; placed = refl; held = refl })
+    (settled-outcome setting tree [] [] n place flag d refl ∙ ap (λ (x : Bool). failed x d) e ∙ ap some q)
+
 both-go : (sheet : List ℕ) (name message : OptionalPart) {unnamed untold : Bool} {b c : Progress} (setting : Setting) (tree : Schema)
     → unnamed ≡ isBlankText (optionalOf sheet name)
     → untold ≡ isBlankText (optionalOf sheet message)
-    → Required begin unnamed Name 1 Outside b
+    → Required (going 0) unnamed Name 1 Outside b
     → Required b untold Message 1 Outside c
-    → GoesOn (outcome setting tree) begin
+    → GoesOn (outcome setting tree) (going 0)
     (check 11 1 [] (failsIf (isBlankText (optionalOf sheet name)) 0)
     ∷ check 12 1 [] (failsIf (isBlankText (optionalOf sheet message)) 0)
     ∷ [])
@@ -117,27 +123,44 @@ both-go sheet name message setting tree blank-name blank-message named told =
     goes-then (outside-required 11 0 (isBlankText (optionalOf sheet name)) setting tree named blank-name refl refl)
     (outside-required 12 0 (isBlankText (optionalOf sheet message)) setting tree told blank-message refl refl)
 
-module _ {schema sheet words : List ℕ} {scope : Scope} {name message : OptionalPart} {end : ℕ} {unnamed untold : Bool} {b c : Progress} (blank-name : unnamed ≡ isBlankText (optionalOf sheet name)) (blank-message : untold ≡ isBlankText (optionalOf sheet message)) (named : Required begin unnamed Name 1 Outside b) (told : Required b untold Message 1 Outside c) where
-  pub definition-stopped : true ≡ isDefect (c .verdict) → DefinitionJudged schema sheet words scope name message end c
-  unfolding checks
-  definition-stopped t =
+module _ {schema sheet words : List ℕ} {scope : Scope} {name message : OptionalPart} {end : ℕ} {unnamed : Bool} (blank-name : unnamed ≡ isBlankText (optionalOf sheet name)) where
+  pub definition-unnamed : {r : Progress} → unnamed ≡ true → Failed (going 0) Name 1 Outside r → DefinitionJudged schema sheet words scope name message end r
+  unfolding checks numberOf detailOf
+  definition-unnamed {r} t p =
       record {
         shows =
             λ setting tree assert s w.
-            begin-judges setting tree _ c
-            (goes-then (both-go sheet name message setting tree blank-name blank-message named told) (goes-absorbed t));
+            begin-judges setting tree _ r
+            (outside-failed 11 0 (isBlankText (optionalOf sheet name)) setting tree _ p (sym blank-name ∙ t) refl refl);
       }
 
-  pub definition-none : end ≤ 1 → DefinitionJudged schema sheet words scope name message end c
-  definition-none h =
-      record { shows = λ setting tree assert s w. absurd (omega (arith, w .ends, condition-size assert)) }
+  pub definition-untold : {untold : Bool} {b r : Progress}
+      → untold ≡ isBlankText (optionalOf sheet message)
+      → Required (going 0) unnamed Name 1 Outside b
+      → untold ≡ true
+      → Failed b Message 1 Outside r
+      → DefinitionJudged schema sheet words scope name message end r
+  unfolding checks numberOf detailOf
+  definition-untold {r = r} blank-message named t p =
+      record {
+        shows =
+            λ setting tree assert s w.
+            begin-judges setting tree _ r
+            (goes-then (outside-required 11 0 (isBlankText (optionalOf sheet name)) setting tree named blank-name refl refl)
+            (outside-failed 12 0 (isBlankText (optionalOf sheet message)) setting tree _ p (sym blank-message ∙ t) refl refl));
+      }
 
+pub definition-none : {schema sheet words : List ℕ} {scope : Scope} {name message : OptionalPart} {end : ℕ} {r : Progress} → end ≤ 1 → DefinitionJudged schema sheet words scope name message end r
+definition-none h =
+    record { shows = λ setting tree assert s w. absurd (omega (arith, w .ends, condition-size assert)) }
+
+module _ {schema sheet words : List ℕ} {scope : Scope} {name message : OptionalPart} {end : ℕ} {unnamed untold : Bool} {b c : Progress} (blank-name : unnamed ≡ isBlankText (optionalOf sheet name)) (blank-message : untold ≡ isBlankText (optionalOf sheet message)) (named : Required (going 0) unnamed Name 1 Outside b) (told : Required b untold Message 1 Outside c) where
   pub definition-deep : {n : ℕ} {r : Progress}
       → DepthIs sheet words 1 end 33 n
       → 32 < n
       → Failed c Deep 2 Outside r
       → DefinitionJudged schema sheet words scope name message end r
-  unfolding checks failsIf failed numberOf detailOf check overOf overBy environment
+  unfolding checks numberOf detailOf
   definition-deep {n} {r} m h p =
       record {
         shows =
@@ -146,8 +169,7 @@ module _ {schema sheet words : List ℕ} {scope : Scope} {name message : Optiona
             let k : leb (depth assert) 32 ≡ false = lt-leb (depth assert) 32 (omega arith) in
             begin-judges setting tree _ r
             (goes-then (both-go sheet name message setting tree blank-name blank-message named told)
-            (p .goes (outcome setting tree) _ _ (record { numbered = refl; placed = refl; held = refl })
-            (settled-outcome setting tree [] [] 13 2 (not (leb (depth assert) 32)) 0 refl ∙ ap (λ (x : Bool). failed (not x) 0) k)));
+            (outside-failed 13 0 (not (leb (depth assert) 32)) setting tree _ p (ap not k) refl refl));
       }
 
   pub definition-judged : {n : ℕ} {d g r : Progress}
@@ -181,7 +203,7 @@ module _ {schema sheet words : List ℕ} {scope : Scope} {name message : Optiona
 -- By the sheet's first entry.
 
 module _ {schema sheet words : List ℕ} {scope : Scope} {at end : ℕ} (start : at ≡ startOf words 0) (ends : end ≡ endOf words 0) where
-  pub judge-bad : ruleHead (drop at sheet) ≡ none → RuleJudged schema sheet words scope begin
+  pub judge-bad : ruleHead (drop at sheet) ≡ none → RuleJudged schema sheet words scope (going 0)
   judge-bad r = record { shows = λ setting tree x s w. absurd (unread x w) }
     where
       clash : (h : RuleHead) (rest : List ℕ) → ruleHead (drop (startOf words 0) sheet) ≡ some (h, rest) → ⊥
@@ -217,7 +239,7 @@ module _ {schema sheet words : List ℕ} {scope : Scope} {at end : ℕ} (start :
 
   pub judge-template : {next : ℕ} {r : Progress}
       → ReadsTo ruleHead sheet at Entries.template next
-      → ReferencesIn (frame schema sheet words scope Outside) 1 (end - 1) begin r
+      → ReferencesIn (frame schema sheet words scope Outside) 1 (end - 1) (going 0) r
       → RuleJudged schema sheet words scope r
   unfolding checks
   judge-template {next} {r} reads p = record { shows = λ setting tree x s w. shows setting tree x s w }

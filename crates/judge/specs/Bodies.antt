@@ -37,11 +37,17 @@ pub record OperatorJudged (scope : Scope) (over : Over) (op i : ℕ) (a r : Prog
       → Stands (frame schema rule words scope over) setting tree binders env
       → GoesOn (outcome setting tree) a (operatorCheck setting binders (i + 1) op ∷ []) r
 
--- `all` and `any` are asked whether they end right after their own word
+-- `all` and `any` (2 and 3) are asked whether they end right after their own word
 pub record NonemptyJudged (over : Over) (op i end : ℕ) (a r : Progress) : Type 0 where
   pub atMost : r .passed ≤ a .passed + 1
-  pub many : op ≤ 3 → Required a (eqb (i + 1) end) Empty (i + 1) over r
-  pub other : 4 ≤ op → r ≡ a
+  pub many : 2 ≤ op → op ≤ 3 → Required a (eqb (i + 1) end) Empty (i + 1) over r
+  pub other : (op ≤ 1) ⊎ (4 ≤ op) → r ≡ a
+
+-- the checks of a condition's own entry, one after the other
+pub record EntryJudged (scope : Scope) (over : Over) (op i end : ℕ) (a r : Progress) : Type 0 where
+  pub between : Progress
+  pub operator : OperatorJudged scope over op i a between
+  pub nonempty : NonemptyJudged over op i end between r
 
 -- the values of a condition with operator `op`
 pub record OperandsJudged (f : Frame) (op start end : ℕ) (a r : Progress) : Type 0 where

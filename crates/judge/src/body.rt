@@ -24,8 +24,9 @@ use value_checks::references::validate_references;
 use value_checks::verdict::Fault;
 use value_checks::verdict::Over;
 use value_checks::verdict::Progress;
+use value_checks::verdict::Verdict;
 use value_checks::verdict::fail;
-use value_checks::verdict::has_failed;
+use value_checks::verdict::going;
 use value_checks::verdict::pass;
 use value_checks::verdict::require;
 use walk::answer::Collected;
@@ -38,9 +39,9 @@ ghost use Prim.Native.Nat.{_+_, _*_, _-_, _<_, _≤_};
 ghost use Rattle.text.specs.Blank.{isBlank};
 ghost use Rattle.sheet.specs.Parts.{partOf};
 ghost use Rattle.validation.specs.Check.{hasDot};
-ghost use Rattle.value_checks.specs.Verdicts.{HasRoom};
+ghost use Rattle.value_checks.specs.Verdicts.{going, HasRoom};
 ghost use Rattle.value_checks.specs.Frames.{frame};
-ghost use Rattle.judge.specs.Bodies.{OperatorJudged, NonemptyJudged, OperandsJudged, BindAt, CollectionOf, BodyJudged, BodiesJudged, QuantifierJudged};
+ghost use Rattle.judge.specs.Bodies.{NonemptyJudged, EntryJudged, OperandsJudged, BindAt, CollectionOf, BodyJudged, BodiesJudged, QuantifierJudged};
 
 // The bind of a quantifier.
 pub enum BindRead {
@@ -48,34 +49,44 @@ pub enum BindRead {
     Bad,
 }
 
-// Operators from 18 on are there under service alone.
-fn validate_operator(a: Progress, scope: Scope, over: Over, op: usize, i: usize) -> Progress
-    requires { ⌜ HasRoom a 1 × (i < 4096) ⌝ }
-    ensures { λ r. ⌜ OperatorJudged scope over op i a r ⌝ }
+// `all` and `any` hold a condition: at word `i` they do not end right after their own entry.
+fn validate_nonempty(passed: usize, over: Over, op: usize, i: usize, end: usize) -> Progress
+    requires { ⌜ HasRoom (going passed) 1 × (i < 4096) ⌝ }
+    ensures { λ r. ⌜ NonemptyJudged over op i end (going passed) r ⌝ }
 {
-    if op < COMPARE {
-        return pass(a);
+    if op <= LITERAL {
+        return going(passed);
     }
-    if scope.service {
-        return pass(a);
+    if op < NOT {
+        return require(passed, i + 1 == end, Fault::Empty, i + 1, over);
     }
-    fail(a, Fault::Operator, i + 1, over)
+    going(passed)
 }
 
-// `all` and `any` hold a condition: at word `i` they do not end right after their own entry.
-fn validate_nonempty(a: Progress, over: Over, op: usize, i: usize, end: usize) -> Progress
-    requires { ⌜ HasRoom a 1 × (i < 4096) ⌝ }
-    ensures { λ r. ⌜ NonemptyJudged over op i end a r ⌝ }
+// What a condition that ends at `end` is asked by its own entry. Operators from 18 on are there under service alone.
+fn validate_entry(
+    passed: usize,
+    scope: Scope,
+    over: Over,
+    op: usize,
+    i: usize,
+    end: usize,
+) -> Progress
+    requires { ⌜ HasRoom (going passed) 2 × (i < 4096) ⌝ }
+    ensures { λ r. ⌜ EntryJudged scope over op i end (going passed) r ⌝ }
 {
-    if op < NOT {
-        return require(a, i + 1 == end, Fault::Empty, i + 1, over);
+    if op < COMPARE {
+        return validate_nonempty(passed + 1, over, op, i, end);
     }
-    a
+    if scope.service {
+        return pass(passed);
+    }
+    fail(passed, Fault::Operator, i + 1, over)
 }
 
 // The values of a condition that holds no condition, from word `start` up to word `end`, by its operator.
 fn validate_operands(
-    a: Progress,
+    passed: usize,
     schema: &[u8],
     rule: &[u8],
     words: &[u32],
@@ -85,19 +96,19 @@ fn validate_operands(
     start: usize,
     end: usize,
 ) -> Progress
-    requires { ⌜ HasRoom a (end - start + 2) × (start ≤ end) × (end < 4096) ⌝ }
-    ensures { λ r. ⌜ OperandsJudged (frame (now (schema .entry)) (now (rule .entry)) (now (words .entry)) scope over) op start end a r ⌝ }
+    requires { ⌜ HasRoom (going passed) (end - start + 2) × (start ≤ end) × (end < 4096) ⌝ }
+    ensures { λ r. ⌜ OperandsJudged (frame (now (schema .entry)) (now (rule .entry)) (now (words .entry)) scope over) op start end (going passed) r ⌝ }
 {
     if op <= EXISTS {
-        return validate_references(a, schema, rule, words, scope, over, start, end);
+        return validate_references(passed, schema, rule, words, scope, over, start, end);
     }
     if COMPARE < op {
-        return validate_references(a, schema, rule, words, scope, over, start, end);
+        return validate_references(passed, schema, rule, words, scope, over, start, end);
     }
     if op == COMPARE {
-        return validate_comparison(a, schema, rule, words, scope, over, start, end);
+        return validate_comparison(passed, schema, rule, words, scope, over, start, end);
     }
-    validate_pair(a, schema, rule, words, scope, over, op, start, end)
+    validate_pair(passed, schema, rule, words, scope, over, op, start, end)
 }
 
 // The bind of the quantifier at word `i`.
@@ -149,7 +160,7 @@ fn collection_of(schema: &[u8], rule: &[u8], words: &[u32], scope: Scope, i: usi
 
 // The condition at word `i`, which ends at `end` and is at most `left` deep.
 pub fn validate_condition_body(
-    a: Progress,
+    passed: usize,
     schema: &[u8],
     rule: &[u8],
     words: &[u32],
@@ -159,33 +170,37 @@ pub fn validate_condition_body(
     end: usize,
     left: usize,
 ) -> Progress
-    requires { ⌜ HasRoom a (8 * (end - i)) × (i < end) × (end < 4096) ⌝ }
-    ensures { λ r. ⌜ BodyJudged (frame (now (schema .entry)) (now (rule .entry)) (now (words .entry)) scope over) i end left a r ⌝ }
+    requires { ⌜ HasRoom (going passed) (8 * (end - i)) × (i < end) × (end < 4096) ⌝ }
+    ensures { λ r. ⌜ BodyJudged (frame (now (schema .entry)) (now (rule .entry)) (now (words .entry)) scope over) i end left (going passed) r ⌝ }
 {
     if left == 0 {
-        return a;
+        return going(passed);
     }
     let op = operator_at(rule, start_of(words, i));
-    let b = validate_operator(a, scope, over, op, i);
+    let r = validate_entry(passed, scope, over, op, i, end);
+    let verdict = r.verdict;
+    let Verdict::Pass = verdict else {
+        return r;
+    };
+    let n = r.passed;
     if op <= LITERAL {
-        return b;
+        return going(n);
     }
     if op <= NOT {
-        let d = validate_nonempty(b, over, op, i, end);
-        return validate_conditions(d, schema, rule, words, scope, over, i + 1, end, left - 1);
+        return validate_conditions(n, schema, rule, words, scope, over, i + 1, end, left - 1);
     }
     if op <= TRUTHY {
-        return validate_operands(b, schema, rule, words, scope, over, op, i + 1, end);
+        return validate_operands(n, schema, rule, words, scope, over, op, i + 1, end);
     }
     let BindRead::Is(name) = bind_of(rule, words, i) else {
-        return b;
+        return going(n);
     };
-    validate_quantifier(b, schema, rule, words, scope, over, name, i, end, left - 1)
+    validate_quantifier(n, schema, rule, words, scope, over, name, i, end, left - 1)
 }
 
 // The conditions from word `start` on, which end at `end`.
 fn validate_conditions(
-    a: Progress,
+    passed: usize,
     schema: &[u8],
     rule: &[u8],
     words: &[u32],
@@ -195,25 +210,27 @@ fn validate_conditions(
     end: usize,
     left: usize,
 ) -> Progress
-    requires { ⌜ HasRoom a (8 * (end - start)) × (end < 4096) ⌝ }
-    ensures { λ r. ⌜ BodiesJudged (frame (now (schema .entry)) (now (rule .entry)) (now (words .entry)) scope over) start end left a r ⌝ }
+    requires { ⌜ HasRoom (going passed) (8 * (end - start)) × (end < 4096) ⌝ }
+    ensures { λ r. ⌜ BodiesJudged (frame (now (schema .entry)) (now (rule .entry)) (now (words .entry)) scope over) start end left (going passed) r ⌝ }
 {
-    let mut so_far = a;
+    let mut so_far = passed;
     let mut i = start;
     while i < end {
-        if has_failed(so_far) {
-            return so_far;
-        }
         let next = behind(words, i, end);
-        so_far = validate_condition_body(so_far, schema, rule, words, scope, over, i, next, left);
+        let r = validate_condition_body(so_far, schema, rule, words, scope, over, i, next, left);
+        let verdict = r.verdict;
+        let Verdict::Pass = verdict else {
+            return r;
+        };
+        so_far = r.passed;
         i = next;
     }
-    so_far
+    going(so_far)
 }
 
 // A quantifier at word `i`, behind its operator: its bind, the value that it walks, and its body with one binder more.
 fn validate_quantifier(
-    a: Progress,
+    passed: usize,
     schema: &[u8],
     rule: &[u8],
     words: &[u32],
@@ -224,24 +241,30 @@ fn validate_quantifier(
     end: usize,
     left: usize,
 ) -> Progress
-    requires { ⌜ HasRoom a (2 + 8 * (end - (i + 1))) × (i < end) × (end < 4096) ⌝ }
-    ensures { λ r. ⌜ QuantifierJudged (frame (now (schema .entry)) (now (rule .entry)) (now (words .entry)) scope over) (partOf (now (rule .entry)) name) i end left a r ⌝ }
+    requires { ⌜ HasRoom (going passed) (2 + 8 * (end - (i + 1))) × (i < end) × (end < 4096) ⌝ }
+    ensures { λ r. ⌜ QuantifierJudged (frame (now (schema .entry)) (now (rule .entry)) (now (words .entry)) scope over) (partOf (now (rule .entry)) name) i end left (going passed) r ⌝ }
 {
     let start = i + 1;
     let mid = behind(words, start, end);
-    let wrong = is_wrong_bind(bytes_of(rule, name));
-    let b = require(a, wrong, Fault::Bind, start, over);
-    let d = validate_references(b, schema, rule, words, scope, over, start, mid);
+    if is_wrong_bind(bytes_of(rule, name)) {
+        return fail(passed, Fault::Bind, start, over);
+    }
+    let r = validate_references(passed + 1, schema, rule, words, scope, over, start, mid);
+    let verdict = r.verdict;
+    let Verdict::Pass = verdict else {
+        return r;
+    };
+    let n = r.passed;
     let within = Over::In(start + 1);
     match collection_of(schema, rule, words, scope, start) {
         Collected::Known(slot) => {
             let inner = bind(scope, name, Element::Known(slot));
-            validate_conditions(pass(d), schema, rule, words, inner, within, mid, end, left)
+            validate_conditions(n + 1, schema, rule, words, inner, within, mid, end, left)
         }
         Collected::Unknown => {
             let inner = bind(scope, name, Element::Unknown);
-            validate_conditions(pass(d), schema, rule, words, inner, within, mid, end, left)
+            validate_conditions(n + 1, schema, rule, words, inner, within, mid, end, left)
         }
-        Collected::No(fault, at) => fail(d, Fault::Collection(fault, at), start, over),
+        Collected::No(fault, at) => fail(n, Fault::Collection(fault, at), start, over),
     }
 }

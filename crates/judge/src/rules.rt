@@ -16,14 +16,12 @@ use value_checks::verdict::Over;
 use value_checks::verdict::Progress;
 use value_checks::verdict::Verdict;
 use value_checks::verdict::fail;
-use value_checks::verdict::has_failed;
-use value_checks::verdict::pass;
-use value_checks::verdict::require;
+use value_checks::verdict::going;
 ghost use mathlib.Core.Path.{_≡_};
 ghost use Prim.Native.Nat.{_-_, _<_, _≤_};
 ghost use Rattle.sheet.specs.Parts.{optionalOf};
 ghost use Rattle.validation.specs.Check.{isBlankText};
-ghost use Rattle.value_checks.specs.Verdicts.{HasRoom};
+ghost use Rattle.value_checks.specs.Verdicts.{going, HasRoom};
 ghost use Rattle.judge.specs.Rules.{PassJudged, DefinitionJudged, RuleJudged};
 
 // Conditions nest at most so deep.
@@ -41,19 +39,19 @@ fn is_blank_text(rule: &[u8], text: OptionalPart) -> bool
 
 // Literals are looked at under service alone.
 fn validate_condition_literals(
-    a: Progress,
+    passed: usize,
     rule: &[u8],
     words: &[u32],
     service: bool,
     end: usize,
 ) -> Progress
-    requires { ⌜ HasRoom a (end - 1) × (end ≤ 4096) ⌝ }
-    ensures { λ r. ⌜ PassJudged (now (rule .entry)) (now (words .entry)) service end a r ⌝ }
+    requires { ⌜ HasRoom (going passed) (end - 1) × (end ≤ 4096) ⌝ }
+    ensures { λ r. ⌜ PassJudged (now (rule .entry)) (now (words .entry)) service end (going passed) r ⌝ }
 {
     if service {
-        return unobservable_condition_literals(a, rule, words, 1, end);
+        return unobservable_condition_literals(passed, rule, words, 1, end);
     }
-    a
+    going(passed)
 }
 
 // A rule, whose condition ends at `end`: nothing goes down into a condition that is too deep.
@@ -69,40 +67,26 @@ fn validate_rule_definition(
     requires { ⌜ end < 4096 ⌝ }
     ensures { λ r. ⌜ DefinitionJudged (now (schema .entry)) (now (rule .entry)) (now (words .entry)) scope name message end r ⌝ }
 {
-    let a = Progress {
-        passed: 0,
-        verdict: Verdict::Pass,
-    };
-    let b = require(a, is_blank_text(rule, name), Fault::Name, 1, Over::Outside);
-    let c = require(
-        b,
-        is_blank_text(rule, message),
-        Fault::Message,
-        1,
-        Over::Outside,
-    );
-    if has_failed(c) {
-        return c;
+    let outside = Over::Outside;
+    if is_blank_text(rule, name) {
+        return fail(0, Fault::Name, 1, outside);
+    }
+    if is_blank_text(rule, message) {
+        return fail(1, Fault::Message, 1, outside);
     }
     if end <= 1 {
-        return c;
+        return going(2);
     }
-    let depth = condition_depth(rule, words, 1, end, MAX_CONDITION_DEPTH + 1);
-    if MAX_CONDITION_DEPTH < depth {
-        return fail(c, Fault::Deep, 2, Over::Outside);
+    let most = MAX_CONDITION_DEPTH;
+    if most < condition_depth(rule, words, 1, end, most + 1) {
+        return fail(2, Fault::Deep, 2, outside);
     }
-    let d = validate_condition_literals(pass(c), rule, words, scope.service, end);
-    validate_condition_body(
-        d,
-        schema,
-        rule,
-        words,
-        scope,
-        Over::Outside,
-        1,
-        end,
-        MAX_CONDITION_DEPTH,
-    )
+    let r = validate_condition_literals(3, rule, words, scope.service, end);
+    let verdict = r.verdict;
+    let Verdict::Pass = verdict else {
+        return r;
+    };
+    validate_condition_body(r.passed, schema, rule, words, scope, outside, 1, end, most)
 }
 
 // The rule or the template of a sheet, by its index. The scope has no binders.
@@ -110,15 +94,11 @@ pub fn judge(schema: &[u8], rule: &[u8], words: &[u32], scope: Scope) -> Progres
     ensures { λ r. ⌜ RuleJudged (now (schema .entry)) (now (rule .entry)) (now (words .entry)) scope r ⌝ }
 {
     let end = end_of(words, 0);
-    let a = Progress {
-        passed: 0,
-        verdict: Verdict::Pass,
-    };
     let RuleHeadRead::Is(head, _) = rule_head(rule, start_of(words, 0)) else {
-        return a;
+        return going(0);
     };
     let RuleHead::Rule(name, message) = head else {
-        return validate_references(a, schema, rule, words, scope, Over::Outside, 1, end);
+        return validate_references(0, schema, rule, words, scope, Over::Outside, 1, end);
     };
     validate_rule_definition(schema, rule, words, scope, name, message, end)
 }

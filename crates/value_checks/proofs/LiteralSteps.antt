@@ -18,12 +18,15 @@ use Rattle.validation.specs.Judge.{outcome, environment, answer, answerIn}
 use Rattle.value_checks.specs.Leaves.{saysAt, saysIf, saidIn}
 use Rattle.value_checks.specs.Shown.{overOf}
 use Rattle.value_checks.specs.Kinds.{typeIn, TypeAt}
-use Rattle.value_checks.specs.Verdicts.{numberOf, detailOf, isDefect, overBy, failed, Required}
+use Rattle.value_checks.specs.Verdicts.{numberOf, detailOf, overBy, failed, Required}
 use Rattle.value_checks.specs.Literals.{literalSays, LiteralsJudged}
+use Rattle.value_checks.specs.declared.verdict.Fault.{Fault}
 use Rattle.value_checks.specs.declared.verdict.Fault.the-variants.{Literal}
+use Rattle.value_checks.specs.declared.verdict.Over.{Over}
 use Rattle.value_checks.specs.declared.verdict.Over.the-variants.{Outside}
+use Rattle.value_checks.specs.declared.verdict.Verdict.the-variants.{Defect}
 use Rattle.value_checks.specs.declared.verdict.Progress.{Progress}
-use Rattle.value_checks.proofs.Going.{goes-nothing, goes-then, goes-absorbed, said-next}
+use Rattle.value_checks.proofs.Going.{goes-nothing, goes-then, goes-stopped, said-next}
 
 fails-answer : (setting : Setting) (schema : Schema) (env : Environment) (b : Bool) (d : ℕ) → answer setting schema env (failsIf b d) ≡ failed b d
 unfolding answer failsIf failed
@@ -120,21 +123,23 @@ module _ {s words : List ℕ} {a : Progress} {start i : ℕ} where
         goes = λ setting schema. rw (said-next literalSays s words n h k) (goes-then (p .goes setting schema) (q .goes setting schema));
       }
 
-  pub literals-stopped : {end : ℕ} {r : Progress}
-      → start ≤ i
-      → i < end
-      → LiteralsJudged s words start (i - start) a r
-      → true ≡ isDefect (r .verdict)
-      → LiteralsJudged s words start (end - start) a r
-  literals-stopped {end} h k p t =
-      literals-next {n = end - i} h (omega arith) p (record { atMost = omega arith; goes = λ setting schema. goes-absorbed t })
-
   pub literals-all : {end : ℕ} {r : Progress}
       → end ≤ i
       → i - start ≤ end - start
       → LiteralsJudged s words start (i - start) a r
       → LiteralsJudged s words start (end - start) a r
   literals-all {end} h k p = let e : i - start ≡ end - start = omega arith in rw e at p
+
+pub literals-stopped : {s words : List ℕ} {start i end : ℕ} {a b r : Progress} {f : Fault} {place : ℕ} {over : Over}
+    → start ≤ i
+    → i < end
+    → LiteralsJudged s words start (i - start) a b
+    → LiteralsJudged s words i 1 b r
+    → r .verdict ≡ Defect f place over
+    → LiteralsJudged s words start (end - start) a r
+literals-stopped {i = i} {end = end} h k p q t =
+    literals-next {i = i + 1} {n = end - (i + 1)} (omega arith) (omega arith) (literals-next h refl p q)
+    (record { atMost = omega arith; goes = λ setting schema. goes-stopped t })
 
 pub literals-none : {s words : List ℕ} {a : Progress} {start : ℕ} → LiteralsJudged s words start (start - start) a a
 unfolding saidIn

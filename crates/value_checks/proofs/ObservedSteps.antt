@@ -16,10 +16,13 @@ use Rattle.validation.specs.Judge.{outcome}
 use Rattle.value_checks.specs.Leaves.{leaves, leavesOfValues, leavesOfPairs, saidIn, said-append, said-value}
 use Rattle.value_checks.specs.Kinds.{OperatorAt}
 use Rattle.value_checks.specs.Nodes.{IsCondition, AreConditions, Behind, childrenOf, ChildrenFrom}
-use Rattle.value_checks.specs.Verdicts.{isDefect, GoesOn}
+use Rattle.value_checks.specs.Verdicts.{GoesOn}
 use Rattle.value_checks.specs.Literals.{literalSays, LiteralsJudged, isObserved, ObservedJudged, ConditionLiterals}
+use Rattle.value_checks.specs.declared.verdict.Fault.{Fault}
+use Rattle.value_checks.specs.declared.verdict.Over.{Over}
+use Rattle.value_checks.specs.declared.verdict.Verdict.the-variants.{Defect}
 use Rattle.value_checks.specs.declared.verdict.Progress.{Progress}
-use Rattle.value_checks.proofs.Going.{goes-nothing, goes-then, goes-absorbed}
+use Rattle.value_checks.proofs.Going.{goes-nothing, goes-then, goes-stopped}
 use Rattle.value_checks.proofs.NodeSteps.{has-operator, first-stands, none-left, none-ends}
 use Rattle.value_checks.proofs.Opening.{beside, opened, opened-stand}
 
@@ -191,9 +194,9 @@ module _ {rule words : List ℕ} {from i end : ℕ} {a b : Progress} (l : Litera
             l .onward setting schema cs w b (rw f goes-nothing);
       }
 
-  pub left-stopped : true ≡ isDefect (b .verdict) → i - from ≤ end - from → ConditionLiterals rule words from end a b
+  pub left-stopped : {f : Fault} {place : ℕ} {over : Over} → b .verdict ≡ Defect f place over → i - from ≤ end - from → ConditionLiterals rule words from end a b
   left-stopped t m =
       record {
         atMost = omega (arith, l .atMost);
-        goes = λ setting schema cs w. l .onward setting schema cs w b (goes-absorbed t);
+        goes = λ setting schema cs w. l .onward setting schema cs w b (goes-stopped t);
       }

@@ -2,7 +2,7 @@
 use Prim.Native.Nat.{ℕ, _+_, _-_, _≤_, _<_}
 use native.Mathlib.Omega.{arith}
 use mathlib.Core.Bool.{Bool, true, false, not, cond, _&&_, false≢true}
-use mathlib.Core.List.{List, [], _∷_}
+use mathlib.Core.List.{List, [], _∷_, _++_}
 use mathlib.Core.Option.{Option, none, some, Option·none-ne-some}
 use mathlib.Core.Path.{_≡_, refl, sym, ap, _∙_}
 use lib.ListN.{drop}
@@ -38,8 +38,10 @@ use Rattle.value_checks.specs.declared.verdict.InstantFault.the-variants
 use Rattle.value_checks.specs.declared.verdict.Side.{Side}
 use Rattle.value_checks.specs.declared.verdict.Fault.{Fault}
 use Rattle.value_checks.specs.declared.verdict.Fault.the-variants.{Operand, Affix, Instant}
+use Rattle.value_checks.specs.declared.verdict.Over.{Over}
+use Rattle.value_checks.specs.declared.verdict.Verdict.the-variants.{Defect}
 use Rattle.value_checks.specs.declared.verdict.Progress.{Progress}
-use Rattle.value_checks.proofs.Going.{goes-then}
+use Rattle.value_checks.proofs.Going.{goes-then, goes-stopped}
 use Rattle.value_checks.proofs.NodeSteps.{same-head, value-size}
 use Rattle.value_checks.proofs.ReferenceSteps.{references-judged}
 
@@ -237,6 +239,18 @@ form-fails {f} n {q} {fault} setting tree binders env v s w p m e others =
     (asked-outcome setting tree binders env n (entryOf v) q (some (detailOf fault)) (s .bound) e)
 
 module _ {f : Frame} {start end : ℕ} {a : Progress} where
+  -- what is asked after the references, where one of these failed
+  pub operand-stopped : {asked : List Binder → Value → List Check} (others : List Binder → Value → List Check) {r : Progress} {fault : Fault} {place : ℕ} {over : Over}
+      → ((binders : List Binder) (v : Value) → asked binders v ≡ references binders v ++ others binders v)
+      → ReferencesIn f start (end - start) a r
+      → r .verdict ≡ Defect fault place over
+      → OperandJudged f asked start end a r
+  operand-stopped others e l t =
+      record {
+        atMost = omega (arith, l .atMost);
+        goes = λ setting tree binders env v s w. rw (e binders v) (goes-then (references-judged l setting tree binders env v s w) (goes-stopped t));
+      }
+
   pub instant-passes : {x : InstantRead} {b r : Progress}
       → ReferencesIn f start (end - start) a b
       → ((v : Value) → ValueAt (f .rule) (f .words) start v → ReadAs (instantForm v) (literalInstant v) x)
@@ -359,3 +373,12 @@ module _ {f : Frame} {start end : ℕ} {a : Progress} where
             let e : mid ≡ m = k .exact (omega arith) (omega (arith, w .ends, u .ends)) ∙ n ∙ sym (w .ends) in
             goes-then (p .goes setting tree binders env left s (rw e w)) (q .goes setting tree binders env right s (rw e u));
       }
+
+  pub pair-stopped : {first second : List Binder → Value → List Check} {mid : ℕ} {r : Progress} {fault : Fault} {place : ℕ} {over : Over}
+      → start ≤ end
+      → Behind (f .words) start end mid
+      → OperandJudged f first start mid a r
+      → r .verdict ≡ Defect fault place over
+      → PairJudged f first second start end a r
+  pair-stopped inside k p t =
+      pair-judged inside k p (record { atMost = omega arith; goes = λ setting tree binders env v s w. goes-stopped t })

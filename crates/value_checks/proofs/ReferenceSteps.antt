@@ -25,12 +25,15 @@ use Rattle.validation.specs.Judge.{outcome, environment, verdict, answer, answe
 use Rattle.value_checks.specs.Leaves.{leaves, leavesOfValues, leavesOfPairs, saidIn, said-value}
 use Rattle.value_checks.specs.Kinds.{typeIn, TypeAt}
 use Rattle.value_checks.specs.Nodes.{IsValue}
-use Rattle.value_checks.specs.Verdicts.{numberOf, detailOf, isDefect, GoesOn, PassedOn, Failed}
+use Rattle.value_checks.specs.Verdicts.{numberOf, detailOf, GoesOn, PassedOn, Failed}
 use Rattle.scope.specs.References.{ReferenceReads}
 use Rattle.value_checks.specs.Frames.{Frame, Stands, IsReference, referenceSays, ReferencesIn}
+use Rattle.value_checks.specs.declared.verdict.Fault.{Fault}
 use Rattle.value_checks.specs.declared.verdict.Fault.the-variants.{Reference}
+use Rattle.value_checks.specs.declared.verdict.Over.{Over}
+use Rattle.value_checks.specs.declared.verdict.Verdict.the-variants.{Defect}
 use Rattle.value_checks.specs.declared.verdict.Progress.{Progress}
-use Rattle.value_checks.proofs.Going.{goes-nothing, goes-then, goes-absorbed, said-next}
+use Rattle.value_checks.proofs.Going.{goes-nothing, goes-then, goes-stopped, said-next}
 use Rattle.value_checks.proofs.LiteralSteps.{says-read, says-bad, says-other}
 
 -- Texts.
@@ -189,21 +192,23 @@ module _ {f : Frame} {a : Progress} {start i : ℕ} where
             (goes-then (p .goes setting tree binders env s) (q .goes setting tree binders env s));
       }
 
-  pub references-stopped : {end : ℕ} {r : Progress}
-      → start ≤ i
-      → i < end
-      → ReferencesIn f start (i - start) a r
-      → true ≡ isDefect (r .verdict)
-      → ReferencesIn f start (end - start) a r
-  references-stopped {end} h k p t =
-      references-next {n = end - i} h (omega arith) p (record { atMost = omega arith; goes = λ setting tree binders env s. goes-absorbed t })
-
   pub references-all : {end : ℕ} {r : Progress}
       → end ≤ i
       → i - start ≤ end - start
       → ReferencesIn f start (i - start) a r
       → ReferencesIn f start (end - start) a r
   references-all {end} h k p = let e : i - start ≡ end - start = omega arith in rw e at p
+
+pub references-stopped : {f : Frame} {start i end : ℕ} {a b r : Progress} {fault : Fault} {place : ℕ} {over : Over}
+    → start ≤ i
+    → i < end
+    → ReferencesIn f start (i - start) a b
+    → ReferencesIn f i 1 b r
+    → r .verdict ≡ Defect fault place over
+    → ReferencesIn f start (end - start) a r
+references-stopped {i = i} {end = end} h k p q t =
+    references-next {i = i + 1} {n = end - (i + 1)} (omega arith) (omega arith) (references-next h refl p q)
+    (record { atMost = omega arith; goes = λ setting tree binders env s. goes-stopped t })
 
 pub references-begin : {f : Frame} {a : Progress} {start : ℕ} → ReferencesIn f start (start - start) a a
 unfolding saidIn

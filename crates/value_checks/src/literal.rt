@@ -7,7 +7,8 @@ use crate::node::children_from;
 use crate::verdict::Fault;
 use crate::verdict::Over;
 use crate::verdict::Progress;
-use crate::verdict::has_failed;
+use crate::verdict::Verdict;
+use crate::verdict::going;
 use crate::verdict::require;
 use rule::index::start_of;
 use sheet::part::bytes_of;
@@ -20,48 +21,56 @@ use sheet::rule_heads::ValueRead;
 use sheet::rule_heads::value_head;
 ghost use mathlib.Core.Path.{_≡_};
 ghost use Prim.Native.Nat.{_-_, _<_, _≤_};
-ghost use Rattle.value_checks.specs.Verdicts.{HasRoom};
+ghost use Rattle.value_checks.specs.Verdicts.{going, HasRoom};
 ghost use Rattle.value_checks.specs.Literals.{isObserved, LiteralsJudged, ObservedJudged, ConditionLiterals};
 
 // The entry of word `i`, if it is a number.
-fn validate_literal(a: Progress, rule: &[u8], words: &[u32], i: usize) -> Progress
-    requires { ⌜ HasRoom a 1 × (i < 4096) ⌝ }
-    ensures { λ r. ⌜ LiteralsJudged (now (rule .entry)) (now (words .entry)) i 1 a r ⌝ }
+fn validate_literal(passed: usize, rule: &[u8], words: &[u32], i: usize) -> Progress
+    requires { ⌜ HasRoom (going passed) 1 × (i < 4096) ⌝ }
+    ensures { λ r. ⌜ LiteralsJudged (now (rule .entry)) (now (words .entry)) i 1 (going passed) r ⌝ }
 {
     let at = start_of(words, i);
     if type_at(rule, at) != NUMBER {
-        return a;
+        return going(passed);
     }
     let ValueRead::Is(head, _) = value_head(rule, at) else {
-        return a;
+        return going(passed);
     };
     match head {
-        ValueHead::Constant(_) => a,
+        ValueHead::Constant(_) => going(passed),
         ValueHead::Number(digits) => {
             let finite = number::is_finite(bytes_of(rule, digits));
-            require(a, !finite, Fault::Literal, i + 1, Over::Outside)
+            require(passed, !finite, Fault::Literal, i + 1, Over::Outside)
         }
-        ValueHead::Text(_) => a,
-        ValueHead::Array(_) => a,
-        ValueHead::Object(_) => a,
+        ValueHead::Text(_) => going(passed),
+        ValueHead::Array(_) => going(passed),
+        ValueHead::Object(_) => going(passed),
     }
 }
 
 // The numbers from word `start` up to word `end`.
-fn validate_literals(a: Progress, rule: &[u8], words: &[u32], start: usize, end: usize) -> Progress
-    requires { ⌜ HasRoom a (end - start) × (end ≤ 4096) ⌝ }
-    ensures { λ r. ⌜ LiteralsJudged (now (rule .entry)) (now (words .entry)) start (end - start) a r ⌝ }
+fn validate_literals(
+    passed: usize,
+    rule: &[u8],
+    words: &[u32],
+    start: usize,
+    end: usize,
+) -> Progress
+    requires { ⌜ HasRoom (going passed) (end - start) × (end ≤ 4096) ⌝ }
+    ensures { λ r. ⌜ LiteralsJudged (now (rule .entry)) (now (words .entry)) start (end - start) (going passed) r ⌝ }
 {
-    let mut so_far = a;
+    let mut so_far = passed;
     let mut i = start;
     while i < end {
-        if has_failed(so_far) {
-            return so_far;
-        }
-        so_far = validate_literal(so_far, rule, words, i);
+        let r = validate_literal(so_far, rule, words, i);
+        let verdict = r.verdict;
+        let Verdict::Pass = verdict else {
+            return r;
+        };
+        so_far = r.passed;
         i += 1;
     }
-    so_far
+    going(so_far)
 }
 
 // Whether the literal pass looks into the values of a condition with that operator.
@@ -79,44 +88,46 @@ fn is_observed(op: usize) -> bool
 
 // The numbers from word `start` up to word `end`, where they are the values of a condition that the pass looks into.
 fn validate_observed(
-    a: Progress,
+    passed: usize,
     rule: &[u8],
     words: &[u32],
     op: usize,
     start: usize,
     end: usize,
 ) -> Progress
-    requires { ⌜ HasRoom a (end - start) × (end ≤ 4096) ⌝ }
-    ensures { λ r. ⌜ ObservedJudged (now (rule .entry)) (now (words .entry)) op start end a r ⌝ }
+    requires { ⌜ HasRoom (going passed) (end - start) × (end ≤ 4096) ⌝ }
+    ensures { λ r. ⌜ ObservedJudged (now (rule .entry)) (now (words .entry)) op start end (going passed) r ⌝ }
 {
     if is_observed(op) {
-        return validate_literals(a, rule, words, start, end);
+        return validate_literals(passed, rule, words, start, end);
     }
-    a
+    going(passed)
 }
 
 // The numbers of the conditions from word `start` up to word `end`, and of all that these hold, in the order of the sheet. The value that a
 // quantifier walks is passed over.
 pub fn unobservable_condition_literals(
-    a: Progress,
+    passed: usize,
     rule: &[u8],
     words: &[u32],
     start: usize,
     end: usize,
 ) -> Progress
-    requires { ⌜ HasRoom a (end - start) × (end ≤ 4096) ⌝ }
-    ensures { λ r. ⌜ ConditionLiterals (now (rule .entry)) (now (words .entry)) start end a r ⌝ }
+    requires { ⌜ HasRoom (going passed) (end - start) × (end ≤ 4096) ⌝ }
+    ensures { λ r. ⌜ ConditionLiterals (now (rule .entry)) (now (words .entry)) start end (going passed) r ⌝ }
 {
-    let mut so_far = a;
+    let mut so_far = passed;
     let mut i = start;
     while i < end {
-        if has_failed(so_far) {
-            return so_far;
-        }
         let op = operator_at(rule, start_of(words, i));
         let next = children_from(words, op, i, behind(words, i, end));
-        so_far = validate_observed(so_far, rule, words, op, i + 1, next);
+        let r = validate_observed(so_far, rule, words, op, i + 1, next);
+        let verdict = r.verdict;
+        let Verdict::Pass = verdict else {
+            return r;
+        };
+        so_far = r.passed;
         i = next;
     }
-    so_far
+    going(so_far)
 }

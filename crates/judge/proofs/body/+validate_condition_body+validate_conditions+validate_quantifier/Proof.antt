@@ -1,8 +1,12 @@
 -- `judge::body::validate_condition_body`, `validate_conditions` and `validate_quantifier` meet their contracts: what is left of the depth falls.
 use native.Mathlib.Omega.{arith}
-use Rattle.value_checks.specs.Frames.{frame}
-use Rattle.judge.proofs.BodySteps.{body-zero, inner-literal, inner-conditions, inner-operands, inner-quantifier, inner-unbound, body-judged, BodiesLeft, bodies-begin, bodies-next, bodies-stopped, bodies-all}
-use Rattle.judge.proofs.QuantifierSteps.{quantifier-known, quantifier-unknown, quantifier-refused}
+use mathlib.Core.Path.{refl}
+use Rattle.value_checks.specs.Verdicts.{going}
+use Rattle.value_checks.specs.Frames.{frame, ReferencesIn}
+use Rattle.judge.specs.Bodies.{EntryJudged, BodyJudged}
+use Rattle.value_checks.proofs.Going.{goes-passed, passed-on, required-right}
+use Rattle.judge.proofs.BodySteps.{body-zero, inner-literal, inner-conditions, inner-operands, inner-quantifier, inner-unbound, inner-stopped, body-judged, BodiesLeft, bodies-begin, bodies-next, bodies-stopped, bodies-all}
+use Rattle.judge.proofs.QuantifierSteps.{quantifier-misnamed, quantifier-stopped, quantifier-known, quantifier-unknown, quantifier-refused}
 use borrow.Author.Needs.{needs}
 use Prim.Native.Nat.{ℕ, _+_, _-_, _*_, _<_, _≤_}
 use borrow.Fn.Kinds.{In}
@@ -19,17 +23,14 @@ use Rattle.judge.proofs.body.+validate_condition_body+validate_conditio
 use Rattle.judge.proofs.body.bind_of.Reads as bind-of-reads
 use Rattle.judge.proofs.body.collection_of.Reads as collection-of-reads
 use Rattle.judge.proofs.body.is_wrong_bind.Reads as is-wrong-bind-reads
-use Rattle.judge.proofs.body.validate_nonempty.Reads as validate-nonempty-reads
+use Rattle.judge.proofs.body.validate_entry.Reads as validate-entry-reads
 use Rattle.judge.proofs.body.validate_operands.Reads as validate-operands-reads
-use Rattle.judge.proofs.body.validate_operator.Reads as validate-operator-reads
 use Rattle.value_checks.proofs.kind.operator_at.Reads as operator-at-reads
 use Rattle.value_checks.proofs.node.behind.Reads as behind-reads
 use Rattle.value_checks.proofs.references.validate_references.Reads as validate-references-reads
 use Rattle.scope.proofs.binder.bind.Reads as bind-reads
 use Rattle.value_checks.proofs.verdict.fail.Reads as fail-reads
-use Rattle.value_checks.proofs.verdict.has_failed.Reads as has-failed-reads
-use Rattle.value_checks.proofs.verdict.pass.Reads as pass-reads
-use Rattle.value_checks.proofs.verdict.require.Reads as require-reads
+use Rattle.value_checks.proofs.verdict.going.Reads as going-reads
 use Rattle.rule.proofs.index.start_of.Reads as start-of-reads
 use Rattle.sheet.proofs.part.bytes_of.Reads as bytes-of-reads
 use Rattle.judge.proofs.body.+validate_condition_body+validate_conditions+validate_quantifier.{
@@ -98,14 +99,14 @@ validate-quantifier-below t =
 
 abbrev cs-validate-condition-body : ℕ → validate-condition-body-lts.Claims
 cs-validate-condition-body t = (
+  going-reads.Asked,
+  going-reads.Learnt,
   start-of-reads.Asked,
   start-of-reads.Learnt,
   operator-at-reads.Asked,
   operator-at-reads.Learnt,
-  validate-operator-reads.Asked,
-  validate-operator-reads.Learnt,
-  validate-nonempty-reads.Asked,
-  validate-nonempty-reads.Learnt,
+  validate-entry-reads.Asked,
+  validate-entry-reads.Learnt,
   validate-conditions-below t,
   validate-conditions.Post,
   validate-operands-reads.Asked,
@@ -118,12 +119,12 @@ cs-validate-condition-body t = (
 
 abbrev cs-validate-conditions : ℕ → validate-conditions-lts.Claims
 cs-validate-conditions t = (
-  has-failed-reads.Asked,
-  has-failed-reads.Learnt,
   behind-reads.Asked,
   behind-reads.Learnt,
   validate-condition-body-below t,
   validate-condition-body.Post,
+  going-reads.Asked,
+  going-reads.Learnt,
 )
 
 abbrev cs-validate-quantifier : ℕ → validate-quantifier-lts.Claims
@@ -134,24 +135,23 @@ cs-validate-quantifier t = (
   bytes-of-reads.Learnt,
   is-wrong-bind-reads.Asked,
   is-wrong-bind-reads.Learnt,
-  require-reads.Asked,
-  require-reads.Learnt,
+  fail-reads.Asked,
+  fail-reads.Learnt,
   validate-references-reads.Asked,
   validate-references-reads.Learnt,
   collection-of-reads.Asked,
   collection-of-reads.Learnt,
   bind-reads.Asked,
   bind-reads.Learnt,
-  pass-reads.Asked,
-  pass-reads.Learnt,
   validate-conditions-below t,
   validate-conditions.Post,
-  fail-reads.Asked,
-  fail-reads.Learnt,
 )
 
+validate-condition-body-going-requires : (t : ℕ) → validate-condition-body-lts.Need-going-requires (cs-validate-condition-body t) (validate-condition-body-at t) validate-condition-body.Post
+validate-condition-body-going-requires t c κs = search needs
+
 validate-condition-body-returns : (t : ℕ) → validate-condition-body-lts.Need-returns (cs-validate-condition-body t) (validate-condition-body-at t) validate-condition-body.Post
-validate-condition-body-returns t c = body-zero (c .if1 .taken)
+validate-condition-body-returns t c = rw (c .going .ensures) (body-zero (c .before .if1 .taken))
 
 validate-condition-body-start-of-requires : (t : ℕ) → validate-condition-body-lts.Need-start-of-requires (cs-validate-condition-body t) (validate-condition-body-at t) validate-condition-body.Post
 validate-condition-body-start-of-requires t c κs = search needs
@@ -159,44 +159,57 @@ validate-condition-body-start-of-requires t c κs = search needs
 validate-condition-body-operator-at-requires : (t : ℕ) → validate-condition-body-lts.Need-operator-at-requires (cs-validate-condition-body t) (validate-condition-body-at t) validate-condition-body.Post
 validate-condition-body-operator-at-requires t c κs = search needs
 
-validate-condition-body-validate-operator-requires : (t : ℕ) → validate-condition-body-lts.Need-validate-operator-requires (cs-validate-condition-body t) (validate-condition-body-at t) validate-condition-body.Post
-validate-condition-body-validate-operator-requires t c κs = (record { fits = omega (arith, c .before .before .before .before .before .before .pre .1 .0 .fits, c .before .before .before .before .before .before .pre .1 .1, c .before .before .before .before .before .before .pre .1 .2) }, omega (arith, c .before .before .before .before .before .before .pre .1 .0 .fits, c .before .before .before .before .before .before .pre .1 .1, c .before .before .before .before .before .before .pre .1 .2))
+validate-condition-body-validate-entry-requires : (t : ℕ) → validate-condition-body-lts.Need-validate-entry-requires (cs-validate-condition-body t) (validate-condition-body-at t) validate-condition-body.Post
+validate-condition-body-validate-entry-requires t c κs = (record { fits = omega (arith, c .before .before .before .before .before .before .pre .1 .0 .fits, c .before .before .before .before .before .before .pre .1 .1, c .before .before .before .before .before .before .pre .1 .2) }, omega (arith, c .before .before .before .before .before .before .pre .1 .0 .fits, c .before .before .before .before .before .before .pre .1 .1, c .before .before .before .before .before .before .pre .1 .2))
+
+validate-condition-body-enum-told : (t : ℕ) → validate-condition-body-lts.Need-enum-told (cs-validate-condition-body t) (validate-condition-body-at t) validate-condition-body.Post
+validate-condition-body-enum-told t c = search needs
+
+validate-condition-body-enum-told-2 : (t : ℕ) → validate-condition-body-lts.Need-enum-told-2 (cs-validate-condition-body t) (validate-condition-body-at t) validate-condition-body.Post
+validate-condition-body-enum-told-2 t c = search needs
 
 validate-condition-body-returns-2 : (t : ℕ) → validate-condition-body-lts.Need-returns-2 (cs-validate-condition-body t) (validate-condition-body-at t) validate-condition-body.Post
 validate-condition-body-returns-2 t c =
-    body-judged (c .before .before .before .before .before .before .before .before .args .schema .now) (c .before .before .before .before .before .before .before .before .args .rule .now) (c .before .before .before .before .before .before .before .before .args .words .now) (c .before .before .before .before .before .before .before .before .args .scope) (c .before .before .before .before .before .before .before .before .args .over) (c .before .before .before .before .before .before .before .before .args .i) (c .before .before .before .before .before .before .before .before .args .end) (c .before .before .before .before .before .before .before .before .args .left) _ (c .before .before .before .before .if1 .left) (c .before .before .before .start-of .ensures) (c .before .before .operator-at .ensures) (c .before .validate-operator .ensures)
-    (inner-literal (omega (arith, c .if2 .taken)))
-    (omega (arith, c .before .before .before .before .before .before .before .before .pre .1 .1, c .before .validate-operator .ensures .atMost))
+    body-judged (c .before .before .before .before .before .before .before .before .before .args .schema .now) (c .before .before .before .before .before .before .before .before .before .args .rule .now) (c .before .before .before .before .before .before .before .before .before .args .words .now) (c .before .before .before .before .before .before .before .before .before .args .scope) (c .before .before .before .before .before .before .before .before .before .args .over) (c .before .before .before .before .before .before .before .before .before .args .i) (c .before .before .before .before .before .before .before .before .before .args .end) (c .before .before .before .before .before .before .before .before .before .args .left) _ (c .before .before .before .before .before .if1 .left) (c .before .before .before .before .start-of .ensures) (c .before .before .before .operator-at .ensures) (c .before .before .validate-entry .ensures)
+    (inner-stopped (c .enum-told2 .given .1))
+    (omega (arith, c .before .before .before .before .before .before .before .before .before .pre .1 .1, c .before .before .validate-entry .ensures .operator .atMost, c .before .before .validate-entry .ensures .nonempty .atMost))
 
-validate-condition-body-validate-nonempty-requires : (t : ℕ) → validate-condition-body-lts.Need-validate-nonempty-requires (cs-validate-condition-body t) (validate-condition-body-at t) validate-condition-body.Post
-validate-condition-body-validate-nonempty-requires t c κs = (record { fits = omega (arith, c .before .before .before .before .before .before .before .before .before .pre .1 .0 .fits, c .before .before .before .before .before .before .before .before .before .pre .1 .1, c .before .before .before .before .before .before .before .before .before .pre .1 .2, c .before .before .validate-operator .ensures .atMost) }, omega (arith, c .before .before .before .before .before .before .before .before .before .pre .1 .0 .fits, c .before .before .before .before .before .before .before .before .before .pre .1 .1, c .before .before .before .before .before .before .before .before .before .pre .1 .2))
-
-validate-condition-body-add-validate-conditions : (t : ℕ) → validate-condition-body-lts.Need-add-validate-conditions (cs-validate-condition-body t) (validate-condition-body-at t) validate-condition-body.Post
-validate-condition-body-add-validate-conditions t c = omega (arith, c .before .before .before .before .before .before .before .before .before .before .pre .1 .0 .fits, c .before .before .before .before .before .before .before .before .before .before .pre .1 .1, c .before .before .before .before .before .before .before .before .before .before .pre .1 .2)
-
-validate-condition-body-sub-validate-conditions : (t : ℕ) → validate-condition-body-lts.Need-sub-validate-conditions (cs-validate-condition-body t) (validate-condition-body-at t) validate-condition-body.Post
-validate-condition-body-sub-validate-conditions t c = omega (arith, c .before .before .before .before .before .before .if1 .left)
-
-validate-condition-body-validate-conditions-requires : (t : ℕ) → validate-condition-body-lts.Need-validate-conditions-requires (cs-validate-condition-body t) (validate-condition-body-at t) validate-condition-body.Post
-validate-condition-body-validate-conditions-requires t c κs = (omega (arith, c .before .before .before .before .before .before .before .before .before .before .pre .0, c .before .before .before .before .before .before .if1 .left), (record { fits = omega (arith, c .before .before .before .before .before .before .before .before .before .before .pre .1 .0 .fits, c .before .before .before .before .before .before .before .before .before .before .pre .1 .1, c .before .before .before .before .before .before .before .before .before .before .pre .1 .2, c .before .before .before .validate-operator .ensures .atMost, c .validate-nonempty .ensures .atMost) }, c .before .before .before .before .before .before .before .before .before .before .pre .1 .2))
+validate-condition-body-going-requires-2 : (t : ℕ) → validate-condition-body-lts.Need-going-requires-2 (cs-validate-condition-body t) (validate-condition-body-at t) validate-condition-body.Post
+validate-condition-body-going-requires-2 t c κs = search needs
 
 validate-condition-body-returns-3 : (t : ℕ) → validate-condition-body-lts.Need-returns-3 (cs-validate-condition-body t) (validate-condition-body-at t) validate-condition-body.Post
 validate-condition-body-returns-3 t c =
-    body-judged (c .before .before .before .before .before .before .before .before .before .before .before .args .schema .now) (c .before .before .before .before .before .before .before .before .before .before .before .args .rule .now) (c .before .before .before .before .before .before .before .before .before .before .before .args .words .now) (c .before .before .before .before .before .before .before .before .before .before .before .args .scope) (c .before .before .before .before .before .before .before .before .before .before .before .args .over) (c .before .before .before .before .before .before .before .before .before .before .before .args .i) (c .before .before .before .before .before .before .before .before .before .before .before .args .end) (c .before .before .before .before .before .before .before .before .before .before .before .args .left) _ (c .before .before .before .before .before .before .before .if1 .left) (c .before .before .before .before .before .before .start-of .ensures) (c .before .before .before .before .before .operator-at .ensures) (c .before .before .before .before .validate-operator .ensures)
-    (inner-conditions (omega (arith, c .before .before .before .if2 .left)) (omega (arith, c .before .before .if3 .taken)) (c .before .validate-nonempty .ensures) (c .validate-conditions .ensures))
-    (omega (arith, c .before .before .before .before .before .before .before .before .before .before .before .pre .1 .1, c .before .before .before .before .validate-operator .ensures .atMost, c .before .validate-nonempty .ensures .atMost, c .validate-conditions .ensures .atMost))
+    rw (c .going2 .ensures)
+    (body-judged (c .before .before .before .before .before .before .before .before .before .before .before .args .schema .now) (c .before .before .before .before .before .before .before .before .before .before .before .args .rule .now) (c .before .before .before .before .before .before .before .before .before .before .before .args .words .now) (c .before .before .before .before .before .before .before .before .before .before .before .args .scope) (c .before .before .before .before .before .before .before .before .before .before .before .args .over) (c .before .before .before .before .before .before .before .before .before .before .before .args .i) (c .before .before .before .before .before .before .before .before .before .before .before .args .end) (c .before .before .before .before .before .before .before .before .before .before .before .args .left) _ (c .before .before .before .before .before .before .before .if1 .left) (c .before .before .before .before .before .before .start-of .ensures) (c .before .before .before .before .before .operator-at .ensures) (goes-passed (EntryJudged _ _ _ _ _ _) (c .before .before .enum-told .given .1) (c .before .before .before .before .validate-entry .ensures))
+    (inner-literal (omega (arith, c .before .if2 .taken)))
+    (omega (arith, c .before .before .before .before .before .before .before .before .before .before .before .pre .1 .1, c .before .before .before .before .validate-entry .ensures .operator .atMost, c .before .before .before .before .validate-entry .ensures .nonempty .atMost)))
 
-validate-condition-body-add-validate-operands : (t : ℕ) → validate-condition-body-lts.Need-add-validate-operands (cs-validate-condition-body t) (validate-condition-body-at t) validate-condition-body.Post
-validate-condition-body-add-validate-operands t c = omega (arith, c .before .before .before .before .before .before .before .before .before .before .pre .1 .0 .fits, c .before .before .before .before .before .before .before .before .before .before .pre .1 .1, c .before .before .before .before .before .before .before .before .before .before .pre .1 .2)
+validate-condition-body-add-validate-conditions : (t : ℕ) → validate-condition-body-lts.Need-add-validate-conditions (cs-validate-condition-body t) (validate-condition-body-at t) validate-condition-body.Post
+validate-condition-body-add-validate-conditions t c = omega (arith, c .before .before .before .before .before .before .before .before .before .before .before .pre .1 .0 .fits, c .before .before .before .before .before .before .before .before .before .before .before .pre .1 .1, c .before .before .before .before .before .before .before .before .before .before .before .pre .1 .2)
 
-validate-condition-body-validate-operands-requires : (t : ℕ) → validate-condition-body-lts.Need-validate-operands-requires (cs-validate-condition-body t) (validate-condition-body-at t) validate-condition-body.Post
-validate-condition-body-validate-operands-requires t c κs = (record { fits = omega (arith, c .before .before .before .before .before .before .before .before .before .before .pre .1 .0 .fits, c .before .before .before .before .before .before .before .before .before .before .pre .1 .1, c .before .before .before .before .before .before .before .before .before .before .pre .1 .2, c .before .before .before .validate-operator .ensures .atMost) }, omega (arith, c .before .before .before .before .before .before .before .before .before .before .pre .1 .1), c .before .before .before .before .before .before .before .before .before .before .pre .1 .2)
+validate-condition-body-sub-validate-conditions : (t : ℕ) → validate-condition-body-lts.Need-sub-validate-conditions (cs-validate-condition-body t) (validate-condition-body-at t) validate-condition-body.Post
+validate-condition-body-sub-validate-conditions t c = omega (arith, c .before .before .before .before .before .before .before .if1 .left)
+
+validate-condition-body-validate-conditions-requires : (t : ℕ) → validate-condition-body-lts.Need-validate-conditions-requires (cs-validate-condition-body t) (validate-condition-body-at t) validate-condition-body.Post
+validate-condition-body-validate-conditions-requires t c κs = (omega (arith, c .before .before .before .before .before .before .before .before .before .before .before .pre .0, c .before .before .before .before .before .before .before .if1 .left), (record { fits = omega (arith, c .before .before .before .before .before .before .before .before .before .before .before .pre .1 .0 .fits, c .before .before .before .before .before .before .before .before .before .before .before .pre .1 .1, c .before .before .before .before .before .before .before .before .before .before .before .pre .1 .2, c .before .before .before .before .validate-entry .ensures .operator .atMost, c .before .before .before .before .validate-entry .ensures .nonempty .atMost) }, c .before .before .before .before .before .before .before .before .before .before .before .pre .1 .2))
 
 validate-condition-body-returns-4 : (t : ℕ) → validate-condition-body-lts.Need-returns-4 (cs-validate-condition-body t) (validate-condition-body-at t) validate-condition-body.Post
 validate-condition-body-returns-4 t c =
-    body-judged (c .before .before .before .before .before .before .before .before .before .before .before .args .schema .now) (c .before .before .before .before .before .before .before .before .before .before .before .args .rule .now) (c .before .before .before .before .before .before .before .before .before .before .before .args .words .now) (c .before .before .before .before .before .before .before .before .before .before .before .args .scope) (c .before .before .before .before .before .before .before .before .before .before .before .args .over) (c .before .before .before .before .before .before .before .before .before .before .before .args .i) (c .before .before .before .before .before .before .before .before .before .before .before .args .end) (c .before .before .before .before .before .before .before .before .before .before .before .args .left) _ (c .before .before .before .before .before .before .before .if1 .left) (c .before .before .before .before .before .before .start-of .ensures) (c .before .before .before .before .before .operator-at .ensures) (c .before .before .before .before .validate-operator .ensures)
+    body-judged (c .before .before .before .before .before .before .before .before .before .before .before .before .args .schema .now) (c .before .before .before .before .before .before .before .before .before .before .before .before .args .rule .now) (c .before .before .before .before .before .before .before .before .before .before .before .before .args .words .now) (c .before .before .before .before .before .before .before .before .before .before .before .before .args .scope) (c .before .before .before .before .before .before .before .before .before .before .before .before .args .over) (c .before .before .before .before .before .before .before .before .before .before .before .before .args .i) (c .before .before .before .before .before .before .before .before .before .before .before .before .args .end) (c .before .before .before .before .before .before .before .before .before .before .before .before .args .left) _ (c .before .before .before .before .before .before .before .before .if1 .left) (c .before .before .before .before .before .before .before .start-of .ensures) (c .before .before .before .before .before .before .operator-at .ensures) (goes-passed (EntryJudged _ _ _ _ _ _) (c .before .before .before .enum-told .given .1) (c .before .before .before .before .before .validate-entry .ensures))
+    (inner-conditions (omega (arith, c .before .before .if2 .left)) (omega (arith, c .before .if3 .taken)) (c .validate-conditions .ensures))
+    (omega (arith, c .before .before .before .before .before .before .before .before .before .before .before .before .pre .1 .1, c .before .before .before .before .before .validate-entry .ensures .operator .atMost, c .before .before .before .before .before .validate-entry .ensures .nonempty .atMost, c .validate-conditions .ensures .atMost))
+
+validate-condition-body-add-validate-operands : (t : ℕ) → validate-condition-body-lts.Need-add-validate-operands (cs-validate-condition-body t) (validate-condition-body-at t) validate-condition-body.Post
+validate-condition-body-add-validate-operands t c = omega (arith, c .before .before .before .before .before .before .before .before .before .before .before .before .pre .1 .0 .fits, c .before .before .before .before .before .before .before .before .before .before .before .before .pre .1 .1, c .before .before .before .before .before .before .before .before .before .before .before .before .pre .1 .2)
+
+validate-condition-body-validate-operands-requires : (t : ℕ) → validate-condition-body-lts.Need-validate-operands-requires (cs-validate-condition-body t) (validate-condition-body-at t) validate-condition-body.Post
+validate-condition-body-validate-operands-requires t c κs = (record { fits = omega (arith, c .before .before .before .before .before .before .before .before .before .before .before .before .pre .1 .0 .fits, c .before .before .before .before .before .before .before .before .before .before .before .before .pre .1 .1, c .before .before .before .before .before .before .before .before .before .before .before .before .pre .1 .2, c .before .before .before .before .before .validate-entry .ensures .operator .atMost, c .before .before .before .before .before .validate-entry .ensures .nonempty .atMost) }, omega (arith, c .before .before .before .before .before .before .before .before .before .before .before .before .pre .1 .1), c .before .before .before .before .before .before .before .before .before .before .before .before .pre .1 .2)
+
+validate-condition-body-returns-5 : (t : ℕ) → validate-condition-body-lts.Need-returns-5 (cs-validate-condition-body t) (validate-condition-body-at t) validate-condition-body.Post
+validate-condition-body-returns-5 t c =
+    body-judged (c .before .before .before .before .before .before .before .before .before .before .before .before .before .args .schema .now) (c .before .before .before .before .before .before .before .before .before .before .before .before .before .args .rule .now) (c .before .before .before .before .before .before .before .before .before .before .before .before .before .args .words .now) (c .before .before .before .before .before .before .before .before .before .before .before .before .before .args .scope) (c .before .before .before .before .before .before .before .before .before .before .before .before .before .args .over) (c .before .before .before .before .before .before .before .before .before .before .before .before .before .args .i) (c .before .before .before .before .before .before .before .before .before .before .before .before .before .args .end) (c .before .before .before .before .before .before .before .before .before .before .before .before .before .args .left) _ (c .before .before .before .before .before .before .before .before .before .if1 .left) (c .before .before .before .before .before .before .before .before .start-of .ensures) (c .before .before .before .before .before .before .before .operator-at .ensures) (goes-passed (EntryJudged _ _ _ _ _ _) (c .before .before .before .before .enum-told .given .1) (c .before .before .before .before .before .before .validate-entry .ensures))
     (inner-operands (omega (arith, c .before .before .if3 .left)) (omega (arith, c .before .if4 .taken)) (c .validate-operands .ensures))
-    (omega (arith, c .before .before .before .before .before .before .before .before .before .before .before .pre .1 .1, c .before .before .before .before .validate-operator .ensures .atMost, c .validate-operands .ensures .atMost))
+    (omega (arith, c .before .before .before .before .before .before .before .before .before .before .before .before .before .pre .1 .1, c .before .before .before .before .before .before .validate-entry .ensures .operator .atMost, c .before .before .before .before .before .before .validate-entry .ensures .nonempty .atMost, c .validate-operands .ensures .atMost))
 
 validate-condition-body-bind-of-requires : (t : ℕ) → validate-condition-body-lts.Need-bind-of-requires (cs-validate-condition-body t) (validate-condition-body-at t) validate-condition-body.Post
 validate-condition-body-bind-of-requires t c κs = search needs
@@ -204,89 +217,70 @@ validate-condition-body-bind-of-requires t c κs = search needs
 validate-condition-body-enum-known-name : (t : ℕ) → validate-condition-body-lts.Need-enum-known-name (cs-validate-condition-body t) (validate-condition-body-at t) validate-condition-body.Post
 validate-condition-body-enum-known-name t c = search needs
 
-validate-condition-body-enum-told : (t : ℕ) → validate-condition-body-lts.Need-enum-told (cs-validate-condition-body t) (validate-condition-body-at t) validate-condition-body.Post
-validate-condition-body-enum-told t c = search needs
+validate-condition-body-enum-told-3 : (t : ℕ) → validate-condition-body-lts.Need-enum-told-3 (cs-validate-condition-body t) (validate-condition-body-at t) validate-condition-body.Post
+validate-condition-body-enum-told-3 t c = search needs
 
-validate-condition-body-returns-5 : (t : ℕ) → validate-condition-body-lts.Need-returns-5 (cs-validate-condition-body t) (validate-condition-body-at t) validate-condition-body.Post
-validate-condition-body-returns-5 t c =
-    body-judged (c .before .before .before .before .before .before .before .before .before .before .before .before .before .args .schema .now) (c .before .before .before .before .before .before .before .before .before .before .before .before .before .args .rule .now) (c .before .before .before .before .before .before .before .before .before .before .before .before .before .args .words .now) (c .before .before .before .before .before .before .before .before .before .before .before .before .before .args .scope) (c .before .before .before .before .before .before .before .before .before .before .before .before .before .args .over) (c .before .before .before .before .before .before .before .before .before .before .before .before .before .args .i) (c .before .before .before .before .before .before .before .before .before .before .before .before .before .args .end) (c .before .before .before .before .before .before .before .before .before .before .before .before .before .args .left) _ (c .before .before .before .before .before .before .before .before .before .if1 .left) (c .before .before .before .before .before .before .before .before .start-of .ensures) (c .before .before .before .before .before .before .before .operator-at .ensures) (c .before .before .before .before .before .before .validate-operator .ensures)
-    (inner-unbound (omega (arith, c .before .before .before .if4 .left)) (c .before .before .bind-of .ensures) (c .enum-told .given .1))
-    (omega (arith, c .before .before .before .before .before .before .before .before .before .before .before .before .before .pre .1 .1, c .before .before .before .before .before .before .validate-operator .ensures .atMost))
-
-validate-condition-body-sub-validate-quantifier : (t : ℕ) → validate-condition-body-lts.Need-sub-validate-quantifier (cs-validate-condition-body t) (validate-condition-body-at t) validate-condition-body.Post
-validate-condition-body-sub-validate-quantifier t c = omega (arith, c .before .before .before .before .before .before .before .before .before .before .if1 .left)
-
-validate-condition-body-validate-quantifier-requires : (t : ℕ) → validate-condition-body-lts.Need-validate-quantifier-requires (cs-validate-condition-body t) (validate-condition-body-at t) validate-condition-body.Post
-validate-condition-body-validate-quantifier-requires t c κs = (omega (arith, c .before .before .before .before .before .before .before .before .before .before .before .before .before .before .pre .0, c .before .before .before .before .before .before .before .before .before .before .if1 .left), (record { fits = omega (arith, c .before .before .before .before .before .before .before .before .before .before .before .before .before .before .pre .1 .0 .fits, c .before .before .before .before .before .before .before .before .before .before .before .before .before .before .pre .1 .1, c .before .before .before .before .before .before .before .before .before .before .before .before .before .before .pre .1 .2, c .before .before .before .before .before .before .before .validate-operator .ensures .atMost) }, c .before .before .before .before .before .before .before .before .before .before .before .before .before .before .pre .1 .1, c .before .before .before .before .before .before .before .before .before .before .before .before .before .before .pre .1 .2))
+validate-condition-body-going-requires-3 : (t : ℕ) → validate-condition-body-lts.Need-going-requires-3 (cs-validate-condition-body t) (validate-condition-body-at t) validate-condition-body.Post
+validate-condition-body-going-requires-3 t c κs = search needs
 
 validate-condition-body-returns-6 : (t : ℕ) → validate-condition-body-lts.Need-returns-6 (cs-validate-condition-body t) (validate-condition-body-at t) validate-condition-body.Post
 validate-condition-body-returns-6 t c =
-    body-judged (c .before .before .before .before .before .before .before .before .before .before .before .before .before .before .before .args .schema .now) (c .before .before .before .before .before .before .before .before .before .before .before .before .before .before .before .args .rule .now) (c .before .before .before .before .before .before .before .before .before .before .before .before .before .before .before .args .words .now) (c .before .before .before .before .before .before .before .before .before .before .before .before .before .before .before .args .scope) (c .before .before .before .before .before .before .before .before .before .before .before .before .before .before .before .args .over) (c .before .before .before .before .before .before .before .before .before .before .before .before .before .before .before .args .i) (c .before .before .before .before .before .before .before .before .before .before .before .before .before .before .before .args .end) (c .before .before .before .before .before .before .before .before .before .before .before .before .before .before .before .args .left) _ (c .before .before .before .before .before .before .before .before .before .before .before .if1 .left) (c .before .before .before .before .before .before .before .before .before .before .start-of .ensures) (c .before .before .before .before .before .before .before .before .before .operator-at .ensures) (c .before .before .before .before .before .before .before .before .validate-operator .ensures)
+    rw (c .going3 .ensures)
+    (body-judged (c .before .before .before .before .before .before .before .before .before .before .before .before .before .before .before .before .args .schema .now) (c .before .before .before .before .before .before .before .before .before .before .before .before .before .before .before .before .args .rule .now) (c .before .before .before .before .before .before .before .before .before .before .before .before .before .before .before .before .args .words .now) (c .before .before .before .before .before .before .before .before .before .before .before .before .before .before .before .before .args .scope) (c .before .before .before .before .before .before .before .before .before .before .before .before .before .before .before .before .args .over) (c .before .before .before .before .before .before .before .before .before .before .before .before .before .before .before .before .args .i) (c .before .before .before .before .before .before .before .before .before .before .before .before .before .before .before .before .args .end) (c .before .before .before .before .before .before .before .before .before .before .before .before .before .before .before .before .args .left) _ (c .before .before .before .before .before .before .before .before .before .before .before .before .if1 .left) (c .before .before .before .before .before .before .before .before .before .before .before .start-of .ensures) (c .before .before .before .before .before .before .before .before .before .before .operator-at .ensures) (goes-passed (EntryJudged _ _ _ _ _ _) (c .before .before .before .before .before .before .before .enum-told .given .1) (c .before .before .before .before .before .before .before .before .before .validate-entry .ensures))
+    (inner-unbound (omega (arith, c .before .before .before .before .if4 .left)) (c .before .before .before .bind-of .ensures) (c .before .enum-told3 .given .1))
+    (omega (arith, c .before .before .before .before .before .before .before .before .before .before .before .before .before .before .before .before .pre .1 .1, c .before .before .before .before .before .before .before .before .before .validate-entry .ensures .operator .atMost, c .before .before .before .before .before .before .before .before .before .validate-entry .ensures .nonempty .atMost)))
+
+validate-condition-body-sub-validate-quantifier : (t : ℕ) → validate-condition-body-lts.Need-sub-validate-quantifier (cs-validate-condition-body t) (validate-condition-body-at t) validate-condition-body.Post
+validate-condition-body-sub-validate-quantifier t c = omega (arith, c .before .before .before .before .before .before .before .before .before .before .before .before .if1 .left)
+
+validate-condition-body-validate-quantifier-requires : (t : ℕ) → validate-condition-body-lts.Need-validate-quantifier-requires (cs-validate-condition-body t) (validate-condition-body-at t) validate-condition-body.Post
+validate-condition-body-validate-quantifier-requires t c κs = (omega (arith, c .before .before .before .before .before .before .before .before .before .before .before .before .before .before .before .before .pre .0, c .before .before .before .before .before .before .before .before .before .before .before .before .if1 .left), (record { fits = omega (arith, c .before .before .before .before .before .before .before .before .before .before .before .before .before .before .before .before .pre .1 .0 .fits, c .before .before .before .before .before .before .before .before .before .before .before .before .before .before .before .before .pre .1 .1, c .before .before .before .before .before .before .before .before .before .before .before .before .before .before .before .before .pre .1 .2, c .before .before .before .before .before .before .before .before .before .validate-entry .ensures .operator .atMost, c .before .before .before .before .before .before .before .before .before .validate-entry .ensures .nonempty .atMost) }, c .before .before .before .before .before .before .before .before .before .before .before .before .before .before .before .before .pre .1 .1, c .before .before .before .before .before .before .before .before .before .before .before .before .before .before .before .before .pre .1 .2))
+
+validate-condition-body-returns-7 : (t : ℕ) → validate-condition-body-lts.Need-returns-7 (cs-validate-condition-body t) (validate-condition-body-at t) validate-condition-body.Post
+validate-condition-body-returns-7 t c =
+    body-judged (c .before .before .before .before .before .before .before .before .before .before .before .before .before .before .before .before .before .args .schema .now) (c .before .before .before .before .before .before .before .before .before .before .before .before .before .before .before .before .before .args .rule .now) (c .before .before .before .before .before .before .before .before .before .before .before .before .before .before .before .before .before .args .words .now) (c .before .before .before .before .before .before .before .before .before .before .before .before .before .before .before .before .before .args .scope) (c .before .before .before .before .before .before .before .before .before .before .before .before .before .before .before .before .before .args .over) (c .before .before .before .before .before .before .before .before .before .before .before .before .before .before .before .before .before .args .i) (c .before .before .before .before .before .before .before .before .before .before .before .before .before .before .before .before .before .args .end) (c .before .before .before .before .before .before .before .before .before .before .before .before .before .before .before .before .before .args .left) _ (c .before .before .before .before .before .before .before .before .before .before .before .before .before .if1 .left) (c .before .before .before .before .before .before .before .before .before .before .before .before .start-of .ensures) (c .before .before .before .before .before .before .before .before .before .before .before .operator-at .ensures) (goes-passed (EntryJudged _ _ _ _ _ _) (c .before .before .before .before .before .before .before .before .enum-told .given .1) (c .before .before .before .before .before .before .before .before .before .before .validate-entry .ensures))
     (inner-quantifier (omega (arith, c .before .before .before .before .before .if4 .left)) (c .before .before .before .before .bind-of .ensures) (c .before .before .name .given .1) (c .validate-quantifier .ensures))
-    (omega (arith, c .before .before .before .before .before .before .before .before .before .before .before .before .before .before .before .pre .1 .1, c .before .before .before .before .before .before .before .before .validate-operator .ensures .atMost, c .validate-quantifier .ensures .atMost))
+    (omega (arith, c .before .before .before .before .before .before .before .before .before .before .before .before .before .before .before .before .before .pre .1 .1, c .before .before .before .before .before .before .before .before .before .before .validate-entry .ensures .operator .atMost, c .before .before .before .before .before .before .before .before .before .before .validate-entry .ensures .nonempty .atMost, c .validate-quantifier .ensures .atMost))
 
 abbrev validate-conditions-Inv-loop : validate-conditions-lts.InvT-loop
-validate-conditions-Inv-loop schema rule words scope over start end left so-far₀ i₀ so-far i = (start ≤ i) × (i - start ≤ end - start) × BodiesLeft (frame schema rule words scope over) start i end left so-far₀ so-far
+validate-conditions-Inv-loop passed schema rule words scope over start end left so-far₀ i₀ so-far i = (start ≤ i) × (i - start ≤ end - start) × BodiesLeft (frame schema rule words scope over) start i end left (going so-far₀) (going so-far)
 
 abbrev validate-conditions-μ-loop : validate-conditions-lts.MeasureT-loop
-validate-conditions-μ-loop schema rule words scope over start end left so-far₀ i₀ so-far i = end - i
+validate-conditions-μ-loop passed schema rule words scope over start end left so-far₀ i₀ so-far i = end - i
 
-validate-conditions-loop-holds : (t : ℕ) → validate-conditions-lts.Need-loop-holds (cs-validate-conditions t)
-    (validate-conditions-at t)
-    validate-conditions.Post
-    validate-conditions-Inv-loop
-    validate-conditions-μ-loop
+validate-conditions-loop-holds : (t : ℕ) → validate-conditions-lts.Need-loop-holds (cs-validate-conditions t) (validate-conditions-at t) validate-conditions.Post validate-conditions-Inv-loop validate-conditions-μ-loop
 validate-conditions-loop-holds t c = (omega arith, omega arith, bodies-begin)
 
-validate-conditions-has-failed-requires : (t : ℕ) → validate-conditions-lts.Need-has-failed-requires (cs-validate-conditions t)
-    (validate-conditions-at t)
-    validate-conditions.Post
-    validate-conditions-Inv-loop
-    validate-conditions-μ-loop
-validate-conditions-has-failed-requires t c κs = search needs
-
-validate-conditions-returns : (t : ℕ) → validate-conditions-lts.Need-returns (cs-validate-conditions t)
-    (validate-conditions-at t)
-    validate-conditions.Post
-    validate-conditions-Inv-loop
-    validate-conditions-μ-loop
-validate-conditions-returns t c = bodies-stopped (rw (c .if1 .taken) at (c .before .has-failed .ensures)) (c .before .before .before .loop .inv .1) (c .before .before .before .loop .inv .2)
-
-validate-conditions-behind-requires : (t : ℕ) → validate-conditions-lts.Need-behind-requires (cs-validate-conditions t)
-    (validate-conditions-at t)
-    validate-conditions.Post
-    validate-conditions-Inv-loop
-    validate-conditions-μ-loop
+validate-conditions-behind-requires : (t : ℕ) → validate-conditions-lts.Need-behind-requires (cs-validate-conditions t) (validate-conditions-at t) validate-conditions.Post validate-conditions-Inv-loop validate-conditions-μ-loop
 validate-conditions-behind-requires t c κs = search needs
 
-validate-conditions-validate-condition-body-requires :
-    (t : ℕ) → validate-conditions-lts.Need-validate-condition-body-requires (cs-validate-conditions t)
-    (validate-conditions-at t)
-    validate-conditions.Post
-    validate-conditions-Inv-loop
-    validate-conditions-μ-loop
-validate-conditions-validate-condition-body-requires t c κs = (omega (arith, c .before .before .before .before .before .before .before .before .pre .0), (record { fits = omega (arith, c .before .before .before .before .loop .inv .0, c .before .before .before .before .loop .inv .2 .atMost, c .before .before .before .before .before .before .before .before .pre .1 .0 .fits, c .behind .ensures .most) }, c .behind .ensures .past (c .before .before .before .loop-test .taken), omega (arith, c .behind .ensures .most, c .before .before .before .before .before .before .before .before .pre .1 .1)))
+validate-conditions-validate-condition-body-requires : (t : ℕ) → validate-conditions-lts.Need-validate-condition-body-requires (cs-validate-conditions t) (validate-conditions-at t) validate-conditions.Post validate-conditions-Inv-loop validate-conditions-μ-loop
+validate-conditions-validate-condition-body-requires t c κs = (omega (arith, c .before .before .before .before .before .before .pre .0), (record { fits = omega (arith, c .before .before .loop .inv .0, c .before .before .loop .inv .2 .atMost, c .before .before .before .before .before .before .pre .1 .0 .fits, c .behind .ensures .most) }, c .behind .ensures .past (c .before .loop-test .taken), omega (arith, c .behind .ensures .most, c .before .before .before .before .before .before .pre .1 .1)))
 
-validate-conditions-loop-less : (t : ℕ) → validate-conditions-lts.Need-loop-less (cs-validate-conditions t)
-    (validate-conditions-at t)
-    validate-conditions.Post
-    validate-conditions-Inv-loop
-    validate-conditions-μ-loop
-validate-conditions-loop-less t c = omega (arith, c .before .behind .ensures .past (c .before .before .before .before .loop-test .taken))
+validate-conditions-enum-told : (t : ℕ) → validate-conditions-lts.Need-enum-told (cs-validate-conditions t) (validate-conditions-at t) validate-conditions.Post validate-conditions-Inv-loop validate-conditions-μ-loop
+validate-conditions-enum-told t c = search needs
 
-validate-conditions-loop-again : (t : ℕ) → validate-conditions-lts.Need-loop-again (cs-validate-conditions t)
-    (validate-conditions-at t)
-    validate-conditions.Post
-    validate-conditions-Inv-loop
-    validate-conditions-μ-loop
-validate-conditions-loop-again t c = (omega (arith, c .before .behind .ensures .past (c .before .before .before .before .loop-test .taken), c .before .before .before .before .before .loop .inv .0), omega (arith, c .before .behind .ensures .most), bodies-next (c .before .before .before .before .loop-test .taken) (c .before .behind .ensures) (c .validate-condition-body .ensures) (c .before .before .before .before .before .loop .inv .0) (c .before .before .before .before .before .loop .inv .2))
+validate-conditions-enum-told-2 : (t : ℕ) → validate-conditions-lts.Need-enum-told-2 (cs-validate-conditions t) (validate-conditions-at t) validate-conditions.Post validate-conditions-Inv-loop validate-conditions-μ-loop
+validate-conditions-enum-told-2 t c = search needs
 
-validate-conditions-returns-2 : (t : ℕ) → validate-conditions-lts.Need-returns-2 (cs-validate-conditions t)
-    (validate-conditions-at t)
-    validate-conditions.Post
-    validate-conditions-Inv-loop
-    validate-conditions-μ-loop
-validate-conditions-returns-2 t c = bodies-all (c .loop-test .left) (c .before .loop .inv .1) (c .before .loop .inv .2)
+validate-conditions-returns : (t : ℕ) → validate-conditions-lts.Need-returns (cs-validate-conditions t) (validate-conditions-at t) validate-conditions.Post validate-conditions-Inv-loop validate-conditions-μ-loop
+validate-conditions-returns t c = bodies-stopped (c .enum-told2 .given .1) (omega (arith, c .before .before .before .behind .ensures .most)) (bodies-next (c .before .before .before .before .loop-test .taken) (c .before .before .before .behind .ensures) (c .before .before .validate-condition-body .ensures) (c .before .before .before .before .before .loop .inv .0) (c .before .before .before .before .before .loop .inv .2))
+
+validate-conditions-loop-less : (t : ℕ) → validate-conditions-lts.Need-loop-less (cs-validate-conditions t) (validate-conditions-at t) validate-conditions.Post validate-conditions-Inv-loop validate-conditions-μ-loop
+validate-conditions-loop-less t c = omega (arith, c .before .before .before .behind .ensures .past (c .before .before .before .before .loop-test .taken))
+
+validate-conditions-loop-again : (t : ℕ) → validate-conditions-lts.Need-loop-again (cs-validate-conditions t) (validate-conditions-at t) validate-conditions.Post validate-conditions-Inv-loop validate-conditions-μ-loop
+validate-conditions-loop-again t c = (
+  omega (arith, c .before .before .before .behind .ensures .past (c .before .before .before .before .loop-test .taken), c .before .before .before .before .before .loop .inv .0),
+  omega (arith, c .before .before .before .behind .ensures .most),
+  bodies-next (c .before .before .before .before .loop-test .taken) (c .before .before .before .behind .ensures) (goes-passed (BodyJudged _ _ _ _ _) (c .enum-told .given .1) (c .before .before .validate-condition-body .ensures)) (c .before .before .before .before .before .loop .inv .0) (c .before .before .before .before .before .loop .inv .2),
+)
+
+validate-conditions-going-requires : (t : ℕ) → validate-conditions-lts.Need-going-requires (cs-validate-conditions t) (validate-conditions-at t) validate-conditions.Post validate-conditions-Inv-loop validate-conditions-μ-loop
+validate-conditions-going-requires t c κs = search needs
+
+validate-conditions-returns-2 : (t : ℕ) → validate-conditions-lts.Need-returns-2 (cs-validate-conditions t) (validate-conditions-at t) validate-conditions.Post validate-conditions-Inv-loop validate-conditions-μ-loop
+validate-conditions-returns-2 t c = rw (c .going .ensures) (bodies-all (c .before .loop-test .left) (c .before .before .loop .inv .1) (c .before .before .loop .inv .2))
 
 validate-quantifier-add-start : (t : ℕ) → validate-quantifier-lts.Need-add-start (cs-validate-quantifier t) (validate-quantifier-at t) validate-quantifier.Post
 validate-quantifier-add-start t c = omega (arith, c .before .before .before .pre .1 .0 .fits, c .before .before .before .pre .1 .1, c .before .before .before .pre .1 .2)
@@ -297,22 +291,34 @@ validate-quantifier-behind-requires t c κs = search needs
 validate-quantifier-bytes-of-requires : (t : ℕ) → validate-quantifier-lts.Need-bytes-of-requires (cs-validate-quantifier t) (validate-quantifier-at t) validate-quantifier.Post
 validate-quantifier-bytes-of-requires t c κs = search needs
 
-validate-quantifier-is-wrong-bind-requires :
-    (t : ℕ) → validate-quantifier-lts.Need-is-wrong-bind-requires (cs-validate-quantifier t) (validate-quantifier-at t) validate-quantifier.Post
+validate-quantifier-is-wrong-bind-requires : (t : ℕ) → validate-quantifier-lts.Need-is-wrong-bind-requires (cs-validate-quantifier t) (validate-quantifier-at t) validate-quantifier.Post
 validate-quantifier-is-wrong-bind-requires t c κs = search needs
 
-validate-quantifier-require-requires : (t : ℕ) → validate-quantifier-lts.Need-require-requires (cs-validate-quantifier t) (validate-quantifier-at t) validate-quantifier.Post
-validate-quantifier-require-requires t c κs = record { fits = omega (arith, c .before .before .before .before .before .before .pre .1 .0 .fits, c .before .before .before .before .before .before .pre .1 .1, c .before .before .before .before .before .before .pre .1 .2) }
+validate-quantifier-fail-requires : (t : ℕ) → validate-quantifier-lts.Need-fail-requires (cs-validate-quantifier t) (validate-quantifier-at t) validate-quantifier.Post
+validate-quantifier-fail-requires t c κs = search needs
 
-validate-quantifier-validate-references-requires :
-    (t : ℕ) → validate-quantifier-lts.Need-validate-references-requires (cs-validate-quantifier t) (validate-quantifier-at t) validate-quantifier.Post
-validate-quantifier-validate-references-requires t c κs = (record { fits = omega (arith, c .before .before .before .before .before .before .before .pre .1 .0 .fits, c .before .before .before .before .before .before .before .pre .1 .1, c .before .before .before .before .before .before .before .pre .1 .2, c .before .before .before .behind .ensures .most, c .before .before .before .behind .ensures .least (omega (arith, c .before .before .before .before .before .before .before .pre .1 .1)), c .require .ensures .atMost) }, omega (arith, c .before .before .before .before .before .before .before .pre .1 .0 .fits, c .before .before .before .before .before .before .before .pre .1 .1, c .before .before .before .before .before .before .before .pre .1 .2, c .before .before .before .behind .ensures .most, c .before .before .before .behind .ensures .least (omega (arith, c .before .before .before .before .before .before .before .pre .1 .1))))
+validate-quantifier-returns : (t : ℕ) → validate-quantifier-lts.Need-returns (cs-validate-quantifier t) (validate-quantifier-at t) validate-quantifier.Post
+validate-quantifier-returns t c = quantifier-misnamed (c .before .before .before .before .before .before .before .before .args .name) (c .before .before .before .bytes-of .ensures) (c .before .before .is-wrong-bind .ensures) (c .before .if1 .taken) (c .fail .ensures)
 
-validate-quantifier-add-t24 : (t : ℕ) → validate-quantifier-lts.Need-add-t24 (cs-validate-quantifier t) (validate-quantifier-at t) validate-quantifier.Post
-validate-quantifier-add-t24 t c = omega (arith, c .before .before .before .before .before .before .before .before .pre .1 .0 .fits, c .before .before .before .before .before .before .before .before .pre .1 .1, c .before .before .before .before .before .before .before .before .pre .1 .2)
+validate-quantifier-add-validate-references : (t : ℕ) → validate-quantifier-lts.Need-add-validate-references (cs-validate-quantifier t) (validate-quantifier-at t) validate-quantifier.Post
+validate-quantifier-add-validate-references t c = omega (arith, c .before .before .before .before .before .before .before .pre .1 .0 .fits, c .before .before .before .before .before .before .before .pre .1 .1, c .before .before .before .before .before .before .before .pre .1 .2)
 
-validate-quantifier-collection-of-requires :
-    (t : ℕ) → validate-quantifier-lts.Need-collection-of-requires (cs-validate-quantifier t) (validate-quantifier-at t) validate-quantifier.Post
+validate-quantifier-validate-references-requires : (t : ℕ) → validate-quantifier-lts.Need-validate-references-requires (cs-validate-quantifier t) (validate-quantifier-at t) validate-quantifier.Post
+validate-quantifier-validate-references-requires t c κs = (record { fits = omega (arith, c .before .before .before .before .before .before .before .pre .1 .0 .fits, c .before .before .before .before .before .before .before .pre .1 .1, c .before .before .before .before .before .before .before .pre .1 .2, c .before .before .before .behind .ensures .most, c .before .before .before .behind .ensures .least (omega (arith, c .before .before .before .before .before .before .before .pre .1 .1))) }, omega (arith, c .before .before .before .before .before .before .before .pre .1 .0 .fits, c .before .before .before .before .before .before .before .pre .1 .1, c .before .before .before .before .before .before .before .pre .1 .2, c .before .before .before .behind .ensures .most, c .before .before .before .behind .ensures .least (omega (arith, c .before .before .before .before .before .before .before .pre .1 .1))))
+
+validate-quantifier-enum-told : (t : ℕ) → validate-quantifier-lts.Need-enum-told (cs-validate-quantifier t) (validate-quantifier-at t) validate-quantifier.Post
+validate-quantifier-enum-told t c = search needs
+
+validate-quantifier-enum-told-2 : (t : ℕ) → validate-quantifier-lts.Need-enum-told-2 (cs-validate-quantifier t) (validate-quantifier-at t) validate-quantifier.Post
+validate-quantifier-enum-told-2 t c = search needs
+
+validate-quantifier-returns-2 : (t : ℕ) → validate-quantifier-lts.Need-returns-2 (cs-validate-quantifier t) (validate-quantifier-at t) validate-quantifier.Post
+validate-quantifier-returns-2 t c = quantifier-stopped (c .before .before .before .before .before .before .before .before .before .before .args .schema .now) (c .before .before .before .before .before .before .before .before .before .before .args .rule .now) (c .before .before .before .before .before .before .before .before .before .before .args .words .now) (c .before .before .before .before .before .before .before .before .before .before .args .scope) (c .before .before .before .before .before .before .before .before .before .before .args .over) (c .before .before .before .before .before .before .before .before .before .before .args .name) (c .before .before .before .before .before .before .before .before .before .before .args .i) (c .before .before .before .before .before .before .before .before .before .before .args .end) (c .before .before .before .before .before .before .before .before .before .before .args .left) (c .before .before .before .before .before .before .before .before .before .before .pre .1 .1) (c .before .before .before .before .before .before .behind .ensures) (c .before .before .before .before .before .bytes-of .ensures) (c .before .before .before .before .is-wrong-bind .ensures) (required-right (c .before .before .before .if1 .left) passed-on) (c .before .before .validate-references .ensures) (c .enum-told2 .given .1)
+
+validate-quantifier-add-t25 : (t : ℕ) → validate-quantifier-lts.Need-add-t25 (cs-validate-quantifier t) (validate-quantifier-at t) validate-quantifier.Post
+validate-quantifier-add-t25 t c = omega (arith, c .before .before .before .before .before .before .before .before .before .before .pre .1 .0 .fits, c .before .before .before .before .before .before .before .before .before .before .pre .1 .1, c .before .before .before .before .before .before .before .before .before .before .pre .1 .2)
+
+validate-quantifier-collection-of-requires : (t : ℕ) → validate-quantifier-lts.Need-collection-of-requires (cs-validate-quantifier t) (validate-quantifier-at t) validate-quantifier.Post
 validate-quantifier-collection-of-requires t c κs = search needs
 
 validate-quantifier-enum-known-slot : (t : ℕ) → validate-quantifier-lts.Need-enum-known-slot (cs-validate-quantifier t) (validate-quantifier-at t) validate-quantifier.Post
@@ -321,46 +327,44 @@ validate-quantifier-enum-known-slot t c = search needs
 validate-quantifier-bind-requires : (t : ℕ) → validate-quantifier-lts.Need-bind-requires (cs-validate-quantifier t) (validate-quantifier-at t) validate-quantifier.Post
 validate-quantifier-bind-requires t c κs = search needs
 
-validate-quantifier-pass-requires : (t : ℕ) → validate-quantifier-lts.Need-pass-requires (cs-validate-quantifier t) (validate-quantifier-at t) validate-quantifier.Post
-validate-quantifier-pass-requires t c κs = record { fits = omega (arith, c .before .before .before .before .before .before .before .before .before .before .before .before .before .pre .1 .0 .fits, c .before .before .before .before .before .before .before .before .before .before .before .before .before .pre .1 .1, c .before .before .before .before .before .before .before .before .before .before .before .before .before .pre .1 .2, c .before .before .before .before .before .before .before .before .before .behind .ensures .most, c .before .before .before .before .before .before .before .before .before .behind .ensures .least (omega (arith, c .before .before .before .before .before .before .before .before .before .before .before .before .before .pre .1 .1)), c .before .before .before .before .before .before .require .ensures .atMost, c .before .before .before .before .before .validate-references .ensures .atMost) }
+validate-quantifier-add-validate-conditions : (t : ℕ) → validate-quantifier-lts.Need-add-validate-conditions (cs-validate-quantifier t) (validate-quantifier-at t) validate-quantifier.Post
+validate-quantifier-add-validate-conditions t c = omega (arith, c .before .before .before .before .before .before .before .before .before .before .before .before .before .before .before .pre .1 .0 .fits, c .before .before .before .before .before .before .before .before .before .before .before .before .before .before .before .pre .1 .1, c .before .before .before .before .before .before .before .before .before .before .before .before .before .before .before .pre .1 .2, c .before .before .before .before .before .before .before .before .before .before .before .behind .ensures .most, c .before .before .before .before .before .before .before .before .before .before .before .behind .ensures .least (omega (arith, c .before .before .before .before .before .before .before .before .before .before .before .before .before .before .before .pre .1 .1)), c .before .before .before .before .before .before .before .validate-references .ensures .atMost)
 
-validate-quantifier-validate-conditions-requires :
-    (t : ℕ) → validate-quantifier-lts.Need-validate-conditions-requires (cs-validate-quantifier t) (validate-quantifier-at t) validate-quantifier.Post
-validate-quantifier-validate-conditions-requires t c κs = (omega (arith, c .before .before .before .before .before .before .before .before .before .before .before .before .before .before .pre .0), (record { fits = omega (arith, c .before .before .before .before .before .before .before .before .before .before .before .before .before .before .pre .1 .0 .fits, c .before .before .before .before .before .before .before .before .before .before .before .before .before .before .pre .1 .1, c .before .before .before .before .before .before .before .before .before .before .before .before .before .before .pre .1 .2, c .before .before .before .before .before .before .before .before .before .before .behind .ensures .most, c .before .before .before .before .before .before .before .before .before .before .behind .ensures .least (omega (arith, c .before .before .before .before .before .before .before .before .before .before .before .before .before .before .pre .1 .1)), c .before .before .before .before .before .before .before .require .ensures .atMost, c .before .before .before .before .before .before .validate-references .ensures .atMost, c .pass .ensures .atMost) }, c .before .before .before .before .before .before .before .before .before .before .before .before .before .before .pre .1 .2))
+validate-quantifier-validate-conditions-requires : (t : ℕ) → validate-quantifier-lts.Need-validate-conditions-requires (cs-validate-quantifier t) (validate-quantifier-at t) validate-quantifier.Post
+validate-quantifier-validate-conditions-requires t c κs = (omega (arith, c .before .before .before .before .before .before .before .before .before .before .before .before .before .before .before .pre .0), (record { fits = omega (arith, c .before .before .before .before .before .before .before .before .before .before .before .before .before .before .before .pre .1 .0 .fits, c .before .before .before .before .before .before .before .before .before .before .before .before .before .before .before .pre .1 .1, c .before .before .before .before .before .before .before .before .before .before .before .before .before .before .before .pre .1 .2, c .before .before .before .before .before .before .before .before .before .before .before .behind .ensures .most, c .before .before .before .before .before .before .before .before .before .before .before .behind .ensures .least (omega (arith, c .before .before .before .before .before .before .before .before .before .before .before .before .before .before .before .pre .1 .1)), c .before .before .before .before .before .before .before .validate-references .ensures .atMost) }, c .before .before .before .before .before .before .before .before .before .before .before .before .before .before .before .pre .1 .2))
 
-validate-quantifier-enum-told : (t : ℕ) → validate-quantifier-lts.Need-enum-told (cs-validate-quantifier t) (validate-quantifier-at t) validate-quantifier.Post
-validate-quantifier-enum-told t c = search needs
+validate-quantifier-enum-told-3 : (t : ℕ) → validate-quantifier-lts.Need-enum-told-3 (cs-validate-quantifier t) (validate-quantifier-at t) validate-quantifier.Post
+validate-quantifier-enum-told-3 t c = search needs
 
 validate-quantifier-bind-requires-2 : (t : ℕ) → validate-quantifier-lts.Need-bind-requires-2 (cs-validate-quantifier t) (validate-quantifier-at t) validate-quantifier.Post
 validate-quantifier-bind-requires-2 t c κs = search needs
 
-validate-quantifier-pass-requires-2 : (t : ℕ) → validate-quantifier-lts.Need-pass-requires-2 (cs-validate-quantifier t) (validate-quantifier-at t) validate-quantifier.Post
-validate-quantifier-pass-requires-2 t c κs = record { fits = omega (arith, c .before .before .before .before .before .before .before .before .before .before .before .before .pre .1 .0 .fits, c .before .before .before .before .before .before .before .before .before .before .before .before .pre .1 .1, c .before .before .before .before .before .before .before .before .before .before .before .before .pre .1 .2, c .before .before .before .before .before .before .before .before .behind .ensures .most, c .before .before .before .before .before .before .before .before .behind .ensures .least (omega (arith, c .before .before .before .before .before .before .before .before .before .before .before .before .pre .1 .1)), c .before .before .before .before .before .require .ensures .atMost, c .before .before .before .before .validate-references .ensures .atMost) }
+validate-quantifier-add-validate-conditions-2 : (t : ℕ) → validate-quantifier-lts.Need-add-validate-conditions-2 (cs-validate-quantifier t) (validate-quantifier-at t) validate-quantifier.Post
+validate-quantifier-add-validate-conditions-2 t c = omega (arith, c .before .before .before .before .before .before .before .before .before .before .before .before .before .before .pre .1 .0 .fits, c .before .before .before .before .before .before .before .before .before .before .before .before .before .before .pre .1 .1, c .before .before .before .before .before .before .before .before .before .before .before .before .before .before .pre .1 .2, c .before .before .before .before .before .before .before .before .before .before .behind .ensures .most, c .before .before .before .before .before .before .before .before .before .before .behind .ensures .least (omega (arith, c .before .before .before .before .before .before .before .before .before .before .before .before .before .before .pre .1 .1)), c .before .before .before .before .before .before .validate-references .ensures .atMost)
 
-validate-quantifier-validate-conditions-requires-2 :
-    (t : ℕ) → validate-quantifier-lts.Need-validate-conditions-requires-2 (cs-validate-quantifier t) (validate-quantifier-at t) validate-quantifier.Post
-validate-quantifier-validate-conditions-requires-2 t c κs = (omega (arith, c .before .before .before .before .before .before .before .before .before .before .before .before .before .pre .0), (record { fits = omega (arith, c .before .before .before .before .before .before .before .before .before .before .before .before .before .pre .1 .0 .fits, c .before .before .before .before .before .before .before .before .before .before .before .before .before .pre .1 .1, c .before .before .before .before .before .before .before .before .before .before .before .before .before .pre .1 .2, c .before .before .before .before .before .before .before .before .before .behind .ensures .most, c .before .before .before .before .before .before .before .before .before .behind .ensures .least (omega (arith, c .before .before .before .before .before .before .before .before .before .before .before .before .before .pre .1 .1)), c .before .before .before .before .before .before .require .ensures .atMost, c .before .before .before .before .before .validate-references .ensures .atMost, c .pass2 .ensures .atMost) }, c .before .before .before .before .before .before .before .before .before .before .before .before .before .pre .1 .2))
+validate-quantifier-validate-conditions-requires-2 : (t : ℕ) → validate-quantifier-lts.Need-validate-conditions-requires-2 (cs-validate-quantifier t) (validate-quantifier-at t) validate-quantifier.Post
+validate-quantifier-validate-conditions-requires-2 t c κs = (omega (arith, c .before .before .before .before .before .before .before .before .before .before .before .before .before .before .pre .0), (record { fits = omega (arith, c .before .before .before .before .before .before .before .before .before .before .before .before .before .before .pre .1 .0 .fits, c .before .before .before .before .before .before .before .before .before .before .before .before .before .before .pre .1 .1, c .before .before .before .before .before .before .before .before .before .before .before .before .before .before .pre .1 .2, c .before .before .before .before .before .before .before .before .before .before .behind .ensures .most, c .before .before .before .before .before .before .before .before .before .before .behind .ensures .least (omega (arith, c .before .before .before .before .before .before .before .before .before .before .before .before .before .before .pre .1 .1)), c .before .before .before .before .before .before .validate-references .ensures .atMost) }, c .before .before .before .before .before .before .before .before .before .before .before .before .before .before .pre .1 .2))
 
 validate-quantifier-enum-known-fault : (t : ℕ) → validate-quantifier-lts.Need-enum-known-fault (cs-validate-quantifier t) (validate-quantifier-at t) validate-quantifier.Post
 validate-quantifier-enum-known-fault t c = search needs
 
-validate-quantifier-fail-requires : (t : ℕ) → validate-quantifier-lts.Need-fail-requires (cs-validate-quantifier t) (validate-quantifier-at t) validate-quantifier.Post
-validate-quantifier-fail-requires t c κs = search needs
-
-validate-quantifier-returns : (t : ℕ) → validate-quantifier-lts.Need-returns (cs-validate-quantifier t) (validate-quantifier-at t) validate-quantifier.Post
-validate-quantifier-returns t c =
-    quantifier-known (c .before .before .before .before .before .before .before .before .before .before .before .before .before .before .before .args .schema .now) (c .before .before .before .before .before .before .before .before .before .before .before .before .before .before .before .args .rule .now) (c .before .before .before .before .before .before .before .before .before .before .before .before .before .before .before .args .words .now) (c .before .before .before .before .before .before .before .before .before .before .before .before .before .before .before .args .scope) (c .before .before .before .before .before .before .before .before .before .before .before .before .before .before .before .args .over) (c .before .before .before .before .before .before .before .before .before .before .before .before .before .before .before .args .name) (c .before .before .before .before .before .before .before .before .before .before .before .before .before .before .before .args .i) (c .before .before .before .before .before .before .before .before .before .before .before .before .before .before .before .args .end) (c .before .before .before .before .before .before .before .before .before .before .before .before .before .before .before .args .left) (c .before .before .before .before .before .before .before .before .before .before .before .before .before .before .before .pre .1 .1) (c .before .before .before .before .before .before .before .before .before .before .before .behind .ensures) (c .before .before .before .before .before .before .before .before .before .before .bytes-of .ensures) (c .before .before .before .before .before .before .before .before .before .is-wrong-bind .ensures) (c .before .before .before .before .before .before .before .before .require .ensures) (c .before .before .before .before .before .before .before .validate-references .ensures)
-    (c .before .before .before .before .before .before .collection-of .ensures) (c .before .before .before .before .slot .given .1) (c .before .before .bind .ensures) (c .before .pass .ensures) (c .validate-conditions .ensures)
-
-validate-quantifier-returns-2 : (t : ℕ) → validate-quantifier-lts.Need-returns-2 (cs-validate-quantifier t) (validate-quantifier-at t) validate-quantifier.Post
-validate-quantifier-returns-2 t c =
-    quantifier-unknown (c .before .before .before .before .before .before .before .before .before .before .before .before .before .before .args .schema .now) (c .before .before .before .before .before .before .before .before .before .before .before .before .before .before .args .rule .now) (c .before .before .before .before .before .before .before .before .before .before .before .before .before .before .args .words .now) (c .before .before .before .before .before .before .before .before .before .before .before .before .before .before .args .scope) (c .before .before .before .before .before .before .before .before .before .before .before .before .before .before .args .over) (c .before .before .before .before .before .before .before .before .before .before .before .before .before .before .args .name) (c .before .before .before .before .before .before .before .before .before .before .before .before .before .before .args .i) (c .before .before .before .before .before .before .before .before .before .before .before .before .before .before .args .end) (c .before .before .before .before .before .before .before .before .before .before .before .before .before .before .args .left) (c .before .before .before .before .before .before .before .before .before .before .before .before .before .before .pre .1 .1) (c .before .before .before .before .before .before .before .before .before .before .behind .ensures) (c .before .before .before .before .before .before .before .before .before .bytes-of .ensures) (c .before .before .before .before .before .before .before .before .is-wrong-bind .ensures) (c .before .before .before .before .before .before .before .require .ensures) (c .before .before .before .before .before .before .validate-references .ensures)
-    (c .before .before .before .before .before .collection-of .ensures) (c .before .before .before .enum-told .given .1) (c .before .before .bind2 .ensures) (c .before .pass2 .ensures) (c .validate-conditions2 .ensures)
+validate-quantifier-fail-requires-2 : (t : ℕ) → validate-quantifier-lts.Need-fail-requires-2 (cs-validate-quantifier t) (validate-quantifier-at t) validate-quantifier.Post
+validate-quantifier-fail-requires-2 t c κs = search needs
 
 validate-quantifier-returns-3 : (t : ℕ) → validate-quantifier-lts.Need-returns-3 (cs-validate-quantifier t) (validate-quantifier-at t) validate-quantifier.Post
 validate-quantifier-returns-3 t c =
-    quantifier-refused (c .before .before .before .before .before .before .before .before .before .before .before .before .before .args .schema .now) (c .before .before .before .before .before .before .before .before .before .before .before .before .before .args .rule .now) (c .before .before .before .before .before .before .before .before .before .before .before .before .before .args .words .now) (c .before .before .before .before .before .before .before .before .before .before .before .before .before .args .scope) (c .before .before .before .before .before .before .before .before .before .before .before .before .before .args .over) (c .before .before .before .before .before .before .before .before .before .before .before .before .before .args .name) (c .before .before .before .before .before .before .before .before .before .before .before .before .before .args .i) (c .before .before .before .before .before .before .before .before .before .before .before .before .before .args .end) (c .before .before .before .before .before .before .before .before .before .before .before .before .before .args .left) (c .before .before .before .before .before .before .before .before .before .before .before .before .before .pre .1 .1) (c .before .before .before .before .before .before .before .before .before .behind .ensures) (c .before .before .before .before .before .before .before .before .bytes-of .ensures) (c .before .before .before .before .before .before .before .is-wrong-bind .ensures) (c .before .before .before .before .before .before .require .ensures) (c .before .before .before .before .before .validate-references .ensures)
-    (c .before .before .before .before .collection-of .ensures) (c .before .before .fault .given .1) (c .fail .ensures)
+    quantifier-known (c .before .before .before .before .before .before .before .before .before .before .before .before .before .before .before .before .args .schema .now) (c .before .before .before .before .before .before .before .before .before .before .before .before .before .before .before .before .args .rule .now) (c .before .before .before .before .before .before .before .before .before .before .before .before .before .before .before .before .args .words .now) (c .before .before .before .before .before .before .before .before .before .before .before .before .before .before .before .before .args .scope) (c .before .before .before .before .before .before .before .before .before .before .before .before .before .before .before .before .args .over) (c .before .before .before .before .before .before .before .before .before .before .before .before .before .before .before .before .args .name) (c .before .before .before .before .before .before .before .before .before .before .before .before .before .before .before .before .args .i) (c .before .before .before .before .before .before .before .before .before .before .before .before .before .before .before .before .args .end) (c .before .before .before .before .before .before .before .before .before .before .before .before .before .before .before .before .args .left) (c .before .before .before .before .before .before .before .before .before .before .before .before .before .before .before .before .pre .1 .1) (c .before .before .before .before .before .before .before .before .before .before .before .before .behind .ensures) (c .before .before .before .before .before .before .before .before .before .before .before .bytes-of .ensures) (c .before .before .before .before .before .before .before .before .before .before .is-wrong-bind .ensures) (required-right (c .before .before .before .before .before .before .before .before .before .if1 .left) passed-on) (goes-passed (ReferencesIn _ _ _ _) (c .before .before .before .before .before .before .enum-told .given .1) (c .before .before .before .before .before .before .before .before .validate-references .ensures))
+    (c .before .before .before .before .before .collection-of .ensures) (c .before .before .before .slot .given .1) (c .before .bind .ensures) passed-on (c .validate-conditions .ensures)
+
+validate-quantifier-returns-4 : (t : ℕ) → validate-quantifier-lts.Need-returns-4 (cs-validate-quantifier t) (validate-quantifier-at t) validate-quantifier.Post
+validate-quantifier-returns-4 t c =
+    quantifier-unknown (c .before .before .before .before .before .before .before .before .before .before .before .before .before .before .before .args .schema .now) (c .before .before .before .before .before .before .before .before .before .before .before .before .before .before .before .args .rule .now) (c .before .before .before .before .before .before .before .before .before .before .before .before .before .before .before .args .words .now) (c .before .before .before .before .before .before .before .before .before .before .before .before .before .before .before .args .scope) (c .before .before .before .before .before .before .before .before .before .before .before .before .before .before .before .args .over) (c .before .before .before .before .before .before .before .before .before .before .before .before .before .before .before .args .name) (c .before .before .before .before .before .before .before .before .before .before .before .before .before .before .before .args .i) (c .before .before .before .before .before .before .before .before .before .before .before .before .before .before .before .args .end) (c .before .before .before .before .before .before .before .before .before .before .before .before .before .before .before .args .left) (c .before .before .before .before .before .before .before .before .before .before .before .before .before .before .before .pre .1 .1) (c .before .before .before .before .before .before .before .before .before .before .before .behind .ensures) (c .before .before .before .before .before .before .before .before .before .before .bytes-of .ensures) (c .before .before .before .before .before .before .before .before .before .is-wrong-bind .ensures) (required-right (c .before .before .before .before .before .before .before .before .if1 .left) passed-on) (goes-passed (ReferencesIn _ _ _ _) (c .before .before .before .before .before .enum-told .given .1) (c .before .before .before .before .before .before .before .validate-references .ensures))
+    (c .before .before .before .before .collection-of .ensures) (c .before .before .enum-told3 .given .1) (c .before .bind2 .ensures) passed-on (c .validate-conditions2 .ensures)
+
+validate-quantifier-returns-5 : (t : ℕ) → validate-quantifier-lts.Need-returns-5 (cs-validate-quantifier t) (validate-quantifier-at t) validate-quantifier.Post
+validate-quantifier-returns-5 t c =
+    quantifier-refused (c .before .before .before .before .before .before .before .before .before .before .before .before .before .before .before .args .schema .now) (c .before .before .before .before .before .before .before .before .before .before .before .before .before .before .before .args .rule .now) (c .before .before .before .before .before .before .before .before .before .before .before .before .before .before .before .args .words .now) (c .before .before .before .before .before .before .before .before .before .before .before .before .before .before .before .args .scope) (c .before .before .before .before .before .before .before .before .before .before .before .before .before .before .before .args .over) (c .before .before .before .before .before .before .before .before .before .before .before .before .before .before .before .args .name) (c .before .before .before .before .before .before .before .before .before .before .before .before .before .before .before .args .i) (c .before .before .before .before .before .before .before .before .before .before .before .before .before .before .before .args .end) (c .before .before .before .before .before .before .before .before .before .before .before .before .before .before .before .args .left) (c .before .before .before .before .before .before .before .before .before .before .before .before .before .before .before .pre .1 .1) (c .before .before .before .before .before .before .before .before .before .before .before .behind .ensures) (c .before .before .before .before .before .before .before .before .before .before .bytes-of .ensures) (c .before .before .before .before .before .before .before .before .before .is-wrong-bind .ensures) (required-right (c .before .before .before .before .before .before .before .before .if1 .left) passed-on) (goes-passed (ReferencesIn _ _ _ _) (c .before .before .before .before .before .enum-told .given .1) (c .before .before .before .before .before .before .before .validate-references .ensures))
+    (c .before .before .before .before .collection-of .ensures) (c .before .before .fault .given .1) refl (c .fail2 .ensures)
 
 pub +validate-condition-body+validate-conditions+validate-quantifier-spec :
     {M : Type 1} → statement M
@@ -372,38 +376,45 @@ pub +validate-condition-body+validate-conditions+validate-quantifier-spec :
     (λ t. validate-condition-body-lts.spec (cs-validate-condition-body t)
     (validate-condition-body-at t)
     validate-condition-body.Post
+    (validate-condition-body-going-requires t)
     (validate-condition-body-returns t)
     (validate-condition-body-start-of-requires t)
     (validate-condition-body-operator-at-requires t)
-    (validate-condition-body-validate-operator-requires t)
+    (validate-condition-body-validate-entry-requires t)
+    (validate-condition-body-enum-told t)
+    (validate-condition-body-enum-told-2 t)
     (validate-condition-body-returns-2 t)
-    (validate-condition-body-validate-nonempty-requires t)
+    (validate-condition-body-going-requires-2 t)
+    (validate-condition-body-returns-3 t)
     (validate-condition-body-add-validate-conditions t)
     (validate-condition-body-sub-validate-conditions t)
     (validate-condition-body-validate-conditions-requires t)
-    (validate-condition-body-returns-3 t)
+    (validate-condition-body-returns-4 t)
     (validate-condition-body-add-validate-operands t)
     (validate-condition-body-validate-operands-requires t)
-    (validate-condition-body-returns-4 t)
+    (validate-condition-body-returns-5 t)
     (validate-condition-body-bind-of-requires t)
     (validate-condition-body-enum-known-name t)
-    (validate-condition-body-enum-told t)
-    (validate-condition-body-returns-5 t)
+    (validate-condition-body-enum-told-3 t)
+    (validate-condition-body-going-requires-3 t)
+    (validate-condition-body-returns-6 t)
     (validate-condition-body-sub-validate-quantifier t)
     (validate-condition-body-validate-quantifier-requires t)
-    (validate-condition-body-returns-6 t))
+    (validate-condition-body-returns-7 t))
     (λ t. validate-conditions-lts.spec (cs-validate-conditions t)
     (validate-conditions-at t)
     validate-conditions.Post
     validate-conditions-Inv-loop
     validate-conditions-μ-loop
     (validate-conditions-loop-holds t)
-    (validate-conditions-has-failed-requires t)
-    (validate-conditions-returns t)
     (validate-conditions-behind-requires t)
     (validate-conditions-validate-condition-body-requires t)
+    (validate-conditions-enum-told t)
+    (validate-conditions-enum-told-2 t)
+    (validate-conditions-returns t)
     (validate-conditions-loop-less t)
     (validate-conditions-loop-again t)
+    (validate-conditions-going-requires t)
     (validate-conditions-returns-2 t))
     λ t. validate-quantifier-lts.spec (cs-validate-quantifier t)
     (validate-quantifier-at t)
@@ -412,20 +423,25 @@ pub +validate-condition-body+validate-conditions+validate-quantifier-spec :
     (validate-quantifier-behind-requires t)
     (validate-quantifier-bytes-of-requires t)
     (validate-quantifier-is-wrong-bind-requires t)
-    (validate-quantifier-require-requires t)
+    (validate-quantifier-fail-requires t)
+    (validate-quantifier-returns t)
+    (validate-quantifier-add-validate-references t)
     (validate-quantifier-validate-references-requires t)
-    (validate-quantifier-add-t24 t)
+    (validate-quantifier-enum-told t)
+    (validate-quantifier-enum-told-2 t)
+    (validate-quantifier-returns-2 t)
+    (validate-quantifier-add-t25 t)
     (validate-quantifier-collection-of-requires t)
     (validate-quantifier-enum-known-slot t)
     (validate-quantifier-bind-requires t)
-    (validate-quantifier-pass-requires t)
+    (validate-quantifier-add-validate-conditions t)
     (validate-quantifier-validate-conditions-requires t)
-    (validate-quantifier-enum-told t)
+    (validate-quantifier-enum-told-3 t)
     (validate-quantifier-bind-requires-2 t)
-    (validate-quantifier-pass-requires-2 t)
+    (validate-quantifier-add-validate-conditions-2 t)
     (validate-quantifier-validate-conditions-requires-2 t)
     (validate-quantifier-enum-known-fault t)
-    (validate-quantifier-fail-requires t)
-    (validate-quantifier-returns t)
-    (validate-quantifier-returns-2 t)
+    (validate-quantifier-fail-requires-2 t)
     (validate-quantifier-returns-3 t)
+    (validate-quantifier-returns-4 t)
+    (validate-quantifier-returns-5 t)

@@ -21,8 +21,11 @@ enum-known-head c = search needs
 enum-told : tie.Need-enum-told
 enum-told c = search needs
 
+going-requires : tie.Need-going-requires
+going-requires c κs = search needs
+
 returns : tie.Need-returns
-returns c = judge-bad (c .before .before .before .start-of .ensures) (c .before .before .before .before .end-of .ensures) (rw (c .enum-told .given .1) at (c .before .before .rule-head .ensures))
+returns c = rw (c .going .ensures) (judge-bad (c .before .before .before .before .start-of .ensures) (c .before .before .before .before .before .end-of .ensures) (rw (c .before .enum-told .given .1) at (c .before .before .before .rule-head .ensures)))
 
 enum-known-head-2 : tie.Need-enum-known-head-2
 enum-known-head-2 c = search needs
@@ -45,4 +48,4 @@ unfolding ruleOf
 returns-3 c = judge-rule (c .before .before .before .before .before .before .before .before .start-of .ensures) (c .before .before .before .before .before .before .before .before .before .end-of .ensures) (rw (c .before .before .before .before .before .head .given .1, c .before .before .head2 .given .1) at (c .before .before .before .before .before .before .before .rule-head .ensures)) (c .validate-rule-definition .ensures)
 
 pub judge-spec : {M : Type 1} → statement M
-judge-spec = tie.close (tie.spec end-of-requires start-of-requires rule-head-requires enum-known-head enum-told returns enum-known-head-2 enum-told-2 validate-references-requires returns-2 validate-rule-definition-requires returns-3)
+judge-spec = tie.close (tie.spec end-of-requires start-of-requires rule-head-requires enum-known-head enum-told going-requires returns enum-known-head-2 enum-told-2 validate-references-requires returns-2 validate-rule-definition-requires returns-3)

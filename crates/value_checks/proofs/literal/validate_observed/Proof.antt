@@ -13,8 +13,11 @@ validate-literals-requires c κs = search needs
 returns : tie.Need-returns
 returns c = observed-yes (c .before .before .is-observed .ensures) (c .before .if1 .taken) (c .validate-literals .ensures)
 
+going-requires : tie.Need-going-requires
+going-requires c κs = search needs
+
 returns-2 : tie.Need-returns-2
-returns-2 c = observed-no (c .before .is-observed .ensures) (c .if1 .left)
+returns-2 c = rw (c .going .ensures) (observed-no (c .before .before .is-observed .ensures) (c .before .if1 .left))
 
 pub validate-observed-spec : {M : Type 1} → statement M
-validate-observed-spec = tie.close (tie.spec is-observed-requires validate-literals-requires returns returns-2)
+validate-observed-spec = tie.close (tie.spec is-observed-requires validate-literals-requires returns going-requires returns-2)
