@@ -3,9 +3,9 @@ use crate::path_lent;
 use crate::setting;
 use buffer::put_numbers;
 use definition::limits::SCRATCH_WORDS;
-use validator::outcome::Report;
-use validator::sheets::Takes;
-use validator::validate_marked;
+use single_check::outcome::Report;
+use single_check::sheets::Takes;
+use single_check::validate_marked;
 ghost use lib.ListN.{length};
 ghost use Rattle.entity_rules.specs.CheckEntry.{checkCall, CheckAnswered, ReportWritten};
 

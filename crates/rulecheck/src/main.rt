@@ -1,7 +1,7 @@
 // Checks the rule of the file `check.in` against its schema, and prints the answer (docs/FORMAT.md, "The program `rulecheck`").
 use definition::limits::MAX_FILE_BYTES;
-use file_answer::output;
 use libc::STDOUT_FILENO;
+use printed_answer::output;
 ghost use Prim.Native.Nat.{_≤_};
 ghost use lib.ListN.{length, take};
 ghost use mathlib.Core.Path.{_≡_};

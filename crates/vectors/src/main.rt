@@ -1,9 +1,9 @@
 // Replays a list of files and the lines that `rulecheck` prints for them, and writes how many came out as expected, with the number of
 // each that did not. A case is a line with two byte counts separated by a comma, then a file, then what is printed for it. Lines that
 // begin with # may come before the first case.
-use file_answer::output;
 use libc::STDIN_FILENO;
 use libc::STDOUT_FILENO;
+use printed_answer::output;
 ghost use Prim.Native.Nat.{_≤_};
 ghost use mathlib.Core.Bool.{cond};
 ghost use mathlib.Core.Path.{_≡_};

@@ -9,7 +9,7 @@ use Rattle.buffer.specs.Wrote.{Wrote}
 use Rattle.reference.specs.Setting.{Setting}
 use Rattle.schema.specs.declared.read.SchemaRead.{SchemaRead}
 use Rattle.validation.specs.Result.{maxLabelBytes, pathBytes, scratchWords}
-use Rattle.validator.specs.Sheets.{FrontOnly}
+use Rattle.single_check.specs.Sheets.{FrontOnly}
 use Rattle.rule_book.specs.Book.{sheetsOf}
 use Rattle.rule_book.specs.Tally.{countOf, KeptFrom}
 use Rattle.rule_book.specs.Tallying.{answersIn, Ready, bookRunOf}

@@ -3,7 +3,7 @@ use buffer::push;
 use buffer::put;
 use sheet::part::Part;
 use sheet::part::bytes_of;
-use validator::outcome::Outcome;
+use single_check::outcome::Outcome;
 ghost use mathlib.Core.Path.{_≡_};
 ghost use mathlib.Core.List.{map};
 ghost use lib.ListN.{take};

@@ -1,6 +1,6 @@
 //! The samples that the programs `leaves` and `number_samples` run, held against Rust's own `str` and `f64` and serde_json's number grammar.
 
-const TEXTS: &str = include_str!("../../../../crates/leaves/stdin");
+const TEXTS: &str = include_str!("../../../../crates/text_samples/stdin");
 const NUMBERS: &[u8] = include_bytes!("../../../../crates/number_samples/stdin");
 
 /// What a sample is one of.
