@@ -7,7 +7,7 @@ fn main() {
     let built = Path::new(env!("CARGO_MANIFEST_DIR")).join("../../target/staticlib");
     let given = std::env::var_os("ENTITY_RULES_LIB_DIR").map(PathBuf::from);
     link("entity_rules", given.as_deref().unwrap_or(&built));
-    link("acceptance", &built);
+    link("sheet_acceptance", &built);
 }
 
 fn link(name: &str, folder: &Path) {

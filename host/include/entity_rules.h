@@ -1,11 +1,11 @@
-/* One rule, template or key path checked against the schema of its record, or a whole rule book; schemas held against each other, and
+/* One rule, template or key path checked against the schema of its record, or a whole rule book; schemas compared, and
  * instants read: the C functions of libentity_rules.a.
  *
  * docs/FORMAT.md says what the sheets hold and what each number means. Lengths are in bytes. A pointer must lead to as many bytes
  * as the length after it says, and must not be null, even where that is 0. path, marks, result, pages, buffer and fields must not overlap each other
  * or anything else. No function keeps a pointer, allocates or waits, so any number of threads may call them at once. A call
  * takes up to about 280 KB of stack: 16 KB for its scratch, the rest by how deep the sheets nest, most of it with 31 quantifiers in one
- * another. A path under 32,768 bytes or a result under 28 is refusal 3, and is not written; rulecheck_check wants a result of 32,
+ * another. A path under 32,768 bytes or a result under 28 is refusal 3, and is not written; rulecheck_check needs a result of 32,
  * rulecheck_tally of 144, rulecheck_wall of 16.
  */
 #ifndef ENTITY_RULES_H
@@ -14,6 +14,9 @@
 /* The version of this header and of the crate. */
 #define ENTITY_RULES_VERSION "0.1.0"
 
+/* The same as the library's rulecheck_version() answers it. */
+#define ENTITY_RULES_VERSION_NUMBER 0x000100u
+
 #include <stddef.h>
 #include <stdint.h>
 
@@ -21,7 +24,7 @@
 extern "C" {
 #endif
 
-/* Where the rule or template stands. */
+/* Where the rule or template is used. */
 enum entity_rules_kind {
   ENTITY_RULES_INVARIANT = 1,
   ENTITY_RULES_PRECONDITION = 2,
@@ -92,7 +95,7 @@ enum entity_rules_side {
   ENTITY_RULES_SIDE_RIGHT = 2
 };
 
-/* The detail of a defect 18: why a reference cannot be read. The last one is a key path's alone. */
+/* The detail of a defect 18: why a reference cannot be read. The last one occurs for key paths only. */
 enum entity_rules_reference_fault {
   ENTITY_RULES_REFERENCE_EMPTY_PATH = 1,
   ENTITY_RULES_REFERENCE_UNKNOWN_ROOT = 2,
@@ -109,13 +112,13 @@ enum entity_rules_reference_fault {
   ENTITY_RULES_REFERENCE_TEXT_COUNT = 13
 };
 
-/* The detail of a defect 20: why an operand is no instant. */
+/* The detail of a defect 20: why an operand is not an instant. */
 enum entity_rules_instant_fault {
   ENTITY_RULES_INSTANT_ESCAPED = 1,
   ENTITY_RULES_INSTANT_UNREADABLE = 2
 };
 
-/* The detail of a defect 22: why that which a quantifier goes over is no collection. */
+/* The detail of a defect 22: why what a quantifier goes over is not a collection. */
 enum entity_rules_collection_fault {
   ENTITY_RULES_OVER_NOT_A_STRING = 1,
   ENTITY_RULES_OVER_UNKNOWN_PROPERTY = 2,
@@ -124,7 +127,7 @@ enum entity_rules_collection_fault {
   ENTITY_RULES_OVER_NO_NAME = 5
 };
 
-/* The numbers of a result, by their index; the last is rulecheck_check's alone. */
+/* The numbers of a result, by their index; only rulecheck_check has the last one. */
 enum entity_rules_field {
   ENTITY_RULES_NUMBER = 0,
   ENTITY_RULES_FAMILY = 1,
@@ -154,7 +157,7 @@ enum entity_rules_widens_answer {
   ENTITY_RULES_WIDENS_NO = 3
 };
 
-/* Why a schema is no widening of another. */
+/* Why a schema is not a widening of another. */
 enum entity_rules_widens_reason {
   ENTITY_RULES_FIELD_MISSING = 1,
   ENTITY_RULES_KIND_DIFFERS = 2,
@@ -194,13 +197,13 @@ enum entity_rules_instant_field {
   ENTITY_RULES_NANOSECONDS = 6
 };
 
-/* What a key path may hold at most. */
+/* The most that a key path may hold. */
 #define ENTITY_RULES_KEY_BYTES 512
 
-/* What a name table has, and the buffer that it is loaded into must hold at least. */
+/* The bytes of a name table, and the least that a buffer must hold that one is loaded into. */
 #define ENTITY_RULES_TABLE_BYTES 176
 
-/* What the buffers of a call must hold at least. */
+/* The least that the buffers of a call must hold. */
 #define ENTITY_RULES_PATH_BYTES 32768
 #define ENTITY_RULES_RESULT_BYTES 28
 #define ENTITY_RULES_TALLY_BYTES 144
@@ -210,7 +213,7 @@ enum entity_rules_instant_field {
 #define ENTITY_RULES_PAGE_SHEETS 58
 #define ENTITY_RULES_PAGE_BYTES 4860
 
-/* What rulecheck_check wants besides the path. */
+/* The same of rulecheck_check, besides the path. */
 #define ENTITY_RULES_MARKS_BYTES 8192
 #define ENTITY_RULES_CHECK_RESULT_BYTES 32
 
@@ -232,7 +235,7 @@ uint32_t rulecheck_template(uint64_t kind, uint64_t semantics,
                             uint8_t *result, size_t result_length);
 
 /* Checks a rule or a template, as the first letter of its sheet says, under a name table; otherwise as rulecheck_rule. A table of 0 bytes
- * is the stock table, which the other functions go by. Of any other the first 176 bytes count: 37 where they are no table, 38 where
+ * is the stock table, which the other functions use. Of any other the first 176 bytes count: 37 where they are not a table, 38 where
  * a mark hides $id, $entity or $version, or shows $old_fields where $fields is hidden. Of an accepted rule, marks takes the conditions that are
  * before or after with two literal instants, and so have the same truth whatever a record holds: for each four bytes, least significant first, of the number
  * of its entry, doubled, and 1 more if it is true. They rise; result has at index 7 how many there are, and marks keeps its other bytes. A list under
@@ -246,7 +249,7 @@ uint32_t rulecheck_check(uint64_t kind, uint64_t semantics,
                          uint8_t *marks, size_t marks_length,
                          uint8_t *result, size_t result_length);
 
-/* Loads a name table: copies it to the start of buffer, from which later checks can be lent it, and returns 0. Returns 37 for what is no
+/* Loads a name table: copies it to the start of buffer, from which later checks can be lent it, and returns 0. Returns 37 for what is not a
  * table of exactly 176 bytes and for a buffer under 176, then 38 as rulecheck_check does; buffer is then unchanged. It keeps its other
  * bytes in every case. */
 uint32_t rulecheck_load_table(const uint8_t *table, size_t table_length,
@@ -261,8 +264,8 @@ uint32_t rulecheck_path(uint64_t semantics, uint64_t reader,
                         uint8_t *result, size_t result_length);
 
 /* Whether the second schema is a widening of the first: then a rule that was accepted under the first is accepted under the second. Returns 0
- * whatever the answer, which is the number at index 1 (enum entity_rules_widens_answer), with its reason and the entries that it is about, 0 where
- * there is none, behind it; or a refusal: 3 for a result under 28 bytes, 4 for a sheet that is not well formed, the number at index 1
+ * whatever the answer, which is the number at index 1 (enum entity_rules_widens_answer), followed by its reason and the entries that it is about, 0 where
+ * there is none; or a refusal: 3 for a result under 28 bytes, 4 for a sheet that is not well formed, the number at index 1
  * being 1 for the first sheet and 2 for the second. All other numbers of result are 0, and it keeps its other bytes. */
 uint32_t rulecheck_widens(const uint8_t *first, size_t first_length,
                           const uint8_t *second, size_t second_length,
@@ -270,8 +273,8 @@ uint32_t rulecheck_widens(const uint8_t *first, size_t first_length,
 
 /* Checks every sheet of a rule book, rules and templates, against one schema and tallies the answers that rulecheck_check would give. A book is a file of sheets, each with its
  * length in bytes and a comma before it. Returns 0, and result takes eighteen numbers of eight bytes (enum entity_rules_tally_field), which rulecheck_count reads;
- * or a refusal, the other numbers being 0: 1, 2, 3 (for a path under 32,768 bytes or a result under 144), 34 for a file that is no book, 37, 38, tried in this
- * order. A schema sheet that is not well formed is none of them: every sheet then counts as refused by it. After a tally the first 32,768 bytes of path hold
+ * or a refusal, the other numbers being 0: 1, 2, 3 (for a path under 32,768 bytes or a result under 144), 34 for a file that is not a book, 37, 38, tried in this
+ * order. A schema sheet that is not well formed is not one of them: every sheet then counts as refused by it. After a tally the first 32,768 bytes of path hold
  * anything; all other bytes of both buffers are kept. */
 uint32_t rulecheck_tally(uint64_t kind, uint64_t semantics,
                          const uint8_t *label, size_t label_length,
@@ -282,9 +285,9 @@ uint32_t rulecheck_tally(uint64_t kind, uint64_t semantics,
                          uint8_t *result, size_t result_length);
 
 /* Checks a rule book as rulecheck_tally does, and prints the answers on pages of 80 columns and 60 lines: a heading, a line for each of 58 sheets, and a
- * foot with the page's own count of accepted ones. Returns 0, and the pages stand at the start of pages; result takes two numbers of eight bytes (enum
+ * foot with the page's own count of accepted ones. Returns 0, and the pages are at the start of pages; result takes two numbers of eight bytes (enum
  * entity_rules_wall_field). Or returns a refusal, the count of pages being 0 and pages unchanged: those of rulecheck_tally, 3 for a result under 16
- * bytes, and after 34 33 for pages under 4,860 bytes for each page. Other bytes of pages and result are kept, and path is as after rulecheck_tally. */
+ * bytes, and, tried after 34, 33 for pages under 4,860 bytes for each page. Other bytes of pages and result are kept, and path is as after rulecheck_tally. */
 uint32_t rulecheck_wall(uint64_t kind, uint64_t semantics,
                         const uint8_t *label, size_t label_length,
                         const uint8_t *table, size_t table_length,
@@ -294,18 +297,22 @@ uint32_t rulecheck_wall(uint64_t kind, uint64_t semantics,
                         uint8_t *pages, size_t pages_length,
                         uint8_t *result, size_t result_length);
 
-/* One of the numbers of a tally or of a wall sheet's result, by its index; 0 where it does not lie in there. */
+/* One of the numbers of a tally or of a wall sheet's result, by its index; 0 past the end. */
 uint64_t rulecheck_count(const uint8_t *result, size_t result_length, uint32_t index);
 
-/* One of the numbers of a result, by an index of enum entity_rules_field, of a list of marks, or of an instant's fields; 0 where it does not lie in there. */
+/* One of the numbers of a result, by an index of enum entity_rules_field, of a list of marks, or of an instant's fields; 0 past the end. */
 uint32_t rulecheck_field(const uint8_t *result, size_t result_length, uint32_t index);
+
+/* The version of the library that is linked: major, minor and patch, eight bits for each of the last two. A host compares it with
+ * ENTITY_RULES_VERSION_NUMBER before its first check. */
+uint32_t rulecheck_version(void);
 
 /* Whether a text is a finite number, and how many of its digits were compared with those of 2^1024 - 2^970 for that: the count (at most 309)
  * times 2, and 1 more if it is finite. */
 uint32_t rulecheck_finite(const uint8_t *text, size_t text_length);
 
 /* Reads an instant: its seven numbers (enum entity_rules_instant_field) go to the start of fields, what the text leaves out being 0. Returns 0;
- * or 3 for fields under 28 bytes (ENTITY_RULES_RESULT_BYTES), then 20 for a text that is no instant, and fields is unchanged. It keeps its other
+ * or 3 for fields under 28 bytes (ENTITY_RULES_RESULT_BYTES), then 20 for a text that is not an instant, and fields is unchanged. It keeps its other
  * bytes in every case. */
 uint32_t rulecheck_instant(const uint8_t *text, size_t text_length,
                            uint8_t *fields, size_t fields_length);

@@ -3,7 +3,7 @@
 use crate::verdict::Refusal;
 use std::fmt;
 
-/// A rule book: sheets of rules and templates behind one another, each with its length and a comma before it.
+/// A rule book: sheets of rules and templates one after another, each with its length and a comma before it.
 ///
 /// ```
 /// use entity_rules::{tally, Book, Condition, DefectNumber, Kind, Rule, Schema, Semantics};
@@ -47,7 +47,7 @@ impl Book {
         self
     }
 
-    /// The book as it stands in a file.
+    /// The book as it is in a file.
     ///
     /// ```
     /// let book: entity_rules::Book = ["T\nV,1,0,\n"; 2].into_iter().collect();
@@ -76,7 +76,7 @@ impl Book {
     ///
     /// # Errors
     ///
-    /// If the bytes are no book.
+    /// If the bytes are not a book.
     pub fn read(file: &[u8]) -> Result<Vec<BookSheet<'_>>, BookError> {
         let mut sheets = Vec::new();
         let mut at = 0;
@@ -127,7 +127,7 @@ impl<S: AsRef<[u8]>> FromIterator<S> for Book {
 /// ```
 #[derive(Clone, Copy, Debug, PartialEq, Eq)]
 pub struct BookSheet<'a> {
-    /// How many bytes of the file stand before it.
+    /// How many bytes of the file come before it.
     pub byte: usize,
     /// The sheet, well formed or not.
     pub bytes: &'a [u8],
@@ -140,14 +140,14 @@ pub struct BookSheet<'a> {
 ///
 /// let error = Book::read(b"2,T\n7;T\n").unwrap_err();
 /// assert_eq!((error.sheet, error.byte), (2, 5));
-/// assert_eq!(error.to_string(), "sheet 2, byte 5: expected a comma behind the length");
+/// assert_eq!(error.to_string(), "sheet 2, byte 5: expected a comma after the length");
 /// assert_eq!(error.refusal(), Refusal::BookForm);
 /// ```
 #[derive(Clone, Debug, PartialEq, Eq)]
 pub struct BookError {
     /// The sheet that is not one, from 1.
     pub sheet: usize,
-    /// How many bytes of the file stand before the fault.
+    /// How many bytes of the file come before the fault.
     pub byte: usize,
     /// What was expected there.
     pub expected: String,
@@ -182,15 +182,15 @@ impl std::error::Error for BookError {}
 fn next_sheet(file: &[u8], at: usize) -> Result<BookSheet<'_>, (usize, String)> {
     let rest = file.get(at..).unwrap_or_default();
     let count = rest.iter().take_while(|byte| byte.is_ascii_digit()).count();
-    let (digits, behind) = rest.split_at_checked(count).unwrap_or_default();
+    let (digits, after) = rest.split_at_checked(count).unwrap_or_default();
     match digits {
         [] => return Err((at, "a length, digits, before the sheet".to_owned())),
         [b'0', _, ..] => return Err((at, "a length without a 0 before it".to_owned())),
         _ => {}
     }
     let comma = at.saturating_add(count);
-    let Some((b',', sheet)) = behind.split_first() else {
-        return Err((comma, "a comma behind the length".to_owned()));
+    let Some((b',', sheet)) = after.split_first() else {
+        return Err((comma, "a comma after the length".to_owned()));
     };
     let left = sheet.len();
     let length = std::str::from_utf8(digits).unwrap_or_default();
@@ -242,11 +242,8 @@ mod tests {
                 "0,01,a",
                 "sheet 2, byte 2: expected a length without a 0 before it",
             ),
-            ("1", "sheet 1, byte 1: expected a comma behind the length"),
-            (
-                "1 ,a",
-                "sheet 1, byte 1: expected a comma behind the length",
-            ),
+            ("1", "sheet 1, byte 1: expected a comma after the length"),
+            ("1 ,a", "sheet 1, byte 1: expected a comma after the length"),
             (
                 "0,3,ab",
                 "sheet 2, byte 2: expected a length of at most 2, what is left of the file, not 3",

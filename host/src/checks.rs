@@ -122,7 +122,7 @@ impl<'a> Check<'a> {
     ///
     /// # Errors
     ///
-    /// If the label or the table is refused, or the file is no book.
+    /// If the label or the table is refused, or the file is not a book.
     pub fn tally(&self, schema: &[u8], book: impl AsRef<[u8]>) -> Result<Tally, Refusal> {
         let mut path = vec![0; PATH_BYTES];
         let mut result = [0; TALLY_BYTES];
@@ -153,7 +153,7 @@ impl<'a> Check<'a> {
     ///
     /// # Errors
     ///
-    /// If the label or the table is refused, or the file is no book.
+    /// If the label or the table is refused, or the file is not a book.
     pub fn wall(&self, schema: &[u8], book: impl AsRef<[u8]>) -> Result<String, Refusal> {
         let book = book.as_ref();
         let mut path = vec![0; PATH_BYTES];

@@ -24,7 +24,7 @@ use std::fmt;
 /// ```
 #[derive(Clone, Copy, Debug, PartialEq, Eq, Hash, PartialOrd, Ord)]
 pub struct Constant {
-    /// The entry of the rule sheet at which the condition stands, from 1.
+    /// The entry of the condition in the rule sheet, from 1.
     pub entry: u32,
     /// Its truth.
     pub holds: bool,

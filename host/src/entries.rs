@@ -1,4 +1,4 @@
-//! The entries of a sheet, read for people: what stands at a place, or where a sheet stops being one.
+//! The entries of a sheet, read for people: what is at a place, or where a sheet stops being one.
 //!
 //! Whether a sheet is accepted is the library's to say. This reading serves to show what an answer speaks of.
 //!
@@ -12,7 +12,7 @@
 //! assert_eq!(entries[2].to_string(), "string \"$args.by\"");
 //!
 //! let error = read_rule(b"R,-,-,\nC,5,1,\nV,5,8,$args.by\n").unwrap_err();
-//! assert_eq!(error.to_string(), "entry 2, byte 11: expected 0 here, since `exists` counts nothing");
+//! assert_eq!(error.to_string(), "entry 2, byte 11: expected 0 here, since `exists` has no count");
 //! # Ok::<(), entity_rules::entries::Malformed>(())
 //! ```
 
@@ -205,7 +205,7 @@ impl fmt::Display for Content<'_> {
 /// ```
 #[derive(Clone, Copy, Debug, PartialEq, Eq)]
 pub struct Entry<'a> {
-    /// How many bytes of the sheet stand before it.
+    /// How many bytes of the sheet come before it.
     pub byte: usize,
     /// What it says.
     pub content: Content<'a>,
@@ -230,7 +230,7 @@ impl fmt::Display for Entry<'_> {
 pub struct Malformed {
     /// The entry that is not one, from 1.
     pub entry: usize,
-    /// How many bytes of the sheet stand before the fault.
+    /// How many bytes of the sheet come before the fault.
     pub byte: usize,
     /// What was expected there.
     pub expected: String,

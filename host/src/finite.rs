@@ -7,7 +7,7 @@ use crate::raw;
 pub struct Finite {
     /// Whether it is a number, all of it, whose magnitude is below 2^1024 - 2^970.
     pub is_finite: bool,
-    /// How many of its digits were compared with those of 2^1024 - 2^970: none unless its first nonzero digit stands at 10^308, else those up to
+    /// How many of its digits were compared with those of 2^1024 - 2^970: none unless its first nonzero digit is at 10^308, else those up to
     /// and with the first that differs. At most 309.
     pub compared: u32,
 }

@@ -30,7 +30,7 @@ pub struct Instant {
     pub hour: u32,
     /// 0 to 59.
     pub minute: u32,
-    /// 0 to 60; 60 may stand at any time of day.
+    /// 0 to 60; 60 may occur at any time of day.
     pub second: u32,
     /// 0 to 999,999,999.
     pub nanoseconds: u32,

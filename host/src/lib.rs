@@ -146,7 +146,7 @@ pub fn check_template<'a>(
 
 /// Checks one path of the record's fields for a reader, as a projection names its key.
 ///
-/// The path stands without the `$fields.` that a reference has before it. It is text of at most 512 bytes.
+/// The path is given without the `$fields.` that a reference has before it. It is text of at most 512 bytes.
 ///
 /// ```
 /// use entity_rules::{check_path, Field, FieldKind, Reader, ReferenceFault, Schema, Semantics};
@@ -202,7 +202,7 @@ pub fn check_path<'a>(
 ///
 /// # Errors
 ///
-/// If the label is refused, or the file is no book. A schema sheet that is not well formed is no error here: every sheet counts as refused by 4, as each check would say.
+/// If the label is refused, or the file is not a book. A schema sheet that is not well formed is not an error here: every sheet counts as refused by 4, as each check would say.
 pub fn tally(
     kind: Kind,
     semantics: Semantics,

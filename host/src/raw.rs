@@ -17,132 +17,13 @@
 //! assert_eq!(path.get(..length as usize), Some(&b"r.assert.exists"[..]));
 //! ```
 
-unsafe extern "C" {
-    fn rulecheck_rule(
-        kind: u64,
-        semantics: u64,
-        label: *const u8,
-        label_length: usize,
-        schema: *const u8,
-        schema_length: usize,
-        rule: *const u8,
-        rule_length: usize,
-        path: *mut u8,
-        path_length: usize,
-        result: *mut u8,
-        result_length: usize,
-    ) -> u32;
+mod functions;
 
-    fn rulecheck_template(
-        kind: u64,
-        semantics: u64,
-        label: *const u8,
-        label_length: usize,
-        schema: *const u8,
-        schema_length: usize,
-        rule: *const u8,
-        rule_length: usize,
-        path: *mut u8,
-        path_length: usize,
-        result: *mut u8,
-        result_length: usize,
-    ) -> u32;
-
-    fn rulecheck_check(
-        kind: u64,
-        semantics: u64,
-        label: *const u8,
-        label_length: usize,
-        table: *const u8,
-        table_length: usize,
-        schema: *const u8,
-        schema_length: usize,
-        rule: *const u8,
-        rule_length: usize,
-        path: *mut u8,
-        path_length: usize,
-        marks: *mut u8,
-        marks_length: usize,
-        result: *mut u8,
-        result_length: usize,
-    ) -> u32;
-
-    fn rulecheck_load_table(
-        table: *const u8,
-        table_length: usize,
-        buffer: *mut u8,
-        buffer_length: usize,
-    ) -> u32;
-
-    fn rulecheck_path(
-        semantics: u64,
-        reader: u64,
-        path: *const u8,
-        path_length: usize,
-        schema: *const u8,
-        schema_length: usize,
-        result: *mut u8,
-        result_length: usize,
-    ) -> u32;
-
-    fn rulecheck_widens(
-        first: *const u8,
-        first_length: usize,
-        second: *const u8,
-        second_length: usize,
-        result: *mut u8,
-        result_length: usize,
-    ) -> u32;
-
-    fn rulecheck_tally(
-        kind: u64,
-        semantics: u64,
-        label: *const u8,
-        label_length: usize,
-        table: *const u8,
-        table_length: usize,
-        schema: *const u8,
-        schema_length: usize,
-        book: *const u8,
-        book_length: usize,
-        path: *mut u8,
-        path_length: usize,
-        result: *mut u8,
-        result_length: usize,
-    ) -> u32;
-
-    fn rulecheck_wall(
-        kind: u64,
-        semantics: u64,
-        label: *const u8,
-        label_length: usize,
-        table: *const u8,
-        table_length: usize,
-        schema: *const u8,
-        schema_length: usize,
-        book: *const u8,
-        book_length: usize,
-        path: *mut u8,
-        path_length: usize,
-        pages: *mut u8,
-        pages_length: usize,
-        result: *mut u8,
-        result_length: usize,
-    ) -> u32;
-
-    fn rulecheck_count(result: *const u8, result_length: usize, index: u32) -> u64;
-
-    fn rulecheck_field(result: *const u8, result_length: usize, index: u32) -> u32;
-
-    fn rulecheck_finite(text: *const u8, text_length: usize) -> u32;
-
-    fn rulecheck_instant(
-        text: *const u8,
-        text_length: usize,
-        fields: *mut u8,
-        fields_length: usize,
-    ) -> u32;
-}
+use functions::{
+    rulecheck_check, rulecheck_count, rulecheck_field, rulecheck_finite, rulecheck_instant,
+    rulecheck_load_table, rulecheck_path, rulecheck_rule, rulecheck_tally, rulecheck_template,
+    rulecheck_version, rulecheck_wall, rulecheck_widens,
+};
 
 /// Checks a rule; the answer is the number, and `result` takes all seven numbers.
 ///
@@ -227,11 +108,11 @@ pub fn template(
 /// Checks a rule or a template, as the first letter of its sheet says, under a name table, and marks the conditions of an accepted rule that are
 /// constant; otherwise as [`rule`].
 ///
-/// A table of 0 bytes is the stock table. Of any other the first 176 bytes count: what is no table is refusal 37, and a mark that breaks one of
+/// A table of 0 bytes is the stock table. Of any other the first 176 bytes count: what is not a table is refusal 37, and a mark that breaks one of
 /// the two conditions refusal 38. A list of marks under 8,192 bytes is refusal 35. They are tried after 3 and before 4, in the order 35, 37, 38.
 ///
 /// A mark is the number of the condition's entry, doubled, and 1 more if it is true. It takes four bytes, as a number of the result; the marks
-/// rise, and the list keeps its other bytes. The result has 32 bytes: behind the seven numbers, at index 7, stands how many marks there are.
+/// rise, and the list keeps its other bytes. The result has 32 bytes: after the seven numbers, at index 7, is how many marks there are.
 ///
 /// ```
 /// use entity_rules::raw;
@@ -291,7 +172,7 @@ pub fn check(
 
 /// Copies a name table to the start of a buffer and answers 0; else the buffer stays as it is.
 ///
-/// What is no table of exactly 176 bytes, and a buffer under 176 bytes, are refusal 37. A mark that breaks one of the two conditions is refusal 38.
+/// What is not a table of exactly 176 bytes, and a buffer under 176 bytes, are refusal 37. A mark that breaks one of the two conditions is refusal 38.
 ///
 /// ```
 /// use entity_rules::raw;
@@ -384,7 +265,7 @@ pub fn widens(first: &[u8], second: &[u8], result: &mut [u8]) -> u32 {
 /// Tallies a rule book; the answer is 0 or a refusal, and `result` takes eighteen numbers of eight bytes, which [`count`] reads: the answer, the sheets read, accepted,
 /// refused by 4, refused by 5, how often each of 11 to 22 came, and the checks passed.
 ///
-/// A result under 144 bytes, like a path buffer under 32,768, is refusal 3. After a tally the first 32,768 bytes of the path buffer hold anything. A file that is no
+/// A result under 144 bytes, like a path buffer under 32,768, is refusal 3. After a tally the first 32,768 bytes of the path buffer hold anything. A file that is not a
 /// book is refusal 34, tried before the table's.
 ///
 /// ```
@@ -435,7 +316,7 @@ pub fn tally(
 }
 
 /// Prints how the sheets of a rule book fare; the answer is 0 or a refusal, and `result` takes two numbers of eight bytes, which [`count`] reads: the answer and the count of pages,
-/// which stand at the start of `pages`.
+/// which are at the start of `pages`.
 ///
 /// A page has 4,860 bytes and room for 58 sheets. A buffer that is too short for all pages is refusal 33, tried after 34 and before the table's; a result under 16 bytes, like a path buffer under
 /// 32,768, is refusal 3. Under a refusal nothing but the result is written.
@@ -526,6 +407,17 @@ pub fn field(result: &[u8], index: u32) -> u32 {
     unsafe { rulecheck_field(result.as_ptr(), result.len(), index) }
 }
 
+/// The version of the library that is linked: major, minor and patch, eight bits for each of the last two.
+///
+/// ```
+/// assert_eq!(entity_rules::raw::version(), 0x00_01_00);
+/// ```
+#[must_use]
+pub fn version() -> u32 {
+    // SAFETY: the function takes nothing and touches no memory of the caller.
+    unsafe { rulecheck_version() }
+}
+
 /// Twice the number of digits that were compared with those of 2^1024 - 2^970, and 1 more if the text is a finite number.
 ///
 /// [`finite`](crate::finite()) takes the answer apart.
@@ -546,7 +438,7 @@ pub fn finite(text: &[u8]) -> u32 {
 
 /// Reads an instant and answers 0; `fields` takes its year, month, day, hour, minute, second and nanoseconds as seven numbers, which [`field`] reads.
 ///
-/// Fields under 28 bytes are 3, then a text that is no instant is 20; in both cases the fields stay as they are.
+/// Fields under 28 bytes are 3, then a text that is not an instant is 20; in both cases the fields stay as they are.
 ///
 /// ```
 /// use entity_rules::raw;

@@ -5,7 +5,7 @@ use std::fmt;
 use std::str::FromStr;
 
 numbered! {
-    /// Where a rule or template stands, and so which names it may read.
+    /// Where a rule or template is used, and so which names it may read.
     ///
     /// All may read `$id`, `$entity` and `$version`; the values below say what else, unless a [`Table`](crate::Table) says otherwise. Any kind
     /// goes with either sheet.
@@ -200,7 +200,7 @@ numbered! {
 /// let error = "service".parse::<Semantics>().unwrap_err();
 /// assert_eq!(
 ///     error.to_string(),
-///     "\"service\" is no semantics; expected one of kernel/1, service/1, service/2, service/3"
+///     "\"service\" is not a known semantics; expected one of kernel/1, service/1, service/2, service/3"
 /// );
 /// ```
 #[derive(Clone, Debug, PartialEq, Eq)]
@@ -218,7 +218,7 @@ impl fmt::Display for UnknownName {
         let known = self.known.join(", ");
         write!(
             f,
-            "{:?} is no {}; expected one of {known}",
+            "{:?} is not a known {}; expected one of {known}",
             self.given, self.what
         )
     }

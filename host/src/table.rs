@@ -155,7 +155,7 @@ impl Table {
     ///
     /// # Errors
     ///
-    /// If the bytes are no table, or a mark breaks one of the two conditions.
+    /// If the bytes are not a table, or a mark breaks one of the two conditions.
     pub fn read(sheet: &[u8]) -> Result<Self, TableError> {
         let entries = read_table(sheet).map_err(TableError::Malformed)?;
         let mut shown = BTreeSet::new();
@@ -170,7 +170,7 @@ impl Table {
         Ok(table)
     }
 
-    /// Loads a table's sheet into a buffer, from which later checks can be lent it. The bytes behind it stay as they are.
+    /// Loads a table's sheet into a buffer, from which later checks can be lent it. The bytes after it stay as they are.
     ///
     /// ```
     /// use entity_rules::limits::TABLE_BYTES;
@@ -179,7 +179,7 @@ impl Table {
     /// let mut buffer = [0; TABLE_BYTES];
     /// Table::load(&Table::stock().sheet()?, &mut buffer)?;
     ///
-    /// // What is no table leaves the old one there.
+    /// // What is not a table leaves the old one there.
     /// assert!(Table::load(b"N,1\n", &mut buffer).is_err());
     /// assert_eq!(Table::read(&buffer)?, Table::stock());
     /// # Ok::<(), entity_rules::TableError>(())
@@ -187,7 +187,7 @@ impl Table {
     ///
     /// # Errors
     ///
-    /// If the bytes are no table, a mark breaks one of the two conditions, or the buffer is under 176 bytes. The buffer is then unchanged.
+    /// If the bytes are not a table, a mark breaks one of the two conditions, or the buffer is under 176 bytes. The buffer is then unchanged.
     pub fn load(sheet: &[u8], buffer: &mut [u8]) -> Result<(), TableError> {
         let bytes = buffer.len();
         let number = raw::load_table(sheet, buffer);
@@ -306,7 +306,7 @@ impl TableError {
     }
 }
 
-/// Where the mark stands, and what it should be.
+/// The place of the mark, and what it should be.
 fn broken(kind: Kind, name: Name) -> Malformed {
     let [row, mark] =
         [kind.number(), name.number()].map(|number| usize::try_from(number).unwrap_or(usize::MAX));

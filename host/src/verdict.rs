@@ -33,13 +33,13 @@ numbered! {
         /// A reference.
         Reference = 18, "a reference cannot be read";
         /// An operand of `starts_with` or `ends_with`.
-        Affix = 19, "an operand of `starts_with` or `ends_with` is no string";
+        Affix = 19, "an operand of `starts_with` or `ends_with` is not a string";
         /// An operand of `before` or `after`.
-        Instant = 20, "an operand of `before` or `after` is no instant";
+        Instant = 20, "an operand of `before` or `after` is not an instant";
         /// The bind of a quantifier.
         Bind = 21, "a bind is blank or contains a dot";
         /// What a quantifier goes over.
-        Over = 22, "what `in` names is no collection";
+        Over = 22, "what `in` names is not a collection";
     }
 }
 
@@ -90,9 +90,9 @@ numbered! {
         /// A side of `compare`.
         CompareOperandNotAddressable = 5, "an operand that cannot be compared";
         /// The bind of a quantifier.
-        QuantifierBindInvalid = 6, "a bind that is no name";
+        QuantifierBindInvalid = 6, "a bind that is not a name";
         /// What a quantifier goes over.
-        QuantifierOverNotCollection = 7, "a quantifier over no collection";
+        QuantifierOverNotCollection = 7, "a quantifier over something that is not a collection";
         /// A fault of a rule inside a quantifier's body.
         QuantifierBodyScope = 8, "a fault in the body of a quantifier";
     }
@@ -152,7 +152,7 @@ numbered! {
 }
 
 numbered! {
-    /// Why an operand of `before` or `after` is no instant.
+    /// Why an operand of `before` or `after` is not an instant.
     ///
     /// ```
     /// assert_eq!(entity_rules::InstantFault::Escaped.number(), 1);
@@ -160,14 +160,14 @@ numbered! {
     #[non_exhaustive]
     InstantFault {
         /// A text that is kept from being a reference.
-        Escaped = 1, "a text that begins with `$$` is no instant";
+        Escaped = 1, "a text that begins with `$$` is not an instant";
         /// Any other value.
         Unreadable = 2, "neither a reference nor an instant";
     }
 }
 
 numbered! {
-    /// Why that which a quantifier goes over is no collection.
+    /// Why what a quantifier goes over is not a collection.
     ///
     /// ```
     /// assert_eq!(entity_rules::CollectionFault::NotAString.number(), 1);

@@ -5,7 +5,7 @@ use crate::limits::{PAGE_BYTES, PAGE_SHEETS, WALL_BYTES};
 use crate::raw;
 use crate::verdict::Refusal;
 
-/// A buffer for the pages of a book. What is no book has none.
+/// A buffer for the pages of a book. What is not a book has none.
 pub(crate) fn buffer(book: &[u8]) -> Vec<u8> {
     let sheets = Book::read(book).unwrap_or_default().len();
     vec![b' '; sheets.div_ceil(PAGE_SHEETS).saturating_mul(PAGE_BYTES)]

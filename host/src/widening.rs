@@ -8,7 +8,7 @@ use crate::{numbers, raw};
 use std::fmt;
 
 numbered! {
-    /// Why a schema is no widening of another.
+    /// Why a schema is not a widening of another.
     ///
     /// ```
     /// use entity_rules::BreachReason;
@@ -22,7 +22,7 @@ numbered! {
         /// Even if the new kind is json: a quantifier could go over the old one.
         KindDiffers = 2, "the kind of a field differs";
         /// Elements neither come nor go.
-        ItemsDiffer = 3, "a field has an element in one of the two alone";
+        ItemsDiffer = 3, "a field has an element in only one of the two";
         /// An absent tag and an empty one differ too.
         TagDiffers = 4, "the tag of a field differs";
         /// Of the record, the arguments or a field.
@@ -95,7 +95,7 @@ pub enum Widening {
     Marks,
     /// It is, though not of that kind: fields are added where the old schema is closed, or arguments appear.
     Anything,
-    /// It is none, and this is the first breach.
+    /// It is not a widening, and this is the first breach.
     Breach(Breach),
 }
 
@@ -110,7 +110,7 @@ impl Widening {
         !matches!(self, Self::Breach(_))
     }
 
-    /// What is not kept, where it is no widening.
+    /// What is not kept, where it is not a widening.
     ///
     /// ```
     /// assert_eq!(entity_rules::Widening::Marks.breach(), None);
@@ -143,7 +143,7 @@ impl fmt::Display for Widening {
         match self {
             Self::Marks => f.pad("a widening: nothing differs but open marks gone from 0 to 1"),
             Self::Anything => f.pad("a widening"),
-            Self::Breach(breach) => write!(f, "no widening: {breach}"),
+            Self::Breach(breach) => write!(f, "not a widening: {breach}"),
         }
     }
 }

@@ -222,3 +222,15 @@ fn the_header_has_the_version_of_the_crate() {
     );
     assert!(HEADER.contains(&line), "{line}");
 }
+
+#[test]
+fn the_library_has_the_version_of_the_header_and_of_the_crate() {
+    let number = entity_rules::raw::version();
+    let line = format!("\n#define ENTITY_RULES_VERSION_NUMBER 0x{number:06x}u\n");
+    assert!(HEADER.contains(&line), "{line}");
+    let [_, major, minor, patch] = number.to_be_bytes();
+    assert_eq!(
+        format!("{major}.{minor}.{patch}"),
+        env!("CARGO_PKG_VERSION")
+    );
+}

@@ -72,7 +72,10 @@ fn the_linked_archive_is_told() {
         .output()
         .expect("the tool runs");
     let text = String::from_utf8(output.stdout).expect("UTF-8");
-    assert!(text.starts_with("entity-rules 0.1.0\n"), "{text}");
+    assert!(
+        text.starts_with("entity-rules 0.1.0\n  functions 0.1.0\n"),
+        "{text}"
+    );
     assert!(
         text.contains(&format!("\n  library   SHA-256 {sum}\n")),
         "{text}"

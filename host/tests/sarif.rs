@@ -36,8 +36,8 @@ impl Json {
             }
             _ => {
                 let digits = rest.chars().take_while(char::is_ascii_digit).count();
-                let (number, behind) = rest.split_at(digits);
-                *rest = behind;
+                let (number, after) = rest.split_at(digits);
+                *rest = after;
                 Self::Number(number.parse().expect("a number"))
             }
         }

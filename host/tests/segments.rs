@@ -288,7 +288,7 @@ fn marks_stand_under_the_segment() {
     let out = run(&folder, "check s r --semantics kernel/1 --kind invariant");
     let at = "\n  at      entry 2, string \"$fields.糸.\\\"we\\\"\"\n";
     let marks = format!(
-        "{}^^^^^^ there is `nr`, `wei`\n",
+        "{}^^^^^^ there are `nr`, `wei`\n",
         " ".repeat(2 + 8 + 17 + 11)
     );
     assert!(out.contains(&format!("{at}{marks}")), "{out}");
@@ -298,7 +298,7 @@ fn marks_stand_under_the_segment() {
     assert_eq!(
         out,
         format!(
-            "{told}  at      糸.x\n{}^ there is `nr`, `wei`\n",
+            "{told}  at      糸.x\n{}^ there are `nr`, `wei`\n",
             " ".repeat(13)
         )
     );

@@ -271,7 +271,7 @@ fn a_check_without_a_table_goes_by_the_stock_table() {
         for &name in Name::ALL {
             let text = format!("${name}");
             let expected = kind.names().contains(&name.text());
-            for table in [&[][..], &stock, &[&stock[..], b"behind"].concat()] {
+            for table in [&[][..], &stock, &[&stock[..], b"after"].concat()] {
                 assert_eq!(bare_verdict(kind, table, &text).is_none(), expected);
             }
         }
@@ -429,7 +429,7 @@ fn the_c_functions_answer_anything() {
                 let at = random.below(TABLE_BYTES);
                 table[at] = random.pick(b"01012N,\n\x80");
             }
-            4 => table.extend(b"behind"),
+            4 => table.extend(b"after"),
             _ => {}
         }
         let rule = random.pick(&[
@@ -482,9 +482,7 @@ fn names_are_read_with_or_without_their_sign() {
         assert_eq!(format!("${name}").parse(), Ok(name));
     }
     let error = "$$id".parse::<Name>().unwrap_err();
-    assert!(
-        error.to_string().starts_with(
-            "\"$$id\" is no name; expected one of id, entity, version, fields, state,"
-        )
-    );
+    assert!(error.to_string().starts_with(
+        "\"$$id\" is not a known name; expected one of id, entity, version, fields, state,"
+    ));
 }

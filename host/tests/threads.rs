@@ -21,7 +21,7 @@ fn threads_get_their_own_answers() {
         for number in 0..8_u32 {
             let schema = &schema;
             scope.spawn(move || {
-                // Every second thread reads a field that is not there, behind as many conditions as its number.
+                // Every second thread reads a field that is not there, after as many conditions as its number.
                 let last = if number % 2 == 0 {
                     "$fields.a"
                 } else {

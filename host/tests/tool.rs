@@ -425,7 +425,9 @@ fn quiet_prints_what_is_no_instant() {
     let all_are = run_instant(&["2024-02-29", "2024-03-01", "--quiet"]);
     assert_eq!(all_are, (Some(0), String::new()));
     let (_, out) = run_instant(&["2024-02-29", "2024-02-30\x1b", "--quiet"]);
-    assert!(out.starts_with("2024-02-30\\u{1b}: defect 20 (instant): the text is no instant\n"));
+    assert!(
+        out.starts_with("2024-02-30\\u{1b}: defect 20 (instant): the text is not an instant\n")
+    );
     assert!(out.ends_with("\n2 texts: 1 accepted, 1 with a defect, 0 refused\n"));
 }
 
@@ -438,7 +440,7 @@ fn machines_read_json_of_instants() {
         concat!(
             r#"{"text":"2024-02-29 23:59:60.000000001","verdict":"accepted","number":0,"year":2024,"month":2,"day":29,"hour":23,"minute":59,"second":60,"nanoseconds":1}"#,
             "\n",
-            r#"{"text":"now","verdict":"defect","number":20,"word":"instant","explanation":"the text is no instant","hint":"an instant is YYYY-MM-DD or YYYY-MM-DDTHH:MM:SS, the latter with up to 9 digits after a dot and a Z if wanted; it has no offset"}"#,
+            r#"{"text":"now","verdict":"defect","number":20,"word":"instant","explanation":"the text is not an instant","hint":"an instant is YYYY-MM-DD or YYYY-MM-DDTHH:MM:SS, the latter with up to 9 digits after a dot and a Z if wanted; it has no offset"}"#,
             "\n"
         )
     );
@@ -685,7 +687,7 @@ fn the_readme_shows_what_is_printed_for_two_schemas() {
         assert_eq!(out, shown);
         assert_eq!(
             status == Some(0),
-            !shown.contains("changed") && !shown.contains("no widening")
+            !shown.contains("changed") && !shown.contains("not a widening")
         );
         count += 1;
     }
@@ -778,7 +780,7 @@ fn breaches_are_told_with_their_lines_and_paths() {
         ),
         (
             "H,1,1,0,0\nF,6,0,1,0,3,-,a\nb\nF,1,0,0,0,0,-,\n",
-            "reason 3: a field has an element in one of the two alone\n  old     old:2: entry 2, $fields.\"a\\nb\": array\n  new     new:2: entry 2, $fields.\"a\\nb\": array, with an element\n  hint    paths through the elements were free, and would now be held against the element\n",
+            "reason 3: a field has an element in only one of the two\n  old     old:2: entry 2, $fields.\"a\\nb\": array\n  new     new:2: entry 2, $fields.\"a\\nb\": array, with an element\n  hint    paths through the elements were free, and would now be held against the element\n",
         ),
         (
             "H,1,2,0,0\nF,6,0,0,0,3,-,a\nb\nF,6,1,1,0,1,-,c\nF,11,0,0,0,0,-,\n",
@@ -792,7 +794,7 @@ fn breaches_are_told_with_their_lines_and_paths() {
         file("new", new);
         let (status, out) = printed(&folder, "widens old new");
         assert_eq!(status, Some(1));
-        assert_eq!(out, format!("new: no widening of old, {told}"));
+        assert_eq!(out, format!("new: not a widening of old, {told}"));
     }
 }
 
@@ -935,7 +937,7 @@ fn constants_are_told_where_they_are_asked_for() {
         assert_eq!(output.status.code(), Some(2));
         let error = String::from_utf8_lossy(&output.stderr);
         assert!(
-            error.contains("--constants is no option of this command"),
+            error.contains("--constants is not an option of this command"),
             "{error}"
         );
     }

@@ -94,7 +94,7 @@ fn what_is_no_book_is_told_by_its_byte() {
         (
             "14,R,-,-,\nC,1,1,\n14;R,-,-,\nC,1,1,\n",
             3,
-            "sheet 2, byte 19: expected a comma behind the length",
+            "sheet 2, byte 19: expected a comma after the length",
         ),
         (
             "14,R,-,-,\nC,1,1,\n15,R,-,-,\nC,1,1,\n",
@@ -119,7 +119,7 @@ fn what_is_no_book_is_told_by_its_byte() {
     }
     // Among rules, what begins with a digit is meant as a book.
     file("b", "14;R,-,-,\nC,1,1,\n");
-    let told = "b:1: refused 34 (book form): sheet 1, byte 2: expected a comma behind the length\n";
+    let told = "b:1: refused 34 (book form): sheet 1, byte 2: expected a comma after the length\n";
     let checked = printed(&folder, &format!("check s b {SETTINGS}"));
     assert_eq!(checked, (Some(2), told.to_owned()));
 }
@@ -201,8 +201,8 @@ fn a_book_takes_what_is_no_sheet_and_says_so() {
     assert_eq!(output.stdout, Book::new().sheet(&long).sheet("").bytes());
     assert_eq!(
         String::from_utf8_lossy(&output.stderr),
-        "entity-rules: long:1: written, though no rule sheet: entry 1, byte 1: expected a comma\n\
-         entity-rules: none:1: written, though no rule sheet: entry 1, byte 0: expected `R`, which begins a rule, or `T`, which begins a template\n"
+        "entity-rules: long:1: written, though it is not a rule sheet: entry 1, byte 1: expected a comma\n\
+         entity-rules: none:1: written, though it is not a rule sheet: entry 1, byte 0: expected `R`, which begins a rule, or `T`, which begins a template\n"
     );
 }
 
@@ -310,7 +310,7 @@ fn each_sheet_of_a_book_is_a_rule_of_its_own() {
     assert!(lines[12].ends_with(r#","fault_file":"mill.book","line":69,"place":6,"byte":97}"#));
 }
 
-/// Columns of the first line of a sheet stand behind its length.
+/// Columns of the first line of a sheet come after its length.
 #[test]
 fn what_is_at_fault_is_shown_where_it_stands_in_the_book() {
     let (_, out) = printed(

@@ -91,9 +91,9 @@ fn the_c_function_prints_every_case_and_keeps_the_other_bytes() {
         let count = (case.pages.len() / PAGE_BYTES) as u64;
         let found = [0, 1].map(|index| raw::count(&result, index));
         assert_eq!(found, [u64::from(number), count]);
-        let (printed, behind) = pages.split_at(case.pages.len());
+        let (printed, after) = pages.split_at(case.pages.len());
         assert_eq!(printed, case.pages);
-        assert!(behind.iter().all(|&byte| byte == 0xCC));
+        assert!(after.iter().all(|&byte| byte == 0xCC));
         let free = if number == 0 { PATH_BYTES } else { 0 };
         assert!(path[free..].iter().all(|&byte| byte == 0xAA));
         assert_eq!(result[WALL_BYTES..], [0xBB; 5]);
@@ -263,7 +263,7 @@ fn the_tool_says_on_standard_error_what_is_no_page() {
     };
     let nothing = "entity-rules: none: no sheets, nothing to check\n";
     assert_eq!(told("s none"), (Some(0), 0, nothing.to_owned()));
-    let refused = "entity-rules: bad:1: refused 34 (book form): sheet 1, byte 1: expected a comma behind the length\n";
+    let refused = "entity-rules: bad:1: refused 34 (book form): sheet 1, byte 1: expected a comma after the length\n";
     assert_eq!(told("s bad"), (Some(2), 0, refused.to_owned()));
     let (status, bytes, err) = told("s missing");
     assert_eq!((status, bytes), (Some(2), 0));

@@ -1,4 +1,4 @@
-//! Words of the command line that are no UTF-8, short options, and the names of kinds.
+//! Words of the command line that are not UTF-8, short options, and the names of kinds.
 
 use std::ffi::OsString;
 use std::fs;
@@ -6,7 +6,7 @@ use std::os::unix::ffi::OsStringExt;
 use std::path::{Path, PathBuf};
 use std::process::{Command, Output};
 
-/// A folder of its own for a test, with a schema and a template, whose file's name is no UTF-8.
+/// A folder of its own for a test, with a schema and a template, whose file's name is not UTF-8.
 fn folder(name: &str) -> (PathBuf, OsString) {
     let folder = Path::new(env!("CARGO_TARGET_TMPDIR")).join(name);
     let _ = fs::remove_dir_all(&folder);
@@ -45,7 +45,7 @@ fn a_file_name_that_is_no_text_is_no_label() {
     assert_eq!(output.status.code(), Some(2));
     assert_eq!(
         out(&output),
-        "b\\xffd.rule: refused 2 (label): the label is over 256 bytes long, or not UTF-8; expected another, as by --label\n"
+        "b\\xffd.rule: refused 2 (label): the label is over 256 bytes long, or not UTF-8; expected another label, for instance by --label\n"
     );
     let output = run(&folder, check(&file, &["--json"]));
     assert!(out(&output).starts_with(

@@ -1,4 +1,4 @@
--- Numbers as bytes: one list behind the other, how long they are, and each number read back as it was written.
+-- Numbers as bytes: one list after the other, how long they are, and each number read back as it was written.
 use Prim.Native.Nat.{ℕ, zero, suc, _+_, _*_, _/_, _%_, _^_, _≤_, _<_}
 use native.Mathlib.Omega.{arith}
 use mathlib.Core.List.{List, [], _∷_, _++_, append-assoc, append-nil}
@@ -58,7 +58,7 @@ number-of-bytes (n ∷ ns) zero rest less (one-more h hs) = rw append-assoc (num
 number-of-bytes (n ∷ ns) (suc i) rest less (one-more h hs) =
     rw append-assoc (number-later n i (bytesOf ns ++ rest) ∙ number-of-bytes ns i rest (omega arith) hs)
 
--- Numbers written to the start of a buffer that has room for them: each is read back, and the bytes behind them keep their values.
+-- Numbers written to the start of a buffer that has room for them: each is read back, and the bytes after them keep their values.
 module _ (ns before : List ℕ) (room : 4 * length ns ≤ length before) where
   spelt : sets before 0 (bytesOf ns) ≡ bytesOf ns ++ drop (4 * length ns) before
   spelt =

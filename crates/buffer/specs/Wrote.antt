@@ -5,7 +5,7 @@ use mathlib.Core.Path.{_≡_}
 use lib.ListN.{length}
 use lib.Seq.{sets}
 
--- the bytes stand from `at` on, as many as there is room for, and `next` is behind them
+-- the bytes are there from `at` on, as many as there is room for, and `next` is after them
 pub record Wrote (before after : List ℕ) (at : ℕ) (bytes : List ℕ) (next : ℕ) : Type 0 where
   pub stands : after ≡ sets before at bytes
   pub ends : next ≡ at + min (length bytes) (length before - at)

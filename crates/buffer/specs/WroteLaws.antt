@@ -1,4 +1,4 @@
--- Writes one behind the other, and what stands at the start after one.
+-- Writes one after the other, and what is at the start after one.
 use Prim.Native.Nat.{ℕ, suc, _+_, _-_, _≤_, min}
 use native.Mathlib.Nat.{add-zero, add-suc, suc-add}
 use native.Mathlib.Omega.{arith}
@@ -24,7 +24,7 @@ sets-past [] l i past = refl
 sets-past (b ∷ bytes) l i past =
     ap (λ (k : List ℕ). sets k (suc i) bytes) (set-out l i b past) ∙ sets-past bytes l (suc i) (omega arith)
 
--- behind what did not fit nothing is written, wherever that is
+-- after what did not fit nothing is written, wherever that is
 sets-behind : (bytes l : List ℕ) (i n : ℕ) → sets l (i + min n (length l - i)) bytes ≡ sets l (i + n) bytes
 sets-behind bytes l i n =
     by-test (leb (i + n) (length l))
@@ -70,7 +70,7 @@ sets-front bytes before fits =
     ap (λ (l : List ℕ). take (length bytes) l) (sets-eq bytes before 0 (omega arith))
     ∙ take-at bytes (drop (0 + length bytes) before) (length bytes) refl
 
--- what is written at the start is what stands up to `next`
+-- what is written at the start is what is there up to `next`
 pub wrote-front : {before after : List ℕ} {next : ℕ} {bytes : List ℕ} → Wrote before after 0 bytes next → length bytes ≤ length before
     → take next after ≡ bytes
 wrote-front {before} {after} {next} {bytes} w fits =

@@ -1,4 +1,4 @@
-// Bytes written behind one another into a lent buffer; what does not fit is left out.
+// Bytes written one after another into a lent buffer; what does not fit is left out.
 ghost use mathlib.Core.List.{[], _∷_};
 ghost use mathlib.Core.Path.{_≡_};
 ghost use Prim.Native.Nat.{_+_, _≤_, _<_};
@@ -7,7 +7,7 @@ ghost use Rattle.sheet.specs.Numeral.{decimalOf};
 ghost use Rattle.buffer.specs.Wrote.{Wrote};
 ghost use Rattle.buffer.specs.Bytes.{littleEndian, bytesOf, numberAt};
 
-// Writes one byte; the place behind it is returned, as by each function here.
+// Writes one byte; the place after it is returned, as by each function here.
 pub fn push(out: &mut [u8], at: usize, byte: u8) -> usize
     ensures { λ r. ⌜ Wrote (now (out .entry)) (now (out .exit)) at (byte ∷ []) r ⌝ }
 {

@@ -20,7 +20,7 @@ pub record Parts : Type 0 where
   pub schema : List ℕ
   pub rule : List ℕ
 
--- a numeral of any length, and the comma behind it
+-- a numeral of any length, and the comma after it
 unfoldable pub field : Reader (List ℕ) ℕ
 field = do
   n ← decimal
@@ -32,7 +32,7 @@ unfoldable pub end : Reader (List ℕ) (Unit {0})
 end [] = some (tt, [])
 end (b ∷ s) = none
 
--- the texts behind the numbers: the label, which ends the first line, and both sheets
+-- the texts after the numbers: the label, which ends the first line, and both sheets
 unfoldable pub texts : (kind semantics labelBytes schemaBytes ruleBytes : ℕ) → Reader (List ℕ) Parts
 texts kind semantics labelBytes schemaBytes ruleBytes = do
   label ← bytes labelBytes

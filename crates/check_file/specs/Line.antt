@@ -4,7 +4,7 @@ use mathlib.Core.List.{List, [], _∷_, _++_}
 use Rattle.sheet.specs.Numeral.{decimalOf}
 use Rattle.validation.specs.Result.{Numbers}
 
--- a number, and the comma behind it
+-- a number, and the comma after it
 unfoldable pub fieldOf : ℕ → List ℕ
 fieldOf n = decimalOf n ++ 44 ∷ []
 

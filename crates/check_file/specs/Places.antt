@@ -30,7 +30,7 @@ abbrev pub NumeralIs : Reader (List ℕ) ℕ → List ℕ → ℕ → NumeralRea
 NumeralIs p s at (numeral.Is value next) = ReadsTo p s at value next
 NumeralIs p s at numeral.Missing = p (drop at s) ≡ none
 
--- the digits behind those whose value is `first`
+-- the digits after those whose value is `first`
 unfoldable pub digitsBehind : ℕ → Reader (List ℕ) ℕ
 digitsBehind first s = some (Numeral.digits first s)
 

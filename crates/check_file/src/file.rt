@@ -32,7 +32,7 @@ fn wide(n: u32) -> usize
     n as usize
 }
 
-// The texts behind the numbers, from `at` on. No sum here wraps: a slice is shorter than half the address space.
+// The texts after the numbers, from `at` on. No sum here wraps: a slice is shorter than half the address space.
 fn texts(
     file: &[u8],
     at: usize,

@@ -1,4 +1,4 @@
-// The line: numbers with a comma behind each, the path, and the line's end. What does not fit is left out.
+// The line: numbers with a comma after each, the path, and the line's end. What does not fit is left out.
 use buffer::push;
 use buffer::put;
 use buffer::put_decimal;
@@ -7,7 +7,7 @@ ghost use lib.ListN.{take};
 ghost use Rattle.buffer.specs.Wrote.{Wrote};
 ghost use Rattle.check_file.specs.Line.{fieldOf, lineOf, numbers};
 
-// Writes a number and the comma behind it; the place behind that is returned.
+// Writes a number and the comma after it; the place after that is returned.
 fn put_field(out: &mut [u8], at: usize, n: u32) -> usize
     ensures { λ r. ⌜ Wrote (now (out .entry)) (now (out .exit)) at (fieldOf n) r ⌝ }
 {

@@ -11,7 +11,7 @@ ghost use Rattle.check_file.specs.Places.{tooLarge, digitsBehind, Numera
 const TOO_LARGE: u32 = MAX_FILE_BYTES as u32 + 1;
 
 pub enum NumeralRead {
-    // The number, and the place behind it.
+    // The number, and the place after it.
     Is(u32, usize),
     Missing,
 }
@@ -28,7 +28,7 @@ fn capped(n: u32) -> u32
     if n < TOO_LARGE { n } else { TOO_LARGE }
 }
 
-// The digits from `at` on, behind the one whose value is `first`.
+// The digits from `at` on, after the one whose value is `first`.
 fn digits(s: &[u8], at: usize, first: u32) -> NumeralRead
     requires { ⌜ (at ≤ length (now s)) × (first ≤ 9) ⌝ }
     ensures { λ r. ⌜ NumeralIs (digitsBehind first) (now (s .entry)) at r ⌝ }
@@ -47,7 +47,7 @@ fn digits(s: &[u8], at: usize, first: u32) -> NumeralRead
     NumeralRead::Is(value, i)
 }
 
-// A numeral of which the first digit stands at `at`.
+// A numeral whose first digit is at `at`.
 fn numeral(s: &[u8], at: usize) -> NumeralRead
     ensures { λ r. ⌜ NumeralIs decimal (now (s .entry)) at r ⌝ }
 {
@@ -64,7 +64,7 @@ fn numeral(s: &[u8], at: usize) -> NumeralRead
     NumeralRead::Missing
 }
 
-// A numeral and the comma behind it.
+// A numeral and the comma after it.
 pub fn field(s: &[u8], at: usize) -> NumeralRead
     ensures { λ r. ⌜ NumeralIs field (now (s .entry)) at r ⌝ }
 {

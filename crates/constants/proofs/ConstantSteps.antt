@@ -1,5 +1,5 @@
 -- Which conditions are constant, step by step.
-use Prim.Native.Nat.{ℕ, _+_, _<_}
+use Prim.Native.Nat.{ℕ, _+_, _≤_}
 use native.Mathlib.Omega.{arith}
 use mathlib.Core.Bool.{Bool}
 use mathlib.Core.List.{List}
@@ -16,7 +16,7 @@ use Rattle.validation.specs.Constant.{literalInstant, truthOf, truthIn, constan
 use Rattle.value_checks.specs.Frames.{literalBy, ReadAs}
 use Rattle.value_checks.specs.declared.operand.InstantRead.{InstantRead}
 use Rattle.value_checks.specs.declared.operand.InstantRead.the-variants as InstantRead
-use Rattle.constants.specs.Marks.{instantBy, truthBy, LiteralAt, PairIs}
+use Rattle.constants.specs.Marks.{instantBy, truthBy, LiteralAt, PairIs, ConstantAt}
 use Rattle.constants.specs.declared.Literal.{Literal}
 use Rattle.constants.specs.declared.Literal.the-variants as Literal
 use Rattle.constants.specs.declared.Constant.{Constant}
@@ -52,12 +52,25 @@ one-entry (string e t) f h = refl
 one-entry (array e values) f h = absurd (Option·none-ne-some f h)
 one-entry (object e pairs) f h = absurd (Option·none-ne-some f h)
 
--- an operator behind `after` makes no condition constant
-pub other-none : (op : ℕ) → 7 < op → (o p : Option Fields) → truthIn op o p ≡ none
+-- no other operator makes a condition constant
+pub other-none : (op : ℕ) → (op ≡ 6 → ⊥) → (op ≡ 7 → ⊥) → (o p : Option Fields) → truthIn op o p ≡ none
 unfolding truthIn truthBy
-other-none op more none p = refl
-other-none op more (some f) none = refl
-other-none op more (some f) (some g) = truth-none op f g (λ e. omega arith) (λ e. omega arith)
+other-none op before after none p = refl
+other-none op before after (some f) none = refl
+other-none op before after (some f) (some g) = truth-none op f g before after
+
+module _ {rule words : List ℕ} {op i : ℕ} where
+  pub constant-not : (op ≡ 6 → ⊥) → (op ≡ 7 → ⊥) → ConstantAt rule words op i Constant.No
+  unfolding constantOf truthBy
+  constant-not before after =
+      record {
+        pair = record { truth = λ left right a b. other-none op before after (literalInstant left) (literalInstant right) };
+        early = λ h. refl;
+        late = λ h. refl;
+      }
+
+  pub constant-by : {r : Constant} → 6 ≤ op → op ≤ 7 → PairIs rule words op (i + 1) r → ConstantAt rule words op i r
+  constant-by low high p = record { pair = p; early = λ h. absurd (omega arith); late = λ h. absurd (omega arith) }
 
 right-none : (op : ℕ) (o : Option Fields) → truthIn op o none ≡ none
 unfolding truthIn

@@ -3,14 +3,14 @@ use Prim.Native.Nat.{ℕ, _+_, _*_, _≤_, _<_}
 use native.Mathlib.Omega.{arith}
 use mathlib.Core.Bool.{Bool}
 use mathlib.Core.List.{List, [], _∷_, _++_, append-nil, append-assoc}
+use mathlib.Core.Logic.{⊎-elim}
 use mathlib.Core.Option.{Option, none, some}
 use mathlib.Core.Path.{_≡_, refl, sym, ap, _∙_}
 use lib.ListN.{length, drop, length-append}
 use lib.Seq.{sets}
-use Rattle.sheet.specs.Entries.{ConditionHead, conditionHead, RuleHead, ruleHead}
+use Rattle.sheet.specs.Entries.{RuleHead, ruleHead}
 use Rattle.sheet.specs.Entries as Entries
-use Rattle.sheet.specs.Places.{ReadsTo, conditionOf}
-use Rattle.sheet.specs.declared.rule_heads.ConditionHead.{ConditionHead as Head}
+use Rattle.sheet.specs.Places.{ReadsTo}
 use Rattle.definition.specs.Tree.{Text, Condition, literal, many, negation, one, two, comparison, quantifier, Conditions, noConditions, condition, Rule, rule, template}
 use Rattle.definition.specs.Within.{conditionsEntries}
 use Rattle.rule.specs.Index.{startOf, endOf, ConditionAt, RuleAt}
@@ -19,11 +19,12 @@ use Rattle.buffer.specs.WroteLaws.{sets-append}
 use Rattle.buffer.specs.Bytes.{littleEndian, bytesOf}
 use Rattle.buffer.specs.BytesLaws.{bytes-append, bytes-of-one, bytes-length}
 use Rattle.validation.specs.Constant.{constantOf, markOf, markIf, marksOf, marksOfConditions, marksIn}
+use Rattle.value_checks.specs.Kinds.{OperatorAt}
 use Rattle.value_checks.specs.Nodes.{AreConditions, Behind, childrenOf, ChildrenFrom}
-use Rattle.value_checks.proofs.NodeSteps.{same-head, none-left, none-ends}
-use Rattle.value_checks.proofs.Opening.{beside, opened, opened-stand, conditions-unread}
+use Rattle.value_checks.proofs.NodeSteps.{same-head, has-operator, none-left, none-ends}
+use Rattle.value_checks.proofs.Opening.{beside, opened, opened-stand}
 use Rattle.validation.specs.Marking.{MarksAre}
-use Rattle.constants.specs.Marks.{truthBy, PairIs, ConstantBy, ConstantAt, MarkedOn, Unmarked, ConditionsMarked, RuleMarked}
+use Rattle.constants.specs.Marks.{truthBy, PairIs, ConstantAt, MarkedOn, Unmarked, ConditionsMarked, RuleMarked}
 use Rattle.constants.specs.declared.Constant.{Constant}
 use Rattle.constants.specs.declared.Constant.the-variants as Constant
 
@@ -67,30 +68,32 @@ unfolding beside marksOfConditions
 beside-marks noConditions ds = refl
 beside-marks (condition c others) ds = rw (beside-marks others ds, append-assoc)
 
-module _ (rule words : List ℕ) (i : ℕ) (k : Constant) {at behind : ℕ} {h : ConditionHead} (start : at ≡ startOf words i) (reads : ReadsTo conditionHead rule at h behind) (by : ConstantBy rule words i k h) where
+module _ (rule words : List ℕ) (i : ℕ) (k : Constant) {at op : ℕ} (start : at ≡ startOf words i) (kind : OperatorAt rule at op) (by : ConstantAt rule words op i k) where
   marks-parts : (c : Condition) → ConditionAt rule words i c → marksOf c ≡ markIf (i + 1) (truthBy k) ++ marksOfConditions (childrenOf c)
   unfolding marksOf markIf childrenOf
   marks-parts (literal e truth) a =
-      let n : truthBy k ≡ none = rw (same-head start reads a) at by in
-      rw n
-  marks-parts (many e op children) a =
-      let n : truthBy k ≡ none = rw (same-head start reads (a .0)) at by in
-      rw n
+      let p = has-operator rule words i start kind (literal e truth) a in
+      rw (by .early (omega arith))
+  marks-parts (many e own children) a =
+      let p = has-operator rule words i start kind (many e own children) a in
+      rw (by .early (omega (arith, p .2)))
   marks-parts (negation e child) a =
-      let n : truthBy k ≡ none = rw (same-head start reads (a .0)) at by in
-      rw (n, append-nil)
-  marks-parts (one e op v) a =
-      let n : truthBy k ≡ none = rw (same-head start reads (a .0)) at by in
+      let p = has-operator rule words i start kind (negation e child) a in
+      rw (by .early (omega arith), append-nil)
+  marks-parts (one e own v) a =
+      let p = has-operator rule words i start kind (one e own v) a in
+      let n : truthBy k ≡ none = ⊎-elim (λ q. by .early (omega arith)) (λ q. by .late (omega arith)) (p .1) in
       rw n
-  marks-parts (two e op left right) a =
-      let p : PairIs rule words op (i + 1) k = rw (same-head start reads (a .0)) at by in
-      rw (a .0 .isEntry, p .truth left right (a .1) (a .2), append-nil)
+  marks-parts (two e own left right) a =
+      let p = has-operator rule words i start kind (two e own left right) a in
+      let n : PairIs rule words own (i + 1) k = rw (p .0) at (by .pair) in
+      rw (a .0 .isEntry, n .truth left right (a .1) (a .2), append-nil)
   marks-parts (comparison e which left right) a =
-      let n : truthBy k ≡ none = rw (same-head start reads (a .0)) at by in
-      rw n
-  marks-parts (quantifier e op bind over body) a =
-      let n : truthBy k ≡ none = rw (same-head start reads (a .0)) at by in
-      rw (n, append-nil)
+      let p = has-operator rule words i start kind (comparison e which left right) a in
+      rw (by .late (omega arith))
+  marks-parts (quantifier e own bind over body) a =
+      let p = has-operator rule words i start kind (quantifier e own bind over body) a in
+      rw (by .late (omega (arith, p .1)), append-nil)
 
 -- What is left at word `i`.
 
@@ -112,12 +115,12 @@ left-begin =
       marks = λ cs w. record { counted = refl; written = refl };
     }
 
-module _ {rule words : List ℕ} {i end own at behind next : ℕ} {h : Head} {k : Constant} (inside : i < end) (start : at ≡ startOf words i) (reads : ReadsTo conditionHead rule at (conditionOf rule h) behind) (by : ConstantAt rule words h i k) (ends : Behind words i end own) (first : ChildrenFrom words h i own next) where
+module _ {rule words : List ℕ} {i end own at op next : ℕ} {k : Constant} (inside : i < end) (start : at ≡ startOf words i) (kind : OperatorAt rule at op) (by : ConstantAt rule words op i k) (ends : Behind words i end own) (first : ChildrenFrom words op i own next) where
   opened-marks : (cs : Conditions) → AreConditions rule words i end cs → marksOfConditions cs ≡ markIf (i + 1) (truthBy k) ++ marksOfConditions (opened cs)
   unfolding opened marksOfConditions
   opened-marks noConditions w = absurd (omega (arith, none-ends w, inside))
   opened-marks (condition c others) w =
-      rw (marks-parts rule words i k start reads (by .by) c (w .stand .0), beside-marks (childrenOf c) others, append-assoc)
+      rw (marks-parts rule words i k start kind by c (w .stand .0), beside-marks (childrenOf c) others, append-assoc)
 
   pub left-next : {from count more : ℕ} {before now after : List ℕ}
       → MarksLeft rule words from i end before now count
@@ -126,7 +129,7 @@ module _ {rule words : List ℕ} {i end own at behind next : ℕ} {h : Head} {k 
   left-next l m =
       record {
         rest = λ cs w. opened (l .rest cs w);
-        stand = λ cs w. opened-stand inside start ends reads (first .first rule) (l .rest cs w) (l .stand cs w);
+        stand = λ cs w. opened-stand inside start kind ends first (l .rest cs w) (l .stand cs w);
         done = λ cs w. l .done cs w ++ markIf (i + 1) (truthBy k);
         whole =
             λ cs w.
@@ -160,9 +163,6 @@ module _ {rule words : List ℕ} {from i end count : ℕ} {before now : List ℕ
             let e : marksOfConditions cs ≡ l .done cs w = l .whole cs w ∙ rw (f, append-nil) in
             rw e (l .marks cs w);
       }
-
-  pub left-bad : {at : ℕ} → i < end → at ≡ startOf words i → conditionHead (drop at rule) ≡ none → ConditionsMarked rule words from end before now count
-  left-bad inside start r = record { marks = λ cs w. absurd (conditions-unread inside start r (l .rest cs w) (l .stand cs w)) }
 
 -- By the sheet's first entry.
 

@@ -4,12 +4,9 @@ use mathlib.Core.Bool.{Bool, true, false}
 use mathlib.Core.List.{List}
 use mathlib.Core.Option.{Option, none, some}
 use mathlib.Core.Path.{_≡_}
-use lib.ListN.{length, getD}
+use lib.ListN.{length}
 use lib.Seq.{sets}
 use Rattle.timestamp.specs.declared.Fields.{Fields}
-use Rattle.sheet.specs.Entries.{ConditionHead, literalHead, manyHead, negationHead, oneHead, twoHead, comparisonHead, quantifierHead}
-use Rattle.sheet.specs.Places.{conditionOf}
-use Rattle.sheet.specs.declared.rule_heads.ConditionHead.{ConditionHead as Head}
 use Rattle.definition.specs.Tree.{Value, Conditions, Rule}
 use Rattle.definition.specs.Within.{valueEntries}
 use Rattle.rule.specs.Index.{ValueAt, RuleAt}
@@ -34,39 +31,32 @@ truthBy Constant.No = none
 pub record LiteralAt (rule words : List ℕ) (i : ℕ) (r : Literal) : Type 0 where
   pub fields : (v : Value) → ValueAt rule words i v → literalInstant v ≡ instantBy r
 
--- two operands, one behind the other
+-- two operands, one after the other
 pub record PairIs (rule words : List ℕ) (op start : ℕ) (r : Constant) : Type 0 where
   pub truth : (left right : Value) → ValueAt rule words start left → ValueAt rule words (start + valueEntries left) right
       → constantOf op left right ≡ truthBy r
 
--- the condition of word `i`, by its head
-abbrev pub ConstantBy : (rule words : List ℕ) (i : ℕ) (r : Constant) → ConditionHead → Type 0
-ConstantBy rule words i r (literalHead truth) = truthBy r ≡ none
-ConstantBy rule words i r (manyHead op count) = truthBy r ≡ none
-ConstantBy rule words i r negationHead = truthBy r ≡ none
-ConstantBy rule words i r (oneHead op) = truthBy r ≡ none
-ConstantBy rule words i r (twoHead op) = PairIs rule words op (i + 1) r
-ConstantBy rule words i r (comparisonHead which) = truthBy r ≡ none
-ConstantBy rule words i r (quantifierHead op bind) = truthBy r ≡ none
+-- a condition at word `i` with operator `op`: `before` and `after` alone can be constant
+pub record ConstantAt (rule words : List ℕ) (op i : ℕ) (r : Constant) : Type 0 where
+  pub pair : PairIs rule words op (i + 1) r
+  pub early : op ≤ 5 → truthBy r ≡ none
+  pub late : 8 ≤ op → truthBy r ≡ none
 
-pub record ConstantAt (rule words : List ℕ) (h : Head) (i : ℕ) (r : Constant) : Type 0 where
-  pub by : ConstantBy rule words i r (conditionOf rule h)
-
--- an entry's mark behind so many others, where it has one
+-- an entry's mark after so many others, where it has one
 pub record MarkedOn (count entry : ℕ) (constant : Constant) (before after : List ℕ) (r : ℕ) : Type 0 where
   pub most : r ≤ count + 1
   pub counted : r ≡ count + length (markIf entry (truthBy constant))
   pub written : after ≡ sets before (4 * count) (bytesOf (markIf entry (truthBy constant)))
 
--- the first digit of an operator that holds no condition and is neither `before` nor `after`: not 2, 3 or 4, with which 20 and 21 begin too, and not 6 or 7
-pub record PlainDigit (b : ℕ) : Type 0 where
-  pub holdsNone : 50 ≤ b → b ≤ 52 → ⊥
-  pub comparesNone : 54 ≤ b → b ≤ 55 → ⊥
+-- a condition with that operator holds no condition, as 2 to 4, 20 and 21 do, and is neither `before` nor `after`, which are 6 and 7
+pub record PlainOperator (op : ℕ) : Type 0 where
+  pub holdsNone : 2 ≤ op → 5 ≤ op
+  pub comparesNone : 6 ≤ op → 8 ≤ op
+  pub walksNone : op ≤ 19
 
--- what is told of the entry at `at` by the first digit of its operator
-abbrev pub PlainAt : (rule : List ℕ) (at : ℕ) (r : Bool) → Type 0
-PlainAt rule at true = PlainDigit (getD rule (at + 2) 0)
-PlainAt rule at false = Unit {0}
+abbrev pub Plain : (op : ℕ) (r : Bool) → Type 0
+Plain op true = PlainOperator op
+Plain op false = Unit {0}
 
 -- the conditions from word `start` up to word `i` have no mark: those that are left have all
 pub record Unmarked (rule words : List ℕ) (start end i : ℕ) : Type 0 where
@@ -75,7 +65,7 @@ pub record Unmarked (rule words : List ℕ) (start end i : ℕ) : Type 0 where
   pub stand : (cs : Conditions) (w : AreConditions rule words start end cs) → AreConditions rule words i end (rest cs w)
   pub same : (cs : Conditions) (w : AreConditions rule words start end cs) → marksOfConditions cs ≡ marksOfConditions (rest cs w)
 
--- the marks of the conditions that stand there
+-- the marks of the conditions that are there
 pub record ConditionsMarked (rule words : List ℕ) (start end : ℕ) (before after : List ℕ) (count : ℕ) : Type 0 where
   pub marks : (cs : Conditions) → AreConditions rule words start end cs → MarksAre (marksOfConditions cs) before after count
 

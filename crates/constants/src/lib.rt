@@ -3,14 +3,15 @@ use buffer::put_u32;
 use rule::index::end_of;
 use rule::index::start_of;
 use sheet::rule_heads::AFTER;
-use sheet::rule_heads::ConditionHead;
-use sheet::rule_heads::ConditionRead;
+use sheet::rule_heads::LITERAL;
 use sheet::rule_heads::RuleHead;
 use sheet::rule_heads::RuleHeadRead;
-use sheet::rule_heads::condition_head;
+use sheet::rule_heads::TRUTHY;
 use sheet::rule_heads::rule_head;
 use timestamp::Fields;
 use timestamp::is_earlier;
+use value_checks::kind::EXISTS;
+use value_checks::kind::operator_at;
 use value_checks::node::behind;
 use value_checks::node::children_from;
 use value_checks::operand::InstantRead;
@@ -18,7 +19,7 @@ use value_checks::operand::instant_form;
 ghost use mathlib.Core.Path.{_≡_};
 ghost use Prim.Native.Nat.{_+_, _<_, _≤_};
 ghost use Rattle.validation.specs.Constant.{truthOf, markOf};
-ghost use Rattle.constants.specs.Marks.{truthBy, LiteralAt, PairIs, ConstantAt, MarkedOn, PlainAt, Unmarked, ConditionsMarked, RuleMarked};
+ghost use Rattle.constants.specs.Marks.{truthBy, LiteralAt, PairIs, ConstantAt, MarkedOn, Plain, Unmarked, ConditionsMarked, RuleMarked};
 
 // The operator's number, as AFTER is.
 const BEFORE: usize = 6;
@@ -71,20 +72,18 @@ fn constant_pair(rule: &[u8], words: &[u32], op: usize, start: usize) -> Constan
     truth_of(op, left, right)
 }
 
-// The condition of word `i`, by its head.
-fn constant_at(rule: &[u8], words: &[u32], head: ConditionHead, i: usize) -> Constant
+// The condition of word `i`, by its operator.
+fn constant_at(rule: &[u8], words: &[u32], op: usize, i: usize) -> Constant
     requires { ⌜ i + 1 < 4096 ⌝ }
-    ensures { λ r. ⌜ ConstantAt (now (rule .entry)) (now (words .entry)) head i r ⌝ }
+    ensures { λ r. ⌜ ConstantAt (now (rule .entry)) (now (words .entry)) op i r ⌝ }
 {
-    match head {
-        ConditionHead::Literal(_) => Constant::No,
-        ConditionHead::Many(_, _) => Constant::No,
-        ConditionHead::Negation => Constant::No,
-        ConditionHead::One(_) => Constant::No,
-        ConditionHead::Two(op) => constant_pair(rule, words, op, i + 1),
-        ConditionHead::Comparison(_) => Constant::No,
-        ConditionHead::Quantifier(_, _) => Constant::No,
+    if op < BEFORE {
+        return Constant::No;
     }
+    if AFTER < op {
+        return Constant::No;
+    }
+    constant_pair(rule, words, op, i + 1)
 }
 
 fn mark_of(entry: usize, truth: bool) -> u32
@@ -95,7 +94,7 @@ fn mark_of(entry: usize, truth: bool) -> u32
     if truth { twice + 1 } else { twice }
 }
 
-// Behind `count` marks that of an entry, if its condition is constant; how many there are then.
+// Writes the mark of an entry after `count` others, if its condition is constant; how many there are then.
 fn mark(count: usize, entry: usize, constant: Constant, marks: &mut [u8]) -> usize
     requires { ⌜ (count ≤ 4096) × (entry ≤ 4096) ⌝ }
     ensures { λ r. ⌜ MarkedOn count entry constant (now (marks .entry)) (now (marks .exit)) r ⌝ }
@@ -107,31 +106,17 @@ fn mark(count: usize, entry: usize, constant: Constant, marks: &mut [u8]) -> usi
     count + 1
 }
 
-// Whether the entry at `at`, if it is a condition's, holds no condition and is neither `before` nor `after`. Its operator's first digit tells: such
-// conditions have the operators 1, 5, and 8 to 19.
-fn is_plain(rule: &[u8], at: usize) -> bool
-    ensures { λ r. ⌜ PlainAt (now (rule .entry)) at r ⌝ }
+// Whether a condition with that operator holds no condition and is neither `before` nor `after`.
+fn is_plain(op: usize) -> bool
+    ensures { λ r. ⌜ Plain op r ⌝ }
 {
-    if rule.len() <= 2 {
-        return false;
-    }
-    if rule.len() - 2 <= at {
-        return false;
-    }
-    let digit = rule[at + 2];
-    if digit < b'2' {
+    if op <= LITERAL {
         return true;
     }
-    if digit <= b'4' {
-        return false;
+    if op <= AFTER {
+        return op == EXISTS;
     }
-    if digit == b'6' {
-        return false;
-    }
-    if digit == b'7' {
-        return false;
-    }
-    true
+    op <= TRUTHY
 }
 
 // Passes over conditions from word `start` on that have no mark, without reading them.
@@ -140,7 +125,7 @@ fn behind_plain(rule: &[u8], words: &[u32], start: usize, end: usize) -> usize
 {
     let mut i = start;
     while i < end {
-        if is_plain(rule, start_of(words, i)) {
+        if is_plain(operator_at(rule, start_of(words, i))) {
             i = behind(words, i, end);
         } else {
             return i;
@@ -157,11 +142,9 @@ fn mark_conditions(rule: &[u8], words: &[u32], start: usize, end: usize, marks: 
     let mut count = 0;
     let mut i = behind_plain(rule, words, start, end);
     while i < end {
-        let ConditionRead::Is(head, _) = condition_head(rule, start_of(words, i)) else {
-            return count;
-        };
-        count = mark(count, i + 1, constant_at(rule, words, head, i), marks);
-        let next = children_from(words, head, i, behind(words, i, end));
+        let op = operator_at(rule, start_of(words, i));
+        count = mark(count, i + 1, constant_at(rule, words, op, i), marks);
+        let next = children_from(words, op, i, behind(words, i, end));
         i = behind_plain(rule, words, next, end);
     }
     count

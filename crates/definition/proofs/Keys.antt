@@ -1,4 +1,4 @@
--- The keys of an object, by computation: they stand in the order given, none twice, next to each other or apart.
+-- The keys of an object, by computation: they are in the order given, none twice, next to each other or apart.
 use mathlib.Core.Option.{none, some}
 use mathlib.Core.Path.{_≡_, refl}
 use Rattle.sheet.specs.Ascii.{ascii}

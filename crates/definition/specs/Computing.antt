@@ -1,4 +1,4 @@
--- Opens every definition behind the decoders: under `unfolding computing` a worked example holds by computation.
+-- Opens every definition that the decoders rest on: under `unfolding computing` a worked example holds by computation.
 use Rattle.definition.specs.Decode as Decode
 use Rattle.sheet.specs.Computing as Sheet
 

@@ -30,7 +30,7 @@ pub record ConditionsGood (depth n next : ℕ) (cs : Conditions) : Type 0 where
 abbrev pub ConditionLaw : ℕ → Reader Ahead Condition → Type 0
 ConditionLaw depth p = TreeLaw p writeCondition conditionEntries (λ c. 1) (ConditionGood depth)
 
--- a value that stands in a condition
+-- a value in a condition
 abbrev pub OperandGood : ℕ → Value → Type 0
 OperandGood next v = OperandFits v × ValueFrom next v
 

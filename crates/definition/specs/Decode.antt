@@ -46,7 +46,7 @@ whole limit p s =
       atEnd
       pure t) (record { next = 1; left = limit; rest = s }))
 
--- Fields: a field's name is read with it, and stands in the tree beside it.
+-- Fields: a field's name is read with it, and is beside it in the tree.
 
 unfoldable pub elementOf : Bool → Reader Ahead (Text × Field) → Reader Ahead Items
 elementOf false p = pure absent
@@ -119,7 +119,7 @@ unfoldable pub keysOf : Pairs → List Text
 keysOf noPairs = []
 keysOf (pair key v others) = key ∷ keysOf others
 
--- an object's keys stand in the order given, none twice
+-- an object's keys are in the order given, none twice
 unfoldable pub objectOf : ℕ → Reader Ahead Value → Reader Ahead Pairs
 objectOf n p = do
   pairs ← pairsOf n p

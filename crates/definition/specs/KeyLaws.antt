@@ -1,4 +1,4 @@
--- The keys of an object: the decoder's test that none stands twice, and what it says.
+-- The keys of an object: the decoder's test that none occurs twice, and what it says.
 use mathlib.Core.Bool.{true, false, false≢true}
 use mathlib.Core.Path.{_≡_, refl, sym, _∙_}
 use Rattle.sheet.specs.Order.{sameBytes, isAmong, noneTwice}

@@ -1,4 +1,4 @@
--- The limits of the sheets (docs/FORMAT.md, "Sheets"). The text limit stands with the entries that hold texts.
+-- The limits of the sheets (docs/FORMAT.md, "Sheets"). The text limit is with the entries that hold texts.
 use Prim.Native.Nat.{ℕ}
 
 abbrev pub maxSheetBytes : ℕ

@@ -1,4 +1,4 @@
--- Names that rise: each precedes all that stand behind it, so none occurs twice.
+-- Names that rise: each precedes all that come after it, so none occurs twice.
 use mathlib.Core.Bool.{true, false}
 use mathlib.Core.Option.{Option, none, some}
 use mathlib.Core.Path.{_≡_, refl, _∙_}
@@ -18,7 +18,7 @@ unfolding follows
 behind-follows none name b = refl
 behind-follows (some before) name b = b
 
--- every name stands behind the given one
+-- every name comes after the given one
 abbrev pub AllBehind : Text → Members → Type 0
 AllBehind name noMembers = Unit {0}
 AllBehind name (member n f others) = (precedes name n ≡ true) × AllBehind name others
@@ -40,11 +40,11 @@ allBehind-named : (name : Text) (ms : Members) → AllBehind name ms → NoneNam
 allBehind-named name noMembers b = tt
 allBehind-named name (member n f others) b = (sameBytes-symmetric n name ∙ precedes-differs name n (b .0), allBehind-named name others (b .1))
 
--- a name does not occur again behind it
+-- a name does not occur again after it
 pub rising-once : (before : Option Text) (name : Text) (f : Field) (others : Members) → MembersRise before (member name f others) → NoneNamed name others
 rising-once before name f others r = allBehind-named name others (rising-behind name others (r .2))
 
--- what rises behind a name rises by itself
+-- what rises after a name rises by itself
 pub rising-alone : (before : Option Text) (ms : Members) → MembersRise before ms → MembersRise none ms
 rising-alone before noMembers r = tt
 rising-alone before (member name f others) r = (tt, r .1, r .2)

@@ -7,7 +7,7 @@ use mathlib.Core.Option.{Option}
 abbrev pub Text : Type 0
 Text = List ℕ
 
--- A field holds an element, if it has items, and properties, whose names stand with them.
+-- A field holds an element, if it has items, and properties, whose names are with them.
 -- Kinds: 1 string, 2 integer, 3 number, 4 boolean, 5 enum, 6 array, 7 object, 8 json, 9 ref, 10 map, 11 union, 12 binary64.
 mutual
   pub data Field : Type 0 where

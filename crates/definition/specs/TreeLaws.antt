@@ -102,7 +102,7 @@ module _ {B C : Type 0} where
       → ((b : Ahead) → Announces n a b → Reads k b x c → C) → C
   announcing n k a e f = then-inv (announce n) k a e λ y b e₁ e₂. f b (announce-inv n a y b e₁) e₂
 
--- Trees that are announced just before they are read: one, or one behind the other.
+-- Trees that are announced just before they are read: one, or one after the other.
 
 module _ {A B : Type 0} {p : Reader Ahead A} {w : A → List ℕ} {entries announced : A → ℕ} {Good : ℕ → A → Type 0} (law : TreeLaw p w entries announced Good) where
   module _ {C : Type 0} where

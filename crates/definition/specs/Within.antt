@@ -120,7 +120,7 @@ unfoldable mutual
   conditionsNesting noConditions = 0
   conditionsNesting (condition c others) = max (conditionNesting c) (conditionsNesting others)
 
--- Sibling names rise, none twice: each stands behind the one before it, if there is one. An element is no sibling of the properties beside it.
+-- Sibling names rise, none twice: each comes after the one before it, if there is one. An element is not a sibling of the properties beside it.
 
 abbrev pub Behind : Option Text → Text → Type 0
 Behind none name = Unit {0}
@@ -145,7 +145,7 @@ ArgumentsRise (some h) = MembersRise none (h .members)
 abbrev pub SchemaRises : Schema → Type 0
 SchemaRises t = MembersRise none (t .fields .members) × ArgumentsRise (t .arguments)
 
--- Kinds, operators, types and texts are such as an entry may hold.
+-- Kinds, operators, types and texts are ones that an entry may hold.
 
 abbrev mutual
   pub FieldFits : Field → Type 0
@@ -163,7 +163,7 @@ abbrev pub ArgumentsFit : Option Holder → Type 0
 ArgumentsFit none = Unit {0}
 ArgumentsFit (some h) = MembersFit (h .members)
 
--- No key of an object stands twice: each differs from all behind it.
+-- No key of an object occurs twice: each differs from all after it.
 
 abbrev pub NoneKeyed : Text → Pairs → Type 0
 NoneKeyed key noPairs = Unit {0}

@@ -15,13 +15,13 @@ use Rattle.validation.specs.Result.{Answer, refused, Numbers, resultOf, numbers
 use Rattle.validation.specs.RefusalLaws.{capped, capped-same}
 use Rattle.validation.specs.Constant.{marksHeard}
 use Rattle.validation.specs.Marking.{marksBy, MeetsMarked}
-use Rattle.validator.specs.Runs.{lentRunOf, runOf, markedRunOf}
-use Rattle.validator.specs.Sheets.{takesOf}
-use Rattle.validator.specs.Outcomes.{numbersBy}
-use Rattle.validator.specs.declared.sheets.Takes.{Takes}
-use Rattle.validator.specs.declared.sheets.Takes.the-variants.{Any}
-use Rattle.validator.specs.declared.outcome.Outcome.{Outcome}
-use Rattle.validator.specs.declared.outcome.Report.{Report}
+use Rattle.single_check.specs.Runs.{lentRunOf, runOf, markedRunOf}
+use Rattle.single_check.specs.Sheets.{takesOf}
+use Rattle.single_check.specs.Outcomes.{numbersBy}
+use Rattle.single_check.specs.declared.sheets.Takes.{Takes}
+use Rattle.single_check.specs.declared.sheets.Takes.the-variants.{Any}
+use Rattle.single_check.specs.declared.outcome.Outcome.{Outcome}
+use Rattle.single_check.specs.declared.outcome.Report.{Report}
 use Rattle.entity_rules.specs.Entry.{resultBytes, pathLent, resultAfter, entryCall, entryAnswer, EntryAnswered, Written}
 use Rattle.entity_rules.specs.EntryLaws.{short-result-refused}
 use Rattle.entity_rules.specs.CheckEntry.{reportBytes, reportFields, reportAfter, checkCall, CheckAnswered, ReportWritten}

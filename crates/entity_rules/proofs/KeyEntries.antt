@@ -8,8 +8,8 @@ use Rattle.reference.specs.Setting.{Reader}
 use Rattle.validation.specs.Result.{Answer, Numbers, numbersOf, pathAfter, scratchWords}
 use Rattle.validation.specs.KeyPath.{KeyHeard, refusal, acceptance, finding, keyDefect, keyResultOf, keyCallOf, MeetsKey}
 use Rattle.validation.specs.KeyLaws.{key-heard, keyCapped, key-capped-same}
-use Rattle.validator.specs.Outcomes.{numbersBy}
-use Rattle.validator.specs.declared.outcome.Outcome.{Outcome}
+use Rattle.single_check.specs.Outcomes.{numbersBy}
+use Rattle.single_check.specs.declared.outcome.Outcome.{Outcome}
 use Rattle.key_path.specs.Keys.{keyRunOf}
 use Rattle.entity_rules.specs.Entry.{resultBytes, pathLent, resultAfter, EntryAnswered, Written}
 use Rattle.entity_rules.specs.KeyEntry.{keyEntryCall, keyEntryAnswer}

@@ -6,8 +6,8 @@ use mathlib.Core.Path.{_≡_, refl, ap, _∙_}
 use lib.ListN.{length}
 use borrow.Author.Tests.{le-leb, lt-leb}
 use Rattle.validation.specs.Result.{Numbers}
-use Rattle.validator.specs.Outcomes.{numbersBy}
-use Rattle.validator.specs.declared.outcome.Outcome.{Outcome}
+use Rattle.single_check.specs.Outcomes.{numbersBy}
+use Rattle.single_check.specs.declared.outcome.Outcome.{Outcome}
 use Rattle.widening.specs.SheetDecision as SheetDecision
 use Rattle.widening.specs.SheetDecision.{decision, widensSheets, reasonNumber, numbersOf}
 use Rattle.schema_change.specs.Answers.{reasonOf, decisionOf, answerOf}

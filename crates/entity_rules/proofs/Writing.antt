@@ -7,9 +7,9 @@ use lib.ListN.{length}
 use borrow.Author.Tests.{le-leb, lt-leb}
 use Rattle.buffer.specs.Wrote.{Wrote}
 use Rattle.buffer.specs.Bytes.{bytesOf, InFourBytes, no-more, one-more, numberAt, fieldAt}
-use Rattle.validator.specs.Outcomes.{numbersBy}
-use Rattle.validator.specs.declared.outcome.Outcome.{Outcome}
-use Rattle.validator.specs.declared.outcome.Report.{Report}
+use Rattle.single_check.specs.Outcomes.{numbersBy}
+use Rattle.single_check.specs.declared.outcome.Outcome.{Outcome}
+use Rattle.single_check.specs.declared.outcome.Report.{Report}
 use Rattle.entity_rules.specs.Entry.{resultBytes, fieldsOf, resultAfter}
 use Rattle.entity_rules.specs.CheckEntry.{reportBytes, reportFields, reportAfter}
 

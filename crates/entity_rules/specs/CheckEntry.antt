@@ -9,8 +9,8 @@ use lib.Seq.{sets}
 use Rattle.buffer.specs.Bytes.{bytesOf, InFourBytes, fieldAt}
 use Rattle.validation.specs.Result.{any, Call, Numbers, resultOf, numbersOf, pathAfter}
 use Rattle.validation.specs.Marking.{marksBy, MarkedRun}
-use Rattle.validator.specs.declared.outcome.Report.{Report}
-use Rattle.validator.specs.Outcomes.{numbersBy}
+use Rattle.single_check.specs.declared.outcome.Report.{Report}
+use Rattle.single_check.specs.Outcomes.{numbersBy}
 use Rattle.entity_rules.specs.Entry.{fieldsOf, entryCall, entryRun}
 
 -- eight numbers of four bytes

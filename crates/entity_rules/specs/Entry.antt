@@ -8,8 +8,8 @@ use lib.ListN.{length, replicate}
 use lib.Seq.{sets}
 use Rattle.buffer.specs.Bytes.{bytesOf, InFourBytes, fieldAt}
 use Rattle.validation.specs.Result.{Takes, Call, Answer, Numbers, resultOf, numbersOf, pathAfter, scratchWords, markBytes, Run}
-use Rattle.validator.specs.declared.outcome.Outcome.{Outcome}
-use Rattle.validator.specs.Outcomes.{numbersBy}
+use Rattle.single_check.specs.declared.outcome.Outcome.{Outcome}
+use Rattle.single_check.specs.Outcomes.{numbersBy}
 
 -- seven numbers of four bytes
 abbrev pub resultBytes : ℕ

@@ -27,7 +27,7 @@ unfolding resultAfter fieldsOf
 field-of-result i n before less room small =
     rw (le-leb resultBytes (length before) room) (field-written (fieldsOf n) before (omega arith) i less small)
 
--- the seven numbers are read back, whatever is written behind them
+-- the seven numbers are read back, whatever is written after them
 pub numbers-written : (n : Numbers) (more before : List ℕ)
     → 4 * length (fieldsOf n ++ more) ≤ length before
     → InFourBytes (fieldsOf n ++ more)

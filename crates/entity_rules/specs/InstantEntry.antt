@@ -13,7 +13,7 @@ use Rattle.timestamp.specs.declared.Fields.{Fields}
 use Rattle.buffer.specs.Bytes.{bytesOf}
 use Rattle.entity_rules.specs.Entry.{resultBytes}
 
--- 3 for too few bytes, then 20 for no instant
+-- 3 for too few bytes, then 20 for text that is not an instant
 unfoldable pub instantNumber : (room : ℕ) → Option Fields → ℕ
 instantNumber room none = cond (leb resultBytes room) 20 3
 instantNumber room (some f) = cond (leb resultBytes room) 0 3

@@ -1,6 +1,7 @@
 pub mod Entry
 pub mod EntryLaws
 pub mod NumberTest
+pub mod Version
 pub mod KeyEntry
 pub mod KeyEntryLaws
 pub mod WidensEntry

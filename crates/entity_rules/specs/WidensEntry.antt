@@ -11,7 +11,7 @@ use Rattle.widening.specs.SheetDecision.{widensSheets, numbersOf}
 use Rattle.buffer.specs.Bytes.{InFourBytes}
 use Rattle.entity_rules.specs.Entry.{resultBytes, fieldsOf, resultAfter}
 
--- the five numbers stand in the places of a result's first five, and the last two are 0
+-- the five numbers are in the places of a result's first five, and the last two are 0
 unfoldable pub inPlaces : SheetDecision.Numbers → Numbers
 inPlaces n =
     record {

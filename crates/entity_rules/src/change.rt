@@ -2,10 +2,10 @@
 use schema_change::answer::Answer;
 use schema_change::answer::Change;
 use schema_change::answer::Reason;
-use validator::outcome::Outcome;
+use single_check::outcome::Outcome;
 ghost use mathlib.Core.Path.{_≡_};
 ghost use Rattle.schema_change.specs.Answers.{reasonOf, decisionOf, answerOf};
-ghost use Rattle.validator.specs.Outcomes.{numbersBy};
+ghost use Rattle.single_check.specs.Outcomes.{numbersBy};
 ghost use Rattle.widening.specs.SheetDecision.{decision, reasonNumber, numbersOf};
 ghost use Rattle.entity_rules.specs.WidensEntry.{inPlaces};
 

@@ -7,7 +7,7 @@ ghost use lib.ListN.{length};
 ghost use Rattle.buffer.specs.Wrote.{Wrote};
 ghost use Rattle.entity_rules.specs.Counts.{eightBytes, countAt, countsAfter, lentFor};
 
-// The lower half stands first.
+// The lower half comes first.
 fn put_u64(n: u64, at: usize, bytes: &mut [u8])
     requires { ⌜ at + 8 ≤ length (now bytes) ⌝ }
     ensures { λ _. ⌜ Wrote (now (bytes .entry)) (now (bytes .exit)) at (eightBytes n) (at + 8) ⌝ }

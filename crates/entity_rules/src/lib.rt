@@ -14,9 +14,9 @@ use buffer::read_u32;
 use definition::limits::SCRATCH_WORDS;
 use key_path::validate_path;
 use name_table::load;
+use single_check::sheets::Takes;
+use single_check::validate_under;
 use timestamp::Parsed;
-use validator::sheets::Takes;
-use validator::validate_under;
 ghost use mathlib.Core.Path.{_≡_};
 ghost use mathlib.Core.List.{[]};
 ghost use Prim.Native.Nat.{min};
@@ -24,12 +24,19 @@ ghost use lib.ListN.{length};
 ghost use Rattle.buffer.specs.Bytes.{fieldAt};
 ghost use Rattle.validation.specs.Loading.{loadNumber, loadAfter};
 ghost use Rattle.validation.specs.Result.{rules, templates};
-ghost use Rattle.validator.specs.Sheets.{takesOf};
+ghost use Rattle.single_check.specs.Sheets.{takesOf};
 ghost use Rattle.entity_rules.specs.Entry.{pathLent, entryAnswer, EntryAnswered};
 ghost use Rattle.entity_rules.specs.KeyEntry.{keyEntryAnswer};
 ghost use Rattle.entity_rules.specs.NumberTest.{finiteNumber};
+ghost use Rattle.entity_rules.specs.Version.{version};
 ghost use Rattle.entity_rules.specs.WidensEntry.{WidensAnswered};
 ghost use Rattle.entity_rules.specs.InstantEntry.{InstantAnswered};
+
+const MAJOR: u32 = 0;
+
+const MINOR: u32 = 1;
+
+const PATCH: u32 = 0;
 
 // Kinds end at 8 and semantics at 4, so 9 stands for all that is too large for either.
 fn setting(n: u64) -> u32
@@ -182,6 +189,14 @@ pub extern "C" fn rulecheck_field(result: &[u8], index: u32) -> u32
     read_u32(result, at)
 }
 
+// The version of these functions, which the header has too: major, minor and patch, eight bits for each of the last two.
+#[no_mangle]
+pub extern "C" fn rulecheck_version() -> u32
+    ensures { λ r. ⌜ r ≡ version ⌝ }
+{
+    (MAJOR * 256 + MINOR) * 256 + PATCH
+}
+
 // Whether `text` is a finite number, and how many of its digits were compared for that: the count, twice, and 1 more if it is finite.
 #[no_mangle]
 pub extern "C" fn rulecheck_finite(text: &[u8]) -> u32
@@ -193,7 +208,7 @@ pub extern "C" fn rulecheck_finite(text: &[u8]) -> u32
 }
 
 // The fields of the instant that `text` is: year, month, day, hour, minute, second, nanoseconds. `fields` takes at least 28 bytes, as a result does,
-// and keeps them where the answer is not 0: 3 for too few, 20 for no instant.
+// and keeps them where the answer is not 0: 3 for too few, 20 where `text` is not an instant.
 #[no_mangle]
 pub extern "C" fn rulecheck_instant(text: &[u8], fields: &mut [u8]) -> u32
     ensures { λ r. ⌜ InstantAnswered (now (text .entry)) (now (fields .entry)) (now (fields .exit)) r ⌝ }

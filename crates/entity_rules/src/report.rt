@@ -1,11 +1,11 @@
-// The single check in full, which is lent a name table and a mark list. Its result has the count of marks behind the seven numbers.
+// The single check in full, which is lent a name table and a mark list. Its result has the count of marks after the seven numbers.
 use crate::path_lent;
 use crate::setting;
 use buffer::put_numbers;
 use definition::limits::SCRATCH_WORDS;
-use validator::outcome::Report;
-use validator::sheets::Takes;
-use validator::validate_marked;
+use single_check::outcome::Report;
+use single_check::sheets::Takes;
+use single_check::validate_marked;
 ghost use lib.ListN.{length};
 ghost use Rattle.entity_rules.specs.CheckEntry.{checkCall, CheckAnswered, ReportWritten};
 

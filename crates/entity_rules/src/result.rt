@@ -1,6 +1,6 @@
 // A result as bytes: seven numbers of four bytes each, least significant first.
 use buffer::put_numbers;
-use validator::outcome::Outcome;
+use single_check::outcome::Outcome;
 ghost use Rattle.entity_rules.specs.Entry.{Written};
 
 pub const RESULT_BYTES: usize = 28;

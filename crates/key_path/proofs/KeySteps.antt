@@ -31,11 +31,11 @@ use Rattle.validation.specs.Result as Result
 use Rattle.validation.specs.Result.{Answer, accepted, defect, isOfSheets, isWithin, scratchWords, firstRefusal, numberIn, refusedOr, numbersOf, keptScratch, ScratchAfter}
 use Rattle.validation.specs.RefusalLaws.{every, first-append, none-due, number-due, number-later, none-left, number-some, number-none, of-first}
 use Rattle.validation.specs.KeyPath.{KeyCall, readerOf, maxKeyBytes, keyEarly, keyRefusals, keyDefect, keyAnswer, keyChecked, keyJudged, keyResultOf, keyCallOf, MeetsKey}
-use Rattle.validator.specs.Outcomes.{numbersBy}
-use Rattle.validator.specs.Sheets.{FrontOnly}
-use Rattle.validator.specs.SheetLaws.{front-schema, front-scratch}
-use Rattle.validator.specs.declared.outcome.Outcome.{Outcome}
-use Rattle.validator.proofs.SettingSteps.{turned}
+use Rattle.single_check.specs.Outcomes.{numbersBy}
+use Rattle.single_check.specs.Sheets.{FrontOnly}
+use Rattle.single_check.specs.SheetLaws.{front-schema, front-scratch}
+use Rattle.single_check.specs.declared.outcome.Outcome.{Outcome}
+use Rattle.single_check.proofs.SettingSteps.{turned}
 use Rattle.key_path.specs.Keys.{KeyTold, keyRunOf}
 
 -- What is refused before the schema is read.

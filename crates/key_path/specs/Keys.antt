@@ -7,8 +7,8 @@ use Rattle.schema.specs.Read.{SchemaAt}
 use Rattle.schema.specs.declared.read.Schema.{Schema}
 use Rattle.validation.specs.Result.{numbersOf}
 use Rattle.validation.specs.KeyPath.{keyChecked, KeyRun}
-use Rattle.validator.specs.Outcomes.{numbersBy}
-use Rattle.validator.specs.declared.outcome.Outcome.{Outcome}
+use Rattle.single_check.specs.Outcomes.{numbersBy}
+use Rattle.single_check.specs.declared.outcome.Outcome.{Outcome}
 
 -- for every schema that the index stands for
 pub record KeyTold (semantics reader : ℕ) (path schema : List ℕ) (s : Schema) (words : List ℕ) (r : Outcome) : Type 0 where

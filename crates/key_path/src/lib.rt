@@ -5,11 +5,11 @@ use schema::read::Schema;
 use schema::read::SchemaRead;
 use schema::read::read_schema;
 use scope::references::validate_reference_path;
-use validator::finding::reference_detail;
-use validator::outcome::Outcome;
-use validator::outcome::accepted;
-use validator::outcome::refused;
-use validator::settings::is_within;
+use single_check::finding::reference_detail;
+use single_check::outcome::Outcome;
+use single_check::outcome::accepted;
+use single_check::outcome::refused;
+use single_check::settings::is_within;
 use walk::answer::Readable;
 use walk::answer::Reader;
 use walk::answer::ReferenceFault;
@@ -21,7 +21,7 @@ ghost use Rattle.text.specs.Utf8.{isUtf8};
 ghost use Rattle.walk.specs.Answers.{readerIs, referenceDetail};
 ghost use Rattle.validation.specs.Result.{defect, isWithin, firstRefusal, numberIn, numbersOf};
 ghost use Rattle.validation.specs.KeyPath.{readerOf, maxKeyBytes, keyEarly, keyDefect, MeetsKey};
-ghost use Rattle.validator.specs.Outcomes.{numbersBy};
+ghost use Rattle.single_check.specs.Outcomes.{numbersBy};
 ghost use Rattle.key_path.specs.Keys.{KeyTold, keyRunOf};
 
 fn are_settings(semantics: u32, reader: u32) -> bool

@@ -1,6 +1,6 @@
 -- A reader moved past an entry, for every kind of entry: the walk of
 --     fn next<'s, 'a>(lines: &'s mut Lines<'a>) -> E { let read = head(lines.sheet, lines.at); lines.at = end(read, lines.at); read }
--- over any type E that is Copy, what `head` says of its answer (`Reads`) and where `end` says that the reader stands (`stands`). The borrow is opened, a copy of what the sheet's
+-- over any type E that is Copy, what `head` says of its answer (`Reads`) and where `end` says that the reader is (`stands`). The borrow is opened, a copy of what the sheet's
 -- slice owns goes to `head`, the place that `end` gives is stored, and the borrow is closed at the moved reader.
 use mathlib.Core.Path.{_≡_, refl, ap}
 use Prim.Native.Nat.{ℕ, _<_, _^_}

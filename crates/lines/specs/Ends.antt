@@ -1,4 +1,4 @@
--- Where a line reader stands: behind the head that it read, or where it stood if it read none; and whether a sheet ends there.
+-- Where a line reader is: after the head that it read, or where it was if it read none; and whether a sheet ends there.
 use Prim.Native.Nat.{ℕ, _<_, _≤_}
 use mathlib.Core.Bool.{Bool, true, false}
 use mathlib.Core.List.{List}
@@ -40,7 +40,7 @@ abbrev pub keyEnd : KeyRead → ℕ → ℕ
 keyEnd (key.Is k next) at = next
 keyEnd key.Bad at = at
 
--- no byte stands at place `at` or behind it
+-- there is no byte at place `at` or after it
 abbrev pub EndIs : List ℕ → ℕ → Bool → Type 0
 EndIs s at true = length s ≤ at
 EndIs s at false = at < length s

@@ -19,7 +19,7 @@ pub fn new<'a>(sheet: &'a [u8], at: usize) -> Lines<'a>
     Lines { sheet, at }
 }
 
-// Whether no byte stands at `at` or behind it.
+// Whether there is no byte at `at` or after it.
 fn is_end(s: &[u8], at: usize) -> bool
     ensures { λ r. ⌜ EndIs (now (s .entry)) at r ⌝ }
 {
@@ -29,7 +29,7 @@ fn is_end(s: &[u8], at: usize) -> bool
     false
 }
 
-// Whether the reader is behind the last entry.
+// Whether the reader is past the last entry.
 pub fn is_at_end<'a>(lines: Lines<'a>) -> bool
     ensures { λ r. ⌜ EndIs (now (lines .entry .sheet)) (lines .entry .at) r ⌝ }
 {

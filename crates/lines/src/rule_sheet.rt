@@ -10,19 +10,19 @@ ghost use Rattle.sheet.specs.Places.{RuleIs, ConditionIs, ValueIs, KeyIs};
 ghost use Rattle.lines.specs.Ends.{ruleEnd, conditionEnd, valueEnd, keyEnd};
 ghost use Rattle.lines.specs.Passed.{Passed, BothRead};
 
-// The heads of the sheet's first entry and of a condition behind it.
+// The heads of the sheet's first entry and of a condition after it.
 pub struct OpeningRead {
     pub head: RuleHeadRead,
     pub condition: ConditionRead,
 }
 
-// The heads of a key and of the value behind it.
+// The heads of a key and of the value after it.
 pub struct MemberRead {
     pub key: KeyRead,
     pub value: ValueRead,
 }
 
-// Where the entry behind the sheet's first entry starts; a reader that finds none stays where it is.
+// Where the entry after the sheet's first entry starts; a reader that finds none stays where it is.
 fn rule_end(read: RuleHeadRead, at: usize) -> usize
     ensures { λ r. ⌜ r ≡ ruleEnd read at ⌝ }
 {
@@ -41,7 +41,7 @@ pub fn next_rule<'s, 'a>(lines: &'s mut Lines<'a>) -> RuleHeadRead
     read
 }
 
-// Where the entry behind a condition's entry starts; a reader that finds none stays where it is.
+// Where the entry after a condition's entry starts; a reader that finds none stays where it is.
 fn condition_end(read: ConditionRead, at: usize) -> usize
     ensures { λ r. ⌜ r ≡ conditionEnd read at ⌝ }
 {
@@ -68,7 +68,7 @@ pub fn condition_head(sheet: &[u8], at: usize) -> ConditionRead
     next_condition(&mut lines)
 }
 
-// Where the entry behind a value's entry starts; a reader that finds none stays where it is.
+// Where the entry after a value's entry starts; a reader that finds none stays where it is.
 fn value_end(read: ValueRead, at: usize) -> usize
     ensures { λ r. ⌜ r ≡ valueEnd read at ⌝ }
 {
@@ -95,7 +95,7 @@ pub fn value_head(sheet: &[u8], at: usize) -> ValueRead
     next_value(&mut lines)
 }
 
-// Where the entry behind a key's entry starts; a reader that finds none stays where it is.
+// Where the entry after a key's entry starts; a reader that finds none stays where it is.
 fn key_end(read: KeyRead, at: usize) -> usize
     ensures { λ r. ⌜ r ≡ keyEnd read at ⌝ }
 {
@@ -122,7 +122,7 @@ pub fn key_head(sheet: &[u8], at: usize) -> KeyRead
     next_key(&mut lines)
 }
 
-// The sheet's first entry and the condition behind it, read by one reader. Behind a template's there is none.
+// The sheet's first entry and the condition after it, read by one reader. After a template's there is none.
 pub fn opening(sheet: &[u8], at: usize) -> OpeningRead
     ensures { λ r. ⌜ BothRead RuleIs ruleEnd ConditionIs (now (sheet .entry)) at (r .head) (r .condition) ⌝ }
 {

@@ -8,7 +8,7 @@ ghost use Rattle.sheet.specs.Places.{SchemaIs, FieldIs};
 ghost use Rattle.lines.specs.Ends.{schemaEnd, fieldEnd};
 ghost use Rattle.lines.specs.Passed.{Passed};
 
-// Where the entry behind the sheet's first entry starts; a reader that finds none stays where it is.
+// Where the entry after the sheet's first entry starts; a reader that finds none stays where it is.
 fn schema_end(read: SchemaHeadRead, at: usize) -> usize
     ensures { λ r. ⌜ r ≡ schemaEnd read at ⌝ }
 {
@@ -35,7 +35,7 @@ pub fn schema_head(sheet: &[u8], at: usize) -> SchemaHeadRead
     next_schema(&mut lines)
 }
 
-// Where the entry behind a field's entry starts; a reader that finds none stays where it is.
+// Where the entry after a field's entry starts; a reader that finds none stays where it is.
 fn field_end(read: FieldRead, at: usize) -> usize
     ensures { λ r. ⌜ r ≡ fieldEnd read at ⌝ }
 {

@@ -1,4 +1,4 @@
--- The entry of a kind at a place of the bytes: each way through the code's readers, by the laws of one reader behind another.
+-- The entry of a kind at a place of the bytes: each way through the code's readers, by the laws of one reader after another.
 use Prim.Native.Nat.{ℕ, _+_}
 use native.Mathlib.Omega.{arith}
 use mathlib.Core.List.{List}

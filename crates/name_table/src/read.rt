@@ -11,13 +11,13 @@ ghost use Rattle.reference.specs.Table.{isSound};
 ghost use Rattle.scope.specs.Names.{rowBy};
 ghost use Rattle.name_table.specs.Tables.{MarksAre, RowIs, TableIs, LentIs};
 
-// A table is so long.
+// How long a table is.
 pub const TABLE_BYTES: usize = 176;
 
 const KINDS: u32 = 8;
 
 pub enum RowRead {
-    // The row, and the place behind its entry.
+    // The row, and the place after its entry.
     Is(Row, usize),
     Bad,
 }
@@ -118,7 +118,7 @@ fn both(a: bool, b: bool) -> bool
     a && b
 }
 
-// A table of that form and nothing behind it, with the row of a kind.
+// A table of that form and nothing after it, with the row of a kind.
 pub fn read_table(s: &[u8], kind: u32) -> TableRead
     ensures { λ r. ⌜ TableIs (now (s .entry)) kind r ⌝ }
 {

@@ -1,5 +1,5 @@
 -- Which numbers are finite: those whose magnitude is below 2^1024 - 2^970 (docs/FORMAT.md). Digits, fraction length and exponent
--- are numbers without a bound, so that every number text has its answer. Text that is no number is not finite.
+-- are numbers without a bound, so that every number text has its answer. Text that is not a number is not finite.
 use Prim.Native.Nat.{ℕ, zero, suc, _+_, _*_, _-_, _^_}
 use mathlib.Core.Bool.{Bool, true, false}
 use mathlib.Core.List.{List, [], _∷_, _++_, map}
@@ -8,7 +8,7 @@ use lib.ListN.{length}
 use lib.Dec.{ltb}
 use Rattle.number.specs.Grammar.{Number, number}
 
--- the number that a row of digits writes behind v
+-- the number that a row of digits writes after v
 unfoldable pub numeralFrom : ℕ → List ℕ → ℕ
 numeralFrom v [] = v
 numeralFrom v (d ∷ ds) = numeralFrom (v * 10 + d) ds
@@ -31,7 +31,7 @@ unfoldable pub isBelow : ℕ → ℕ → ℕ → Bool
 isBelow zero up down = true
 isBelow (suc m) up down = ltb (suc m * 10 ^ up) (limit * 10 ^ down)
 
--- the digits without the point write m, and f of them stand behind it: the magnitude is m / 10^f, times 10^e or, lowered, by 10^e
+-- the digits without the point write m, and f of them are after it: the magnitude is m / 10^f, times 10^e or, lowered, by 10^e
 unfoldable pub isBelowAt : Bool → ℕ → ℕ → ℕ → Bool
 isBelowAt false m f e = isBelow m e f
 isBelowAt true m f e = isBelow m 0 (f + e)

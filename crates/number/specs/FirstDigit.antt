@@ -28,7 +28,7 @@ significant ds = drop (zeros ds) ds
 unfoldable pub order : ℕ → ℕ → Level
 order a b = cond (ltb a b) Below (cond (ltb b a) Above Even)
 
--- of n digits f stand behind the point: the first stands at 10^(n - f - 1), times 10^e or, lowered, by 10^e. Here that place against 10^308
+-- of n digits f are after the point: the first is at 10^(n - f - 1), times 10^e or, lowered, by 10^e. Here that place against 10^308
 unfoldable pub levelOf : Bool → ℕ → ℕ → ℕ → Level
 levelOf false n f e = order (n + e) (309 + f)
 levelOf true n f e = order n (309 + (f + e))

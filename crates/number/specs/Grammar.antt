@@ -6,7 +6,7 @@ use mathlib.Core.List.{List, [], _∷_}
 use mathlib.Core.Option.{Option, none, some, bind}
 use lib.Dec.{leb, eqb}
 
--- what a number text says but for its sign: the digits before and behind the point, and the exponent, which is negative where it is lowered.
+-- what a number text says but for its sign: the digits before and after the point, and the exponent, which is negative where it is lowered.
 -- What is left out has no digits
 pub record Number : Type 0 where
   pub whole : List ℕ
@@ -14,7 +14,7 @@ pub record Number : Type 0 where
   pub lowered : Bool
   pub exponent : List ℕ
 
--- digits that were read, and the text behind them
+-- digits that were read, and the text after them
 pub record Read : Type 0 where
   pub digits : List ℕ
   pub rest : List ℕ
@@ -40,7 +40,7 @@ someDigits (b ∷ ds) s = some (record { digits = b ∷ ds; rest = s })
 unfoldable pub digits : List ℕ → Option Read
 digits s = someDigits (run s) (past s)
 
--- no zero leads, unless it is all
+-- no zero leads, unless it is the only digit
 unfoldable pub leads : List ℕ → Bool
 leads [] = false
 leads (b ∷ []) = true
@@ -81,7 +81,7 @@ unsigned s =
     λ f. bind (exp (f .rest))
     λ e. some (record { whole = i .digits; fraction = f .digits; lowered = e .0; exponent = e .1 })
 
--- number = [ minus ] int [ frac ] [ exp ], and nothing behind it
+-- number = [ minus ] int [ frac ] [ exp ], and nothing after it
 unfoldable pub number : List ℕ → Option Number
 number [] = none
 number (b ∷ s) = cond (eqb b 0x2D) (unsigned s) (unsigned (b ∷ s))

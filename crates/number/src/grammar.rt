@@ -12,17 +12,17 @@ pub enum Run {
     Nothing,
 }
 
-// Where the digits behind the point begin and end.
+// Where the digits after the point begin and end.
 pub enum Span {
     Over(usize, usize),
     // A point without digits.
     NoDigits,
 }
 
-// Where the exponent's digits begin, which go to the end of the text; lowered if a minus stands before them.
+// Where the exponent's digits begin, which go to the end of the text; lowered if a minus precedes them.
 pub enum Exponent {
     From { lowered: bool, at: usize },
-    // No exponent, or something stands behind it.
+    // No exponent, or something follows it.
     Broken,
 }
 
@@ -38,7 +38,7 @@ pub struct Parts {
 
 pub enum Found {
     Number(Parts),
-    // No number text.
+    // Not a number text.
     Other,
 }
 
@@ -69,7 +69,7 @@ fn digits(s: &[u8], at: usize) -> Run
     if at < end { Run::To(end) } else { Run::Nothing }
 }
 
-// No zero leads, unless it is all.
+// No zero leads, unless it is the only digit.
 fn int(s: &[u8], at: usize) -> Run
     ensures { λ r. ⌜ Ends (int (drop at (now (s .entry)))) (now (s .entry)) at r ⌝ }
 {

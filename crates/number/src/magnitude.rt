@@ -16,7 +16,7 @@ pub enum Level {
     Above,
 }
 
-// What was found out of a number: whether its magnitude is below the bound, and how many of its digits were compared with the bound's.
+// What was found out about a number: whether its magnitude is below the bound, and how many of its digits were compared with the bound's.
 pub struct Tested {
     pub finite: bool,
     pub compared: usize,
@@ -75,7 +75,7 @@ fn order(a: usize, b: usize) -> Level
     Level::Even
 }
 
-// The first nonzero digit is the first of `places` before the point, or stands behind it after `zeros` zeros.
+// The first nonzero digit is the first of `places` before the point, or comes after the point and `zeros` zeros.
 fn level_of(places: usize, zeros: usize, lowered: bool, exponent: usize) -> Level
     requires { ⌜ (places + zeros < 2 ^ 63) × (exponent ≤ largest) ⌝ }
     ensures { λ r. ⌜ r ≡ levelOf lowered places zeros exponent ⌝ }
@@ -92,7 +92,7 @@ fn level_of(places: usize, zeros: usize, lowered: bool, exponent: usize) -> Leve
     order(places + exponent, 309 + zeros)
 }
 
-// The digit at place i of `high` and, behind that, `low`: 0 where both have ended.
+// The digit at place i of `high` and, after that, `low`: 0 where both have ended.
 fn digit_at(high: &[u8], low: &[u8], i: usize) -> u8
     ensures { λ r. ⌜ r ≡ getD (map digit (now (high .entry) ++ now (low .entry))) i 0 ⌝ }
 {
@@ -144,7 +144,7 @@ fn by_level(l: Level, high: &[u8], low: &[u8]) -> Tested
     }
 }
 
-// The test of the number with these digits before and behind the point, and this exponent.
+// The test of the number with these digits before and after the point, and this exponent.
 pub fn test_parts(whole: &[u8], fraction: &[u8], lowered: bool, exponent: &[u8]) -> Tested
     ensures { λ r. ⌜ TestsNumber (record { whole = now (whole .entry); fraction = now (fraction .entry); lowered = lowered; exponent = now (exponent .entry) }) r ⌝ }
 {

@@ -1,6 +1,6 @@
 // Judges samples, a line each, and writes how many there are of each verdict, with every one that the crate `number` judges otherwise.
 // A line is its verdict, how many digits are compared, in three digits, a comma and the text: f017,1.7976931348623157e308. The verdict
-// is n for no number, f for a finite one, i for one that is not finite. A line that begins with # says where the samples after it are from.
+// is n for not a number, f for a finite one, i for one that is not finite. A line that begins with # says where those after it are from.
 use libc::STDIN_FILENO;
 use libc::STDOUT_FILENO;
 ghost use Prim.Native.Nat.{_≤_};
@@ -69,7 +69,7 @@ fn holds(line: &[u8]) -> bool {
     }
 }
 
-// Whether the line is no sample, or judged as it says. Otherwise it is written.
+// Whether the line is not a sample, or judged as it says. Otherwise it is written.
 fn is_as_said(line: &[u8]) -> bool {
     if line.len() == 0 {
         return true;

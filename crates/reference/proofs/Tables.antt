@@ -1,4 +1,4 @@
--- The stock table written out, and what is no table, by computation.
+-- The stock table written out, and what is not a table, by computation.
 use Prim.Native.Nat.{ℕ}
 use mathlib.Core.Bool.{Bool, true, false}
 use mathlib.Core.List.{List, [], _∷_, _++_}

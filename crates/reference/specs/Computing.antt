@@ -1,4 +1,4 @@
--- Opens every definition behind references and collections: under `unfolding computing` a worked example holds by computation.
+-- Opens every definition that references and collections rest on: under `unfolding computing` a worked example holds by computation.
 use Rattle.reference.specs.Setting as Setting
 use Rattle.reference.specs.Table as Table
 use Rattle.reference.specs.Path as Path

@@ -1,4 +1,4 @@
--- Paths: segments parted by dots.
+-- Paths: segments separated by dots.
 use Prim.Native.Nat.{ℕ}
 use Prim.Native.Char.{code}
 use mathlib.Core.Bool.{Bool, true, false, not, cond, _&&_, _||_}
@@ -8,7 +8,7 @@ use Rattle.definition.specs.Tree.{Text}
 use Rattle.sheet.specs.Ascii.{ascii}
 use Rattle.sheet.specs.Order.{sameBytes}
 
--- the first segment, and those behind the first dot, if there is one
+-- the first segment, and those after the first dot, if there is one
 pub record Segments : Type 0 where
   pub first : Text
   pub others : List Text

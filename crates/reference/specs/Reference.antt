@@ -45,12 +45,12 @@ rootOf schema fromState = noRoot
 rootOf schema args = argumentsRoot (schema .arguments)
 rootOf schema oldFields = root 1 (schema .fields)
 
--- the field of that name in the record or the arguments, and the walk behind it
+-- the field of that name in the record or the arguments, and the walk from it on
 unfoldable pub fromHolder : (Field → Text → Step) → (at detail : ℕ) → Holder → Text → List Text → Reached
 fromHolder step at detail h s path =
     arrive at s path (λ g. travel step path g) (memberStep (lookup s (h .members)) (h .isOpen) detail)
 
--- `validate_reference_path`: a path behind a root
+-- `validate_reference_path`: a path from a root on
 unfoldable pub rootWalk : Reader → (isService : Bool) → ℕ → Holder → Text → List Text → Reached
 rootWalk reader isService at h s path =
     cond (isEmpty s) (refused 1 at (s ∷ path)) (fromHolder (walkStep reader isService) at 2 h s path)
@@ -75,7 +75,7 @@ unfoldable pub fromBound : Setting → Schema → Segments → Option (Option Fi
 fromBound setting schema p none = fromName setting schema (nameOf (p .first)) (p .others)
 fromBound setting schema p (some element) = fromElement (setting .isService) element (p .others)
 
--- the reference of that text behind its `$`; the details are those of number 18
+-- the reference of that text after its `$`; the details are those of number 18
 unfoldable pub reference : Setting → Schema → Environment → Text → Reached
 reference setting schema env t = fromBound setting schema (split t) (bound (split t .first) env)
 
@@ -85,7 +85,7 @@ keyWalk reader isService schema t = rootWalk reader isService 1 (schema .fields)
 
 -- Collections. Details 6 and 7 stand for the two sentences of `collection_element` that never occur in a result.
 
--- the text behind the first character, if that is one byte
+-- the text after the first character, if that is one byte
 unfoldable pub behindFirst : Text → Text
 behindFirst [] = []
 behindFirst (b ∷ t) = cond (ltb b 128) t []

@@ -14,7 +14,7 @@ use Rattle.sheet.specs.Order.{sameBytes}
 pub data Name : Type 0 where
   id entity version fields state toState fromState args oldFields : Name
 
--- as they are spelled behind the `$`
+-- as they are spelled after the `$`
 unfoldable pub spelling : Name → Text
 spelling id = ascii "id"
 spelling entity = ascii "entity"

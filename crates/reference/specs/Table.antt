@@ -106,7 +106,7 @@ unfoldable pub tableIn : List ℕ → Option (List Row)
 tableIn [] = some stockTable
 tableIn (b ∷ s) = decodeTable (take tableBytes (b ∷ s))
 
--- the row of a kind; a number that is no kind has the stock row
+-- the row of a kind; a number that is not a kind has the stock row
 unfoldable pub rowOf : List Row → (kind : ℕ) → Row
 rowOf table kind = getD (stockRow 0 ∷ table) kind (stockRow kind)
 

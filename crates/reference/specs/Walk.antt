@@ -47,7 +47,7 @@ unfoldable pub lastOr : List Text → Reached → Reached
 lastOr [] r = unknown
 lastOr (s ∷ path) r = r
 
--- where a step leads, `s` and `path` being what was left before it, and `onward` the walk behind it
+-- where a step leads, `s` and `path` being what was left before it, and `onward` the walk after it
 unfoldable pub arrive : ℕ → Text → List Text → (Field → Reached) → Step → Reached
 arrive at s path onward (refuse d) = refused d at (s ∷ path)
 arrive at s path onward (leaf d) = lastOr path (refused d at (s ∷ path))

@@ -1,4 +1,4 @@
--- The search for a key that stands twice, a step at a time.
+-- The search for a key that occurs twice, a step at a time.
 use Prim.Native.Nat.{ℕ, _+_, _-_, _≤_, _<_}
 use mathlib.Core.Bool.{Bool, true, false, false≢true}
 use mathlib.Core.List.{List, _++_}

@@ -1,4 +1,4 @@
--- The table of keys: what is found in a chain, and one key more.
+-- The table of keys: what is found in a chain, and one more key.
 use Prim.Native.Nat.{ℕ, zero, suc, _+_, _*_, _-_, _/_, _%_, _≤_, _<_}
 use mathlib.Core.Bool.{Bool, true, false, not, _&&_, _||_, false≢true}
 use mathlib.Core.List.{List, [], _∷_}

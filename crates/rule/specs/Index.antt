@@ -1,5 +1,5 @@
--- The index of a rule sheet in the scratch: a word for each entry, in order. The word of entry i + 1 stands at i: where the entry starts, times
--- 4,096, and the word behind its subtree, so that a subtree can be skipped.
+-- The index of a rule sheet in the scratch: a word for each entry, in order. The word of entry i + 1 is at i: where the entry starts, times
+-- 4,096, and the word after its subtree, so that a subtree can be skipped.
 use Prim.Native.Nat.{ℕ, _+_, _/_, _%_}
 use mathlib.Core.List.{List}
 use mathlib.Core.Option.{some}

@@ -1,4 +1,4 @@
--- Laws of a rule's index: the words of other subtrees may change, and the next sibling stands at the end of a subtree's first word.
+-- Laws of a rule's index: the words of other subtrees may change, and the next sibling is at the end of a subtree's first word.
 use Prim.Native.Nat.{ℕ, _+_, _%_, _≤_, _<_}
 use mathlib.Core.List.{List}
 use mathlib.Core.Path.{_≡_, refl, ap, _∙_}

@@ -1,4 +1,4 @@
--- What the search for a key that stands twice answers, by the object's index.
+-- What the search for a key that occurs twice answers, by the object's index.
 use Prim.Native.Nat.{ℕ, _+_}
 use mathlib.Core.Bool.{Bool}
 use mathlib.Core.List.{List}
@@ -19,6 +19,6 @@ pub record StandsAmong (s words : List ℕ) (entry : Part) (i count : ℕ) (r : 
       → countOfPairs ps ≡ count
       → r ≡ isAmong key (keysOf ps)
 
--- whether none of `count` keys, whose words begin at `i`, stands twice
+-- whether none of `count` keys, whose words begin at `i`, occurs twice
 pub record NoneTwice (s words : List ℕ) (i count : ℕ) (r : Bool) : Type 0 where
   pub told : (ps : Pairs) → PairsAt s words i ps → countOfPairs ps ≡ count → r ≡ noneTwice (keysOf ps)

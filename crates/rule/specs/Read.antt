@@ -25,7 +25,7 @@ use Rattle.rule.specs.declared.value.PairRead.{PairRead}
 use Rattle.rule.specs.declared.value.PairRead.the-variants as pair
 use Rattle.rule.specs.Index.{EntryAt, ValueAt, ValuesAt, PairsAt, ConditionAt, ConditionsAt}
 
--- what lies ahead of the decoder where the code stands: the entry of word i has the number i + 1
+-- what lies ahead of the decoder where the code is: the entry of word i has the number i + 1
 abbrev pub aheadOf : List ℕ → Cursor → Ahead
 aheadOf s c = record { next = c .word + 1; left = c .left; rest = drop (c .at) s }
 
@@ -36,7 +36,7 @@ pairIn p = do
   v ← p
   pure (k .1, v)
 
--- its index: the key's word ends behind the value
+-- its index: the key's word ends after the value
 abbrev pub PairAt : (s words : List ℕ) (i : ℕ) → Text × Value → Type 0
 PairAt s words i kv = EntryAt keyHead s words i (1 + valueEntries (kv .1)) (i + 1) (kv .0) × ValueAt s words (i + 1) (kv .1)
 
@@ -81,7 +81,7 @@ pub record Ready (s words : List ℕ) (n : ℕ) (c : Cursor) : Type 0 where
   pub inside : c .at ≤ length s
   pub budget : c .word + n + c .left ≤ maxRuleEntries
 
--- a tree was read from `c` to `next`, and its index stands in the words between
+-- a tree was read from `c` to `next`, and its index is in the words between
 pub record Indexed {T : Type 0} (reader : Reader Ahead T) (At : List ℕ → ℕ → T → Type 0) (sizeOf : T → ℕ)
     (s before after : List ℕ) (n : ℕ) (c next : Cursor)
     : Type 0 where

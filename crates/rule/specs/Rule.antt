@@ -25,7 +25,7 @@ abbrev pub isTemplateHead : RuleHead → Bool
 isTemplateHead (rule-head.Rule name message) = false
 isTemplateHead rule-head.Template = true
 
--- behind the first entry
+-- after the first entry
 abbrev pub TreeAnswer : (s before after : List ℕ) (isTemplate : Bool) (c : Cursor) → TreeRead → Type 0
 TreeAnswer s before after true c r = ValueAnswer s before after maxValueNesting c r
 TreeAnswer s before after false c r = ConditionAnswer s before after maxConditionNesting c r

@@ -37,7 +37,7 @@ unfoldable pub latest : ℕ → List Placed → ℕ
 latest slot [] = 0
 latest slot (p ∷ earlier) = cond (eqb (slotOf (p .1)) slot) (p .0 + 1) (latest slot earlier)
 
--- A key's link is the latest before it with its slot. Its place is half its word, since the keys of an object never stand side by side.
+-- A key's link is the latest before it with its slot. Its place is half its word, since the keys of an object are never side by side.
 pub record Linked (s words links : List ℕ) (p : Placed) (earlier : List Placed) : Type 0 where
   pub rest : List ℕ
   pub reads : keyHead (drop (startOf words (p .0)) s) ≡ some (p .1, rest)

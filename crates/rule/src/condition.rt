@@ -106,7 +106,12 @@ fn read_conditions(s: &[u8], words: &mut [u32], depth: usize, count: usize, c: C
         let TreeRead::Good(next) = read_headed(s, words, depth, here, head) else {
             return TreeRead::Bad;
         };
-        here = next;
+        // Field by field: a copy of the whole waits for what was just stored.
+        here = Cursor {
+            at: next.at,
+            word: next.word,
+            left: next.left,
+        };
         n -= 1;
     }
     TreeRead::Good(here)

@@ -147,7 +147,12 @@ pub fn read_values(s: &[u8], words: &mut [u32], depth: usize, count: usize, c: C
         let TreeRead::Good(next) = read_headed(s, words, depth, here, head) else {
             return TreeRead::Bad;
         };
-        here = next;
+        // Field by field: a copy of the whole waits for what was just stored.
+        here = Cursor {
+            at: next.at,
+            word: next.word,
+            left: next.left,
+        };
         n -= 1;
     }
     TreeRead::Good(here)
@@ -191,7 +196,12 @@ fn read_pairs(s: &[u8], words: &mut [u32], depth: usize, count: usize, c: Cursor
         let PairRead::Good(key, next) = read_pair(s, words, depth, here) else {
             return TreeRead::Bad;
         };
-        here = next;
+        // Field by field: a copy of the whole waits for what was just stored.
+        here = Cursor {
+            at: next.at,
+            word: next.word,
+            left: next.left,
+        };
         rise = still_rise(s, rise, previous, key);
         previous = OptionalPart::Is(key);
         n -= 1;

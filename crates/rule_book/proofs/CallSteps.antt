@@ -9,11 +9,11 @@ use Rattle.schema.specs.Read.{SchemaAnswer}
 use Rattle.schema.specs.declared.read.SchemaRead.{SchemaRead}
 use Rattle.validation.specs.Result.{any, Answer, accepted, ofSettings, firstRefusal, keptScratch, resultOf}
 use Rattle.validation.specs.RefusalLaws.{number-some, settings-none, table-decides}
-use Rattle.validator.specs.Settings.{settingBy, askedBy, widthsBy, EarlyIs, SettledIs}
-use Rattle.validator.specs.Sheets.{sheetAnswer}
-use Rattle.validator.specs.SheetLaws.{roomy, front-schema, front-both, front-scratch, sheets-decide}
-use Rattle.validator.specs.declared.settings.Setting.{Setting as CodeSetting}
-use Rattle.validator.specs.declared.settings.Settled.the-variants.{Set, Refused}
+use Rattle.single_check.specs.Settings.{settingBy, askedBy, widthsBy, EarlyIs, SettledIs}
+use Rattle.single_check.specs.Sheets.{sheetAnswer}
+use Rattle.single_check.specs.SheetLaws.{roomy, front-schema, front-both, front-scratch, sheets-decide}
+use Rattle.single_check.specs.declared.settings.Setting.{Setting as CodeSetting}
+use Rattle.single_check.specs.declared.settings.Settled.the-variants.{Set, Refused}
 use Rattle.rule_book.specs.Book.{sheetsOf}
 use Rattle.rule_book.specs.Places.{sheetCount}
 use Rattle.rule_book.specs.Tally.{BookCall, askedOf, single, answersOf, tallyOf, bookRefused, tallied, bookAnswer, tallyNumbers, freed, bookCallOf, MeetsBook}

@@ -17,8 +17,8 @@ use Rattle.validation.specs.Judge.{Verdict, allPass, failsAt, judge}
 use Rattle.validation.specs.Result.{Takes, Answer, refused, accepted, defect, maxLabelBytes, pathBytes, isTaken, answerOf, checked, judged, numbersOf, pathAfter}
 use Rattle.validation.specs.CheckLaws.{every-check}
 use Rattle.validation.specs.CountLaws.{VerdictIs, every-judged}
-use Rattle.location.specs.LengthLaws.{path-length}
-use Rattle.validator.specs.Sheets.{takenOf, sheetAnswer}
+use Rattle.defect_path.specs.LengthLaws.{path-length}
+use Rattle.single_check.specs.Sheets.{takenOf, sheetAnswer}
 use Rattle.rule_book.specs.ByteLaws.{judged-passed}
 use Rattle.rule_book.specs.Tally.{KeptFrom}
 

@@ -1,4 +1,4 @@
--- A rule book: rule sheets one behind the other, each preceded by its byte length and a comma (docs/FORMAT.md, "Rule books").
+-- A rule book: rule sheets one after the other, each preceded by its byte length and a comma (docs/FORMAT.md, "Rule books").
 use Prim.Native.Nat.{ℕ, zero, suc}
 use mathlib.Core.List.{List, [], _∷_, _++_}
 use mathlib.Core.Option.{Option, none, some, Option·map}
@@ -8,7 +8,7 @@ use Rattle.sheet.specs.Reader.{Reader, _>>=_, _>>_, pure, either}
 use Rattle.sheet.specs.Numeral.{decimal, decimalOf}
 use Rattle.sheet.specs.Entries.{comma, bytes}
 
--- a sheet behind its length; what its bytes are is left to the check
+-- a sheet after its length; what its bytes are is left to the check
 unfoldable pub sheetIn : Reader (List ℕ) (List ℕ)
 sheetIn = do
   size ← decimal

@@ -104,7 +104,7 @@ bounds-same (suc m) (suc n) (b ∷ s) h k =
     let less = sheet-bytes (b ∷ s) x t e in
     further-same m n x t (bounds-same m n t (omega arith) (omega arith))
 
--- How a file is read: at its end, at a sheet, and at what is none.
+-- How a file is read: at its end, at a sheet, and at what is not a sheet.
 
 pub sheets-end : sheetsOf [] ≡ some []
 unfolding sheetsOf sheetsIn noMore

@@ -1,4 +1,4 @@
--- Opens every definition behind a tally: under `unfolding computing` a worked example holds by computation.
+-- Opens every definition that a tally rests on: under `unfolding computing` a worked example holds by computation.
 use Rattle.validation.specs.Computing as Validation
 use Rattle.rule_book.specs.Book.{sheetIn, noMore, sheetsIn, sheetsOf, writeBook}
 use Rattle.rule_book.specs.Tally.{askedOf, single, bookRefusals, answersOf, countOf, sum, passedIn, defectNumbers, tallyOf, orNoSheets, refusedOr, bookAnswer, tallyNumbers, freed, bookCallOf}

@@ -1,4 +1,4 @@
--- What the code's readers of a book answer, by cases: what the definitions of Book read from place `at` of the file on, and the place behind it.
+-- What the code's readers of a book answer, by cases: what the definitions of Book read from place `at` of the file on, and the place after it.
 use Prim.Native.Nat.{ℕ, _<_, _≤_}
 use mathlib.Core.List.{List}
 use mathlib.Core.Option.{Option, none, some, Option·map}
@@ -15,7 +15,7 @@ use Rattle.rule_book.specs.declared.sheets.NextSheet.the-variants as nex
 use Rattle.rule_book.specs.declared.sheets.Counted.{Counted}
 use Rattle.rule_book.specs.declared.sheets.Counted.the-variants as counted
 
--- the digits behind those whose value is `value`; `Bad` where their value is beyond the file's length
+-- the digits after those whose value is `value`; `Bad` where their value is beyond the file's length
 abbrev pub DigitsAre : ℕ → List ℕ → ℕ → NumeralRead → Type 0
 DigitsAre value s at (numeral.Is n next) = (digits value (drop at s) ≡ (n, drop next s)) × (at ≤ next) × (next ≤ length s)
 DigitsAre value s at numeral.Bad = length s < digits value (drop at s) .0

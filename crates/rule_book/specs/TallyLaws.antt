@@ -16,7 +16,7 @@ use Rattle.validation.specs.Check.{isNone, IsDefect}
 use Rattle.validation.specs.Result.{Call, Answer, refused, Heard, refusal, acceptance, finding, ofTable, ofSettings, early, ofSheets, refusals, firstRefusal, numbersOf, resultOf, pathBytes}
 use Rattle.validation.specs.Result as Result
 use Rattle.validation.specs.RefusalLaws.{every, present, none-due, first-none, of-listed, of-first, sheets-first, first-append, outside}
-use Rattle.validator.specs.SheetLaws.{roomy}
+use Rattle.single_check.specs.SheetLaws.{roomy}
 use Rattle.validation.specs.DemandLaws.{NotRefused, heard, unrefused-answer}
 use Rattle.rule_book.specs.Book.{sheetsOf, writeBook}
 use Rattle.rule_book.specs.BookLaws.{sheet-bytes, book-first, book-round-trip}
@@ -51,7 +51,7 @@ is-tallied c t e =
 
 -- Every sheet is counted once.
 
--- how often a number stands among these
+-- how often a number occurs among these
 unfoldable hits : List ℕ → ℕ → ℕ
 hits [] n = 0
 hits (m ∷ ms) n = cond (eqb n m) 1 0 + hits ms n

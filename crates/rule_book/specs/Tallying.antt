@@ -8,7 +8,7 @@ use Rattle.reference.specs.Setting.{Setting}
 use Rattle.schema.specs.Read.{SchemaIs}
 use Rattle.schema.specs.declared.read.SchemaRead.{SchemaRead}
 use Rattle.validation.specs.Result.{any, Answer, maxLabelBytes, pathBytes, scratchWords}
-use Rattle.validator.specs.Sheets.{sheetAnswer, FrontOnly}
+use Rattle.single_check.specs.Sheets.{sheetAnswer, FrontOnly}
 use Rattle.rule_book.specs.Book.{sheetsOf}
 use Rattle.rule_book.specs.Tally.{tallyOf, tallied, tallyNumbers, KeptFrom, BookRun}
 

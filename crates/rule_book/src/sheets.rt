@@ -1,4 +1,4 @@
-// The sheets of a rule book, one behind the other, each behind its length.
+// The sheets of a rule book, one after the other, each after its length.
 use sheet::entry::starts_with;
 use sheet::numeral::NumeralRead;
 use sheet::numeral::is_digit;
@@ -9,7 +9,7 @@ ghost use lib.ListN.{length};
 ghost use Rattle.rule_book.specs.Places.{DigitsAre, LengthIs, SheetIs, CountIs};
 
 pub enum NextSheet {
-    // The sheet, and the place behind it.
+    // The sheet, and the place after it.
     Is(Part, usize),
     Bad,
 }
@@ -19,7 +19,7 @@ pub enum Counted {
     Bad,
 }
 
-// The digits from `at` on, behind the one whose value is `first`. A length only grows, so it is given up when it is beyond the file's, before it could wrap.
+// The digits from `at` on, after the one whose value is `first`. A length only grows, so it is given up when it is beyond the file's, before it could wrap.
 fn digits(file: &[u8], at: usize, first: usize) -> NumeralRead
     requires { ⌜ (at ≤ length (now file)) × (first ≤ 9) ⌝ }
     ensures { λ r. ⌜ DigitsAre first (now (file .entry)) at r ⌝ }
@@ -42,7 +42,7 @@ fn digits(file: &[u8], at: usize, first: usize) -> NumeralRead
     NumeralRead::Is(value, i)
 }
 
-// The length of a sheet, of which the first digit stands at `at`.
+// The length of a sheet; its first digit is at `at`.
 fn length_at(file: &[u8], at: usize) -> NumeralRead
     ensures { λ r. ⌜ LengthIs (now (file .entry)) at r ⌝ }
 {
@@ -59,7 +59,7 @@ fn length_at(file: &[u8], at: usize) -> NumeralRead
     NumeralRead::Bad
 }
 
-// The sheet whose length stands at `at`.
+// The sheet whose length is at `at`.
 pub fn next_sheet(file: &[u8], at: usize) -> NextSheet
     ensures { λ r. ⌜ SheetIs (now (file .entry)) at r ⌝ }
 {

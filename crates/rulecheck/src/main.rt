@@ -1,7 +1,7 @@
 // Checks the rule of the file `check.in` against its schema, and prints the answer (docs/FORMAT.md, "The program `rulecheck`").
 use definition::limits::MAX_FILE_BYTES;
-use file_answer::output;
 use libc::STDOUT_FILENO;
+use printed_answer::output;
 ghost use Prim.Native.Nat.{_≤_};
 ghost use lib.ListN.{length, take};
 ghost use mathlib.Core.Path.{_≡_};
@@ -13,7 +13,7 @@ const FILE_BYTES: usize = MAX_FILE_BYTES + 1;
 // Room enough for every line.
 const LINE_BYTES: usize = 32835;
 
-// Writes what is printed for a file's bytes to the start of `line`, all of it, and returns how many bytes that are.
+// Writes what is printed for a file's bytes to the start of `line`, all of it, and returns how many bytes that is.
 fn answer_line(file: &[u8], line: &mut [u8; LINE_BYTES]) -> usize
     ensures { λ r. ⌜ (take r (now (line .exit)) ≡ outputOf (now (file .entry))) × (r ≤ length (now (line .exit))) ⌝ }
 {

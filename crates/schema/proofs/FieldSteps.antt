@@ -9,6 +9,8 @@ use lib.ListN.{length, drop}
 use borrow.Author.Tests.{lt-leb, le-leb}
 use Rattle.sheet.specs.Reader.{_>>=_, _>>_, andThen, pure, refuse}
 use Rattle.sheet.specs.Entries.{FieldHead, fieldHead}
+use Rattle.sheet.specs.Parts.{partOf}
+use Rattle.sheet.specs.declared.part.Part.{Part}
 use Rattle.definition.specs.Tree.{field, Items, Members}
 use Rattle.definition.specs.Decode.{Ahead, entry, entered, announce, toCount, elementOf, membersOf, fieldIn}
 use Rattle.schema.specs.Index.{maxSlots, placeWord, hasElement, elements, countOf, below, belowItems, HeadAt, FieldAt}
@@ -105,7 +107,7 @@ behind-ready has elems count end ready kept more marked room one =
 
 module _ (s : List ℕ) (from : Cursor) (h : FieldHead) (end elems : ℕ) (head : fieldHead (drop (from .at) s) ≡ some (h, drop end s))
     (marked : elems ≡ toCount (h .hasItems)) (depth d : ℕ) (deeper : depth ≡ suc d) (room : elems + h .count ≤ maxSlots - from .used)
-    (slot : ℕ) (a b c e : List ℕ) (ready : Ready s a from slot 1) (put : SlotPut a b slot (from .at) (from .next) (from .used))
+    (slot : ℕ) (a b c e : List ℕ) (ready : Ready s a from slot 1) (name : Part) (named : h .name ≡ partOf s name) (put : SlotPut a b slot (from .at) (from .next) (from .used) name)
     (behind to : Cursor)
     (one : ItemsGood s b c d (h .hasItems) (from .used) (record { next = from .next + 1; used = from .used + (elems + h .count); at = end }) behind)
     (many : MembersGood s c e d (from .used + elems) (h .count) behind to) where
@@ -132,7 +134,8 @@ module _ (s : List ℕ) (from : Cursor) (h : FieldHead) (end elems : ℕ) (head 
       let low : from .used + (elems + h .count) + belowItems (one .items) ≡ behind .used = omega arith in (
         p .0,
         head-at s h (from .at) end (placeWord e slot / 4096) (hasElement (one .items)) (countOf (many .members)) head (p .1) (one .marked) m,
-        slot-kept .child ∙ put .childAt,
+        rw (slot-kept .place, slot-kept .name, put .named, named),
+        rw (slot-kept .name) (put .childAt),
         rw (n, m) kept,
         rw (n, m, low) (many .indexed),
       )

@@ -1,18 +1,16 @@
 -- Members by their places, from 0, and the search that halves.
-use Prim.Native.Nat.{ℕ, zero, suc, _+_, _/_, _≤_, _<_}
+use Prim.Native.Nat.{ℕ, zero, suc, _+_, _≤_, _<_}
 use mathlib.Core.Bool.{Bool, true, false}
 use mathlib.Core.List.{List}
-use mathlib.Core.Option.{Option, none, some, Option·none-ne-some}
-use mathlib.Core.Path.{_≡_, refl, sym, ap, _∙_}
+use mathlib.Core.Option.{Option, none, some}
+use mathlib.Core.Path.{_≡_, refl, sym, _∙_}
 use mathlib.Core.Logic.{⊎-elim}
 use native.Mathlib.Omega.{arith}
 use native.Mathlib.Nat.{eq-or-lt-of-le}
 use lib.Dec.{ltb}
-use lib.ListN.{drop}
 use borrow.Author.Tests.{ltb-true, ltb-false}
 use Rattle.sheet.specs.ReaderLaws.{by-test}
-use Rattle.sheet.specs.Entries.{FieldHead, fieldHead}
-use Rattle.sheet.specs.Places.{Knows}
+use Rattle.sheet.specs.Parts.{partOf}
 use Rattle.sheet.specs.Order.{precedes, sameBytes}
 use Rattle.sheet.specs.OrderLaws.{sameBytes-equal, sameBytes-refl, sameBytes-symmetric, precedes-transitive, precedes-differs}
 use Rattle.definition.specs.Tree as Tree
@@ -20,7 +18,7 @@ use Rattle.definition.specs.Tree.{Text, Field, field, Members, noMembers, membe
 use Rattle.definition.specs.Within.{FieldRises, MembersRise}
 use Rattle.definition.specs.RisingLaws.{AllBehind, rising-behind}
 use Rattle.reference.specs.Walk.{lookup}
-use Rattle.schema.specs.Index.{maxSlots, placeWord, countOf, below, belowMembers, FieldAt, MembersAt}
+use Rattle.schema.specs.Index.{maxSlots, slotName, countOf, below, belowMembers, FieldAt, MembersAt}
 use Rattle.schema.specs.Slot.{HolderAt}
 use Rattle.schema.specs.Lookup.{FoundAt, LookedUp}
 use Rattle.schema.specs.declared.index.Holder.{Holder}
@@ -139,9 +137,9 @@ module _ (members : Members) (name : Text) (low high : ℕ) (b : Between members
         }
 
 -- the member that has the name
-pub found-at : (s w : List ℕ) (k i : ℕ) (members : Members) (name : Text) → MembersRise none members → (m : MemberAt s w k i members maxSlots) → sameBytes (m .name) name ≡ true
+pub found-at : (s w : List ℕ) (k i : ℕ) (members : Members) (name : Text) → MembersRise none members → k + i < maxSlots → (m : MemberAt s w k i members maxSlots) → sameBytes (m .name) name ≡ true
     → FoundAt s w name members (k + i)
-found-at s w k i members name rises m e =
+found-at s w k i members name rises slot m e =
     let q = sameBytes-equal (m .name) name e in
     record {
       f = m .f;
@@ -152,19 +150,15 @@ found-at s w k i members name rises m e =
             low = m .low;
             indexed = m .indexed;
             rises = member-rises none i members (m .name) (m .f) rises (m .is);
+            slot = slot;
             room = m .room;
           };
     }
 
--- The head that a slot leads to
+-- The name that a slot leads to
 
-slot-headless : (s w : List ℕ) (k low : ℕ) (name : Text) (f : Field) → FieldAt s w k low name f → fieldHead (drop (placeWord w k / 4096) s) ≡ none → ⊥
-slot-headless s w k low name (field e kind o tag items members) at n = Option·none-ne-some _ (sym n ∙ at .1 .reads)
-
-slot-named : (s w : List ℕ) (k low : ℕ) (name : Text) (f : Field) (h : FieldHead) → FieldAt s w k low name f
-    → Knows fieldHead s (placeWord w k / 4096) h → h .name ≡ name
-slot-named s w k low name (field e kind o tag items members) h at q =
-    ap (λ (h : FieldHead). h .name) (q .reads _ _ (at .1 .reads))
+slot-named : (s w : List ℕ) (k low : ℕ) (name : Text) (f : Field) → FieldAt s w k low name f → partOf s (slotName w k) ≡ name
+slot-named s w k low name (field e kind o tag items members) at = at .2
 
 -- What is left of the `count` members in the slots from `first` on
 
@@ -191,39 +185,35 @@ module _ (s w : List ℕ) (first count : ℕ) (name : Text) (low high : ℕ) (na
         let n = h .counted in
         member-at s w first (h .low) middle (t .members) maxSlots (omega arith) (h .room) (h .indexed)
 
-    pub narrowed-headless : (o : Bool) → fieldHead (drop (placeWord w (first + middle) / 4096) s) ≡ none
-        → LookedUp s w (record { opened = o; first = first; count = count }) name Missing
-    narrowed-headless o e t h =
+    middle-named : (o : Bool) (t : Tree.Holder) (h : HolderAt s w (record { opened = o; first = first; count = count }) t)
+        → partOf s (slotName w (first + middle)) ≡ middle-at o t h .name
+    middle-named o t h =
         let p = middle-at o t h in
-        absurd (slot-headless s w (first + middle) (p .low) (p .name) (p .f) (p .indexed) e)
+        slot-named s w (first + middle) (p .low) (p .name) (p .f) (p .indexed)
 
-    module _ (head : FieldHead) (known : Knows fieldHead s (placeWord w (first + middle) / 4096) head) where
-      middle-named : (o : Bool) (t : Tree.Holder) (h : HolderAt s w (record { opened = o; first = first; count = count }) t) → head .name ≡ middle-at o t h .name
-      middle-named o t h =
-          let p = middle-at o t h in
-          slot-named s w (first + middle) (p .low) (p .name) (p .f) head (p .indexed) known
+    pub narrowed-lower : precedes (partOf s (slotName w (first + middle))) name ≡ true → Narrowed s w first count name (middle + 1) high
+    narrowed-lower e =
+        record {
+          ordered = omega arith;
+          within = narrowed .within;
+          between = λ o t h.
+              let p = middle-at o t h in
+              between-lower (t .members) name low high (narrowed .between o t h) (h .rises) middle (p .name) (p .f) (p .is) (rw (middle-named o t h) at e);
+        }
 
-      pub narrowed-lower : precedes (head .name) name ≡ true → Narrowed s w first count name (middle + 1) high
-      narrowed-lower e =
-          record {
-            ordered = omega arith;
-            within = narrowed .within;
-            between = λ o t h.
-                let p = middle-at o t h in
-                between-lower (t .members) name low high (narrowed .between o t h) (h .rises) middle (p .name) (p .f) (p .is) (rw (middle-named o t h) at e);
-          }
+    pub narrowed-upper : precedes name (partOf s (slotName w (first + middle))) ≡ true → Narrowed s w first count name low middle
+    narrowed-upper e =
+        record {
+          ordered = lower;
+          within = omega arith;
+          between = λ o t h.
+              let p = middle-at o t h in
+              between-upper (t .members) name low high (narrowed .between o t h) (h .rises) middle (p .name) (p .f) (p .is) (rw (middle-named o t h) at e);
+        }
 
-      pub narrowed-upper : precedes name (head .name) ≡ true → Narrowed s w first count name low middle
-      narrowed-upper e =
-          record {
-            ordered = lower;
-            within = omega arith;
-            between = λ o t h.
-                let p = middle-at o t h in
-                between-upper (t .members) name low high (narrowed .between o t h) (h .rises) middle (p .name) (p .f) (p .is) (rw (middle-named o t h) at e);
-          }
-
-      pub narrowed-found : (o : Bool) → sameBytes (head .name) name ≡ true
-          → LookedUp s w (record { opened = o; first = first; count = count }) name (At (first + middle))
-      narrowed-found o e t h =
-          found-at s w first middle (t .members) name (h .rises) (middle-at o t h) (rw (middle-named o t h) at e)
+    pub narrowed-found : (o : Bool) → sameBytes (partOf s (slotName w (first + middle))) name ≡ true
+        → LookedUp s w (record { opened = o; first = first; count = count }) name (At (first + middle))
+    narrowed-found o e t h =
+        let slots = h .slots in
+        let within = narrowed .within in
+        found-at s w first middle (t .members) name (h .rises) (omega arith) (middle-at o t h) (rw (middle-named o t h) at e)

@@ -10,7 +10,7 @@ use Rattle.sheet.specs.Entries.{fieldHead}
 use Rattle.definition.specs.Tree.{field, Items, absent, element}
 use Rattle.definition.specs.Within.{ItemsRise}
 use Rattle.definition.specs.Decode.{toCount}
-use Rattle.schema.specs.Index.{maxSlots, placeWord, childWord, hasElement, elements, countOf, below, belowItems, ItemsAt}
+use Rattle.schema.specs.Index.{maxSlots, placeWord, childSlot, hasElement, elements, countOf, below, belowItems, ItemsAt}
 use Rattle.schema.specs.IndexLaws.{elements-marked}
 use Rattle.schema.specs.Slot.{ElementAt, elementFrom, IndexedIs}
 use Rattle.sheet.specs.Places.{Knows, fieldOf}
@@ -23,14 +23,14 @@ pub headless-parts : (s w : List ℕ) (k : ℕ) (r : IndexedField) → fieldHead
 headless-parts s w k r n (field e kind o tag items members) holds =
     absurd (Option·none-ne-some _ (sym n ∙ holds .indexed .1 .reads))
 
-items-element : (s w : List ℕ) (k low : ℕ) (items : Items) → ItemsAt s w k low items → ItemsRise items → low + belowItems items ≤ maxSlots
+items-element : (s w : List ℕ) (k low : ℕ) (items : Items) → ItemsAt s w k low items → ItemsRise items → k + elements items ≤ maxSlots → low + belowItems items ≤ maxSlots
     → ElementAt s w (elementFrom (hasElement items) k) items
-unfolding elementFrom hasElement belowItems
-items-element s w k low absent at rises room = tt
-items-element s w k low (element f) at rises room = record { name = []; low = low; indexed = at; rises = rises; room = room }
+unfolding elementFrom hasElement elements belowItems
+items-element s w k low absent at rises slot room = tt
+items-element s w k low (element f) at rises slot room = record { name = []; low = low; indexed = at; rises = rises; slot = omega arith; room = room }
 
 pub indexed-parts : (s w : List ℕ) (k : ℕ) (head : FieldHead) (place child elems : ℕ) (el : ElementSlot)
-    → Knows fieldHead s (placeWord w k / 4096) (fieldOf s head) → place ≡ placeWord w k → child ≡ childWord w k
+    → Knows fieldHead s (placeWord w k / 4096) (fieldOf s head) → place ≡ placeWord w k → child ≡ childSlot w k
     → elems ≡ toCount (head .items) → el ≡ elementFrom (head .items) child
     → IndexedIs s w k
     (record {
@@ -46,7 +46,7 @@ indexed-parts s w k head place child elems el known p c n l (field e kind o tag 
     let q = known .reads _ _ (at .1 .reads) in
     let has : head .items ≡ hasElement items = ap (λ (h : Entries.FieldHead). h .hasItems) q in
     let count : head .count ≡ countOf members = ap (λ (h : Entries.FieldHead). h .count) q in
-    let low : child ≡ holds .low = c ∙ at .2 in
+    let low : child ≡ holds .low = c ∙ at .3 in
     let m : elems ≡ elements items = n ∙ ap toCount has ∙ sym (elements-marked items) in
     let room = holds .room in
     let first : child + elems ≡ holds .low + elements items = omega arith in
@@ -56,13 +56,13 @@ indexed-parts s w k head place child elems el known p c n l (field e kind o tag 
       tagged = ap (λ (h : Entries.FieldHead). h .tag) q;
       elements =
           rw (l, has, low)
-          (items-element s w (holds .low) (holds .low + (elements items + countOf members)) items (at .3) (holds .rises .0) (omega arith));
+          (items-element s w (holds .low) (holds .low + (elements items + countOf members)) items (at .4) (holds .rises .0) (omega arith) (omega arith));
       members =
           record {
             marked = ap (λ (h : Entries.FieldHead). h .isOpen) q;
             counted = sym count;
             low = holds .low + (elements items + countOf members) + belowItems items;
-            indexed = rw first (at .4);
+            indexed = rw first (at .5);
             rises = holds .rises .1;
             slots = omega arith;
             room = omega arith;

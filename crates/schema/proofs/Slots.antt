@@ -1,5 +1,5 @@
 -- Words written and words kept.
-use Prim.Native.Nat.{ℕ, _+_, _*_, _≤_, _<_}
+use Prim.Native.Nat.{ℕ, _+_, _-_, _*_, _≤_, _<_}
 use mathlib.Core.List.{List}
 use mathlib.Core.Path.{_≡_, refl, _∙_}
 use native.Mathlib.Omega.{arith}
@@ -8,6 +8,7 @@ use lib.Seq.{getD-set-same, getD-set-other}
 use Rattle.schema.specs.Index.{firstWord}
 use Rattle.schema.specs.Kept.{Kept, SlotKept}
 use Rattle.schema.specs.Fields.{SlotFits, SlotPut}
+use Rattle.sheet.specs.declared.part.Part.{Part}
 
 pub kept-all : (a : List ℕ) → Kept a a
 kept-all a = record { size = refl; lower = λ i h. refl; upper = λ i h. refl }
@@ -21,10 +22,10 @@ kept-more f g =
     }
 
 pub slotKept-all : (a : List ℕ) (k : ℕ) → SlotKept a a k
-slotKept-all a k = record { place = refl; child = refl }
+slotKept-all a k = record { place = refl; name = refl }
 
 pub slotKept-more : {a b c : List ℕ} {k : ℕ} → SlotKept a b k → SlotKept b c k → SlotKept a c k
-slotKept-more f g = record { place = g .place ∙ f .place; child = g .child ∙ f .child }
+slotKept-more f g = record { place = g .place ∙ f .place; name = g .name ∙ f .name }
 
 -- two words in a row, and every other
 module _ (words : List ℕ) (i v w : ℕ) where
@@ -40,23 +41,31 @@ module _ (words : List ℕ) (i v w : ℕ) where
       getD-set-other (set words i v) (i + 1) j w 0 (λ e. h (omega arith) (omega arith))
       ∙ getD-set-other words i j v 0 (λ e. h (omega arith) (omega arith))
 
-pub slot-put : (words : List ℕ) (k start entry child : ℕ) → SlotFits words k start entry child
-    → SlotPut words (set (set words (firstWord + 2 * k) (start * 4096 + entry)) (firstWord + 2 * k + 1) child) k start entry child
-slot-put words k start entry child fits =
+-- a part by its two numbers
+pub part-is : (start len : ℕ) (p : Part) → start ≡ p .start → len ≡ p .len → _≡_ {A = Part} (record { start = start; len = len }) p
+part-is start len p e f = rw (e, f)
+
+pub slot-put : (words : List ℕ) (k start entry child : ℕ) (name : Part) (v w : ℕ) → SlotFits words k start entry child name
+    → v ≡ start * 4096 + entry → w ≡ name .len * 131072 + (name .start - start) * 4096 + child
+    → SlotPut words (set (set words (firstWord + 2 * k) v) (firstWord + 2 * k + 1) w) k start entry child name
+slot-put words k start entry child name v w fits one two =
     let i = firstWord + 2 * k in
-    let v = start * 4096 + entry in
+    let first = two-first words i v w (omega arith) in
+    let second = two-second words i v w (omega arith) in
+    let placed = fits .named in
     record {
       kept =
           record {
-            size = length-set (set words i v) (i + 1) child ∙ length-set words i v;
-            lower = λ j h. two-other words i v child j (omega arith);
-            upper = λ j h. two-other words i v child j (omega arith);
+            size = length-set (set words i v) (i + 1) w ∙ length-set words i v;
+            lower = λ j h. two-other words i v w j (omega arith);
+            upper = λ j h. two-other words i v w j (omega arith);
           };
-      place = two-first words i v child (omega arith);
-      childAt = two-second words i v child (omega arith);
+      place = first ∙ one;
+      childAt = omega arith;
+      named = part-is _ _ name (omega arith) (omega arith);
       others =
           λ j p q. record {
-            place = two-other words i v child (firstWord + 2 * j) (λ a b. p (omega arith) (omega arith));
-            child = two-other words i v child (firstWord + 2 * j + 1) (λ a b. p (omega arith) (omega arith));
+            place = two-other words i v w (firstWord + 2 * j) (λ a b. p (omega arith) (omega arith));
+            name = two-other words i v w (firstWord + 2 * j + 1) (λ a b. p (omega arith) (omega arith));
           };
     }

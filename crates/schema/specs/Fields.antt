@@ -8,9 +8,10 @@ use lib.ListN.{length, drop}
 use Rattle.definition.specs.Tree.{Text, Field, Items, Members}
 use Rattle.definition.specs.Decode.{Ahead, toCount, fieldIn, elementOf, membersOf}
 use Rattle.definition.specs.Limits.{maxSheetBytes}
-use Rattle.schema.specs.Index.{indexEnd, maxSlots, placeWord, childWord, hasElement, countOf, below, belowItems, belowMembers, FieldAt, ItemsAt, MembersAt}
+use Rattle.schema.specs.Index.{indexEnd, maxSlots, placeWord, childSlot, slotName, hasElement, countOf, below, belowItems, belowMembers, FieldAt, ItemsAt, MembersAt}
 use Rattle.schema.specs.Kept.{Kept, OthersKept}
 use Rattle.sheet.specs.Parts.{partOf}
+use Rattle.sheet.specs.Places.{NamePlaced, maxPrefix}
 use Rattle.sheet.specs.declared.part.Part.{Part}
 use Rattle.schema.specs.declared.field.Cursor.{Cursor}
 use Rattle.schema.specs.declared.field.OneRead.{OneRead}
@@ -20,17 +21,19 @@ use Rattle.schema.specs.declared.field.ManyRead.the-variants as Many
 
 -- One slot written
 
-pub record SlotFits (words : List ℕ) (k start entry child : ℕ) : Type 0 where
+pub record SlotFits (words : List ℕ) (k start entry child : ℕ) (name : Part) : Type 0 where
   pub slot : k < maxSlots
   pub scratch : indexEnd ≤ length words
   pub place : start ≤ maxSheetBytes
   pub number : entry < 4096
   pub childAt : child ≤ maxSlots
+  pub named : NamePlaced start maxPrefix name
 
-pub record SlotPut (before after : List ℕ) (k start entry child : ℕ) : Type 0 where
+pub record SlotPut (before after : List ℕ) (k start entry child : ℕ) (name : Part) : Type 0 where
   pub kept : Kept before after
   pub place : placeWord after k ≡ start * 4096 + entry
-  pub childAt : childWord after k ≡ child
+  pub childAt : childSlot after k ≡ child
+  pub named : slotName after k ≡ name
   pub others : OthersKept before after k 1 0 0
 
 -- what lies ahead of a cursor

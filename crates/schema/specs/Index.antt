@@ -7,6 +7,8 @@ use mathlib.Core.Option.{some}
 use mathlib.Core.Path.{_≡_}
 use lib.ListN.{getD, drop}
 use Rattle.sheet.specs.Entries.{FieldHead, fieldHead}
+use Rattle.sheet.specs.Parts.{partOf}
+use Rattle.sheet.specs.declared.part.Part.{Part}
 use Rattle.definition.specs.Tree.{Text, Field, field, Items, absent, element, Members, noMembers, member}
 use Rattle.definition.specs.Limits.{maxSchemaEntries}
 
@@ -26,9 +28,17 @@ indexEnd = firstWord + 2 * maxSlots
 abbrev pub placeWord : List ℕ → ℕ → ℕ
 placeWord words k = getD words (firstWord + 2 * k) 0
 
--- its second word: the slot of its first child
-abbrev pub childWord : List ℕ → ℕ → ℕ
-childWord words k = getD words (firstWord + 2 * k + 1) 0
+-- its second word: the slot of its first child, how far after the start of its entry its name begins, times 4,096, and the name's length,
+-- times 131,072
+abbrev pub nameWord : List ℕ → ℕ → ℕ
+nameWord words k = getD words (firstWord + 2 * k + 1) 0
+
+abbrev pub childSlot : List ℕ → ℕ → ℕ
+childSlot words k = nameWord words k % 4096
+
+-- where its name stands: less than 32 bytes after the start of its entry
+abbrev pub slotName : List ℕ → ℕ → Part
+slotName words k = record { start = placeWord words k / 4096 + nameWord words k / 4096 % 32; len = nameWord words k / 131072 }
 
 unfoldable pub hasElement : Items → Bool
 hasElement absent = false
@@ -67,7 +77,8 @@ abbrev mutual
       (placeWord words k % 4096 ≡ e)
       × HeadAt sheet (placeWord words k / 4096)
       (record { kind = kind; isOpen = o; hasItems = hasElement items; count = countOf members; name = name; tag = tag })
-      × (childWord words k ≡ low)
+      × (partOf sheet (slotName words k) ≡ name)
+      × (childSlot words k ≡ low)
       × ItemsAt sheet words low (low + (elements items + countOf members)) items
       × MembersAt sheet words (low + elements items) (low + (elements items + countOf members) + belowItems items) members
 

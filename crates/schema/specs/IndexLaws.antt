@@ -18,13 +18,14 @@ mutual
   FieldAt-kept s a b k low name (field e kind o tag items members) here there h = (
     rw (here .place) (h .0),
     rw (here .place) (h .1),
-    here .child ∙ h .2,
+    rw (here .place, here .name) (h .2),
+    rw (here .name) (h .3),
     ItemsAt-kept s a b low (low + (elements items + countOf members)) items
         (λ j p q. there j (omega arith) (omega arith))
-        (λ j p q. there j (omega arith) (omega arith)) (h .3),
+        (λ j p q. there j (omega arith) (omega arith)) (h .4),
     MembersAt-kept s a b (low + elements items) (low + (elements items + countOf members) + belowItems items) members
         (λ j p q. there j (omega arith) (omega arith))
-        (λ j p q. there j (omega arith) (omega arith)) (h .4),
+        (λ j p q. there j (omega arith) (omega arith)) (h .5),
   )
 
   pub ItemsAt-kept : (s a b : List ℕ) (k low : ℕ) (items : Items) → SlotsKept a b k (elements items) → SlotsKept a b low (belowItems items) → ItemsAt s a k low items → ItemsAt s b k low items
@@ -62,14 +63,14 @@ mutual
   pub FieldAt-unique : (s w : List ℕ) (k low low′ : ℕ) (name name′ : Text) (f g : Field) → FieldAt s w k low name f → FieldAt s w k low′ name′ g → Same low low′ name name′ f g
   FieldAt-unique s w k low low′ name name′ (field e kind o tag items members) (field e′ kind′ o′ tag′ items′ members′) p q =
       let h = head-unique (p .1) (q .1) in
-      let l : low ≡ low′ = sym (p .2) ∙ q .2 in
+      let l : low ≡ low′ = sym (p .3) ∙ q .3 in
       let has : hasElement items ≡ hasElement items′ = ap (λ (h : FieldHead). h .hasItems) h in
       let count : countOf members ≡ countOf members′ = ap (λ (h : FieldHead). h .count) h in
       let n : elements items ≡ elements items′ = elements-marked items ∙ ap toCount has ∙ sym (elements-marked items′) in
-      let i : items ≡ items′ = ItemsAt-unique s w low (low + (elements items + countOf members)) items items′ has (p .3) (rw (l, n, count) (q .3)) in
+      let i : items ≡ items′ = ItemsAt-unique s w low (low + (elements items + countOf members)) items items′ has (p .4) (rw (l, n, count) (q .4)) in
       let b : belowItems items ≡ belowItems items′ = ap belowItems i in
       let m : members ≡ members′
-      = MembersAt-unique s w (low + elements items) (low + (elements items + countOf members) + belowItems items) members members′ count (p .4) (rw (l, n, count, b) (q .4)) in
+      = MembersAt-unique s w (low + elements items) (low + (elements items + countOf members) + belowItems items) members members′ count (p .5) (rw (l, n, count, b) (q .5)) in
       record {
         lows = l;
         names = ap (λ (h : FieldHead). h .name) h;

@@ -3,7 +3,7 @@ use Prim.Native.Nat.{ℕ, _+_, _*_, _≤_, _<_}
 use mathlib.Core.List.{List}
 use mathlib.Core.Path.{_≡_}
 use lib.ListN.{length, getD}
-use Rattle.schema.specs.Index.{indexEnd, firstWord, placeWord, childWord}
+use Rattle.schema.specs.Index.{indexEnd, firstWord, placeWord, nameWord}
 
 -- only words of the index may differ
 pub record Kept (before after : List ℕ) : Type 0 where
@@ -13,7 +13,7 @@ pub record Kept (before after : List ℕ) : Type 0 where
 
 pub record SlotKept (before after : List ℕ) (k : ℕ) : Type 0 where
   pub place : placeWord after k ≡ placeWord before k
-  pub child : childWord after k ≡ childWord before k
+  pub name : nameWord after k ≡ nameWord before k
 
 -- the `n` slots from `low` on
 abbrev pub SlotsKept : (before after : List ℕ) (low n : ℕ) → Type 0

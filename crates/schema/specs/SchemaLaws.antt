@@ -24,7 +24,7 @@ module _ (s a b : List ℕ) (kept : IndexKept a b) where
   slot-kept k h =
       record {
         place = kept (firstWord + 2 * k) (omega arith) (omega arith);
-        child = kept (firstWord + 2 * k + 1) (omega arith) (omega arith);
+        name = kept (firstWord + 2 * k + 1) (omega arith) (omega arith);
       }
 
   pub HolderAt-kept : (h : Holder) (t : Tree.Holder) → HolderAt s a h t → HolderAt s b h t

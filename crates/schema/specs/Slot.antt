@@ -1,5 +1,5 @@
 -- What a slot of the index holds, in terms of the tree.
-use Prim.Native.Nat.{ℕ, _+_, _≤_}
+use Prim.Native.Nat.{ℕ, _+_, _<_, _≤_}
 use mathlib.Core.Bool.{Bool, true, false}
 use mathlib.Core.List.{List}
 use mathlib.Core.Option.{Option, none}
@@ -20,6 +20,7 @@ pub record SlotHolds (sheet words : List ℕ) (k : ℕ) (f : Field) : Type 0 whe
   pub low : ℕ
   pub indexed : FieldAt sheet words k low name f
   pub rises : FieldRises f
+  pub slot : k < maxSlots
   pub room : low + below f ≤ maxSlots
 
 -- the slots from the first one on hold the members

@@ -48,7 +48,8 @@ fn read_field(sheet: &[u8], words: &mut [u32], depth: usize, slot: usize, from: 
     if MAX_SLOTS - low < announced {
         return OneRead::Bad;
     }
-    put_slot(words, slot, at, from.next, low);
+    let name = head.name;
+    put_slot(words, slot, at, from.next, low, name);
     let inner = Cursor {
         next: from.next + 1,
         used: low + announced,
@@ -56,7 +57,6 @@ fn read_field(sheet: &[u8], words: &mut [u32], depth: usize, slot: usize, from: 
     };
     // Most fields have nothing below them: these need no call.
     if announced == 0 {
-        let name = head.name;
         return OneRead::Good(name, inner);
     }
     let ManyRead::Good(behind) = read_element(sheet, words, depth - 1, head.items, low, inner)
@@ -73,7 +73,6 @@ fn read_field(sheet: &[u8], words: &mut [u32], depth: usize, slot: usize, from: 
     ) else {
         return OneRead::Bad;
     };
-    let name = head.name;
     OneRead::Good(name, to)
 }
 

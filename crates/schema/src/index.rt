@@ -3,12 +3,13 @@ use definition::limits::MAX_RULE_ENTRIES;
 use definition::limits::MAX_SCHEMA_ENTRIES;
 use definition::limits::WORD_ENTRIES;
 use sheet::part::OptionalPart;
+use sheet::part::Part;
 use sheet::schema_heads::KnownField;
 ghost use mathlib.Core.Path.{_≡_};
 ghost use Prim.Native.Nat.{_/_};
 ghost use lib.ListN.{getD};
 ghost use Rattle.definition.specs.Decode.{toCount};
-ghost use Rattle.schema.specs.Index.{placeWord, childWord};
+ghost use Rattle.schema.specs.Index.{placeWord, nameWord, slotName};
 ghost use Rattle.schema.specs.Fields.{SlotFits, SlotPut};
 ghost use Rattle.schema.specs.Slot.{elementFrom, IndexedIs};
 ghost use Rattle.sheet.specs.Places.{KnownFieldIs};
@@ -18,6 +19,12 @@ pub const MAX_SLOTS: usize = MAX_SCHEMA_ENTRIES - 1;
 
 // The words before this one are a rule's.
 pub const FIRST_WORD: usize = MAX_RULE_ENTRIES;
+
+// A name begins less than so many bytes after the start of its entry.
+const PREFIX_END: usize = 32;
+
+// What a name's length is multiplied by in a slot's second word.
+const LENGTH_UNIT: usize = WORD_ENTRIES * PREFIX_END;
 
 // The members of the record, of the arguments or of a field: the slot of the first, and how many there are.
 pub struct Holder {
@@ -58,9 +65,10 @@ fn place_word(words: &[u32], k: usize) -> u32
     word_at(words, FIRST_WORD + 2 * k)
 }
 
-// The slot of the first child of slot `k`.
-fn child_word(words: &[u32], k: usize) -> u32
-    ensures { λ r. ⌜ r ≡ childWord (now (words .entry)) k ⌝ }
+// The slot of the first child of slot `k`, how far after the start of its entry its name begins, times 4,096, and the name's length, times
+// 131,072.
+fn name_word(words: &[u32], k: usize) -> u32
+    ensures { λ r. ⌜ r ≡ nameWord (now (words .entry)) k ⌝ }
 {
     if words.len() <= k {
         return 0;
@@ -68,13 +76,26 @@ fn child_word(words: &[u32], k: usize) -> u32
     word_at(words, FIRST_WORD + 2 * k + 1)
 }
 
-pub fn put_slot(words: &mut [u32], k: usize, start: usize, entry: usize, child: usize)
-    requires { ⌜ SlotFits (now words) k start entry child ⌝ }
-    ensures { λ _. ⌜ SlotPut (now (words .entry)) (now (words .exit)) k start entry child ⌝ }
+// Where the name of the field in slot `k` stands, found without reading its entry.
+pub fn name_of_slot(words: &[u32], k: usize) -> Part
+    ensures { λ r. ⌜ r ≡ slotName (now (words .entry)) k ⌝ }
+{
+    let place = place_word(words, k) as usize;
+    let more = name_word(words, k) as usize;
+    Part {
+        start: place / WORD_ENTRIES + more / WORD_ENTRIES % PREFIX_END,
+        len: more / LENGTH_UNIT,
+    }
+}
+
+pub fn put_slot(words: &mut [u32], k: usize, start: usize, entry: usize, child: usize, name: Part)
+    requires { ⌜ SlotFits (now words) k start entry child name ⌝ }
+    ensures { λ _. ⌜ SlotPut (now (words .entry)) (now (words .exit)) k start entry child name ⌝ }
 {
     let i = FIRST_WORD + 2 * k;
+    let prefix = name.start - start;
     words[i] = (start * WORD_ENTRIES + entry) as u32;
-    words[i + 1] = child as u32;
+    words[i + 1] = (name.len * LENGTH_UNIT + prefix * WORD_ENTRIES + child) as u32;
 }
 
 // The head of slot `k`, read again.
@@ -126,7 +147,7 @@ pub fn indexed_field(sheet: &[u8], words: &[u32], k: usize) -> IndexedField
     let KnownField::Is(head) = head_of(sheet, words, k) else {
         return no_field();
     };
-    let first = child_word(words, k) as usize;
+    let first = name_word(words, k) as usize % WORD_ENTRIES;
     let tag = head.tag;
     let element = element_at(head.items, first);
     let members = Holder {

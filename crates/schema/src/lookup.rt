@@ -2,7 +2,6 @@
 use crate::index::Holder;
 use crate::index::MAX_SLOTS;
 use sheet::order::ByteOrder;
-use sheet::schema_heads::KnownField;
 ghost use Rattle.schema.specs.Lookup.{LookedUp};
 
 pub enum Found {
@@ -11,7 +10,7 @@ pub enum Found {
     Missing,
 }
 
-// The member of that name. Names rise, so that each name that is read halves what is left.
+// The member of that name. Names rise, so that each name that is compared halves what is left.
 pub fn lookup(sheet: &[u8], words: &[u32], holder: Holder, name: &[u8]) -> Found
     ensures { λ r. ⌜ LookedUp (now (sheet .entry)) (now (words .entry)) holder (now (name .entry)) r ⌝ }
 {
@@ -28,10 +27,7 @@ pub fn lookup(sheet: &[u8], words: &[u32], holder: Holder, name: &[u8]) -> Found
     while low < high {
         let middle = low + (high - low) / 2;
         let slot = first + middle;
-        let KnownField::Is(head) = crate::index::head_of(sheet, words, slot) else {
-            return Found::Missing;
-        };
-        let part = head.name;
+        let part = crate::index::name_of_slot(words, slot);
         match sheet::order::compare(sheet::part::bytes_of(sheet, part), name) {
             ByteOrder::Less => {
                 low = middle + 1;

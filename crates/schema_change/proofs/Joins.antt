@@ -1,4 +1,4 @@
--- What is found in two lists one behind the other, and what each function that hands it on finds.
+-- What is found in two lists one after the other, and what each function that hands it on finds.
 use Prim.Native.Nat.{ℕ}
 use mathlib.Core.Bool.{Bool, true, false}
 use mathlib.Core.List.{List, [], _∷_, _++_}

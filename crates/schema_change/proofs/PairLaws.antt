@@ -52,7 +52,7 @@ module _ (s w : List ℕ) (h : Holder) where
         shape = refl;
         low = at .low;
         indexed = at .indexed .0;
-        holds = record { name = name; low = at .low; indexed = at .indexed .0; rises = at .rises .1; room = omega arith };
+        holds = record { name = name; low = at .low; indexed = at .indexed .0; rises = at .rises .1; slot = omega arith; room = omega arith };
         left = λ r rest.
             let next : r .first ≡ h .first + 1 = rest .first (omega arith) some-left in
             let count = rest .count in

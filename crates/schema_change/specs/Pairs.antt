@@ -12,7 +12,7 @@ use Rattle.schema.specs.declared.index.Holder.{Holder}
 use Rattle.schema_change.specs.declared.pairing.Pairing.{Pairing}
 use Rattle.schema_change.specs.declared.pairing.Pairing.the-variants.{Neither, Missing, Added, Both}
 
--- what is left of a holder behind its first member
+-- what is left of a holder after its first member
 pub record Rest (h r : Holder) : Type 0 where
   pub opened : r .opened ≡ h .opened
   pub first : h .first < maxSlots → 0 < h .count → r .first ≡ h .first + 1

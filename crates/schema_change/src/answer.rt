@@ -3,7 +3,7 @@ ghost use mathlib.Core.List.{[], _∷_};
 ghost use Rattle.widening.specs.Decision.{growth, breach, breachIf};
 ghost use Rattle.schema_change.specs.Answers.{reasonOf, Goes};
 
-// Why a schema is no widening; docs/FORMAT.md, "Is it a widening?", in its order.
+// Why a schema is not a widening; docs/FORMAT.md, "Is it a widening?", in its order.
 pub enum Reason {
     FieldMissing,
     KindDiffers,
@@ -20,7 +20,7 @@ pub enum Change {
     Marks,
     // More fields, or arguments that appear.
     Anything,
-    // No widening, with the entry in each sheet, 0 where there is none.
+    // Not a widening, with the entry in each sheet, 0 where there is none.
     Refuted(Reason, u32, u32),
 }
 

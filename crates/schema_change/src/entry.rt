@@ -15,7 +15,7 @@ ghost use Rattle.widening.specs.Decision.{closes, sameTag};
 ghost use Rattle.schema_change.specs.Answers.{Goes};
 ghost use Rattle.schema_change.specs.Entries.{entryNumber, sameSlots, entryDifferences};
 
-// An entry as it is told: the number that the index has for it is below 4,096.
+// An entry as the answer has it: the number that the index has for it is below 4,096.
 pub fn entry_number(entry: usize) -> u32
     ensures { λ r. ⌜ r ≡ entryNumber entry ⌝ }
 {

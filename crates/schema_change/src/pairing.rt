@@ -19,7 +19,7 @@ pub enum Pairing {
     Both,
 }
 
-// What is left behind the first member.
+// What is left after the first member.
 pub fn rest_of(holder: Holder) -> Holder
     ensures { λ r. ⌜ Rest holder r ⌝ }
 {

@@ -1,4 +1,5 @@
 pub mod Names
+pub mod Binders
 pub mod Scopes
 pub mod ScopeLaws
 pub mod Roots

@@ -5,6 +5,9 @@ use sheet::part::Part;
 use sheet::part::bytes_of;
 use walk::answer::Reader;
 use walk::path::same_bytes;
+ghost use mathlib.Core.Path.{_≡_};
+ghost use Prim.Native.Nat.{_<_};
+ghost use Rattle.scope.specs.Binders.{capped, elementNumber, binderNumber, binderName, binderElement};
 ghost use Rattle.scope.specs.Scopes.{Unbound, Binds, BoundIs};
 
 // Conditions nest 32 deep, and the innermost is no quantifier.
@@ -18,19 +21,14 @@ pub enum Element {
     Unknown,
 }
 
-// The name is a part of the rule sheet.
-pub struct Binder {
-    pub name: Part,
-    pub element: Element,
-}
-
-// What a condition stands in. The last binder is the innermost one.
+// What a condition is in. A binder is one number, since the scope is copied with every call: where its name starts in the rule sheet and how long it
+// is, and its element. The last binder is the innermost one.
 pub struct Scope {
     pub row: Row,
     pub service: bool,
     pub reader: Reader,
     pub schema: Schema,
-    pub binders: [Binder; 31],
+    pub binders: [u64; 31],
     pub count: usize,
 }
 
@@ -39,14 +37,52 @@ pub enum Bound {
     Nothing,
 }
 
+// No sheet has more bytes, and no index more slots.
+fn capped(n: usize) -> u64
+    ensures { λ r. ⌜ r ≡ capped n ⌝ }
+{
+    if n < 65535 { n as u64 } else { 65535 }
+}
+
+fn element_number(element: Element) -> u64
+    ensures { λ r. ⌜ (r ≡ elementNumber element) × (r < 131072) ⌝ }
+{
+    match element {
+        Element::Known(slot) => capped(slot) + 1,
+        Element::Unknown => 0,
+    }
+}
+
+fn binder_number(name: Part, element: Element) -> u64
+    ensures { λ r. ⌜ r ≡ binderNumber name element ⌝ }
+{
+    (capped(name.start) * 65536 + capped(name.len)) * 131072 + element_number(element)
+}
+
+fn name_in(binder: u64) -> Part
+    ensures { λ r. ⌜ r ≡ binderName binder ⌝ }
+{
+    Part {
+        start: (binder / 8589934592) as usize,
+        len: (binder / 131072 % 65536) as usize,
+    }
+}
+
+fn element_in(binder: u64) -> Element
+    ensures { λ r. ⌜ r ≡ binderElement binder ⌝ }
+{
+    let number = (binder % 131072) as usize;
+    if number == 0 {
+        return Element::Unknown;
+    }
+    Element::Known(number - 1)
+}
+
 // A scope without binders.
 pub fn unbound(row: Row, service: bool, reader: Reader, schema: Schema) -> Scope
     ensures { λ r. ⌜ Unbound row service reader schema r ⌝ }
 {
-    let name = Part { start: 0, len: 0 };
-    let element = Element::Unknown;
-    let binder = Binder { name, element };
-    let binders = [binder; 31];
+    let binders = [0u64; 31];
     Scope {
         row,
         service,
@@ -69,7 +105,7 @@ pub fn bind(scope: Scope, name: Part, element: Element) -> Scope
     let reader = scope.reader;
     let schema = scope.schema;
     let mut binders = scope.binders;
-    binders[count] = Binder { name, element };
+    binders[count] = binder_number(name, element);
     Scope {
         row,
         service: scope.service,
@@ -92,10 +128,8 @@ pub fn find_binder(rule: &[u8], scope: Scope, name: &[u8]) -> Bound
     let mut left = count;
     while 0 < left {
         let binder = binders[left - 1];
-        let part = binder.name;
-        if same_bytes(bytes_of(rule, part), name) {
-            let element = binder.element;
-            return Bound::To(element);
+        if same_bytes(bytes_of(rule, name_in(binder)), name) {
+            return Bound::To(element_in(binder));
         }
         left -= 1;
     }

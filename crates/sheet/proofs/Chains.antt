@@ -11,6 +11,7 @@ use lib.Seq.{drop-cons, drop-drop, drop-length, take-nil, take-all}
 use lib.Dec.{leb, eqb}
 use borrow.Author.Tests.{le-leb, lt-leb, eqb-true, ne-eqb}
 use Rattle.text.specs.Utf8.{isUtf8}
+use Rattle.text.proofs.Points.{utf8-empty}
 use Rattle.sheet.specs.Reader.{Reader, _>>=_, _>>_, andThen, ensure, pure, either, orElse}
 use Rattle.sheet.specs.ReaderLaws.{by-test}
 use Rattle.sheet.specs.Numeral.{decimal, numeral, isDigit}
@@ -136,6 +137,9 @@ module _ (len : ℕ) (s : List ℕ) (at : ℕ) (h : at ≤ length s) where
   unfolding text bytes _>>=_ _>>_ andThen ensure pure
   text-tested l true e = (rw (text-short' l, ← e, drop-drop len at s), omega (arith, l, h))
   text-tested l false e = rw (text-short' l, ← e)
+
+  pub text-empty : len ≡ 0 → TextIs len s at true
+  text-empty e = text-tested (omega arith) true (rw e (sym utf8-empty))
 
 -- An entry's last field and its end.
 

@@ -3,3 +3,4 @@ pub mod Chains
 pub mod Heads
 pub mod Comparing
 pub mod Known
+pub mod Sizes

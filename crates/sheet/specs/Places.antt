@@ -39,6 +39,7 @@ use Rattle.sheet.specs.declared.schema_heads.FieldRead.{FieldRead}
 use Rattle.sheet.specs.declared.schema_heads.FieldRead.the-variants as field
 use Rattle.sheet.specs.declared.schema_heads.KnownField.{KnownField}
 use Rattle.sheet.specs.declared.schema_heads.KnownField.the-variants as known-field
+use Rattle.sheet.specs.declared.part.Part.{Part}
 use Rattle.sheet.specs.declared.part.OptionalPart.{OptionalPart}
 use Rattle.sheet.specs.declared.part.OptionalPart.the-variants as part
 use Rattle.sheet.specs.declared.rule_heads.RuleHead.{RuleHead}
@@ -154,8 +155,15 @@ abbrev pub FieldMarksAre : List ℕ → ℕ → FieldMarksRead → Type 0
 FieldMarksAre s at (field-marks.Are m next) = ReadsTo fieldMarks s at m next × (m .kind ≤ 12) × (m .count ≤ entries.maxCount)
 FieldMarksAre s at field-marks.Bad = Refuses fieldMarks s at
 
+-- a name of at most 512 bytes that stands at most `reach` bytes after place `at`
+pub record NamePlaced (at reach : ℕ) (name : Part) : Type 0 where
+  pub after : at ≤ name .start
+  pub near : name .start ≤ at + reach
+  pub short : name .len ≤ entries.maxText
+
 abbrev pub FieldTextsAre : List ℕ → ℕ → FieldTextsRead → Type 0
-FieldTextsAre s at (field-texts.Are t next) = ReadsTo fieldTexts s at (partOf s (t .name), optionalOf s (t .tag)) next
+FieldTextsAre s at (field-texts.Are t next) =
+    ReadsTo fieldTexts s at (partOf s (t .name), optionalOf s (t .tag)) next × NamePlaced at 9 (t .name)
 FieldTextsAre s at field-texts.Bad = Refuses fieldTexts s at
 
 unfoldable pub fieldOf : List ℕ → FieldHead → entries.FieldHead
@@ -169,8 +177,13 @@ fieldOf s h =
       tag = optionalOf s (h .tag);
     }
 
+-- what stands before a name is at longest `F,12,0,1,2048,512,512,`
+abbrev pub maxPrefix : ℕ
+maxPrefix = 22
+
 abbrev pub FieldIs : List ℕ → ℕ → FieldRead → Type 0
-FieldIs s at (field.Is h next) = ReadsTo entries.fieldHead s at (fieldOf s h) next × (h .kind ≤ 12) × (h .count ≤ entries.maxCount)
+FieldIs s at (field.Is h next) =
+    ReadsTo entries.fieldHead s at (fieldOf s h) next × (h .kind ≤ 12) × (h .count ≤ entries.maxCount) × NamePlaced at maxPrefix (h .name)
 FieldIs s at field.Bad = Refuses entries.fieldHead s at
 
 -- a tag of that length whose first byte is at `at`

@@ -1,4 +1,4 @@
--- What stands at an offset, at each way through `decode_one`. `u` is what a test answered, `w` the code point that was computed.
+-- What is at an offset, at each way through `decode_one`. `u` is what a test answered, `w` the code point that was computed.
 use Prim.Native.Nat.{ℕ, _+_, _-_, _≤_, _<_}
 use mathlib.Core.Path.{_≡_, sym, _∙_}
 use mathlib.Core.Bool.{Bool, true, false}

@@ -95,20 +95,3 @@ pub digits-ascii
 unfolding highBits
 digits-ascii m n s at few d high e =
     number-ascii m n (λ k. getD s (at + k) 0) few (λ k. d .below (at + k)) (sym (ap₂ bitAnd (d .value-is) high) ∙ e)
-
--- the numbers that `high_bits` reads
-pub high-bits-listed
-    : (n : ℕ)
-    → n ≤ 8
-    → getD (0 ∷ 0x80 ∷ 0x8080 ∷ 0x808080 ∷ 0x80808080 ∷ 0x8080808080 ∷ 0x808080808080 ∷ 0x80808080808080 ∷ 0x8080808080808080 ∷ []) n 0 ≡ highBits n
-unfolding highBits number
-high-bits-listed zero h = refl
-high-bits-listed (suc zero) h = refl
-high-bits-listed (suc (suc zero)) h = refl
-high-bits-listed (suc (suc (suc zero))) h = refl
-high-bits-listed (suc (suc (suc (suc zero)))) h = refl
-high-bits-listed (suc (suc (suc (suc (suc zero))))) h = refl
-high-bits-listed (suc (suc (suc (suc (suc (suc zero)))))) h = refl
-high-bits-listed (suc (suc (suc (suc (suc (suc (suc zero))))))) h = refl
-high-bits-listed (suc (suc (suc (suc (suc (suc (suc (suc zero)))))))) h = refl
-high-bits-listed (suc (suc (suc (suc (suc (suc (suc (suc (suc n))))))))) h = absurd (omega arith)

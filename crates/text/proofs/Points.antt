@@ -1,4 +1,4 @@
--- How the definitions go on behind the first code point: the turns that they count are always enough.
+-- How the definitions go on after the first code point: the turns that they count are always enough.
 use Prim.Native.Nat.{ℕ, zero, suc, _≤_, _<_}
 use mathlib.Core.Path.{_≡_, refl, sym, ap, _∙_}
 use mathlib.Core.Bool.{Bool, true, false, cond, _&&_}

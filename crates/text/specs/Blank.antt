@@ -1,4 +1,4 @@
--- Blank text, and text without the White_Space at its ends. Both are total: a byte that begins no code point is no White_Space,
+-- Blank text, and text without White_Space at its ends. Both are total: a byte that begins no code point is not White_Space,
 -- so it ends the white space before it, and text with such a byte is never blank.
 use Prim.Native.Nat.{ℕ, zero, suc}
 use mathlib.Core.Bool.{Bool, true, false, cond, _&&_}

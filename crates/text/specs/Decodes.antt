@@ -10,7 +10,7 @@ use Rattle.text.specs.Blank.{trimStart, trimEnd}
 use Rattle.text.specs.declared.Decoded.{Decoded}
 use Rattle.text.specs.declared.Decoded.the-variants.{CodePoint, Malformed}
 
--- what is decoded at an offset, with the offset behind it
+-- what is decoded at an offset, with the offset after it
 abbrev pub Decodes : List ℕ → ℕ → Decoded → Type 0
 Decodes s at (CodePoint c next) = (decodeOne (drop at s) ≡ some (c, drop next s)) × (at < next) × (next ≤ length s)
 Decodes s at Malformed = decodeOne (drop at s) ≡ none

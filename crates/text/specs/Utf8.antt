@@ -1,5 +1,5 @@
 -- UTF-8 as RFC 3629, section 4 has it: one function for each rule of its grammar, named after the rule.
--- A rule answers the code point that it reads and the bytes behind it, or none where it does not hold.
+-- A rule answers the code point that it reads and the bytes after it, or none where it does not hold.
 use Prim.Native.Nat.{ℕ, zero, suc, _+_, _*_, _%_}
 use mathlib.Core.Bool.{Bool, true, false, cond, _&&_, _||_}
 use mathlib.Core.List.{List, [], _∷_}
@@ -30,7 +30,7 @@ utf8-2 [] = none
 utf8-2 (a ∷ []) = none
 utf8-2 (a ∷ b ∷ s) = cond (isUtf8-2 a b) (some (codeOf2 a b, s)) none
 
--- E0 wants a second byte from A0 on (else the form is overlong), ED one below A0 (else a surrogate)
+-- E0 needs a second byte from A0 on (else the form is overlong), ED one below A0 (else a surrogate)
 unfoldable pub isSecondOf3 : ℕ → ℕ → Bool
 isSecondOf3 a b =
     between 0xE0 0xE0 a && between 0xA0 0xBF b
@@ -50,7 +50,7 @@ utf8-3 (a ∷ []) = none
 utf8-3 (a ∷ b ∷ []) = none
 utf8-3 (a ∷ b ∷ c ∷ s) = cond (isUtf8-3 a b c) (some (codeOf3 a b c, s)) none
 
--- F0 wants a second byte from 90 on (else the form is overlong), F4 one below 90 (else above 10FFFF)
+-- F0 needs a second byte from 90 on (else the form is overlong), F4 one below 90 (else above 10FFFF)
 unfoldable pub isSecondOf4 : ℕ → ℕ → Bool
 isSecondOf4 a b =
     between 0xF0 0xF0 a && between 0x90 0xBF b
@@ -75,7 +75,7 @@ unfoldable pub orElse : Option (ℕ × List ℕ) → Option (ℕ × List ℕ) �
 orElse none o = o
 orElse (some r) o = some r
 
--- UTF8-char: the first code point of a text, and the text behind it
+-- UTF8-char: the first code point of a text, and the text after it
 unfoldable pub decodeOne : List ℕ → Option (ℕ × List ℕ)
 decodeOne s = orElse (utf8-1 s) (orElse (utf8-2 s) (orElse (utf8-3 s) (utf8-4 s)))
 

@@ -8,28 +8,15 @@ ghost use Rattle.text.specs.Utf8.{codeOf2, codeOf3, codeOf4};
 ghost use Rattle.text.specs.WhiteSpace.{isWhiteSpace};
 ghost use Rattle.text.specs.Blank.{isBlank, trim};
 ghost use Rattle.text.specs.Decodes.{Decodes, AsciiAt, PassedTo, BehindPoint, StartsAt, EndsAt};
-ghost use Rattle.text.specs.Digits.{Digits, highBits};
+ghost use Rattle.text.specs.Digits.{Digits};
 
-// What stands at an offset of a text.
+// What is at an offset of a text.
 pub enum Decoded {
-    // A code point, and the offset behind its bytes.
+    // A code point, and the offset after its bytes.
     CodePoint(u32, usize),
     // No code point begins there, or the text has ended.
     Malformed,
 }
-
-// The highest bits of no byte, of the first, .. of eight bytes.
-const HIGH_BITS: [u64; 9] = [
-    0,
-    0x80,
-    0x8080,
-    0x808080,
-    0x80808080,
-    0x8080808080,
-    0x808080808080,
-    0x80808080808080,
-    0x8080808080808080,
-];
 
 fn is_between(low: u8, high: u8, b: u8) -> bool
     ensures { λ r. ⌜ r ≡ between low high b ⌝ }
@@ -49,7 +36,7 @@ fn is_utf8_2(a: u8, b: u8) -> bool
     is_between(0xC2, 0xDF, a) && is_tail(b)
 }
 
-// Whether b may stand behind a, the first of three bytes.
+// Whether b may follow a, the first of three bytes.
 fn is_second_of_3(a: u8, b: u8) -> bool
     ensures { λ r. ⌜ r ≡ isSecondOf3 a b ⌝ }
 {
@@ -67,7 +54,7 @@ fn is_utf8_3(a: u8, b: u8, c: u8) -> bool
     is_second_of_3(a, b) && is_tail(c)
 }
 
-// Whether b may stand behind a, the first of four bytes.
+// Whether b may follow a, the first of four bytes.
 fn is_second_of_4(a: u8, b: u8) -> bool
     ensures { λ r. ⌜ r ≡ isSecondOf4 a b ⌝ }
 {
@@ -218,23 +205,8 @@ fn is_ascii_32(s: &[u8], at: usize) -> bool
     false
 }
 
-// The highest bits of the first `n` of eight bytes.
-fn high_bits(n: usize) -> u64
-    requires { ⌜ n ≤ 8 ⌝ }
-    ensures { λ r. ⌜ r ≡ highBits n ⌝ }
-{
-    HIGH_BITS[n]
-}
-
-// Whether so many bytes, eight at most, are ASCII. All eight are read at once, and those behind are left out.
-fn is_ascii_of_8(s: &[u8], at: usize, n: usize) -> bool
-    requires { ⌜ (at + 8 ≤ length (now s)) × (n ≤ 8) ⌝ }
-    ensures { λ r. ⌜ (r ≡ true → AsciiAt (now (s .entry)) at n) ⌝ }
-{
-    eight_at(s, at) & high_bits(n) == 0
-}
-
-// Whether a text of at most 16 bytes inside others is seen to be ASCII, and so UTF-8, by reading eight bytes once or twice. False says nothing.
+// Whether a text of at most 16 bytes inside others is seen to be ASCII, and so UTF-8, by reading eight bytes once or twice: of a shorter text those
+// after it too, which are seldom anything else. False says nothing.
 pub fn is_short_ascii(s: &[u8], at: usize, len: usize) -> bool
     requires { ⌜ at + len ≤ length (now s) ⌝ }
     ensures { λ r. ⌜ (r ≡ true → isUtf8 (take len (drop at (now (s .entry)))) ≡ true) ⌝ }
@@ -243,7 +215,7 @@ pub fn is_short_ascii(s: &[u8], at: usize, len: usize) -> bool
         return false;
     }
     if len <= 8 {
-        return is_ascii_of_8(s, at, len);
+        return is_ascii_8(s, at);
     }
     if len <= 16 {
         if is_ascii_8(s, at) {
@@ -253,7 +225,7 @@ pub fn is_short_ascii(s: &[u8], at: usize, len: usize) -> bool
     false
 }
 
-// Behind the pieces of 32 ASCII bytes at the start.
+// The offset after the pieces of 32 ASCII bytes at the start.
 fn behind_ascii_32(s: &[u8]) -> usize
     ensures { λ r. ⌜ PassedTo (now (s .entry)) 0 r ⌝ }
 {
@@ -268,7 +240,7 @@ fn behind_ascii_32(s: &[u8]) -> usize
     at
 }
 
-// Behind the eights of ASCII bytes that begin at an offset.
+// The offset after the eights of ASCII bytes that begin at an offset.
 fn behind_ascii(s: &[u8], from: usize) -> usize
     requires { ⌜ from ≤ length (now s) ⌝ }
     ensures { λ r. ⌜ PassedTo (now (s .entry)) from r ⌝ }
@@ -284,7 +256,7 @@ fn behind_ascii(s: &[u8], from: usize) -> usize
     at
 }
 
-// Behind the code point that begins at an offset and is not ASCII, or the offset itself where none begins.
+// The offset after the code point that begins at an offset and is not ASCII, or that offset where none begins.
 fn behind_point(s: &[u8], at: usize) -> usize
     requires { ⌜ (at < length (now s)) × (0x7F < getD (now s) at 0) ⌝ }
     ensures { λ r. ⌜ BehindPoint (now (s .entry)) at r ⌝ }
@@ -314,7 +286,7 @@ fn behind_point(s: &[u8], at: usize) -> usize
     at
 }
 
-// Whether a text is UTF-8. Eights are looked for at the start and behind each code point that is not ASCII, and not at every byte: most
+// Whether a text is UTF-8. Eights are looked for at the start and after each code point that is not ASCII, and not at every byte: most
 // texts are short.
 pub fn is_utf8(s: &[u8]) -> bool
     ensures { λ r. ⌜ r ≡ isUtf8 (now (s .entry)) ⌝ }
@@ -370,7 +342,7 @@ fn start_of(s: &[u8]) -> usize
     at
 }
 
-// Where the White_Space at the end of a text begins: behind the last code point, or byte of none, that is no White_Space.
+// Where the White_Space at the end of a text begins: after the last code point, or byte of no code point, that is not White_Space.
 fn end_of(s: &[u8]) -> usize
     ensures { λ r. ⌜ EndsAt (now (s .entry)) r ⌝ }
 {

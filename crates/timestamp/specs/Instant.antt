@@ -3,7 +3,7 @@
 --     0    5  8  11 14 17 20
 --     YYYY-MM-DDTHH:MM:SS.nnnnnnnnnZ
 --
--- A byte past the end counts as 0, which is no digit and no mark, so no place has to be tested for being there.
+-- A byte past the end counts as 0, neither a digit nor a mark, so no place has to be tested for being there.
 use Prim.Native.Nat.{ℕ, zero, suc, _+_, _*_, _-_, _%_}
 use mathlib.Core.Bool.{Bool, cond, not, _&&_, _||_}
 use mathlib.Core.List.{List}
@@ -17,7 +17,7 @@ use Rattle.timestamp.specs.declared.Fields.{Fields}
 unfoldable pub isDigit : ℕ → Bool
 isDigit b = between 0x30 0x39 b
 
--- what is no digit counts as 0, and so does a digit that the text leaves out
+-- what is not a digit counts as 0, and so does a digit that the text leaves out
 unfoldable pub digitValue : ℕ → ℕ
 digitValue b = cond (isDigit b) (b - 0x30) 0
 
@@ -30,7 +30,7 @@ two s at = digitValue (getD s at 0) * 10 + digitValue (getD s (at + 1) 0)
 unfoldable pub three : List ℕ → ℕ → ℕ
 three s at = two s at * 10 + digitValue (getD s (at + 2) 0)
 
--- a mark with two digits behind it
+-- a mark with two digits after it
 unfoldable pub isMarkedTwo : List ℕ → ℕ → ℕ → Bool
 isMarkedTwo s at mark = eqb (getD s at 0) mark && isTwo s (at + 1)
 
@@ -68,14 +68,14 @@ isSeparator b = eqb b 0x54 || eqb b 0x74 || eqb b 0x20
 unfoldable pub isTime : List ℕ → Bool
 isTime s = isSeparator (getD s 10 0) && (isTwo s 11 && (isMarkedTwo s 13 0x3A && isMarkedTwo s 16 0x3A))
 
--- a second of 60 may stand at any time
+-- a second of 60 may occur at any time
 unfoldable pub isClock : ℕ → ℕ → ℕ → Bool
 isClock hour minute second = leb hour 23 && (leb minute 59 && leb second 60)
 
 unfoldable pub isZone : ℕ → Bool
 isZone b = eqb b 0x5A || eqb b 0x7A
 
--- the text ends here, or behind a Z or z that stands here
+-- the text ends here, or after a Z or z that is here
 unfoldable pub isEnd : List ℕ → ℕ → Bool
 isEnd s at = eqb (length s) at || isZone (getD s at 0) && eqb (length s) (at + 1)
 

@@ -1,4 +1,4 @@
--- One byte is no instant: trimming makes nothing longer, and a year has two digits at least.
+-- One byte is not an instant: trimming makes nothing longer, and a year has two digits at least.
 use Prim.Native.Nat.{ℕ, zero, suc, _≤_}
 use native.Mathlib.Omega.{arith}
 use mathlib.Core.Bool.{Bool, true, false, cond, and-false}

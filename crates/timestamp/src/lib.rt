@@ -22,7 +22,7 @@ pub struct Fields {
 // What a text was read as.
 pub enum Parsed {
     Instant(Fields),
-    // No instant.
+    // Not an instant.
     Unreadable,
 }
 

@@ -1,4 +1,4 @@
--- The two further sentences of `collection_element` never occur: whenever a call finds that an `in` value is no collection, the detail is 1 to 5.
+-- The two further sentences of `collection_element` never occur: whenever a call finds that an `in` value is not a collection, the detail is 1 to 5.
 use Prim.Native.Nat.{ℕ}
 use mathlib.Core.List.{List, [], _∷_}
 use mathlib.Core.Option.{Option, none, some}

@@ -1,4 +1,4 @@
--- Calls that are lent a mark list, by computation: how long it must be, where 35 stands among the refusals, and what the list holds afterwards.
+-- Calls that are lent a mark list, by computation: how long it must be, where 35 comes among the refusals, and what the list holds afterwards.
 use Prim.Native.Nat.{ℕ}
 use mathlib.Core.Bool.{false≢true}
 use mathlib.Core.List.{List, [], _∷_, _++_}

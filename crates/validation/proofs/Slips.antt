@@ -1,4 +1,4 @@
--- What is no widening, each with sheets on which demand 3 would fail: the first call accepts, and the second finds a defect.
+-- What is not a widening, each with sheets on which demand 3 would fail: the first call accepts, and the second finds a defect.
 use Prim.Native.Nat.{ℕ, suc, _+_, _≤_}
 use native.Mathlib.Omega.{arith}
 use mathlib.Core.Bool.{Bool, true}

@@ -19,7 +19,7 @@ pub record Binder : Type 0 where
 pub data Question : Type 0 where
   -- answered by the sheet and the setting alone: none passes, a detail fails
   settled : Option ℕ → Question
-  -- whether the reference of that text behind its `$` can be read
+  -- whether the reference of that text after its `$` can be read
   readable : Text → Question
   -- whether that `in` value names a collection
   walkable : Value → Question
@@ -136,7 +136,7 @@ isHolder (string e t) = false
 isHolder (array e values) = true
 isHolder (object e pairs) = true
 
--- `$$` text is no instant, any other `$` text a reference
+-- `$$` text is not an instant, any other `$` text a reference
 unfoldable pub instantText : Text → Question
 instantText [] = settled (some 2)
 instantText (a ∷ []) = failsIf (not (eqb a (code "$"))) 2

@@ -1,5 +1,5 @@
--- As long as the checks of a list pass, the binders of the next one walk collections, since their own checks stand before it; and if the next one
--- asks for a collection, it is not refused with a detail that stands for a sentence which never occurs, since the references stand before it.
+-- As long as the checks of a list pass, the binders of the next one walk collections, since their own checks come before it; and if the next one
+-- asks for a collection, it is not refused with a detail that stands for a sentence which never occurs, since the references come before it.
 use Prim.Native.Nat.{ℕ, _≤_}
 use Prim.Native.Char.{code}
 use mathlib.Core.Bool.{Bool, true, false, cond, not, _&&_, _||_}

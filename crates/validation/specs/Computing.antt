@@ -1,4 +1,4 @@
--- Opens every definition behind a call's result: under `unfolding computing` a worked example holds by computation.
+-- Opens every definition that a call's result rests on: under `unfolding computing` a worked example holds by computation.
 use Rattle.text.specs.WhiteSpace as WhiteSpace
 use Rattle.text.specs.Blank as Blank
 use Rattle.number.specs.Finite as Finite

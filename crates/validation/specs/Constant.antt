@@ -12,7 +12,7 @@ use Rattle.timestamp.specs.declared.Fields.{Fields}
 use Rattle.definition.specs.Tree.{Text, Value, constant, number, string, array, object, Condition, literal, many, negation, one, two, comparison, quantifier, Conditions, noConditions, condition, Rule, rule, template}
 use Rattle.validation.specs.Result.{Answer, refused, accepted, defect}
 
--- text that begins with `$` is a reference, or no instant
+-- text that begins with `$` is a reference, or not an instant
 unfoldable pub literalText : Text → Option Fields
 literalText [] = none
 literalText (a ∷ t) = cond (eqb a (code "$")) none (instant (a ∷ t))

@@ -47,7 +47,7 @@ outcome setting schema c = answerIn setting schema (c .question) (environment sc
 pub data Verdict : Type 0 where
   -- all checks passed, so many
   allPass : (passed : ℕ) → Verdict
-  -- the check failed with the detail, behind so many that passed
+  -- the check failed with the detail, after so many that passed
   failsAt : (passed : ℕ) (c : Check) (detail : ℕ) → Verdict
 
 unfoldable pub decide : CheckOutcome → ℕ → Check → Verdict → Verdict

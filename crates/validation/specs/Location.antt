@@ -11,7 +11,7 @@ use Rattle.sheet.specs.Numeral.{decimalOf}
 use Rattle.definition.specs.Tree.{Text, Value, constant, number, string, array, object, Values, noValues, value, Pairs, noPairs, pair, Condition, literal, many, negation, one, two, comparison, quantifier, Conditions, noConditions, condition, Rule, rule, template}
 use Rattle.validation.specs.Check.{entryOf}
 
--- operators by number, as they stand in a path
+-- operators by number, as they are spelled in a path
 unfoldable pub operatorName : ℕ → Text
 operatorName op =
     cond (eqb op 2) (ascii "all")
@@ -105,7 +105,7 @@ unfoldable mutual
       orElse (through (dotted (operatorName op) ++ index i) (inCondition defect place c))
       (inConditions defect place op (i + 1) others)
 
--- the path behind the label; defects 11 and 12 are the label's own
+-- the path after the label; defects 11 and 12 are the label's own
 unfoldable pub behindLabel : (defect place : ℕ) → Rule → Option Text
 behindLabel defect place (rule name message assert) =
     cond (leb defect 12) (some []) (through (ascii ".assert") (inCondition defect place assert))

@@ -10,7 +10,7 @@ use Rattle.timestamp.specs.declared.Fields.{Fields}
 use Rattle.definition.specs.Tree.{Value, Condition, literal, many, negation, one, two, comparison, quantifier, Conditions, noConditions, condition, Rule, rule, template}
 use Rattle.validation.specs.Constant.{literalInstant}
 
--- the first stands in the second: it is that one, or one of those that this holds
+-- the first is in the second: it is the second itself, or one of those that the second holds
 abbrev mutual
   pub StandsIn : Condition → Condition → Type 0
   StandsIn c (literal e truth) = c ≡ literal e truth

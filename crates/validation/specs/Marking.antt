@@ -13,7 +13,7 @@ use Rattle.validation.specs.Constant.{marksHeard}
 unfoldable pub marksBy : Call → List ℕ
 marksBy c = marksHeard (resultOf c) (decodeRule (c .asked .rule))
 
--- these marks lie at the start of a list, four bytes for each, and so many they are; all other bytes keep their values
+-- these marks lie at the start of a list, four bytes for each, and this is their count; all other bytes keep their values
 pub record MarksAre (ms before after : List ℕ) (count : ℕ) : Type 0 where
   pub counted : count ≡ length ms
   pub written : after ≡ sets before 0 (bytesOf ms)

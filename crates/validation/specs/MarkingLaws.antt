@@ -25,7 +25,7 @@ use Rattle.validation.specs.Marked.{Rises}
 use Rattle.validation.specs.ConstantLaws.{marks-rise, marks-few, marks-small, marks-same}
 use Rattle.validation.specs.Marking.{marksBy, MarksAre, MarkedRun, MeetsMarked, SameMarks}
 
--- an accepted rule's marks: they rise, so many are counted, each is read back from its four bytes, and all bytes behind them keep their values
+-- an accepted rule's marks: they rise, so many are counted, each is read back from its four bytes, and all bytes after them keep their values
 pub record MarksStand (r : Rule) (m : MarkedRun) : Type 0 where
   pub rise : Rises 0 (marksIn r)
   pub count : m .count ≡ length (marksIn r)

@@ -127,14 +127,14 @@ refusal-apart : (n : ℕ) → IsRefusal n → isApart n ≡ true
 unfolding refusalNumbers every isApart
 refusal-apart n r = of-listed isApart n refusalNumbers refl (r .listed)
 
--- a refusal is no acceptance
+-- a refusal is not an acceptance
 pub refusal-some : (n : ℕ) → IsRefusal n → n ≡ 0 → ⊥
 unfolding isApart
 refusal-some n r z =
     let e : isApart 0 ≡ true = rw z at (refusal-apart n r) in
     false≢true e
 
--- and no defect
+-- and not a defect
 pub refusal-no-defect : (n : ℕ) → IsRefusal n → IsDefect n → ⊥
 unfolding isApart
 refusal-no-defect n r d =
@@ -147,7 +147,7 @@ pub early-refused : (c : Call) (n : ℕ) → firstRefusal (early c) ≡ some n �
 unfolding resultOf refusals refusedOr orElse
 early-refused c n e = rw (first-append (early c) (ofSheets c), e)
 
--- behind settings, label and widths
+-- after settings, label and widths
 abbrev furtherOf : Call → List Refusal
 furtherOf c = ofMarks (c .lent .marks) ∷ ofTable (c .table)
 

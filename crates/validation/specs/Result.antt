@@ -59,7 +59,7 @@ pub data Answer : Type 0 where
   accepted : (passed : ℕ) → Answer
   defect : Defect → Answer
 
--- the refusals that stand for a verdict
+-- the refusals that are answered instead of a verdict
 unfoldable pub refusalNumbers : List ℕ
 refusalNumbers = 1 ∷ 2 ∷ 3 ∷ 4 ∷ 5 ∷ 35 ∷ 37 ∷ 38 ∷ []
 

@@ -3,13 +3,13 @@ use Prim.Native.Nat.{ℕ, _+_, _-_, _≤_}
 use native.Mathlib.Omega.{arith}
 use mathlib.Core.Bool.{Bool, true, false}
 use mathlib.Core.List.{List, [], _∷_, _++_}
-use mathlib.Core.Option.{Option, none, some}
-use mathlib.Core.Path.{_≡_, refl, sym, ap, _∙_}
+use mathlib.Core.Option.{none, some}
+use mathlib.Core.Path.{_≡_, refl, sym, ap, subst, _∙_}
 use Rattle.sheet.specs.Entries.{ValueHead}
 use Rattle.validation.specs.Check.{Check}
 use Rattle.validation.specs.Judge.{CheckOutcome, allPass, decide, judgeFrom}
 use Rattle.value_checks.specs.Shown.{Shown, passes, fails, shownOf, goOn, judge-append}
-use Rattle.value_checks.specs.Verdicts.{detailOf, isDefect, shownWith, shownBy, GoesOn, FailsWith, PassedOn, Failed, failed, Required}
+use Rattle.value_checks.specs.Verdicts.{detailOf, shownWith, shownBy, going, GoesOn, FailsWith, PassedOn, Failed, failed, Required}
 use Rattle.value_checks.specs.Leaves.{saidIn, said-append}
 use Rattle.value_checks.specs.declared.verdict.Fault.{Fault}
 use Rattle.value_checks.specs.declared.verdict.Over.{Over}
@@ -41,73 +41,47 @@ goes-then {ask} {a} {b} {r} {xs} {ys} g h =
           ∙ both-go ask xs ys (shownBy a);
     }
 
+-- a defect absorbs all further checks
 pub goes-stopped : {ask : Check → CheckOutcome} {checks : List Check} {a : Progress} {f : Fault} {place : ℕ} {over : Over}
     → a .verdict ≡ Defect f place over
     → GoesOn ask a checks a
 unfolding shownBy shownWith goOn
 goes-stopped e = record { shows = rw e }
 
--- a defect absorbs all further checks
-pub goes-absorbed : {ask : Check → CheckOutcome} {checks : List Check} {a : Progress} → true ≡ isDefect (a .verdict) → GoesOn ask a checks a
-unfolding shownBy shownWith goOn isDefect
-goes-absorbed {ask} {checks} {a} = go (a .verdict) refl
-  where
-    go : (v : Verdict) → a .verdict ≡ v → true ≡ isDefect v → GoesOn ask a checks a
-    go Pass e t = let z : _≡_ {A = ℕ} 0 1 = cc in absurd (omega arith)
-    go (Defect f place over) e t = goes-stopped e
-
 one-judged : (ask : Check → CheckOutcome) (n : ℕ) (c : Check) (o : CheckOutcome) → ask c ≡ o → judgeFrom ask n (c ∷ []) ≡ decide o n c (allPass (n + 1))
 unfolding judgeFrom
 one-judged ask n c o e = rw e
 
-pub goes-one : {ask : Check → CheckOutcome} {a : Progress} {c : Check} → a .verdict ≡ Pass → ask c ≡ none → GoesOn ask a (c ∷ []) (record { passed = a .passed + 1; verdict = Pass })
+pub goes-one : {ask : Check → CheckOutcome} {n : ℕ} {c : Check} → ask c ≡ none → GoesOn ask (going n) (c ∷ []) (going (n + 1))
 unfolding shownBy shownWith goOn decide shownOf
-goes-one {ask} {a} {c} e p = record { shows = rw (e, one-judged ask (a .passed) c none p) }
+goes-one {ask} {n} {c} p = record { shows = rw (one-judged ask n c none p) }
 
-pub goes-wrong : {ask : Check → CheckOutcome} {a : Progress} {c : Check} {fault : Fault} {place : ℕ} {over : Over}
-    → a .verdict ≡ Pass
+pub goes-wrong : {ask : Check → CheckOutcome} {n : ℕ} {c : Check} {fault : Fault} {place : ℕ} {over : Over}
     → FailsWith c fault place over
     → ask c ≡ some (detailOf fault)
-    → GoesOn ask a (c ∷ []) (record { passed = a .passed; verdict = Defect fault place over })
+    → GoesOn ask (going n) (c ∷ []) (record { passed = n; verdict = Defect fault place over })
 unfolding shownBy shownWith goOn decide shownOf
-goes-wrong {ask} {a} {c} {fault} {place} {over} e w p =
-    record { shows = rw (e, one-judged ask (a .passed) c (some (detailOf fault)) p, w .numbered, w .placed, w .held) }
+goes-wrong {ask} {n} {c} {fault} {place} {over} w p =
+    record { shows = rw (one-judged ask n c (some (detailOf fault)) p, w .numbered, w .placed, w .held) }
 
 -- a failing check ends it
-pub goes-wrong-on : {ask : Check → CheckOutcome} {a : Progress} {c : Check} {checks : List Check} {fault : Fault} {place : ℕ} {over : Over}
-    → a .verdict ≡ Pass
+pub goes-wrong-on : {ask : Check → CheckOutcome} {n : ℕ} {c : Check} {checks : List Check} {fault : Fault} {place : ℕ} {over : Over}
     → FailsWith c fault place over
     → ask c ≡ some (detailOf fault)
-    → GoesOn ask a (c ∷ checks) (record { passed = a .passed; verdict = Defect fault place over })
-goes-wrong-on e w p = goes-then (goes-wrong e w p) (goes-stopped refl)
+    → GoesOn ask (going n) (c ∷ checks) (record { passed = n; verdict = Defect fault place over })
+goes-wrong-on w p = goes-then (goes-wrong w p) (goes-stopped refl)
+
+-- what holds of an answer that passes holds of its count: the next check goes on from there
+pub goes-passed : (P : Progress → Type 0) {r : Progress} → r .verdict ≡ Pass → P r → P (going (r .passed))
+goes-passed P {r} e p = subst (λ (v : Verdict). P (record { passed = r .passed; verdict = v })) e p
 
 -- One check in code.
 
-pub passed-stopped : {a : Progress} {f : Fault} {at : ℕ} {o : Over} → a .verdict ≡ Defect f at o → PassedOn a a
-passed-stopped e = record { atMost = omega arith; goes = λ ask c p. goes-stopped e }
+pub passed-on : {n : ℕ} → PassedOn (going n) (going (n + 1))
+passed-on = record { atMost = omega arith; goes = λ ask c p. goes-one p }
 
-pub passed-on : {a : Progress} → a .verdict ≡ Pass → PassedOn a (record { passed = a .passed + 1; verdict = Pass })
-passed-on e = record { atMost = omega arith; goes = λ ask c p. goes-one e p }
-
-pub failed-stopped : {a : Progress} {fault f : Fault} {place at : ℕ} {over o : Over} → a .verdict ≡ Defect f at o → Failed a fault place over a
-failed-stopped e = record { same = refl; goes = λ ask c checks w p. goes-stopped e; stays = λ ask checks s. goes-stopped e }
-
-pub failed-now : {a : Progress} {fault : Fault} {place : ℕ} {over : Over}
-    → a .verdict ≡ Pass
-    → Failed a fault place over (record { passed = a .passed; verdict = Defect fault place over })
-unfolding shownBy shownWith
-failed-now {a} e =
-    record {
-      same = refl;
-      goes = λ ask c checks w p. goes-wrong-on e w p;
-      stays = λ ask checks {n} {number} {at} {o} {detail} s. absurd (none-failed n number at o detail s);
-    }
-  where
-    none-failed : (n number at : ℕ) (o : Option ℕ) (detail : ℕ) → shownBy a ≡ fails n number at o detail → ⊥
-    none-failed n number at o detail s =
-        let p : passes (a .passed) ≡ fails n number at o detail = rw e at s in
-        let z : _≡_ {A = ℕ} 0 1 = cc in
-        omega arith
+pub failed-now : {n : ℕ} {fault : Fault} {place : ℕ} {over : Over} → Failed (going n) fault place over (record { passed = n; verdict = Defect fault place over })
+failed-now = record { same = refl; goes = λ ask c checks w p. goes-wrong-on w p }
 
 pub required-wrong : {a r : Progress} {wrong : Bool} {fault : Fault} {place : ℕ} {over : Over}
     → wrong ≡ true

@@ -1,3 +1,4 @@
+pub mod KindSteps
 pub mod Going
 pub mod NodeSteps
 pub mod Opening

@@ -1,18 +1,21 @@
--- Conditions in the index: what a head says of the tree, a condition's children, and the first of several.
+-- Conditions in the index: what an operator says of the tree, a condition's children, and the first of several.
 use Prim.Native.Nat.{ℕ, _+_, _≤_, _<_}
 use native.Mathlib.Omega.{arith}
 use mathlib.Core.List.{List}
-use mathlib.Core.Option.{none, some}
+use mathlib.Core.Logic.{⊎-elim, _⊎_, inl, inr}
+use mathlib.Core.Option.{some}
 use mathlib.Core.Path.{_≡_, refl, sym, ap, _∙_}
 use lib.ListN.{drop}
 use Rattle.sheet.specs.Reader.{Reader}
 use Rattle.sheet.specs.Entries.{ConditionHead, conditionHead}
 use Rattle.sheet.specs.Places.{ReadsTo}
+use Rattle.sheet.specs.RuleHeadLaws.{ConditionHeadFits, conditionHead-exact}
 use Rattle.definition.specs.Tree.{Value, constant, number, string, array, object, Condition, literal, many, negation, one, two, comparison, quantifier, Conditions, noConditions, condition}
 use Rattle.definition.specs.Within.{conditionEntries, conditionsEntries, valueEntries}
 use Rattle.rule.specs.Index.{startOf, endOf, EntryAt, ConditionAt}
 use Rattle.rule.specs.IndexLaws.{value-next, condition-next}
-use Rattle.value_checks.specs.Nodes.{IsCondition, AreConditions, Behind, childrenOf, ChildrenAt}
+use Rattle.value_checks.specs.Kinds.{operatorIn, OperatorAt}
+use Rattle.value_checks.specs.Nodes.{IsCondition, AreConditions, Behind, childrenOf, ChildrenFrom}
 
 pub same-head : {H : Type 0} {reader : Reader (List ℕ) H} {rule words : List ℕ} {i at next size e : ℕ} {h k : H}
     → at ≡ startOf words i
@@ -24,28 +27,34 @@ same-head {H} {reader} {rule} {words} {i} {at} {next} {size} {e} {h} {k} start r
     let q : _≡_ {A = H × List ℕ} (h, drop next rule) (k, a .rest) = cc (a .reads) in
     ap (λ (x : H × List ℕ). x .0) q
 
-pub condition-read : (rule words : List ℕ) (i : ℕ) (c : Condition) → ConditionAt rule words i c
-    → (h : ConditionHead) × (rest : List ℕ) × (conditionHead (drop (startOf words i) rule) ≡ some (h, rest))
-condition-read rule words i (literal e truth) a = (_, a .rest, a .reads)
-condition-read rule words i (many e op children) a = (_, a .0 .rest, a .0 .reads)
-condition-read rule words i (negation e child) a = (_, a .0 .rest, a .0 .reads)
-condition-read rule words i (one e op v) a = (_, a .0 .rest, a .0 .reads)
-condition-read rule words i (two e op left right) a = (_, a .0 .rest, a .0 .reads)
-condition-read rule words i (comparison e which left right) a = (_, a .0 .rest, a .0 .reads)
-condition-read rule words i (quantifier e op bind over body) a = (_, a .0 .rest, a .0 .reads)
+-- What an operator says of the condition that stands there.
 
--- where a condition stands, its entry is read
-pub condition-unread : (rule words : List ℕ) (i : ℕ) {at : ℕ} (c : Condition)
-    → ConditionAt rule words i c
-    → at ≡ startOf words i
-    → conditionHead (drop at rule) ≡ none
-    → ⊥
-condition-unread rule words i {at} c a start r =
-    let d = condition-read rule words i c a in
-    let p : conditionHead (drop (startOf words i) rule) ≡ none = rw (sym start) r in
-    let q : conditionHead (drop (startOf words i) rule) ≡ some (d .0, d .1) = d .2 in
-    let z : _≡_ {A = ℕ} 0 1 = cc in
-    omega arith
+abbrev pub HasOperator : ℕ → Condition → Type 0
+HasOperator op (literal e truth) = op ≡ 1
+HasOperator op (many e own children) = (op ≡ own) × (2 ≤ op) × (op ≤ 3)
+HasOperator op (negation e child) = op ≡ 4
+HasOperator op (one e own v) = (op ≡ own) × ((op ≡ 5) ⊎ (op ≡ 19))
+HasOperator op (two e own left right) = (op ≡ own) × (6 ≤ op) × (op ≤ 17)
+HasOperator op (comparison e which left right) = op ≡ 18
+HasOperator op (quantifier e own bind over body) = (op ≡ own) × (20 ≤ op) × (op ≤ 21)
+
+module _ (rule words : List ℕ) (i : ℕ) {at op : ℕ} (start : at ≡ startOf words i) (kind : OperatorAt rule at op) where
+  head-operator : {size e : ℕ} {h : ConditionHead} → EntryAt conditionHead rule words i size e h → (op ≡ operatorIn h) × ConditionHeadFits h
+  head-operator {h = h} a =
+      let k : OperatorAt rule (startOf words i) op = rw start at kind in
+      (k .is h (a .rest) (a .reads), conditionHead-exact .sound (drop (startOf words i) rule) h (a .rest) (a .reads) .1)
+
+  pub has-operator : (c : Condition) → ConditionAt rule words i c → HasOperator op c
+  unfolding operatorIn
+  has-operator (literal e truth) a = head-operator a .0
+  has-operator (many e own children) a = let f = head-operator (a .0) in (f .0, omega (arith, f .0, f .1 .0 .0), omega (arith, f .0, f .1 .0 .1))
+  has-operator (negation e child) a = head-operator (a .0) .0
+  has-operator (one e own v) a = let f = head-operator (a .0) in (f .0, ⊎-elim (λ q. inl (f .0 ∙ q)) (λ q. inr (f .0 ∙ q)) (f .1))
+  has-operator (two e own left right) a = let f = head-operator (a .0) in (f .0, omega (arith, f .0, f .1 .0), omega (arith, f .0, f .1 .1))
+  has-operator (comparison e which left right) a = head-operator (a .0) .0
+  has-operator (quantifier e own bind over body) a =
+      let f = head-operator (a .0) in
+      (f .0, omega (arith, f .0, f .1 .0 .0), omega (arith, f .0, f .1 .0 .1))
 
 pub value-size : (v : Value) → 1 ≤ valueEntries v
 unfolding valueEntries
@@ -65,31 +74,38 @@ condition-size (two e op left right) = omega arith
 condition-size (comparison e which left right) = omega arith
 condition-size (quantifier e op bind over body) = omega arith
 
-module _ (rule words : List ℕ) (i end : ℕ) {at next r : ℕ} {h : ConditionHead} (start : at ≡ startOf words i) (reads : ReadsTo conditionHead rule at h next) where
-  pub children-stand : (c : Condition) → IsCondition rule words i end c → ChildrenAt words i end r h → AreConditions rule words r end (childrenOf c)
+module _ {rule words : List ℕ} {i end at op r : ℕ} (start : at ≡ startOf words i) (kind : OperatorAt rule at op) (k : ChildrenFrom words op i end r) where
+  pub children-stand : (c : Condition) → IsCondition rule words i end c → AreConditions rule words r end (childrenOf c)
   unfolding childrenOf conditionEntries conditionsEntries
-  children-stand (literal e truth) w k =
-      let f : r ≡ end = rw (same-head start reads (w .stands)) at k in
+  children-stand (literal e truth) w =
+      let p = has-operator rule words i start kind (literal e truth) (w .stands) in
+      let f : r ≡ end = k .literal (omega arith) in
       record { stand = tt; ends = omega arith }
-  children-stand (many e op children) w k =
-      let f : r ≡ i + 1 = rw (same-head start reads (w .stands .0)) at k in
+  children-stand (many e own children) w =
+      let p = has-operator rule words i start kind (many e own children) (w .stands) in
+      let f : r ≡ i + 1 = k .inner (p .1) (omega (arith, p .2)) in
       record { stand = rw f (w .stands .1); ends = omega (arith, w .ends) }
-  children-stand (negation e child) w k =
-      let f : r ≡ i + 1 = rw (same-head start reads (w .stands .0)) at k in
+  children-stand (negation e child) w =
+      let p = has-operator rule words i start kind (negation e child) (w .stands) in
+      let f : r ≡ i + 1 = k .inner (omega arith) (omega arith) in
       record { stand = (rw f (w .stands .1), tt); ends = omega (arith, w .ends) }
-  children-stand (one e op v) w k =
-      let f : r ≡ end = rw (same-head start reads (w .stands .0)) at k in
+  children-stand (one e own v) w =
+      let p = has-operator rule words i start kind (one e own v) (w .stands) in
+      let f : r ≡ end = ⊎-elim (λ q. k .values (omega arith) (omega arith)) (λ q. k .values (omega arith) (omega arith)) (p .1) in
       record { stand = tt; ends = omega arith }
-  children-stand (two e op left right) w k =
-      let f : r ≡ end = rw (same-head start reads (w .stands .0)) at k in
+  children-stand (two e own left right) w =
+      let p = has-operator rule words i start kind (two e own left right) (w .stands) in
+      let f : r ≡ end = k .values (omega (arith, p .1)) (omega (arith, p .2)) in
       record { stand = tt; ends = omega arith }
-  children-stand (comparison e which left right) w k =
-      let f : r ≡ end = rw (same-head start reads (w .stands .0)) at k in
+  children-stand (comparison e which left right) w =
+      let p = has-operator rule words i start kind (comparison e which left right) (w .stands) in
+      let f : r ≡ end = k .values (omega arith) (omega arith) in
       record { stand = tt; ends = omega arith }
-  children-stand (quantifier e op bind over body) w k =
-      let b : Behind words (i + 1) end r = rw (same-head start reads (w .stands .0)) at k in
+  children-stand (quantifier e own bind over body) w =
+      let p = has-operator rule words i start kind (quantifier e own bind over body) (w .stands) in
+      let b : Behind words (i + 1) end r = k .body (p .1) in
       let n : endOf words (i + 1) ≡ i + 1 + valueEntries over = value-next rule words (i + 1) over (w .stands .1) in
-      let p : 1 ≤ valueEntries over = value-size over in
+      let m : 1 ≤ valueEntries over = value-size over in
       let f : r ≡ i + 1 + valueEntries over = b .exact (omega arith) (omega (arith, w .ends)) ∙ n in
       record { stand = (rw f (w .stands .2), tt); ends = omega (arith, w .ends) }
 

@@ -3,13 +3,10 @@ use Prim.Native.Nat.{ℕ, _+_, _-_, _≤_, _<_}
 use native.Mathlib.Omega.{arith}
 use mathlib.Core.Bool.{Bool, true, false, cond, _&&_}
 use mathlib.Core.List.{List, [], _++_, map, append-nil, append-assoc, map-append}
-use mathlib.Core.Option.{none}
+use mathlib.Core.Logic.{⊎-elim, _⊎_, inl, inr}
 use mathlib.Core.Path.{_≡_, refl, sym, ap₂, _∙_}
-use lib.ListN.{drop}
 use lib.Dec.{leb, eqb}
-use Rattle.sheet.specs.Entries.{ConditionHead, conditionHead}
-use Rattle.sheet.specs.Places.{ReadsTo, conditionOf}
-use Rattle.sheet.specs.declared.rule_heads.ConditionHead.{ConditionHead as Head}
+use borrow.Author.Tests.{le-leb, lt-leb}
 use Rattle.definition.specs.Tree.{Schema, Value, constant, number, string, array, object, Values, noValues, value, Pairs, noPairs, pair, Condition, literal, many, negation, one, two, comparison, quantifier, Conditions, noConditions, condition}
 use Rattle.reference.specs.Setting.{Setting}
 use Rattle.definition.specs.Within.{conditionEntries, valueEntries}
@@ -17,31 +14,52 @@ use Rattle.rule.specs.Index.{startOf, ValueAt}
 use Rattle.validation.specs.Check.{Check, Literal, literalCheck, numbers, numbersOfValues, numbersOfPairs, literals, literalsOfConditions}
 use Rattle.validation.specs.Judge.{outcome}
 use Rattle.value_checks.specs.Leaves.{leaves, leavesOfValues, leavesOfPairs, saidIn, said-append, said-value}
-use Rattle.value_checks.specs.Nodes.{IsCondition, AreConditions, Behind, childrenOf, ChildrenAt}
-use Rattle.value_checks.specs.Verdicts.{isDefect, GoesOn}
+use Rattle.value_checks.specs.Kinds.{OperatorAt}
+use Rattle.value_checks.specs.Nodes.{IsCondition, AreConditions, Behind, childrenOf, ChildrenFrom}
+use Rattle.value_checks.specs.Verdicts.{GoesOn}
 use Rattle.value_checks.specs.Literals.{literalSays, LiteralsJudged, isObserved, ObservedJudged, ConditionLiterals}
+use Rattle.value_checks.specs.declared.verdict.Fault.{Fault}
+use Rattle.value_checks.specs.declared.verdict.Over.{Over}
+use Rattle.value_checks.specs.declared.verdict.Verdict.the-variants.{Defect}
 use Rattle.value_checks.specs.declared.verdict.Progress.{Progress}
-use Rattle.value_checks.proofs.Going.{goes-nothing, goes-then, goes-absorbed}
-use Rattle.value_checks.proofs.NodeSteps.{same-head, first-stands, none-left, none-ends}
-use Rattle.value_checks.proofs.Opening.{beside, opened, opened-stand, conditions-unread}
+use Rattle.value_checks.proofs.Going.{goes-nothing, goes-then, goes-stopped}
+use Rattle.value_checks.proofs.NodeSteps.{has-operator, first-stands, none-left, none-ends}
+use Rattle.value_checks.proofs.Opening.{beside, opened, opened-stand}
 
-pub observed-yes : {rule words : List ℕ} {h : Head} {start end : ℕ} {a r : Progress} {flag : Bool}
-    → flag ≡ true
-    → ((s : List ℕ) → flag ≡ isObserved (conditionOf s h))
-    → LiteralsJudged rule words start (end - start) a r
-    → ObservedJudged rule words h start end a r
-observed-yes {rule} {words} {h} t e p =
-    let q : isObserved (conditionOf rule h) ≡ true = sym (e rule) ∙ t in
-    record { atMost = p .atMost; goes = λ setting schema. rw q (p .goes setting schema) }
+module _ {rule words : List ℕ} {op start end : ℕ} {a : Progress} {flag : Bool} (said : flag ≡ isObserved op) where
+  pub observed-yes : {r : Progress} → flag ≡ true → LiteralsJudged rule words start (end - start) a r → ObservedJudged rule words op start end a r
+  observed-yes t p =
+      let q : isObserved op ≡ true = sym said ∙ t in
+      record { atMost = p .atMost; goes = λ setting schema. rw q (p .goes setting schema) }
 
-pub observed-no : {rule words : List ℕ} {h : Head} {start end : ℕ} {a : Progress} {flag : Bool}
-    → flag ≡ false
-    → ((s : List ℕ) → flag ≡ isObserved (conditionOf s h))
-    → ObservedJudged rule words h start end a a
-unfolding saidIn
-observed-no {rule} {words} {h} t e =
-    let q : isObserved (conditionOf rule h) ≡ false = sym (e rule) ∙ t in
-    record { atMost = omega arith; goes = λ setting schema. rw q goes-nothing }
+  pub observed-no : flag ≡ false → ObservedJudged rule words op start end a a
+  unfolding saidIn
+  observed-no t =
+      let q : isObserved op ≡ false = sym said ∙ t in
+      record { atMost = omega arith; goes = λ setting schema. rw q goes-nothing }
+
+-- Operators by what they hold.
+
+observed-early : {op : ℕ} → op < 8 → isObserved op ≡ false
+unfolding isObserved
+observed-early {op} h = rw (lt-leb 18 op (omega arith), lt-leb 8 op h)
+
+observed-late : {op : ℕ} → 20 ≤ op → isObserved op ≡ false
+unfolding isObserved
+observed-late {op} h = rw (le-leb 18 op (omega arith), lt-leb op 19 (omega arith))
+
+observed-one : {op own : ℕ} → op ≡ own → (op ≡ 5) ⊎ (op ≡ 19) → isObserved op ≡ eqb own 19
+unfolding isObserved
+observed-one e (inl h) = rw (← e, h)
+observed-one e (inr h) = rw (← e, h)
+
+observed-two : {op own : ℕ} → op ≡ own → op ≤ 17 → isObserved op ≡ (leb 8 own && leb own 15)
+unfolding isObserved
+observed-two {op} e h = rw (← e, lt-leb 18 op (omega arith))
+
+observed-comparison : {op : ℕ} → op ≡ 18 → isObserved op ≡ true
+unfolding isObserved
+observed-comparison e = rw e
 
 -- what the entries of a value say is what the definition of the check list asks of its numbers
 mutual
@@ -85,34 +103,44 @@ module _ (rule words : List ℕ) where
   if-observed true i n ls e = sym e ∙ sym (append-nil (saidIn literalSays rule words n i))
   if-observed false i n ls e = refl
 
-  module _ (i end next : ℕ) {at behind : ℕ} {h : ConditionHead} (start : at ≡ startOf words i) (reads : ReadsTo conditionHead rule at h behind) where
+  module _ {i end at op next : ℕ} (start : at ≡ startOf words i) (kind : OperatorAt rule at op) (k : ChildrenFrom words op i end next) where
     -- a condition's literals are those of its own values, and those of its children
     literals-parts : (c : Condition)
         → IsCondition rule words i end c
-        → ChildrenAt words i end next h
         → map literalCheck (literals c)
-        ≡ saidIn literalSays rule words (cond (isObserved h) (next - (i + 1)) 0) (i + 1) ++ map literalCheck (literalsOfConditions (childrenOf c))
-    unfolding literals literalsOfConditions childrenOf isObserved saidIn conditionEntries
-    literals-parts (literal e truth) w k = rw (same-head start reads (w .stands))
-    literals-parts (many e op children) w k = rw (same-head start reads (w .stands .0))
-    literals-parts (negation e child) w k = rw (same-head start reads (w .stands .0), append-nil)
-    literals-parts (one e op v) w k =
-        let f : next ≡ end = rw (same-head start reads (w .stands .0)) at k in
+        ≡ saidIn literalSays rule words (cond (isObserved op) (next - (i + 1)) 0) (i + 1) ++ map literalCheck (literalsOfConditions (childrenOf c))
+    unfolding literals literalsOfConditions childrenOf saidIn conditionEntries
+    literals-parts (literal e truth) w =
+        let p = has-operator rule words i start kind (literal e truth) (w .stands) in
+        rw (observed-early {op = op} (omega arith))
+    literals-parts (many e own children) w =
+        let p = has-operator rule words i start kind (many e own children) (w .stands) in
+        rw (observed-early {op = op} (omega (arith, p .2)))
+    literals-parts (negation e child) w =
+        let p = has-operator rule words i start kind (negation e child) (w .stands) in
+        rw (observed-early {op = op} (omega arith), append-nil)
+    literals-parts (one e own v) w =
+        let p = has-operator rule words i start kind (one e own v) (w .stands) in
+        let f : next ≡ end = ⊎-elim (λ q. k .values (omega arith) (omega arith)) (λ q. k .values (omega arith) (omega arith)) (p .1) in
         let n : next - (i + 1) ≡ valueEntries v = omega (arith, w .ends) in
-        rw (same-head start reads (w .stands .0), n) (if-observed (eqb op 19) (i + 1) (valueEntries v) (numbers v) (value-said (i + 1) v (w .stands .1)))
-    literals-parts (two e op left right) w k =
-        let f : next ≡ end = rw (same-head start reads (w .stands .0)) at k in
+        rw (observed-one (p .0) (p .1), n) (if-observed (eqb own 19) (i + 1) (valueEntries v) (numbers v) (value-said (i + 1) v (w .stands .1)))
+    literals-parts (two e own left right) w =
+        let p = has-operator rule words i start kind (two e own left right) (w .stands) in
+        let f : next ≡ end = k .values (omega (arith, p .1)) (omega (arith, p .2)) in
         let n : next - (i + 1) ≡ valueEntries left + valueEntries right = omega (arith, w .ends) in
-        rw (same-head start reads (w .stands .0), n)
-        (if-observed (leb 8 op && leb op 15) (i + 1) (valueEntries left + valueEntries right) (numbers left ++ numbers right)
+        rw (observed-two (p .0) (p .2), n)
+        (if-observed (leb 8 own && leb own 15) (i + 1) (valueEntries left + valueEntries right) (numbers left ++ numbers right)
         (both-said (i + 1) left right (w .stands .1) (w .stands .2)))
-    literals-parts (comparison e which left right) w k =
-        let f : next ≡ end = rw (same-head start reads (w .stands .0)) at k in
+    literals-parts (comparison e which left right) w =
+        let p = has-operator rule words i start kind (comparison e which left right) (w .stands) in
+        let f : next ≡ end = k .values (omega arith) (omega arith) in
         let n : next - (i + 1) ≡ valueEntries left + valueEntries right = omega (arith, w .ends) in
-        rw (same-head start reads (w .stands .0), n)
+        rw (observed-comparison p, n)
         (if-observed true (i + 1) (valueEntries left + valueEntries right) (numbers left ++ numbers right)
         (both-said (i + 1) left right (w .stands .1) (w .stands .2)))
-    literals-parts (quantifier e op bind over body) w k = rw (same-head start reads (w .stands .0), append-nil)
+    literals-parts (quantifier e own bind over body) w =
+        let p = has-operator rule words i start kind (quantifier e own bind over body) (w .stands) in
+        rw (observed-late {op = op} (p .1), append-nil)
 
 beside-literals : (cs ds : Conditions) → literalsOfConditions (beside cs ds) ≡ literalsOfConditions cs ++ literalsOfConditions ds
 unfolding beside literalsOfConditions
@@ -134,23 +162,23 @@ pub record LiteralsLeft (rule words : List ℕ) (start i end : ℕ) (a b : Progr
 pub left-begin : {rule words : List ℕ} {start end : ℕ} {a : Progress} → LiteralsLeft rule words start start end a a
 left-begin = record { atMost = omega arith; rest = λ cs w. cs; stand = λ cs w. w; onward = λ setting schema cs w r g. g }
 
-module _ {rule words : List ℕ} {i end own at behind next : ℕ} {h : Head} {b d : Progress} (inside : i < end) (ends : Behind words i end own) (start : at ≡ startOf words i) (reads : ReadsTo conditionHead rule at (conditionOf rule h) behind) (first : ChildrenAt words i own next (conditionOf rule h)) (judged : ObservedJudged rule words h (i + 1) next b d) where
+module _ {rule words : List ℕ} {i end own at op next : ℕ} {b d : Progress} (inside : i < end) (start : at ≡ startOf words i) (kind : OperatorAt rule at op) (ends : Behind words i end own) (first : ChildrenFrom words op i own next) (judged : ObservedJudged rule words op (i + 1) next b d) where
   opened-goes : (setting : Setting) (schema : Schema) (cs : Conditions) → AreConditions rule words i end cs → (r : Progress)
       → GoesOn (outcome setting schema) d (literalsAre (opened cs)) r
       → GoesOn (outcome setting schema) b (literalsAre cs) r
   unfolding opened literalsOfConditions
   opened-goes setting schema noConditions w r g = absurd (omega (arith, none-ends w, inside))
   opened-goes setting schema (condition c others) w r g =
-      let p = literals-parts rule words i own next start reads c (first-stands inside ends w) first in
+      let p = literals-parts rule words start kind first c (first-stands inside ends w) in
       let q = rw (beside-literals (childrenOf c) others, map-append literalCheck (literalsOfConditions (childrenOf c)) (literalsOfConditions others)) at g in
       rw (map-append literalCheck (literals c) (literalsOfConditions others), p, append-assoc) (goes-then (judged .goes setting schema) q)
 
-  pub left-next : {from : ℕ} {a : Progress} → from ≤ i → i < next → LiteralsLeft rule words from i end a b → LiteralsLeft rule words from next end a d
-  left-next {from} {a} low more l =
+  pub left-next : {from : ℕ} {a : Progress} → from ≤ i → LiteralsLeft rule words from i end a b → LiteralsLeft rule words from next end a d
+  left-next {from} {a} low l =
       record {
-        atMost = omega (arith, l .atMost, judged .atMost);
+        atMost = omega (arith, l .atMost, judged .atMost, first .past);
         rest = λ cs w. opened (l .rest cs w);
-        stand = λ cs w. opened-stand inside start ends reads first (l .rest cs w) (l .stand cs w);
+        stand = λ cs w. opened-stand inside start kind ends first (l .rest cs w) (l .stand cs w);
         onward = λ setting schema cs w r g. l .onward setting schema cs w r (opened-goes setting schema (l .rest cs w) (l .stand cs w) r g);
       }
 
@@ -166,17 +194,9 @@ module _ {rule words : List ℕ} {from i end : ℕ} {a b : Progress} (l : Litera
             l .onward setting schema cs w b (rw f goes-nothing);
       }
 
-  pub left-stopped : true ≡ isDefect (b .verdict) → i - from ≤ end - from → ConditionLiterals rule words from end a b
+  pub left-stopped : {f : Fault} {place : ℕ} {over : Over} → b .verdict ≡ Defect f place over → i - from ≤ end - from → ConditionLiterals rule words from end a b
   left-stopped t m =
       record {
         atMost = omega (arith, l .atMost);
-        goes = λ setting schema cs w. l .onward setting schema cs w b (goes-absorbed t);
-      }
-
-  -- where no entry is read, no condition stands
-  pub left-bad : {at : ℕ} → i < end → i - from ≤ end - from → at ≡ startOf words i → conditionHead (drop at rule) ≡ none → ConditionLiterals rule words from end a b
-  left-bad inside m start r =
-      record {
-        atMost = omega (arith, l .atMost);
-        goes = λ setting schema cs w. absurd (conditions-unread inside start r (l .rest cs w) (l .stand cs w));
+        goes = λ setting schema cs w. l .onward setting schema cs w b (goes-stopped t);
       }

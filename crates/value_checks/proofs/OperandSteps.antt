@@ -1,8 +1,8 @@
 -- Operands, step by step.
-use Prim.Native.Nat.{ℕ, _+_, _-_, _≤_}
+use Prim.Native.Nat.{ℕ, _+_, _-_, _≤_, _<_}
 use native.Mathlib.Omega.{arith}
 use mathlib.Core.Bool.{Bool, true, false, not, cond, _&&_, false≢true}
-use mathlib.Core.List.{List, [], _∷_}
+use mathlib.Core.List.{List, [], _∷_, _++_}
 use mathlib.Core.Option.{Option, none, some, Option·none-ne-some}
 use mathlib.Core.Path.{_≡_, refl, sym, ap, _∙_}
 use lib.ListN.{drop}
@@ -13,16 +13,18 @@ use Rattle.timestamp.specs.declared.Fields.{Fields}
 use Rattle.sheet.specs.Entries.{ValueHead, constantHead, numberHead, stringHead, arrayHead, objectHead, valueHead}
 use Rattle.sheet.specs.Places.{ReadsTo}
 use Rattle.sheet.specs.Parts.{partOf}
+use Rattle.sheet.specs.RuleHeadLaws.{ValueHeadFits, valueHead-exact}
 use Rattle.sheet.specs.declared.part.Part.{Part}
 use Rattle.definition.specs.Tree.{Text, Schema, Value, constant, number, string, array, object}
 use Rattle.reference.specs.Setting.{Setting}
 use Rattle.reference.specs.Reference.{Environment, beginsWithDollar}
 use Rattle.definition.specs.Within.{valueEntries}
-use Rattle.rule.specs.Index.{startOf, endOf, ValueAt}
+use Rattle.rule.specs.Index.{startOf, endOf, EntryAt, ValueAt}
 use Rattle.rule.specs.IndexLaws.{value-next}
 use Rattle.validation.specs.Check.{Binder, Question, settled, Check, check, failsIf, isNone, entryOf, isString, isHolder, referenceText, references, instantText, instantForm, instantOperand, affixOperand, compareSide, operand}
 use Rattle.validation.specs.Constant.{literalText, literalInstant}
 use Rattle.validation.specs.Judge.{CheckOutcome, outcome, environment, answer, answerIn}
+use Rattle.value_checks.specs.Kinds.{typeIn, TypeAt}
 use Rattle.value_checks.specs.Nodes.{Behind}
 use Rattle.value_checks.specs.Verdicts.{numberOf, detailOf, instantDetail, GoesOn, PassedOn, Failed}
 use Rattle.value_checks.specs.Frames.{Frame, Stands, IsReference, ReferencesIn, OperandJudged, PairJudged, FormIs, formOf, literalBy, ReadAs, side}
@@ -36,8 +38,10 @@ use Rattle.value_checks.specs.declared.verdict.InstantFault.the-variants
 use Rattle.value_checks.specs.declared.verdict.Side.{Side}
 use Rattle.value_checks.specs.declared.verdict.Fault.{Fault}
 use Rattle.value_checks.specs.declared.verdict.Fault.the-variants.{Operand, Affix, Instant}
+use Rattle.value_checks.specs.declared.verdict.Over.{Over}
+use Rattle.value_checks.specs.declared.verdict.Verdict.the-variants.{Defect}
 use Rattle.value_checks.specs.declared.verdict.Progress.{Progress}
-use Rattle.value_checks.proofs.Going.{goes-then}
+use Rattle.value_checks.proofs.Going.{goes-then, goes-stopped}
 use Rattle.value_checks.proofs.NodeSteps.{same-head, value-size}
 use Rattle.value_checks.proofs.ReferenceSteps.{references-judged}
 
@@ -59,6 +63,29 @@ module _ (rule words : List ℕ) (i : ℕ) {at : ℕ} (start : at ≡ startOf wo
       reads-some (string e t) a = clash _ _ (a .reads)
       reads-some (array e values) a = clash _ _ (a .0 .reads)
       reads-some (object e pairs) a = clash _ _ (a .0 .reads)
+
+  module _ {digit : ℕ} (kind : TypeAt rule at digit) where
+    -- the digit of the value that stands there
+    digit-is : {size e : ℕ} {h : ValueHead} → EntryAt valueHead rule words i size e h → (digit ≡ 48 + typeIn h) × ValueHeadFits h
+    digit-is {h = h} a =
+        let k : TypeAt rule (startOf words i) digit = rw start at kind in
+        (k .is h (a .rest) (a .reads), valueHead-exact .sound (drop (startOf words i) rule) h (a .rest) (a .reads) .1)
+
+    pub form-early : digit < 53 → (v : Value) → ValueAt rule words i v → FormIs rule Form.Other v
+    unfolding isHolder isString typeIn
+    form-early l (constant e type) a = (refl, refl)
+    form-early l (number e digits) a = (refl, refl)
+    form-early l (string e t) a = absurd (omega (arith, digit-is a .0))
+    form-early l (array e values) a = absurd (omega (arith, digit-is (a .0) .0))
+    form-early l (object e pairs) a = absurd (omega (arith, digit-is (a .0) .0))
+
+    pub form-late : 53 < digit → (v : Value) → ValueAt rule words i v → FormIs rule Form.Holder v
+    unfolding isHolder isString typeIn
+    form-late l (constant e type) a = absurd (omega (arith, digit-is a .0, digit-is a .1 .1))
+    form-late l (number e digits) a = absurd (omega (arith, digit-is a .0))
+    form-late l (string e t) a = absurd (omega (arith, digit-is a .0))
+    form-late l (array e values) a = (refl, refl)
+    form-late l (object e pairs) a = (refl, refl)
 
   pub form-bad : valueHead (drop at rule) ≡ none → (v : Value) → ValueAt rule words i v → FormIs rule Form.Other v
   form-bad r v a = absurd (value-unread v a r)
@@ -212,6 +239,18 @@ form-fails {f} n {q} {fault} setting tree binders env v s w p m e others =
     (asked-outcome setting tree binders env n (entryOf v) q (some (detailOf fault)) (s .bound) e)
 
 module _ {f : Frame} {start end : ℕ} {a : Progress} where
+  -- what is asked after the references, where one of these failed
+  pub operand-stopped : {asked : List Binder → Value → List Check} (others : List Binder → Value → List Check) {r : Progress} {fault : Fault} {place : ℕ} {over : Over}
+      → ((binders : List Binder) (v : Value) → asked binders v ≡ references binders v ++ others binders v)
+      → ReferencesIn f start (end - start) a r
+      → r .verdict ≡ Defect fault place over
+      → OperandJudged f asked start end a r
+  operand-stopped others e l t =
+      record {
+        atMost = omega (arith, l .atMost);
+        goes = λ setting tree binders env v s w. rw (e binders v) (goes-then (references-judged l setting tree binders env v s w) (goes-stopped t));
+      }
+
   pub instant-passes : {x : InstantRead} {b r : Progress}
       → ReferencesIn f start (end - start) a b
       → ((v : Value) → ValueAt (f .rule) (f .words) start v → ReadAs (instantForm v) (literalInstant v) x)
@@ -334,3 +373,12 @@ module _ {f : Frame} {start end : ℕ} {a : Progress} where
             let e : mid ≡ m = k .exact (omega arith) (omega (arith, w .ends, u .ends)) ∙ n ∙ sym (w .ends) in
             goes-then (p .goes setting tree binders env left s (rw e w)) (q .goes setting tree binders env right s (rw e u));
       }
+
+  pub pair-stopped : {first second : List Binder → Value → List Check} {mid : ℕ} {r : Progress} {fault : Fault} {place : ℕ} {over : Over}
+      → start ≤ end
+      → Behind (f .words) start end mid
+      → OperandJudged f first start mid a r
+      → r .verdict ≡ Defect fault place over
+      → PairJudged f first second start end a r
+  pair-stopped inside k p t =
+      pair-judged inside k p (record { atMost = omega arith; goes = λ setting tree binders env v s w. goes-stopped t })

@@ -8,7 +8,7 @@ use mathlib.Core.Path.{_≡_, refl, sym, ap, ap₂, _∙_}
 use lib.ListN.{length, getD, take, drop, length-drop}
 use lib.Seq.{take-all}
 use borrow.Author.Tests.{eq-eqb, ne-eqb}
-use Rattle.sheet.specs.Entries.{ValueHead, stringHead, valueHead}
+use Rattle.sheet.specs.Entries.{ValueHead, constantHead, numberHead, stringHead, arrayHead, objectHead, valueHead}
 use Rattle.sheet.specs.Places.{ReadsTo}
 use Rattle.definition.specs.Tree.{Text, Schema, Value, constant, number, string, array, object, Values, noValues, value, Pairs, noPairs, pair}
 use Rattle.reference.specs.Setting.{Setting}
@@ -23,14 +23,18 @@ use Rattle.walk.specs.declared.answer.Readable.the-variants.{Yes, No}
 use Rattle.validation.specs.Check.{Binder, readable, check, referenceText, referenceCheck, references, referencesOfValues, referencesOfPairs}
 use Rattle.validation.specs.Judge.{outcome, environment, verdict, answer, answerIn}
 use Rattle.value_checks.specs.Leaves.{leaves, leavesOfValues, leavesOfPairs, saidIn, said-value}
+use Rattle.value_checks.specs.Kinds.{typeIn, TypeAt}
 use Rattle.value_checks.specs.Nodes.{IsValue}
-use Rattle.value_checks.specs.Verdicts.{numberOf, detailOf, isDefect, GoesOn, PassedOn, Failed}
+use Rattle.value_checks.specs.Verdicts.{numberOf, detailOf, GoesOn, PassedOn, Failed}
 use Rattle.scope.specs.References.{ReferenceReads}
 use Rattle.value_checks.specs.Frames.{Frame, Stands, IsReference, referenceSays, ReferencesIn}
+use Rattle.value_checks.specs.declared.verdict.Fault.{Fault}
 use Rattle.value_checks.specs.declared.verdict.Fault.the-variants.{Reference}
+use Rattle.value_checks.specs.declared.verdict.Over.{Over}
+use Rattle.value_checks.specs.declared.verdict.Verdict.the-variants.{Defect}
 use Rattle.value_checks.specs.declared.verdict.Progress.{Progress}
-use Rattle.value_checks.proofs.Going.{goes-nothing, goes-then, goes-absorbed, said-next}
-use Rattle.value_checks.proofs.LiteralSteps.{says-read, says-bad}
+use Rattle.value_checks.proofs.Going.{goes-nothing, goes-then, goes-stopped, said-next}
+use Rattle.value_checks.proofs.LiteralSteps.{says-read, says-bad, says-other}
 
 -- Texts.
 
@@ -96,7 +100,24 @@ unfolding referenceText
 reference-long [] e = let z : _≡_ {A = Option Text} none (some (drop 1 [])) = e in let y : _≡_ {A = ℕ} 0 1 = cc in omega arith
 reference-long (b ∷ t) e = omega arith
 
+no-string : {digit : ℕ} → (digit ≡ 53 → ⊥) → (binders : List Binder) (e : ℕ) (h : ValueHead) → digit ≡ 48 + typeIn h → referenceSays binders e h ≡ []
+unfolding referenceSays typeIn
+no-string n binders e (constantHead type) k = refl
+no-string n binders e (numberHead digits) k = refl
+no-string n binders e (stringHead t) k = absurd (n k)
+no-string n binders e (arrayHead count) k = refl
+no-string n binders e (objectHead count) k = refl
+
 module _ {f : Frame} {i at : ℕ} {a : Progress} (start : at ≡ startOf (f .words) i) where
+  pub reference-other : {digit : ℕ} → TypeAt (f .rule) at digit → (digit ≡ 53 → ⊥) → ReferencesIn f i 1 a a
+  reference-other kind n =
+      record {
+        atMost = omega arith;
+        goes =
+            λ setting tree binders env s.
+            rw (says-other (referenceSays binders) (f .rule) (f .words) i start kind (no-string n binders (i + 1))) goes-nothing;
+      }
+
   pub reference-bad : valueHead (drop at (f .rule)) ≡ none → ReferencesIn f i 1 a a
   reference-bad r =
       record { atMost = omega arith; goes = λ setting tree binders env s. rw (says-bad (referenceSays binders) (f .rule) (f .words) i start r) goes-nothing }
@@ -171,21 +192,23 @@ module _ {f : Frame} {a : Progress} {start i : ℕ} where
             (goes-then (p .goes setting tree binders env s) (q .goes setting tree binders env s));
       }
 
-  pub references-stopped : {end : ℕ} {r : Progress}
-      → start ≤ i
-      → i < end
-      → ReferencesIn f start (i - start) a r
-      → true ≡ isDefect (r .verdict)
-      → ReferencesIn f start (end - start) a r
-  references-stopped {end} h k p t =
-      references-next {n = end - i} h (omega arith) p (record { atMost = omega arith; goes = λ setting tree binders env s. goes-absorbed t })
-
   pub references-all : {end : ℕ} {r : Progress}
       → end ≤ i
       → i - start ≤ end - start
       → ReferencesIn f start (i - start) a r
       → ReferencesIn f start (end - start) a r
   references-all {end} h k p = let e : i - start ≡ end - start = omega arith in rw e at p
+
+pub references-stopped : {f : Frame} {start i end : ℕ} {a b r : Progress} {fault : Fault} {place : ℕ} {over : Over}
+    → start ≤ i
+    → i < end
+    → ReferencesIn f start (i - start) a b
+    → ReferencesIn f i 1 b r
+    → r .verdict ≡ Defect fault place over
+    → ReferencesIn f start (end - start) a r
+references-stopped {i = i} {end = end} h k p q t =
+    references-next {i = i + 1} {n = end - (i + 1)} (omega arith) (omega arith) (references-next h refl p q)
+    (record { atMost = omega arith; goes = λ setting tree binders env s. goes-stopped t })
 
 pub references-begin : {f : Frame} {a : Progress} {start : ℕ} → ReferencesIn f start (start - start) a a
 unfolding saidIn

@@ -1,3 +1,4 @@
+pub mod Kinds
 pub mod Leaves
 pub mod Shown
 pub mod Verdicts

@@ -1,12 +1,10 @@
 -- What the literal pass asks of the words of an index.
 use Prim.Native.Nat.{ℕ, _+_, _-_, _≤_}
-use mathlib.Core.Bool.{Bool, true, false, cond, _&&_}
+use mathlib.Core.Bool.{Bool, cond, _&&_}
 use mathlib.Core.List.{List, [], _∷_, map}
-use lib.Dec.{leb, eqb}
+use lib.Dec.{leb}
 use Rattle.definition.specs.Tree.{Schema, Conditions}
-use Rattle.sheet.specs.Entries.{ValueHead, constantHead, numberHead, stringHead, arrayHead, objectHead, ConditionHead, literalHead, manyHead, negationHead, oneHead, twoHead, comparisonHead, quantifierHead}
-use Rattle.sheet.specs.Places.{conditionOf}
-use Rattle.sheet.specs.declared.rule_heads.ConditionHead.{ConditionHead as Head}
+use Rattle.sheet.specs.Entries.{ValueHead, constantHead, numberHead, stringHead, arrayHead, objectHead}
 use Rattle.reference.specs.Setting.{Setting}
 use Rattle.validation.specs.Check.{Check, literalCheck, literalsOfConditions}
 use Rattle.validation.specs.Judge.{outcome}
@@ -27,21 +25,15 @@ pub record LiteralsJudged (rule words : List ℕ) (i n : ℕ) (a r : Progress) :
   pub atMost : r .passed ≤ a .passed + n
   pub goes : (setting : Setting) (schema : Schema) → GoesOn (outcome setting schema) a (saidIn literalSays rule words n i) r
 
--- the literal pass looks into the values of these: 19, 8 to 15, and 18
-unfoldable pub isObserved : ConditionHead → Bool
-isObserved (literalHead truth) = false
-isObserved (manyHead op count) = false
-isObserved negationHead = false
-isObserved (oneHead op) = eqb op 19
-isObserved (twoHead op) = leb 8 op && leb op 15
-isObserved (comparisonHead which) = true
-isObserved (quantifierHead op bind) = false
+-- the literal pass looks into the values of conditions with these operators: 8 to 15, 18 and 19
+unfoldable pub isObserved : ℕ → Bool
+isObserved op = cond (leb 18 op) (leb op 19) (leb 8 op && leb op 15)
 
 -- the words of a condition's values, where the pass looks into them
-pub record ObservedJudged (rule words : List ℕ) (h : Head) (start end : ℕ) (a r : Progress) : Type 0 where
+pub record ObservedJudged (rule words : List ℕ) (op start end : ℕ) (a r : Progress) : Type 0 where
   pub atMost : r .passed ≤ a .passed + (end - start)
   pub goes : (setting : Setting) (schema : Schema)
-      → GoesOn (outcome setting schema) a (saidIn literalSays rule words (cond (isObserved (conditionOf rule h)) (end - start) 0) start) r
+      → GoesOn (outcome setting schema) a (saidIn literalSays rule words (cond (isObserved op) (end - start) 0) start) r
 
 -- the literals of the conditions that stand there
 pub record ConditionLiterals (rule words : List ℕ) (start end : ℕ) (a r : Progress) : Type 0 where

@@ -2,9 +2,6 @@
 use Prim.Native.Nat.{ℕ, _+_, _≤_, _<_}
 use mathlib.Core.List.{List}
 use mathlib.Core.Path.{_≡_}
-use Rattle.sheet.specs.Entries.{ConditionHead, literalHead, manyHead, negationHead, oneHead, twoHead, comparisonHead, quantifierHead}
-use Rattle.sheet.specs.Places.{conditionOf}
-use Rattle.sheet.specs.declared.rule_heads.ConditionHead.{ConditionHead as Head}
 use Rattle.definition.specs.Tree.{Value, Condition, literal, many, negation, one, two, comparison, quantifier, Conditions, noConditions, condition}
 use Rattle.definition.specs.Within.{conditionEntries, conditionsEntries, valueEntries}
 use Rattle.rule.specs.Index.{endOf, ValueAt, ConditionAt, ConditionsAt}
@@ -38,17 +35,15 @@ childrenOf (two e op left right) = noConditions
 childrenOf (comparison e which left right) = noConditions
 childrenOf (quantifier e op bind over body) = condition body noConditions
 
--- the first word of a condition's children, which end where it ends, by its head
-abbrev pub ChildrenAt : (words : List ℕ) (i end r : ℕ) → ConditionHead → Type 0
-ChildrenAt words i end r (literalHead truth) = r ≡ end
-ChildrenAt words i end r (manyHead op count) = r ≡ i + 1
-ChildrenAt words i end r negationHead = r ≡ i + 1
-ChildrenAt words i end r (oneHead op) = r ≡ end
-ChildrenAt words i end r (twoHead op) = r ≡ end
-ChildrenAt words i end r (comparisonHead which) = r ≡ end
-ChildrenAt words i end r (quantifierHead op bind) = Behind words (i + 1) end r
-
-pub record ChildrenFrom (words : List ℕ) (h : Head) (i end r : ℕ) : Type 0 where
+-- the first word of the children of a condition with operator `op`, which end where it ends
+pub record ChildrenFrom (words : List ℕ) (op i end r : ℕ) : Type 0 where
   pub past : i < r
   pub most : r ≤ end
-  pub first : (rule : List ℕ) → ChildrenAt words i end r (conditionOf rule h)
+  -- a literal holds none
+  pub literal : op ≤ 1 → r ≡ end
+  -- `all`, `any` and `not` hold conditions alone
+  pub inner : 2 ≤ op → op ≤ 4 → r ≡ i + 1
+  -- operators 5 to 19 hold values
+  pub values : 5 ≤ op → op ≤ 19 → r ≡ end
+  -- a quantifier holds a value, and its body after that
+  pub body : 20 ≤ op → Behind words (i + 1) end r

@@ -62,16 +62,16 @@ unfoldable pub overBy : Over → Option ℕ
 overBy Outside = none
 overBy (In e) = some e
 
-unfoldable pub isDefect : Verdict → Bool
-isDefect Pass = false
-isDefect (Defect f place over) = true
-
 unfoldable pub shownWith : ℕ → Verdict → Shown
 shownWith n Pass = passes n
 shownWith n (Defect f place over) = fails n (numberOf f) place (overBy over) (detailOf f)
 
 unfoldable pub shownBy : Progress → Shown
 shownBy a = shownWith (a .passed) (a .verdict)
+
+-- no check has failed, and `n` have passed
+abbrev pub going : ℕ → Progress
+going n = record { passed = n; verdict = Pass }
 
 -- `r` goes on from `a`: with the checks, where all passed so far
 pub record GoesOn (ask : Check → CheckOutcome) (a : Progress) (checks : List Check) (r : Progress) : Type 0 where
@@ -99,10 +99,6 @@ pub record Failed (a : Progress) (fault : Fault) (place : ℕ) (over : Over) (r 
       → FailsWith c fault place over
       → ask c ≡ some (detailOf fault)
       → GoesOn ask a (c ∷ checks) r
-  -- where a check failed before
-  pub stays : (ask : Check → CheckOutcome) (checks : List Check) {n number at : ℕ} {o : Option ℕ} {detail : ℕ}
-      → shownBy a ≡ fails n number at o detail
-      → GoesOn ask a checks r
 
 unfoldable pub failed : Bool → ℕ → CheckOutcome
 failed true detail = some detail

@@ -1,6 +1,8 @@
 // Where the words of an index lead.
 use rule::index::end_of;
-use sheet::rule_heads::ConditionHead;
+use sheet::rule_heads::LITERAL;
+use sheet::rule_heads::NOT;
+use sheet::rule_heads::TRUTHY;
 ghost use Prim.Native.Nat.{_<_, _≤_};
 ghost use Rattle.value_checks.specs.Nodes.{Behind, ChildrenFrom};
 
@@ -17,18 +19,19 @@ pub fn behind(words: &[u32], i: usize, end: usize) -> usize
     end
 }
 
-// The first word of the conditions that a condition at word `i` holds; they end where it ends.
-pub fn children_from(words: &[u32], head: ConditionHead, i: usize, end: usize) -> usize
+// The first word of the conditions that a condition at word `i` holds, by its operator; they end where it ends.
+pub fn children_from(words: &[u32], op: usize, i: usize, end: usize) -> usize
     requires { ⌜ (i < end) × (end ≤ 4096) ⌝ }
-    ensures { λ r. ⌜ ChildrenFrom (now (words .entry)) head i end r ⌝ }
+    ensures { λ r. ⌜ ChildrenFrom (now (words .entry)) op i end r ⌝ }
 {
-    match head {
-        ConditionHead::Literal(_) => end,
-        ConditionHead::Many(_, _) => i + 1,
-        ConditionHead::Negation => i + 1,
-        ConditionHead::One(_) => end,
-        ConditionHead::Two(_) => end,
-        ConditionHead::Comparison(_) => end,
-        ConditionHead::Quantifier(_, _) => behind(words, i + 1, end),
+    if op <= LITERAL {
+        return end;
     }
+    if op <= NOT {
+        return i + 1;
+    }
+    if op <= TRUTHY {
+        return end;
+    }
+    behind(words, i + 1, end)
 }

@@ -1,4 +1,6 @@
 // Operands: what a value is asked besides its references.
+use crate::kind::STRING;
+use crate::kind::type_at;
 use crate::node::behind;
 use crate::references::is_reference;
 use crate::references::validate_references;
@@ -7,6 +9,7 @@ use crate::verdict::InstantFault;
 use crate::verdict::Over;
 use crate::verdict::Progress;
 use crate::verdict::Side;
+use crate::verdict::Verdict;
 use crate::verdict::fail;
 use crate::verdict::pass;
 use rule::index::start_of;
@@ -27,7 +30,7 @@ ghost use Rattle.definition.specs.Tree.{Value};
 ghost use Rattle.rule.specs.Index.{ValueAt};
 ghost use Rattle.validation.specs.Check.{instantText, instantForm, instantOperand, affixOperand, operand};
 ghost use Rattle.validation.specs.Constant.{literalText, literalInstant};
-ghost use Rattle.value_checks.specs.Verdicts.{HasRoom};
+ghost use Rattle.value_checks.specs.Verdicts.{going, HasRoom};
 ghost use Rattle.value_checks.specs.Frames.{frame, FormIs, ReadAs, OperandJudged, PairJudged, side};
 
 pub enum Form {
@@ -44,11 +47,19 @@ pub enum InstantRead {
     Bad(InstantFault),
 }
 
-// The value of word `i`.
+// The value of word `i`: only a text is read.
 pub fn form_of(rule: &[u8], words: &[u32], i: usize) -> Form
     ensures { λ r. ⌜ ((v : Value) → ValueAt (now (rule .entry)) (now (words .entry)) i v → FormIs (now (rule .entry)) r v) ⌝ }
 {
-    let ValueRead::Is(head, _) = value_head(rule, start_of(words, i)) else {
+    let at = start_of(words, i);
+    let digit = type_at(rule, at);
+    if digit < STRING {
+        return Form::Other;
+    }
+    if STRING < digit {
+        return Form::Holder;
+    }
+    let ValueRead::Is(head, _) = value_head(rule, at) else {
         return Form::Other;
     };
     match head {
@@ -88,7 +99,7 @@ pub fn instant_form(rule: &[u8], words: &[u32], i: usize) -> InstantRead
 }
 
 fn validate_instant(
-    a: Progress,
+    passed: usize,
     schema: &[u8],
     rule: &[u8],
     words: &[u32],
@@ -97,19 +108,23 @@ fn validate_instant(
     start: usize,
     end: usize,
 ) -> Progress
-    requires { ⌜ HasRoom a (end - start + 1) × (start < 4096) × (end ≤ 4096) ⌝ }
-    ensures { λ r. ⌜ OperandJudged (frame (now (schema .entry)) (now (rule .entry)) (now (words .entry)) scope over) instantOperand start end a r ⌝ }
+    requires { ⌜ HasRoom (going passed) (end - start + 1) × (start < 4096) × (end ≤ 4096) ⌝ }
+    ensures { λ r. ⌜ OperandJudged (frame (now (schema .entry)) (now (rule .entry)) (now (words .entry)) scope over) instantOperand start end (going passed) r ⌝ }
 {
-    let b = validate_references(a, schema, rule, words, scope, over, start, end);
+    let r = validate_references(passed, schema, rule, words, scope, over, start, end);
+    let verdict = r.verdict;
+    let Verdict::Pass = verdict else {
+        return r;
+    };
     match instant_form(rule, words, start) {
-        InstantRead::Reference => pass(b),
-        InstantRead::Literal(_) => pass(b),
-        InstantRead::Bad(fault) => fail(b, Fault::Instant(fault), start + 1, over),
+        InstantRead::Reference => pass(r.passed),
+        InstantRead::Literal(_) => pass(r.passed),
+        InstantRead::Bad(fault) => fail(r.passed, Fault::Instant(fault), start + 1, over),
     }
 }
 
 fn validate_affix(
-    a: Progress,
+    passed: usize,
     schema: &[u8],
     rule: &[u8],
     words: &[u32],
@@ -118,20 +133,24 @@ fn validate_affix(
     start: usize,
     end: usize,
 ) -> Progress
-    requires { ⌜ HasRoom a (end - start + 1) × (start < 4096) × (end ≤ 4096) ⌝ }
-    ensures { λ r. ⌜ OperandJudged (frame (now (schema .entry)) (now (rule .entry)) (now (words .entry)) scope over) affixOperand start end a r ⌝ }
+    requires { ⌜ HasRoom (going passed) (end - start + 1) × (start < 4096) × (end ≤ 4096) ⌝ }
+    ensures { λ r. ⌜ OperandJudged (frame (now (schema .entry)) (now (rule .entry)) (now (words .entry)) scope over) affixOperand start end (going passed) r ⌝ }
 {
-    let b = validate_references(a, schema, rule, words, scope, over, start, end);
+    let r = validate_references(passed, schema, rule, words, scope, over, start, end);
+    let verdict = r.verdict;
+    let Verdict::Pass = verdict else {
+        return r;
+    };
     match form_of(rule, words, start) {
-        Form::Text(_) => pass(b),
-        Form::Holder => fail(b, Fault::Affix, start + 1, over),
-        Form::Other => fail(b, Fault::Affix, start + 1, over),
+        Form::Text(_) => pass(r.passed),
+        Form::Holder => fail(r.passed, Fault::Affix, start + 1, over),
+        Form::Other => fail(r.passed, Fault::Affix, start + 1, over),
     }
 }
 
 // A side of a comparison: no array and no object, and this before its references.
 fn validate_side(
-    a: Progress,
+    passed: usize,
     schema: &[u8],
     rule: &[u8],
     words: &[u32],
@@ -141,19 +160,23 @@ fn validate_side(
     start: usize,
     end: usize,
 ) -> Progress
-    requires { ⌜ HasRoom a (end - start + 1) × (start < 4096) × (end ≤ 4096) ⌝ }
-    ensures { λ r. ⌜ OperandJudged (frame (now (schema .entry)) (now (rule .entry)) (now (words .entry)) scope over) (side which) start end a r ⌝ }
+    requires { ⌜ HasRoom (going passed) (end - start + 1) × (start < 4096) × (end ≤ 4096) ⌝ }
+    ensures { λ r. ⌜ OperandJudged (frame (now (schema .entry)) (now (rule .entry)) (now (words .entry)) scope over) (side which) start end (going passed) r ⌝ }
 {
     match form_of(rule, words, start) {
-        Form::Text(_) => validate_references(pass(a), schema, rule, words, scope, over, start, end),
-        Form::Holder => fail(a, Fault::Operand(which), start + 1, over),
-        Form::Other => validate_references(pass(a), schema, rule, words, scope, over, start, end),
+        Form::Text(_) => {
+            validate_references(passed + 1, schema, rule, words, scope, over, start, end)
+        }
+        Form::Holder => fail(passed, Fault::Operand(which), start + 1, over),
+        Form::Other => {
+            validate_references(passed + 1, schema, rule, words, scope, over, start, end)
+        }
     }
 }
 
 // An operand of a pair, by the operator's number: 6 before and 7 after, 16 starts_with and 17 ends_with, the others.
 fn validate_operand(
-    a: Progress,
+    passed: usize,
     schema: &[u8],
     rule: &[u8],
     words: &[u32],
@@ -163,21 +186,21 @@ fn validate_operand(
     start: usize,
     end: usize,
 ) -> Progress
-    requires { ⌜ HasRoom a (end - start + 1) × (start < 4096) × (end ≤ 4096) ⌝ }
-    ensures { λ r. ⌜ OperandJudged (frame (now (schema .entry)) (now (rule .entry)) (now (words .entry)) scope over) (operand op) start end a r ⌝ }
+    requires { ⌜ HasRoom (going passed) (end - start + 1) × (start < 4096) × (end ≤ 4096) ⌝ }
+    ensures { λ r. ⌜ OperandJudged (frame (now (schema .entry)) (now (rule .entry)) (now (words .entry)) scope over) (operand op) start end (going passed) r ⌝ }
 {
     if op <= AFTER {
-        return validate_instant(a, schema, rule, words, scope, over, start, end);
+        return validate_instant(passed, schema, rule, words, scope, over, start, end);
     }
     if STARTS_WITH <= op {
-        return validate_affix(a, schema, rule, words, scope, over, start, end);
+        return validate_affix(passed, schema, rule, words, scope, over, start, end);
     }
-    validate_references(a, schema, rule, words, scope, over, start, end)
+    validate_references(passed, schema, rule, words, scope, over, start, end)
 }
 
 // Both operands of a pair.
 pub fn validate_pair(
-    a: Progress,
+    passed: usize,
     schema: &[u8],
     rule: &[u8],
     words: &[u32],
@@ -187,17 +210,21 @@ pub fn validate_pair(
     start: usize,
     end: usize,
 ) -> Progress
-    requires { ⌜ HasRoom a (end - start + 2) × (start ≤ end) × (end < 4096) ⌝ }
-    ensures { λ r. ⌜ PairJudged (frame (now (schema .entry)) (now (rule .entry)) (now (words .entry)) scope over) (operand op) (operand op) start end a r ⌝ }
+    requires { ⌜ HasRoom (going passed) (end - start + 2) × (start ≤ end) × (end < 4096) ⌝ }
+    ensures { λ r. ⌜ PairJudged (frame (now (schema .entry)) (now (rule .entry)) (now (words .entry)) scope over) (operand op) (operand op) start end (going passed) r ⌝ }
 {
     let mid = behind(words, start, end);
-    let b = validate_operand(a, schema, rule, words, scope, over, op, start, mid);
-    validate_operand(b, schema, rule, words, scope, over, op, mid, end)
+    let r = validate_operand(passed, schema, rule, words, scope, over, op, start, mid);
+    let verdict = r.verdict;
+    let Verdict::Pass = verdict else {
+        return r;
+    };
+    validate_operand(r.passed, schema, rule, words, scope, over, op, mid, end)
 }
 
 // Both sides of a comparison.
 pub fn validate_comparison(
-    a: Progress,
+    passed: usize,
     schema: &[u8],
     rule: &[u8],
     words: &[u32],
@@ -206,10 +233,16 @@ pub fn validate_comparison(
     start: usize,
     end: usize,
 ) -> Progress
-    requires { ⌜ HasRoom a (end - start + 2) × (start ≤ end) × (end < 4096) ⌝ }
-    ensures { λ r. ⌜ PairJudged (frame (now (schema .entry)) (now (rule .entry)) (now (words .entry)) scope over) (side Side.Left) (side Side.Right) start end a r ⌝ }
+    requires { ⌜ HasRoom (going passed) (end - start + 2) × (start ≤ end) × (end < 4096) ⌝ }
+    ensures { λ r. ⌜ PairJudged (frame (now (schema .entry)) (now (rule .entry)) (now (words .entry)) scope over) (side Side.Left) (side Side.Right) start end (going passed) r ⌝ }
 {
     let mid = behind(words, start, end);
-    let b = validate_side(a, schema, rule, words, scope, over, Side::Left, start, mid);
-    validate_side(b, schema, rule, words, scope, over, Side::Right, mid, end)
+    let left = Side::Left;
+    let r = validate_side(passed, schema, rule, words, scope, over, left, start, mid);
+    let verdict = r.verdict;
+    let Verdict::Pass = verdict else {
+        return r;
+    };
+    let right = Side::Right;
+    validate_side(r.passed, schema, rule, words, scope, over, right, mid, end)
 }

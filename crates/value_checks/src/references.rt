@@ -1,9 +1,12 @@
 // The references of a value: its strings that begin with `$`, but not with `$$`.
+use crate::kind::STRING;
+use crate::kind::type_at;
 use crate::verdict::Fault;
 use crate::verdict::Over;
 use crate::verdict::Progress;
+use crate::verdict::Verdict;
 use crate::verdict::fail;
-use crate::verdict::has_failed;
+use crate::verdict::going;
 use crate::verdict::pass;
 use rule::index::start_of;
 use scope::binder::Scope;
@@ -14,7 +17,7 @@ use sheet::rule_heads::ValueRead;
 use sheet::rule_heads::value_head;
 use walk::answer::Readable;
 ghost use Prim.Native.Nat.{_-_, _<_, _≤_};
-ghost use Rattle.value_checks.specs.Verdicts.{HasRoom};
+ghost use Rattle.value_checks.specs.Verdicts.{going, HasRoom};
 ghost use Rattle.value_checks.specs.Frames.{frame, IsReference, ReferencesIn};
 
 pub fn is_reference(text: &[u8]) -> bool
@@ -37,7 +40,7 @@ pub fn is_reference(text: &[u8]) -> bool
 
 // The entry of word `i`, if it is a reference.
 fn validate_value_reference(
-    a: Progress,
+    passed: usize,
     schema: &[u8],
     rule: &[u8],
     words: &[u32],
@@ -45,34 +48,38 @@ fn validate_value_reference(
     over: Over,
     i: usize,
 ) -> Progress
-    requires { ⌜ HasRoom a 1 × (i < 4096) ⌝ }
-    ensures { λ r. ⌜ ReferencesIn (frame (now (schema .entry)) (now (rule .entry)) (now (words .entry)) scope over) i 1 a r ⌝ }
+    requires { ⌜ HasRoom (going passed) 1 × (i < 4096) ⌝ }
+    ensures { λ r. ⌜ ReferencesIn (frame (now (schema .entry)) (now (rule .entry)) (now (words .entry)) scope over) i 1 (going passed) r ⌝ }
 {
-    let ValueRead::Is(head, _) = value_head(rule, start_of(words, i)) else {
-        return a;
+    let at = start_of(words, i);
+    if type_at(rule, at) != STRING {
+        return going(passed);
+    }
+    let ValueRead::Is(head, _) = value_head(rule, at) else {
+        return going(passed);
     };
     match head {
-        ValueHead::Constant(_) => a,
-        ValueHead::Number(_) => a,
+        ValueHead::Constant(_) => going(passed),
+        ValueHead::Number(_) => going(passed),
         ValueHead::Text(part) => {
             let text = bytes_of(rule, part);
             if is_reference(text) {
                 let found = validate_reference(schema, rule, words, scope, &text[1..]);
                 let Readable::No(fault, at) = found else {
-                    return pass(a);
+                    return pass(passed);
                 };
-                return fail(a, Fault::Reference(fault, at), i + 1, over);
+                return fail(passed, Fault::Reference(fault, at), i + 1, over);
             }
-            a
+            going(passed)
         }
-        ValueHead::Array(_) => a,
-        ValueHead::Object(_) => a,
+        ValueHead::Array(_) => going(passed),
+        ValueHead::Object(_) => going(passed),
     }
 }
 
 // The references from word `start` up to word `end`, in the order of the sheet.
 pub fn validate_references(
-    a: Progress,
+    passed: usize,
     schema: &[u8],
     rule: &[u8],
     words: &[u32],
@@ -81,17 +88,19 @@ pub fn validate_references(
     start: usize,
     end: usize,
 ) -> Progress
-    requires { ⌜ HasRoom a (end - start) × (end ≤ 4096) ⌝ }
-    ensures { λ r. ⌜ ReferencesIn (frame (now (schema .entry)) (now (rule .entry)) (now (words .entry)) scope over) start (end - start) a r ⌝ }
+    requires { ⌜ HasRoom (going passed) (end - start) × (end ≤ 4096) ⌝ }
+    ensures { λ r. ⌜ ReferencesIn (frame (now (schema .entry)) (now (rule .entry)) (now (words .entry)) scope over) start (end - start) (going passed) r ⌝ }
 {
-    let mut so_far = a;
+    let mut so_far = passed;
     let mut i = start;
     while i < end {
-        if has_failed(so_far) {
-            return so_far;
-        }
-        so_far = validate_value_reference(so_far, schema, rule, words, scope, over, i);
+        let r = validate_value_reference(so_far, schema, rule, words, scope, over, i);
+        let verdict = r.verdict;
+        let Verdict::Pass = verdict else {
+            return r;
+        };
+        so_far = r.passed;
         i += 1;
     }
-    so_far
+    going(so_far)
 }

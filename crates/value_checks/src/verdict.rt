@@ -2,7 +2,7 @@
 use walk::answer::CollectionFault;
 use walk::answer::ReferenceFault;
 ghost use mathlib.Core.Path.{_≡_};
-ghost use Rattle.value_checks.specs.Verdicts.{isDefect, HasRoom, PassedOn, Failed, Required};
+ghost use Rattle.value_checks.specs.Verdicts.{going, HasRoom, PassedOn, Failed, Required};
 
 // A side of a comparison.
 pub enum Side {
@@ -55,53 +55,41 @@ pub struct Progress {
     pub verdict: Verdict,
 }
 
-// Whether a check has failed. What is asked behind it changes nothing, so that loops end there.
-pub fn has_failed(a: Progress) -> bool
-    ensures { λ r. ⌜ r ≡ isDefect (a .verdict) ⌝ }
+// No check has failed so far.
+pub fn going(passed: usize) -> Progress
+    ensures { λ r. ⌜ r ≡ going passed ⌝ }
 {
-    let verdict = a.verdict;
-    match verdict {
-        Verdict::Pass => false,
-        Verdict::Defect(_, _, _) => true,
-    }
-}
-
-// One check more, which passes. A defect stays as it is.
-pub fn pass(a: Progress) -> Progress
-    requires { ⌜ HasRoom a 1 ⌝ }
-    ensures { λ r. ⌜ PassedOn a r ⌝ }
-{
-    let verdict = a.verdict;
-    let Verdict::Pass = verdict else {
-        return a;
-    };
     Progress {
-        passed: a.passed + 1,
+        passed,
         verdict: Verdict::Pass,
     }
 }
 
-// One check more, which fails: the end. A defect stays as it is.
-pub fn fail(a: Progress, fault: Fault, place: usize, over: Over) -> Progress
-    ensures { λ r. ⌜ Failed a fault place over r ⌝ }
+// One check more, which passes.
+pub fn pass(passed: usize) -> Progress
+    requires { ⌜ HasRoom (going passed) 1 ⌝ }
+    ensures { λ r. ⌜ PassedOn (going passed) r ⌝ }
 {
-    let verdict = a.verdict;
-    let Verdict::Pass = verdict else {
-        return a;
-    };
+    going(passed + 1)
+}
+
+// One check more, which fails: the end.
+pub fn fail(passed: usize, fault: Fault, place: usize, over: Over) -> Progress
+    ensures { λ r. ⌜ Failed (going passed) fault place over r ⌝ }
+{
     Progress {
-        passed: a.passed,
+        passed,
         verdict: Verdict::Defect(fault, place, over),
     }
 }
 
 // One check more, which fails with the fault where `wrong` holds.
-pub fn require(a: Progress, wrong: bool, fault: Fault, place: usize, over: Over) -> Progress
-    requires { ⌜ HasRoom a 1 ⌝ }
-    ensures { λ r. ⌜ Required a wrong fault place over r ⌝ }
+pub fn require(passed: usize, wrong: bool, fault: Fault, place: usize, over: Over) -> Progress
+    requires { ⌜ HasRoom (going passed) 1 ⌝ }
+    ensures { λ r. ⌜ Required (going passed) wrong fault place over r ⌝ }
 {
     if wrong {
-        return fail(a, fault, place, over);
+        return fail(passed, fault, place, over);
     }
-    pass(a)
+    pass(passed)
 }

@@ -5,8 +5,8 @@ use mathlib.Core.List.{List}
 use mathlib.Core.Path.{_≡_}
 use native.Mathlib.Omega.{arith}
 use lib.ListN.{length, take}
-use Rattle.file_answer.specs.Printed.{maxOutput, Printed}
-use Rattle.file_answer.specs.PrintedLaws.{printed-whole}
+use Rattle.printed_answer.specs.Printed.{maxOutput, Printed}
+use Rattle.printed_answer.specs.PrintedLaws.{printed-whole}
 
 -- as the part `&line[0..n]` stands in the code's facts
 pub compared : {output before after expected : List ℕ} {n : ℕ} {r : Bool} → Printed output before after n → maxOutput ≤ length before

@@ -35,7 +35,7 @@ between start end s = take (end - start) (drop start s)
 abbrev pub Tells : (agrees : Bool) (file expected : List ℕ) → Type 0
 Tells agrees file expected = (agrees ≡ true → outputOf file ≡ expected) × (outputOf file ≡ expected → agrees ≡ true)
 
--- whether a case that lies in `s` agrees, and the place behind it
+-- whether a case that lies in `s` agrees, and the place after it
 pub record Replays (s : List ℕ) (agrees : Bool) (next : ℕ) : Type 0 where
   pub found : Case
   pub lies : Lies s found
@@ -46,7 +46,7 @@ abbrev pub ReplayedIn : List ℕ → Replayed → Type 0
 ReplayedIn s (replayed.Whole agrees next) = Replays s agrees next
 ReplayedIn s replayed.Broken = Unit {0}
 
--- whether a case that lies in the buffer `s` agrees, and the window behind it
+-- whether a case that lies in the buffer `s` agrees, and the window after it
 pub record Steps (s : List ℕ) (agrees : Bool) (w : Window) : Type 0 where
   pub start : ℕ
   pub size : ℕ

@@ -1,9 +1,9 @@
 // Replays a list of files and the lines that `rulecheck` prints for them, and writes how many came out as expected, with the number of
-// each that did not. A case is a line with two byte counts parted by a comma, then a file, then what is printed for it. Lines that begin
-// with # may stand before the first case.
-use file_answer::output;
+// each that did not. A case is a line with two byte counts separated by a comma, then a file, then what is printed for it. Lines that
+// begin with # may come before the first case.
 use libc::STDIN_FILENO;
 use libc::STDOUT_FILENO;
+use printed_answer::output;
 ghost use Prim.Native.Nat.{_≤_};
 ghost use mathlib.Core.Bool.{cond};
 ghost use mathlib.Core.Path.{_≡_};
@@ -33,7 +33,7 @@ struct Window {
 
 struct Numeral {
     value: usize,
-    // The place behind the byte that ends it.
+    // The place after the byte that ends it.
     next: usize,
 }
 
@@ -50,19 +50,19 @@ enum Found {
 }
 
 enum Replayed {
-    // Whether it came out as expected, and the place behind it.
+    // Whether it came out as expected, and the place after it.
     Whole(bool, usize),
     Broken,
 }
 
 enum Step {
-    // Whether a case came out as expected, and what is left behind it.
+    // Whether a case came out as expected, and what is left after it.
     Replayed(bool, Window),
     // No case is there any more; whether that is the list's end.
     Last(bool),
 }
 
-// The place behind the lines that begin with #.
+// The place after the lines that begin with #.
 fn head(s: &[u8]) -> usize
     ensures { λ r. ⌜ r ≤ length (now (s .entry)) ⌝ }
 {
@@ -89,7 +89,7 @@ fn wide(b: u8) -> usize
     b as usize
 }
 
-// A number with one more digit; `TOO_LARGE` where the byte is no digit.
+// A number with one more digit; `TOO_LARGE` where the byte is not a digit.
 fn grown(value: usize, b: u8) -> usize
     requires { ⌜ value ≤ 1000000 ⌝ }
     ensures { λ r. ⌜ r ≤ 1000000 ⌝ }
@@ -105,7 +105,7 @@ fn grown(value: usize, b: u8) -> usize
     if next < TOO_LARGE { next } else { TOO_LARGE }
 }
 
-// The number that stands from `at` on up to the byte `stop`.
+// The number from `at` on up to the byte `stop`.
 fn count(s: &[u8], at: usize, stop: u8) -> Numeral
     requires { ⌜ at ≤ length (now s) ⌝ }
     ensures { λ r. ⌜ (r .value ≤ 1000000) × (r .next ≤ length (now (s .entry))) ⌝ }

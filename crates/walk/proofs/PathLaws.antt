@@ -1,4 +1,4 @@
--- A path behind a field: the first segment, then what is left of the path behind its dot.
+-- A path from a field on: the first segment, then what is left of the path after its dot.
 use Prim.Native.Nat.{ℕ, _+_, _-_, _<_}
 use native.Mathlib.Omega.{arith}
 use mathlib.Core.Bool.{Bool}

@@ -1,4 +1,4 @@
--- Parts of a path: the first segment, and what is left behind its dot.
+-- Parts of a path: the first segment, and what is left after its dot.
 use Prim.Native.Nat.{ℕ, _+_, _-_, _≤_}
 use native.Mathlib.Omega.{arith}
 use mathlib.Core.Bool.{true, false}

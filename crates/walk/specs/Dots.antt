@@ -1,4 +1,4 @@
--- What the first dot of a path parts.
+-- What the first dot of a path separates.
 use Prim.Native.Nat.{ℕ, _+_, _≤_, _<_}
 use Prim.Native.Char.{code}
 use mathlib.Core.List.{List, [], _∷_}
@@ -14,7 +14,7 @@ Cuts path (At d) =
     × (split path ≡ record { first = take d path; others = split (drop (d + 1) path) .first ∷ split (drop (d + 1) path) .others })
 Cuts path Nowhere = split path ≡ record { first = path; others = [] }
 
--- the first segment is the first `n` bytes, and what is left follows the dot behind it
+-- the first segment is the first `n` bytes, and what is left follows the dot after it
 pub record Ends (path : List ℕ) (n : ℕ) : Type 0 where
   pub within : n ≤ length path
   pub first : split path .first ≡ take n path

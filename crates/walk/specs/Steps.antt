@@ -60,7 +60,7 @@ pub record LastStep (entry : ℕ) (w : WalkStep) (r : Readable) : Type 0 where
   pub leads : (sheet words : List ℕ) (step : Field → Text → Step) (s : Text) (x : Step) → StepIs sheet words w x
       → ReadableIs r (arrive entry s [] (λ g. travel step [] g) x)
 
--- A path behind the field of slot `k`, as `walk_field_path` goes
+-- A path from the field of slot `k` on, as `walk_field_path` goes
 pub record Walks (sheet words : List ℕ) (k : ℕ) (path : Text) (reader : Reader) (service : Bool) (r : Readable) : Type 0 where
   pub leads : (f : Field) → SlotHolds sheet words k f
       → ReadableIs r (travel (walkStep reader service) (split path .first ∷ split path .others) f)

@@ -1,4 +1,4 @@
-// The path of an `in` value, behind a field, and the element of what it leads to.
+// The path of an `in` value, from a field on, and the element of what it leads to.
 use crate::answer::Collected;
 use crate::answer::CollectionFault;
 use crate::answer::FieldStep;

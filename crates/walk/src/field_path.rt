@@ -1,4 +1,4 @@
-// A path behind a field.
+// A path from a field on.
 use crate::answer::Readable;
 use crate::answer::Reader;
 use crate::answer::WalkStep;
@@ -21,7 +21,7 @@ fn last_step(entry: usize, step: WalkStep) -> Readable
     }
 }
 
-// Whether a path leads somewhere from the field of `slot`. Each step hands on the part of the path behind its dot.
+// Whether a path leads somewhere from the field of `slot`. Each step hands on the part of the path after its dot.
 pub fn walk_field_path(
     schema: &[u8],
     words: &[u32],

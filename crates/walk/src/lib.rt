@@ -2,5 +2,5 @@
 pub mod answer; // answer.rt: what a walk answers
 pub mod path; // path.rt: paths and their segments
 pub mod step; // step.rt: one segment of a reference
-pub mod field_path; // field_path.rt: a path behind a field
+pub mod field_path; // field_path.rt: a path from a field on
 pub mod collection; // collection.rt: the path of an `in` value

@@ -1,4 +1,4 @@
-// Paths: segments parted by dots.
+// Paths: segments separated by dots.
 use sheet::order::ByteOrder;
 use sheet::order::compare;
 ghost use mathlib.Core.Path.{_≡_};

@@ -8,10 +8,10 @@ use lib.ListN.{length, length-map}
 use lib.Seq.{sets}
 use Rattle.validation.specs.Result.{any, Answer, accepted, numbersOf, keptScratch}
 use Rattle.validation.specs.RefusalLaws.{number-some}
-use Rattle.validator.specs.Settings.{settingBy, EarlyIs, SettledIs}
-use Rattle.validator.specs.SheetLaws.{roomy, front-scratch}
-use Rattle.validator.specs.declared.settings.Setting.{Setting as CodeSetting}
-use Rattle.validator.specs.declared.settings.Settled.the-variants.{Set, Refused}
+use Rattle.single_check.specs.Settings.{settingBy, EarlyIs, SettledIs}
+use Rattle.single_check.specs.SheetLaws.{roomy, front-scratch}
+use Rattle.single_check.specs.declared.settings.Setting.{Setting as CodeSetting}
+use Rattle.single_check.specs.declared.settings.Settled.the-variants.{Set, Refused}
 use Rattle.rule_book.specs.Book.{sheetsOf}
 use Rattle.rule_book.specs.BookLaws.{book-round-trip}
 use Rattle.rule_book.specs.Places.{sheetCount}

@@ -16,11 +16,11 @@ use Rattle.reference.specs.Setting.{Setting}
 use Rattle.schema.specs.Read.{SchemaAnswer}
 use Rattle.schema.specs.declared.read.SchemaRead.{SchemaRead}
 use Rattle.validation.specs.Result.{any, Answer, refused, accepted, defect, pathBytes, Numbers, numbersOf, pathAfter}
-use Rattle.validator.specs.Answers.{Tells}
-use Rattle.validator.specs.Sheets.{takesOf, sheetAnswer, SheetChecked}
-use Rattle.validator.specs.SheetLaws.{still-read, front-schema, front-rule, front-both}
-use Rattle.validator.specs.declared.sheets.Takes.the-variants.{Any}
-use Rattle.validator.specs.declared.outcome.Outcome.{Outcome}
+use Rattle.single_check.specs.Answers.{Tells}
+use Rattle.single_check.specs.Sheets.{takesOf, sheetAnswer, SheetChecked}
+use Rattle.single_check.specs.SheetLaws.{still-read, front-schema, front-rule, front-both}
+use Rattle.single_check.specs.declared.sheets.Takes.the-variants.{Any}
+use Rattle.single_check.specs.declared.outcome.Outcome.{Outcome}
 use Rattle.rule_book.specs.Book.{sheetIn, sheetsOf}
 use Rattle.rule_book.specs.BookLaws.{sheets-end, sheets-more, sheets-none}
 use Rattle.rule_book.specs.Tally.{countOf, KeptFrom}

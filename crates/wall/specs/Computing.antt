@@ -1,4 +1,4 @@
--- Opens every definition behind the pages: under `unfolding computing` a worked example holds by computation.
+-- Opens every definition that the pages rest on: under `unfolding computing` a worked example holds by computation.
 use mathlib.Core.List.{flatten}
 use Rattle.rule_book.specs.Computing as Book
 use Rattle.wall.specs.Pages.{blanks, column, inColumns, shown, cut, lineOf, line, resultLine, results, blankLine, heading, foot, page, pagesFrom, pageCount, linesOf, pagesOf}

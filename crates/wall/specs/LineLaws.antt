@@ -28,7 +28,7 @@ blanks-size : (n : ℕ) → length (blanks n) ≡ n
 unfolding blanks
 blanks-size n = length-replicate n 32
 
--- behind one more blank and one more digit the same is left, and the digit
+-- after one more blank and one more digit the same is left, and the digit
 more-digits : (b x : ℕ) (bs front d : List ℕ) → d ≡ front ++ (x ∷ []) → drop (length d) ((b ∷ bs) ++ d) ≡ drop (length front) (bs ++ front) ++ (x ∷ [])
 more-digits b x bs front d e =
     let size : length d ≡ suc (length front) = ap length e ∙ length-append front (x ∷ []) ∙ omega arith in

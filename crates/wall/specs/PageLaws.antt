@@ -10,7 +10,7 @@ use Rattle.rule_book.specs.Tally.{countOf, sum, tallyOf}
 use Rattle.wall.specs.Pages.{perPage, pageBytes, resultLine, results, blankLine, heading, foot, page, pagesFrom, pageCount, linesOf, pagesOf}
 use Rattle.wall.specs.LineLaws.{result-size, blank-size, heading-size, foot-size}
 
--- Lines of 81 bytes, one behind the other.
+-- Lines of 81 bytes, one after the other.
 
 abbrev pub AllLines : List (List ℕ) → Type 0
 AllLines [] = Unit {0}

@@ -24,11 +24,11 @@ pageBytes = 4860
 unfoldable pub blanks : ℕ → List ℕ
 blanks n = replicate n 32
 
--- a number right in so many columns: its last digits, as many as there are columns, and blanks in front where it has fewer
+-- a number right-aligned in its columns: its last digits, as many as there are columns, and blanks in front where it has fewer
 unfoldable pub column : (columns n : ℕ) → List ℕ
 column columns n = drop (length (decimalOf n)) (blanks columns ++ decimalOf n)
 
--- numbers in their columns, a blank behind each
+-- numbers in their columns, a blank after each
 unfoldable pub inColumns : List (ℕ × ℕ) → List ℕ
 inColumns [] = []
 inColumns ((columns, n) ∷ more) = column columns n ++ (ascii " " ++ inColumns more)

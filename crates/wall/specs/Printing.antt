@@ -9,7 +9,7 @@ use Rattle.buffer.specs.Wrote.{Wrote}
 use Rattle.reference.specs.Setting.{Setting}
 use Rattle.schema.specs.declared.read.SchemaRead.{SchemaRead}
 use Rattle.validation.specs.Result.{maxLabelBytes, pathBytes, scratchWords}
-use Rattle.validator.specs.Sheets.{FrontOnly}
+use Rattle.single_check.specs.Sheets.{FrontOnly}
 use Rattle.rule_book.specs.Book.{sheetsOf}
 use Rattle.rule_book.specs.Tally.{countOf, KeptFrom}
 use Rattle.rule_book.specs.Tallying.{answersIn, Ready, bookRunOf}
@@ -27,14 +27,14 @@ pub record Given (label book path words : List ℕ) : Type 0 where
   pub room : pathBytes ≤ length path
   pub enough : scratchWords ≤ length words
 
--- the next n sheets were checked, from place `from` of the book to place `to`, and all is ready for the one behind them
+-- the next n sheets were checked, from place `from` of the book to place `to`, and all is ready for the one after them
 pub record Advanced (label schema : List ℕ) (read : SchemaRead) (book pathBefore path before after : List ℕ) (from n to : ℕ) : Type 0 where
   pub ready : Ready label schema read (drop to book) path after
   pub left : (sheets : List (List ℕ)) → sheetsOf (drop from book) ≡ some sheets → sheetsOf (drop to book) ≡ some (drop n sheets)
   pub kept : KeptFrom pathBytes pathBefore path
   pub front : FrontOnly before after
 
--- the line of the next sheet, or a blank one behind the last
+-- the line of the next sheet, or a blank one after the last
 pub record RowPut (setting : Setting) (label schema : List ℕ) (read : SchemaRead) (book : List ℕ) (at serial to : ℕ) (pathBefore path before after pagesBefore pages : List ℕ) (r : Row) : Type 0 where
   pub advanced : Advanced label schema read book pathBefore path before after at 1 (r .sheet)
   pub written : (sheets : List (List ℕ)) → sheetsOf (drop at book) ≡ some sheets

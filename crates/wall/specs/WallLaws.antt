@@ -132,7 +132,7 @@ module _ (c : WallCall) (answers : List Answer) (e : wallAnswer c ≡ printed an
       let same : tallyOf answers ≡ t = (let both : tallied (tallyOf answers) ≡ tallied t = sym (is-printed c answers e .tally) ∙ f in cc) in
       feet-add-up answers ∙ ap (λ (x : Tally). x .accepted) same
 
-  -- the pages fit: all of them stand at the start of the buffer
+  -- the pages fit: all of them are at the start of the buffer
   pub pages-fit : length (pagesOf answers) ≤ c .pages
   pages-fit = omega (arith, pages-size answers, is-printed c answers e .room)
 

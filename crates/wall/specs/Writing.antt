@@ -7,15 +7,15 @@ use Rattle.validation.specs.Result.{Answer}
 use Rattle.rule_book.specs.Tally.{countOf}
 use Rattle.wall.specs.Pages.{blanks, column, shown, cut, resultLine, blankLine, foot}
 
--- a number and the blank behind it
+-- a number and the blank after it
 unfoldable pub field : (columns n : ℕ) → List ℕ
 field columns n = column columns n ++ ascii " "
 
--- the end of a line that wants so many blanks
+-- the end of a line that needs so many blanks
 unfoldable pub lineEnd : (missing : ℕ) → List ℕ
 lineEnd missing = blanks missing ++ ascii "\n"
 
--- the path and the line's end behind it
+-- the path and the line's end after it
 unfoldable pub pathEnd : (path : List ℕ) → List ℕ
 pathEnd path = map shown (cut 55 path) ++ lineEnd (55 - length (cut 55 path))
 

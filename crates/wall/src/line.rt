@@ -1,9 +1,9 @@
-// The lines of the wall sheet. What does not fit is left out; each function returns the place behind what it wrote.
+// The lines of the wall sheet. What does not fit is left out; each function returns the place after what it wrote.
 use buffer::push;
 use buffer::put;
 use sheet::part::Part;
 use sheet::part::bytes_of;
-use validator::outcome::Outcome;
+use single_check::outcome::Outcome;
 ghost use mathlib.Core.Path.{_≡_};
 ghost use mathlib.Core.List.{map};
 ghost use lib.ListN.{take};
@@ -50,7 +50,7 @@ fn put_field(out: &mut [u8], at: usize, columns: usize, n: usize) -> usize
     push(out, next, b' ')
 }
 
-// Fills a line that wants so many columns, and ends it.
+// Fills a line that needs so many columns, and ends it.
 fn end_line(out: &mut [u8], at: usize, missing: usize) -> usize
     ensures { λ r. ⌜ Wrote (now (out .entry)) (now (out .exit)) at (lineEnd missing) r ⌝ }
 {

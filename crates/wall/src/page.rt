@@ -1,4 +1,4 @@
-// The pages of the wall sheet: each sheet of the book is checked, and its line written, in one go.
+// The pages of the wall sheet: each sheet of the book is checked, and its line written, in one pass.
 use crate::line::put_blank_line;
 use crate::line::put_foot;
 use crate::line::put_heading;
@@ -8,15 +8,15 @@ use rule_book::sheets::next_sheet;
 use schema::read::SchemaRead;
 use schema::read::read_schema;
 use sheet::part::bytes_of;
-use validator::settings::Setting;
-use validator::sheets::Takes;
-use validator::sheets::check_sheet;
+use single_check::settings::Setting;
+use single_check::sheets::Takes;
+use single_check::sheets::check_sheet;
 ghost use mathlib.Core.Bool.{cond};
 ghost use mathlib.Core.Path.{_≡_};
 ghost use Prim.Native.Nat.{_+_, _*_, _^_, _<_};
 ghost use lib.Dec.{eqb};
 ghost use lib.ListN.{drop};
-ghost use Rattle.validator.specs.Settings.{settingBy};
+ghost use Rattle.single_check.specs.Settings.{settingBy};
 ghost use Rattle.rule_book.specs.Tallying.{Ready};
 ghost use Rattle.wall.specs.Pages.{perPage, pageCount};
 ghost use Rattle.wall.specs.Printing.{Given, RowPut, PagePut, PagesPut};
@@ -24,7 +24,7 @@ ghost use Rattle.wall.specs.Printing.{Given, RowPut, PagePut, PagesPut};
 // How many results a page has.
 const PER_PAGE: usize = 58;
 
-// Where the next sheet stands in the book and the next line in the pages, and 1 for a sheet that was accepted.
+// Where the next sheet is in the book and the next line in the pages, and 1 for a sheet that was accepted.
 pub struct Row {
     pub sheet: usize,
     pub line: usize,
@@ -52,7 +52,7 @@ fn one_if_accepted(number: u32) -> usize
     if number == 0 { 1 } else { 0 }
 }
 
-// The line of the sheet at `at`, or a blank one behind the last sheet.
+// The line of the sheet at `at`, or a blank one after the last sheet.
 fn put_row(
     setting: Setting,
     label: &[u8],

@@ -1,4 +1,4 @@
--- Pairs of schema sheets, and what is answered about each: a widening of either kind, every reason why there is none, a sheet that is none.
+-- Pairs of schema sheets, and what is answered about each: a widening of either kind, every reason why it is not one, and what is not a sheet.
 use Prim.Native.Nat.{ℕ}
 use mathlib.Core.List.{List}
 use mathlib.Core.Path.{_≡_, refl}

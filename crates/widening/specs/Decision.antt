@@ -1,5 +1,5 @@
 -- Whether the second of two schemas is a widening of the first (docs/FORMAT.md, "Widening"), decided: all that differs between them is listed, in
--- the order of the first sheet, and the first breach in that list is the reason why it is none. DecisionLaws says that this is the relation of Widening.
+-- the order of the first sheet, and the first breach in that list is the reason why it is not one. DecisionLaws says that this is the relation of Widening.
 use Prim.Native.Nat.{ℕ}
 use mathlib.Core.Bool.{Bool, true, false, not, cond, _&&_}
 use mathlib.Core.List.{List, [], _∷_, _++_}
@@ -10,13 +10,13 @@ use Rattle.definition.specs.Tree.{Text, Field, field, Items, absent, element, M
 use Rattle.reference.specs.Walk.{entryOf}
 use Rattle.widening.specs.Widening.{Level, marks, anything}
 
--- why a schema is no widening
+-- why a schema is not a widening
 pub data Reason : Type 0 where
   fieldMissing kindDiffers itemsDiffer tagDiffers markCloses fieldAdded argumentsGo : Reason
 
--- Open marks that go from 0 to 1 are no difference.
+-- Open marks that go from 0 to 1 are not a difference.
 pub data Difference : Type 0 where
-  -- a field or arguments more, where a widening may have them
+  -- one more field, or arguments that appear, where a widening may have them
   growth : Difference
   -- what no widening has, with its entry in each sheet, 0 where there is none
   breach : Reason → (first second : ℕ) → Difference
@@ -60,7 +60,7 @@ unfoldable pub missing : Field → Difference
 missing f = breach fieldMissing (entryOf f) 0
 
 -- A field of the first schema is sought among those of the second. Names rise, so those that precede its name are added ones, and the next one is
--- the field, or it is missing. The two functions say what differs behind it: once it is found, with what follows it, and once it is missing, with what is left.
+-- the field, or it is missing. The two functions say what differs after it: once it is found, with what follows it, and once it is missing, with what is left.
 unfoldable pub sought : Bool → Text → Field → (Field → Members → List Difference) → (Members → List Difference) → Members → List Difference
 sought o name f found lost noMembers = missing f ∷ lost noMembers
 sought o name f found lost (member name′ f′ others′) =
@@ -76,7 +76,7 @@ unfoldable mutual
       ownDifferences (field e kind o tag items members) (field e′ kind′ o′ tag′ items′ members′)
       ++ (itemsDifferences items items′ ++ membersDifferences o members members′)
 
-  -- that only one of the two is there is told by the items marks
+  -- that only one of the two is there shows in the items marks
   pub itemsDifferences : Items → Items → List Difference
   itemsDifferences absent items′ = []
   itemsDifferences (element f) absent = []

@@ -151,7 +151,7 @@ mutual
       m′
       a
 
--- And where it holds, they are: this wants the names of the second schema to rise.
+-- And where it holds, they are: this needs the names of the second schema to rise.
 
 -- the names of the first are among those of the second
 behind-too : {l : Level} {o : Bool} {m m′ : Members} (name : Text) → WiderMembers l o m m′ → AllBehind name m′ → AllBehind name m

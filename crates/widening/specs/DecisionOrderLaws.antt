@@ -1,5 +1,5 @@
 -- What differs is listed in the order of the first sheet: the entries of the breaches there never fall. A breach without one, a field that is added,
--- stands where the order of names puts it.
+-- is where the order of names puts it.
 use Prim.Native.Nat.{ℕ, _+_, _≤_}
 use mathlib.Core.Bool.{Bool, true, false, cond}
 use mathlib.Core.List.{List, [], _∷_, _++_, append-assoc, append-nil}

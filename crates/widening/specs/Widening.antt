@@ -1,4 +1,4 @@
--- A widening of a schema (docs/FORMAT.md, "Widening"): every field of the first schema stands in the second, under the same holder, as an
+-- A widening of a schema (docs/FORMAT.md, "Widening"): every field of the first schema is in the second, under the same holder, as an
 -- element exactly if it is one in the first, with the same name, kind, items mark and tag. Record, arguments, fields and elements are holders.
 use Prim.Native.Nat.{ℕ}
 use mathlib.Core.Bool.{Bool, true, false}

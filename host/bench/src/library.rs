@@ -1,5 +1,6 @@
 //! The library through its C functions.
 
+use crate::functions::{rulecheck_check, rulecheck_count, rulecheck_rule, rulecheck_tally, rulecheck_template, rulecheck_widens};
 use crate::sheets::Sample;
 
 /// What a caller lends for a path and for marks, and where the numbers of a check or of a tally go.
@@ -31,78 +32,8 @@ type Entry = unsafe extern "C" fn(
     result_length: usize,
 ) -> u32;
 
+// Two that only the library of the benchmark has.
 extern "C" {
-    fn rulecheck_rule(
-        kind: u64,
-        semantics: u64,
-        label: *const u8,
-        label_length: usize,
-        schema: *const u8,
-        schema_length: usize,
-        rule: *const u8,
-        rule_length: usize,
-        path: *mut u8,
-        path_length: usize,
-        result: *mut u8,
-        result_length: usize,
-    ) -> u32;
-    fn rulecheck_template(
-        kind: u64,
-        semantics: u64,
-        label: *const u8,
-        label_length: usize,
-        schema: *const u8,
-        schema_length: usize,
-        rule: *const u8,
-        rule_length: usize,
-        path: *mut u8,
-        path_length: usize,
-        result: *mut u8,
-        result_length: usize,
-    ) -> u32;
-    fn rulecheck_widens(
-        first: *const u8,
-        first_length: usize,
-        second: *const u8,
-        second_length: usize,
-        result: *mut u8,
-        result_length: usize,
-    ) -> u32;
-    fn rulecheck_tally(
-        kind: u64,
-        semantics: u64,
-        label: *const u8,
-        label_length: usize,
-        table: *const u8,
-        table_length: usize,
-        schema: *const u8,
-        schema_length: usize,
-        book: *const u8,
-        book_length: usize,
-        path: *mut u8,
-        path_length: usize,
-        result: *mut u8,
-        result_length: usize,
-    ) -> u32;
-    fn rulecheck_count(result: *const u8, result_length: usize, index: u32) -> u64;
-    fn rulecheck_check(
-        kind: u64,
-        semantics: u64,
-        label: *const u8,
-        label_length: usize,
-        table: *const u8,
-        table_length: usize,
-        schema: *const u8,
-        schema_length: usize,
-        rule: *const u8,
-        rule_length: usize,
-        path: *mut u8,
-        path_length: usize,
-        marks: *mut u8,
-        marks_length: usize,
-        result: *mut u8,
-        result_length: usize,
-    ) -> u32;
     fn acceptance_schema(sheet: *const u8, length: usize) -> u32;
     fn acceptance_rule(sheet: *const u8, length: usize) -> u32;
 }

@@ -17,9 +17,14 @@ mod stack;
 #[path = "../../differential/harness/src/oracle/convert.rs"]
 mod convert;
 
-use differential::model::{decode_rule, decode_schema};
-use differential::trees;
+#[allow(dead_code, reason = "not every function is measured")]
+#[rustfmt::skip] // Its own crate lays it out.
+#[path = "../../src/raw/functions.rs"]
+mod functions;
+
 use library::Buffers;
+use model::trees;
+use model::{decode_rule, decode_schema};
 use report::{Acceptance, Figures, Row};
 use sheets::{Group, Sample, GROUPS, NUMBERS};
 use std::process::ExitCode;

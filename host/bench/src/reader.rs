@@ -1,8 +1,8 @@
 //! Sheets read straight into the types that the Rust validates: what a host without the library has to do with the same bytes.
 //! Every rule of the format is kept, and nothing is built twice.
 
-use differential::model::number::is_number;
 use entity_core::{CompareOp, Comparison, Condition, FieldDefinition, FieldKind, ObjectSchema, Quantifier, RuleDefinition};
+use model::number::is_number;
 use serde_json::{Map, Number, Value};
 use std::collections::BTreeMap;
 

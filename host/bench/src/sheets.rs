@@ -1,6 +1,6 @@
 //! The sheets that are measured, made by size. All but those of early defects are accepted.
 
-use differential::model::number::bound;
+use model::number::bound;
 
 /// One check: settings, the two sheets, and the number that is answered.
 pub struct Sample {
@@ -28,7 +28,7 @@ impl Sample {
     }
 }
 
-/// Samples of one shape: the sizes of the plot, and the size that stands in the table.
+/// Samples of one shape: the sizes of the plot, and the size that the table has.
 pub struct Group {
     pub name: &'static str,
     /// What the size counts.
@@ -244,7 +244,7 @@ fn large_rules(entries: usize) -> Sample {
     all_forms(entries, "")
 }
 
-/// Conditions of every form, six of them in sixteen entries, behind a given one.
+/// Conditions of every form, six of them in sixteen entries, after a given one.
 fn all_forms(entries: usize, first: &str) -> Sample {
     let forms = [
         format!("C,6,0,\n{}{}", text("$fields.made"), text("2024-02-29")),
@@ -272,7 +272,7 @@ fn templates(count: usize) -> Sample {
     Sample::new(format!("H,0,1,-,0\n{fields}"), format!("T\nV,7,{count},\n{members}"))
 }
 
-/// Comparisons of two numbers of 500 digits. They differ from the bound of finite numbers in the 309th digit, and stand at its place or lower, as the
+/// Comparisons of two numbers of 500 digits. They differ from the bound of finite numbers in the 309th digit, and are at its place or lower, as the
 /// exponent says.
 fn numbers(count: usize, exponent: usize) -> Sample {
     let agreeing = String::from_utf8_lossy(&bound()[1..308]);

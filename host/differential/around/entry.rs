@@ -21,7 +21,7 @@ pub type Table = [[bool; 9]; 8];
 const NAMES: [&str; 9] = ["$id", "$entity", "$version", "$fields", "$state", "$to_state", "$from_state", "$args", "$old_fields"];
 
 thread_local! {
-    /// The table that stands in place of the Rust's own name test during a call, if any.
+    /// The table that takes the place of the Rust's own name test during a call, if any.
     static TABLE: Cell<Option<Table>> = const { Cell::new(None) };
 }
 

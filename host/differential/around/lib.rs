@@ -1,4 +1,4 @@
-//! What stands around the files of the Rust so that they compile by themselves: the crate root, and stand-ins for modules that are not at hand.
+//! What is put around the files of the Rust so that they compile by themselves: the crate root, and stand-ins for modules that are not available.
 //!
 //! Nothing here decides an answer, apart from `timestamp` where the stand-in is used.
 #![allow(dead_code, unused_imports, clippy::all)]

@@ -1,4 +1,4 @@
-//! Stand-in for the instant reader, which is not at hand. Written from docs/FORMAT.md, "Instants".
+//! Stand-in for the instant reader, which is not available. Written from docs/FORMAT.md, "Instants".
 //!
 //! It goes another way than a table of month lengths: the fields are taken by position, a date must survive the way to a day number and back,
 //! and the text must be what the fields are written as.

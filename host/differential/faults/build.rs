@@ -14,7 +14,7 @@ struct Fault<'a> {
 fn main() {
     let here = PathBuf::from(env::var_os("CARGO_MANIFEST_DIR").expect("cargo names the package's folder"));
     let out = PathBuf::from(env::var_os("OUT_DIR").expect("cargo names a folder to write to"));
-    let model = here.join("../src/model");
+    let model = here.join("../model/src");
     let list = fs::read_to_string(here.join("list.txt")).expect("list.txt can be read");
     println!("cargo:rerun-if-changed=list.txt\ncargo:rerun-if-changed={}", model.display());
     let (mut modules, mut rows) = (String::new(), String::new());
@@ -59,14 +59,15 @@ fn plant(fault: &Fault, model: &Path, folder: &Path) {
         let Some(name) = path.file_name().filter(|_| path.is_file()) else {
             continue;
         };
+        let is_root = name == "lib.rs";
         let mut text = fs::read_to_string(&path).expect("the model can be read");
         if name == fault.file {
             assert_eq!(text.matches(fault.old).count(), 1, "{}: the text is not there exactly once", fault.name);
             text = text.replace(fault.old, fault.new);
         }
-        if name == "mod.rs" {
+        if is_root {
             text.push_str(include_str!("src/around.rs"));
         }
-        fs::write(folder.join(name), text).expect("the folder can be written to");
+        fs::write(folder.join(if is_root { "mod.rs".as_ref() } else { name }), text).expect("the folder can be written to");
     }
 }

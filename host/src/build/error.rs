@@ -54,7 +54,7 @@ impl fmt::Display for Nesting {
 /// let bars = || Field::new("bars", FieldKind::Integer);
 /// let error = Schema::new().field(bars()).field(bars()).sheet().unwrap_err();
 /// assert_eq!(error, BuildError::NameTwice { name: "bars".to_owned() });
-/// assert_eq!(error.to_string(), "two fields beside each other are named \"bars\"; expected each name once");
+/// assert_eq!(error.to_string(), "two sibling fields are named \"bars\"; expected each name once");
 /// ```
 #[derive(Clone, Debug, PartialEq, Eq, Hash)]
 pub enum BuildError {
@@ -118,12 +118,15 @@ impl fmt::Display for BuildError {
                 )
             }
             Self::NotANumber { start } => {
-                write!(f, "{start:?} is no number; expected one as JSON writes it")
+                write!(
+                    f,
+                    "{start:?} is not a number; expected one as JSON writes it"
+                )
             }
             Self::NameTwice { name } => {
                 write!(
                     f,
-                    "two fields beside each other are named {name:?}; expected each name once"
+                    "two sibling fields are named {name:?}; expected each name once"
                 )
             }
             Self::KeyTwice { key } => write!(

@@ -3,7 +3,7 @@
 use super::error::{BuildError, Nesting, start};
 use crate::limits::{MAX_RULE_ENTRIES, MAX_SCHEMA_ENTRIES, MAX_SHEET_BYTES, MAX_TEXT_BYTES};
 
-/// Entries that stand together, and how deep they nest. It never passes the limits of its sheet.
+/// Entries that belong together, and how deep they nest. It never passes the limits of its sheet.
 #[derive(Clone, Debug, PartialEq, Eq)]
 pub(crate) struct Part {
     bytes: Vec<u8>,

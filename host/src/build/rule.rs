@@ -358,7 +358,7 @@ impl Rule {
     }
 }
 
-/// A template: a value in which references may stand.
+/// A template: a value that may contain references.
 ///
 /// ```
 /// use entity_rules::Template;

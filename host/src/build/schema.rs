@@ -360,7 +360,7 @@ impl Schema {
     ///
     /// # Errors
     ///
-    /// If a part of it or the whole passes a limit of sheets, or a name stands twice beside itself.
+    /// If a part of it or the whole passes a limit of sheets, or two sibling fields have one name.
     pub fn sheet(&self) -> Result<SchemaSheet, BuildError> {
         let mut part = Part::of_schema();
         part.add_entry(&self.head(), &[])?;

@@ -104,7 +104,7 @@ impl Value {
         }
     }
 
-    /// An object; its members stand in the order given, no key twice.
+    /// An object; its members keep the order given, no key twice.
     ///
     /// ```
     /// # use entity_rules::{BuildError, Template, Value};
@@ -177,7 +177,7 @@ impl From<String> for Value {
     }
 }
 
-/// Infinities and what is no number have no text in JSON and become an error.
+/// Infinities and NaN have no text in JSON and become an error.
 impl From<f64> for Value {
     fn from(number: f64) -> Self {
         Self::number(&format!("{number:?}"))

@@ -10,7 +10,7 @@ pub struct Given {
     pub entry: usize,
     /// What the last text is.
     pub what: &'static str,
-    /// Where the numeral of the last length stands.
+    /// The place of the numeral of the last length.
     pub byte: usize,
     pub last: usize,
     /// How many texts have a length, and all of these lengths.
@@ -47,9 +47,9 @@ impl Given {
         if fitting == self.last {
             return None;
         }
-        let (before, behind) = sheet.split_at_checked(self.byte)?;
-        let behind = behind.get(self.last.to_string().len()..)?;
-        let mended = [before, fitting.to_string().as_bytes(), behind].concat();
+        let (before, after) = sheet.split_at_checked(self.byte)?;
+        let after = after.get(self.last.to_string().len()..)?;
+        let mended = [before, fitting.to_string().as_bytes(), after].concat();
         let left = |sheet: &[u8], fault: &Malformed| sheet.len().saturating_sub(fault.byte);
         let reads_on = match entries(&mut Reader::new(&mended, limit)) {
             Ok(()) => true,

@@ -225,7 +225,7 @@ impl<'a> Reader<'a> {
         Ok(length)
     }
 
-    /// Notes a length and where it stands.
+    /// Notes a length and its place.
     fn give(&mut self, what: &'static str, byte: usize, last: usize) {
         let (texts, total) = self
             .given

@@ -7,7 +7,7 @@ use crate::build::{CompareOp, Nesting};
 use crate::limits::MAX_RULE_ENTRIES;
 use std::collections::HashSet;
 
-/// The entries of a rule sheet, be it a rule or a template.
+/// The entries of a rule sheet, of a rule or a template.
 ///
 /// ```
 /// use entity_rules::entries::read_rule;
@@ -178,7 +178,7 @@ impl<'a> Reader<'a> {
 
     /// The 0 of an entry that has nothing to count.
     fn nothing(&mut self, what: &str) -> Read<usize> {
-        self.numeral(0, 0, &format!("0 here, since `{what}` counts nothing"))
+        self.numeral(0, 0, &format!("0 here, since `{what}` has no count"))
     }
 
     /// The fields of a value after its type.

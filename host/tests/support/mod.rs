@@ -19,7 +19,7 @@ pub fn takes_rule(sheet: &[u8]) -> bool {
     check(Kind::Invariant, Semantics::Kernel1, "", EMPTY_SCHEMA, sheet) != Err(Refusal::RuleSheet)
 }
 
-/// A fixed list of the folder vectors, behind its first lines.
+/// A fixed list of the folder vectors, after its first lines.
 pub fn list(name: &str) -> Vec<u8> {
     let file = format!("{}/vectors/{name}", env!("CARGO_MANIFEST_DIR"));
     let list = std::fs::read(file).expect("a list");

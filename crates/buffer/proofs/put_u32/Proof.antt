@@ -1,4 +1,4 @@
--- `buffer::put_u32` meets its contract: four bytes, one behind the other.
+-- `buffer::put_u32` meets its contract: four bytes, one after the other.
 use Rattle.buffer.proofs.Steps.{wrote-number}
 use borrow.Author.Needs.{needs}
 use Rattle.buffer.proofs.put_u32.Statement.{statement}

@@ -19,6 +19,9 @@ loop-holds c = unmarked-begin
 start-of-requires : tie.Need-start-of-requires Inv-loop μ-loop
 start-of-requires c κs = search needs
 
+operator-at-requires : tie.Need-operator-at-requires Inv-loop μ-loop
+operator-at-requires c κs = search needs
+
 is-plain-requires : tie.Need-is-plain-requires Inv-loop μ-loop
 is-plain-requires c κs = search needs
 
@@ -26,13 +29,13 @@ behind-requires : tie.Need-behind-requires Inv-loop μ-loop
 behind-requires c κs = search needs
 
 loop-less : tie.Need-loop-less Inv-loop μ-loop
-loop-less c = omega (arith, c .behind .ensures .past (c .before .before .before .before .loop-test .taken))
+loop-less c = omega (arith, c .behind .ensures .past (c .before .before .before .before .before .loop-test .taken))
 
 loop-again : tie.Need-loop-again Inv-loop μ-loop
-loop-again c = unmarked-next (c .before .before .before .before .loop-test .taken) (c .before .before .before .start-of .ensures) (rw (c .before .if1 .taken) at (c .before .before .is-plain .ensures)) (c .behind .ensures) (c .before .before .before .before .before .loop .inv)
+loop-again c = unmarked-next (c .before .before .before .before .before .loop-test .taken) (c .before .before .before .before .start-of .ensures) (c .before .before .before .operator-at .ensures) (rw (c .before .if1 .taken) at (c .before .before .is-plain .ensures)) (c .behind .ensures) (c .before .before .before .before .before .before .loop .inv)
 
 returns : tie.Need-returns Inv-loop μ-loop
-returns c = c .before .before .before .before .loop .inv
+returns c = c .before .before .before .before .before .loop .inv
 
 returns-2 : tie.Need-returns-2 Inv-loop μ-loop
 returns-2 c = c .before .loop .inv
@@ -45,6 +48,7 @@ behind-plain-spec =
     μ-loop
     loop-holds
     start-of-requires
+    operator-at-requires
     is-plain-requires
     behind-requires
     loop-less

@@ -1,4 +1,4 @@
--- `constants::constant_pair` meets its contract: no mark where either operand is no literal, else the truth of both.
+-- `constants::constant_pair` meets its contract: no mark where either operand is not a literal, else the truth of both.
 use borrow.Author.Needs.{needs}
 use Rattle.constants.proofs.ConstantSteps.{pair-left, pair-right, pair-both}
 use Rattle.constants.proofs.constant_pair.Statement.{statement}

@@ -1,5 +1,5 @@
 -- `entity_rules::rulecheck_rule` meets its contract.
-use Rattle.validator.specs.Sheets.{takesOf}
+use Rattle.single_check.specs.Sheets.{takesOf}
 use borrow.Author.Needs.{needs}
 use Rattle.entity_rules.proofs.rulecheck_rule.Statement.{statement}
 use Rattle.entity_rules.proofs.rulecheck_rule.Tie as tie

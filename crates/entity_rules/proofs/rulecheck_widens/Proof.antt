@@ -1,4 +1,4 @@
--- `entity_rules::rulecheck_widens` meets its contract: the answer of `widens`, told in a result that has room for it.
+-- `entity_rules::rulecheck_widens` meets its contract: the answer of `widens`, in a result that has room for it.
 use borrow.Author.Needs.{needs}
 use Rattle.entity_rules.proofs.WidensEntries.{short-answered, widens-answered}
 use Rattle.entity_rules.proofs.rulecheck_widens.Statement.{statement}

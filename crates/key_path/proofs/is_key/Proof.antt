@@ -1,5 +1,5 @@
 -- `key_path::is_key` meets its contract.
-use Rattle.validator.proofs.SettingSteps.{and-le, and-lt}
+use Rattle.single_check.proofs.SettingSteps.{and-le, and-lt}
 use borrow.Author.Needs.{needs}
 use Rattle.key_path.proofs.is_key.Statement.{statement}
 use Rattle.key_path.proofs.is_key.Tie as tie

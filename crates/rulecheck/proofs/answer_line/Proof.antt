@@ -2,7 +2,7 @@
 use native.Mathlib.Omega.{arith}
 use lib.Seq.{length-sets}
 use borrow.Author.Needs.{needs}
-use Rattle.file_answer.specs.PrintedLaws.{printed-whole}
+use Rattle.printed_answer.specs.PrintedLaws.{printed-whole}
 use Rattle.rulecheck.proofs.answer_line.Statement.{statement}
 use Rattle.rulecheck.proofs.answer_line.Tie as tie
 

@@ -1,4 +1,4 @@
--- `text::is_ascii_32` meets its contract: four eights, one behind the other.
+-- `text::is_ascii_32` meets its contract: four eights, one after the other.
 use borrow.Author.Needs.{needs}
 use mathlib.Core.Bool.{false≢true}
 use Rattle.text.proofs.Passes.{ascii-more}

@@ -12,15 +12,15 @@ sub-if1 c = search needs
 returns : tie.Need-returns
 returns c t = absurd (false≢true t)
 
-is-ascii-of-8-requires : tie.Need-is-ascii-of-8-requires
-is-ascii-of-8-requires c κs = search needs
+is-ascii-8-requires : tie.Need-is-ascii-8-requires
+is-ascii-8-requires c κs = search needs
 
 returns-2 : tie.Need-returns-2
 returns-2 c t =
-    ascii-text (c .before .before .before .before .args .s .now) (c .before .before .before .before .args .at) (c .before .before .before .before .args .len) (c .before .before .before .before .pre) (c .is-ascii-of-8 .ensures t)
+    ascii-text (c .before .before .before .before .args .s .now) (c .before .before .before .before .args .at) (c .before .before .before .before .args .len) (c .before .before .before .before .pre) (λ k h. c .is-ascii-8 .ensures t k (omega arith))
 
-is-ascii-8-requires : tie.Need-is-ascii-8-requires
-is-ascii-8-requires c κs = search needs
+is-ascii-8-requires-2 : tie.Need-is-ascii-8-requires-2
+is-ascii-8-requires-2 c κs = search needs
 
 add-is-ascii-8 : tie.Need-add-is-ascii-8
 add-is-ascii-8 c = search needs
@@ -28,8 +28,8 @@ add-is-ascii-8 c = search needs
 sub-is-ascii-8 : tie.Need-sub-is-ascii-8
 sub-is-ascii-8 c = search needs
 
-is-ascii-8-requires-2 : tie.Need-is-ascii-8-requires-2
-is-ascii-8-requires-2 c κs = search needs
+is-ascii-8-requires-3 : tie.Need-is-ascii-8-requires-3
+is-ascii-8-requires-3 c κs = search needs
 
 returns-3 : tie.Need-returns-3
 returns-3 c t =
@@ -37,7 +37,7 @@ returns-3 c t =
     let at = c .before .before .before .before .before .before .before .args .at in
     let len = c .before .before .before .before .before .before .before .args .len in
     ascii-text s at len (c .before .before .before .before .before .before .before .pre)
-    (ascii-ends s at 8 len (omega arith) (omega arith) (c .before .before .is-ascii-8 .ensures (c .before .if4 .taken)) (c .is-ascii-82 .ensures t))
+    (ascii-ends s at 8 len (omega arith) (omega arith) (c .before .before .is-ascii-82 .ensures (c .before .if4 .taken)) (c .is-ascii-83 .ensures t))
 
 returns-4 : tie.Need-returns-4
 returns-4 c t = absurd (false≢true t)
@@ -51,12 +51,12 @@ is-short-ascii-spec =
     (tie.spec
     sub-if1
     returns
-    is-ascii-of-8-requires
-    returns-2
     is-ascii-8-requires
+    returns-2
+    is-ascii-8-requires-2
     add-is-ascii-8
     sub-is-ascii-8
-    is-ascii-8-requires-2
+    is-ascii-8-requires-3
     returns-3
     returns-4
     returns-5)

@@ -1,4 +1,4 @@
--- `vectors::advance` tells whether a case of the buffer agrees, and leaves the window behind it.
+-- `vectors::advance` tells whether a case of the buffer agrees, and leaves the window after it.
 use native.Mathlib.Omega.{arith}
 use mathlib.Core.Path.{refl}
 use borrow.Author.Needs.{needs}

@@ -1,4 +1,4 @@
--- `vectors::run` is safe and ends: each turn counts one case more.
+-- `vectors::run` is safe and ends: each turn counts one more case.
 use Prim.Native.Nat.{_≤_, _-_}
 use mathlib.Core.Path.{_≡_}
 use lib.ListN.{length}

@@ -1,13 +1,13 @@
 
 /// The faulty model's answer, in the types of the model that it is a copy of.
-pub fn answer(call: &differential::model::Call) -> differential::model::Answer {
-    let &differential::model::Call { kind, semantics, label, table, schema, rule, path_len, scratch_len } = call;
+pub fn answer(call: &::model::Call) -> ::model::Answer {
+    let &::model::Call { kind, semantics, label, table, schema, rule, path_len, scratch_len } = call;
     own(check(&Call { kind, semantics, label, table, schema, rule, path_len, scratch_len }))
 }
 
 /// The same for a key.
-pub fn key_answer(call: &differential::model::KeyCall) -> differential::model::Answer {
-    let &differential::model::KeyCall { semantics, reader, path, schema, scratch_len } = call;
+pub fn key_answer(call: &::model::KeyCall) -> ::model::Answer {
+    let &::model::KeyCall { semantics, reader, path, schema, scratch_len } = call;
     own(check_key(&KeyCall { semantics, reader, path, schema, scratch_len }))
 }
 
@@ -18,19 +18,19 @@ pub fn load_answer(table: &[u8], buffer_len: usize) -> (u32, Vec<u8>) {
 }
 
 /// The same for a rule book.
-pub fn tally_answer(call: &differential::model::BookCall) -> differential::model::TallyNumbers {
-    let &differential::model::BookCall { kind, semantics, label, table, schema, book, path_len, result_len } = call;
+pub fn tally_answer(call: &::model::BookCall) -> ::model::TallyNumbers {
+    let &::model::BookCall { kind, semantics, label, table, schema, book, path_len, result_len } = call;
     tally(&BookCall { kind, semantics, label, table, schema, book, path_len, result_len })
 }
 
 /// The same for a wall sheet.
-pub fn wall_answer(call: &differential::model::WallCall) -> ([u64; 2], Vec<u8>) {
-    let &differential::model::BookCall { kind, semantics, label, table, schema, book, path_len, result_len } = &call.book;
+pub fn wall_answer(call: &::model::WallCall) -> ([u64; 2], Vec<u8>) {
+    let &::model::BookCall { kind, semantics, label, table, schema, book, path_len, result_len } = &call.book;
     let book = BookCall { kind, semantics, label, table, schema, book, path_len, result_len };
     wall(&WallCall { book, pages_len: call.pages_len })
 }
 
-fn own(answer: Answer) -> differential::model::Answer {
+fn own(answer: Answer) -> ::model::Answer {
     let Answer { number, family, detail, place, over_place, passed, path } = answer;
-    differential::model::Answer { number, family, detail, place, over_place, passed, path }
+    ::model::Answer { number, family, detail, place, over_place, passed, path }
 }

@@ -1,20 +1,18 @@
 //! Asks each faulty model until it answers otherwise than the library: on the known edges, on generated cases, on the published samples, on
 //! keys, on rule books and their wall sheets, and last on tables: `faults [CASES] [SEED]`.
 
-pub use differential::trees;
-
-use differential::model::{Answer, BookCall, Call, KeyCall, TallyNumbers, WallCall};
-use harness::books::{self, BookCase};
-use harness::case::Case;
-use harness::edges::edges;
-use harness::generate::{self, names::STOCK};
-use harness::keys::{self, KeyCase};
-use harness::library::{self, Extent};
-use harness::longest::longest;
-use harness::published::sample_cases;
-use harness::random::Random;
-use harness::tables::{self, LoadCase};
-use harness::walls::{self, Printed, WallCase};
+use cases::books::{self, BookCase};
+use cases::case::Case;
+use cases::edges::edges;
+use cases::generate::{names::STOCK, profiles};
+use cases::keys::{self, KeyCase};
+use cases::longest::longest;
+use cases::random::Random;
+use cases::tables::{self, LoadCase};
+use cases::walls::{self, Printed, WallCase};
+use harness::library::{self, lent::Extent};
+use harness::runs::published::sample_cases;
+use model::{Answer, BookCall, Call, KeyCall, TallyNumbers, WallCall};
 use std::panic::{catch_unwind, AssertUnwindSafe};
 use std::process::ExitCode;
 
@@ -76,7 +74,7 @@ fn questions(cases: u64, seed: u64) -> impl Iterator<Item = (String, Question)> 
     let named = |name: &'static str| move |case| (name.to_owned(), Question::Case(case));
     let known = edges().into_iter().chain(longest()).map(named("a known edge"));
     let made = move |number| {
-        (format!("case {number} of seed {seed}"), Question::Case(generate::case(&mut Random::of_case(seed, number), &STOCK).1))
+        (format!("case {number} of seed {seed}"), Question::Case(profiles::case(&mut Random::of_case(seed, number), &STOCK).1))
     };
     let samples = sample_cases().into_iter().map(named("a sample"));
     let known_keys = keys::edges::edges().into_iter().map(|case| ("a known edge of keys".to_owned(), Question::Key(case)));
@@ -104,7 +102,7 @@ fn questions(cases: u64, seed: u64) -> impl Iterator<Item = (String, Question)> 
 /// In what the faulty model and the library differ, if they do.
 fn difference(question: &Question, faulty: Faulty) -> Option<String> {
     let held = || match question {
-        Question::Case(case) => library::hold(case, &(faulty.answer)(&case.call()), Extent::Some),
+        Question::Case(case) => library::checks::hold(case, &(faulty.answer)(&case.call()), Extent::Some),
         Question::Key(case) => library::keys::hold(case, &(faulty.key_answer)(&case.call()), Extent::Some),
         Question::Book(case) => library::books::hold(case, &(faulty.tally_answer)(&case.call()), Extent::Some),
         Question::Wall(case) => library::walls::hold(case, &(faulty.wall_answer)(&case.call()), Extent::Some),

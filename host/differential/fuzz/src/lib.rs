@@ -1,8 +1,8 @@
 //! One input of libFuzzer as a case that library, model and Rust must agree on.
 
-use harness::agreement::hold;
-use harness::compare::report;
-use harness::fuzzed;
+use harness::runs::agreement::hold;
+use harness::runs::compare::report;
+use harness::runs::fuzzed;
 
 /// # Safety
 ///

@@ -1,36 +1,6 @@
 //! Holds the library, a plain model of docs/FORMAT.md and the Rust that it describes against each other.
 
-pub mod agreement;
-pub mod books;
-pub mod bound;
-pub mod case;
-pub mod changes;
-pub mod compare;
-pub mod edges;
-pub mod exhaustive;
-pub mod fuzzed;
-pub mod generate;
-pub mod instants;
-pub mod keys;
-pub mod leaves;
 pub mod library;
-pub mod longest;
-pub mod marks;
-pub mod memory;
-pub mod moved;
-pub mod nodes;
 pub mod oracle;
-pub mod plan;
-pub mod published;
-pub mod random;
-pub mod refusals;
+pub mod readings;
 pub mod runs;
-pub mod samples;
-pub mod shrink;
-pub mod slips;
-pub mod tables;
-pub mod tally;
-pub mod vectors;
-pub mod walls;
-pub mod widened;
-pub mod widens;

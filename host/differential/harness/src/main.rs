@@ -1,6 +1,6 @@
 //! The commands of the comparison. See README.md beside the script `run`.
 
-use harness::{
+use harness::runs::{
     books, compare, exhaustive, fuzzed, instants, keys, leaves, marks, memory, moved, published, tables, vectors, walls, widened, widens,
 };
 use std::collections::BTreeMap;

@@ -30,25 +30,29 @@ usage: entity-rules check SCHEMA RULE.. --kind KIND --semantics SEMANTICS [OPTIO
   path     whether paths of the record's fields can be read
   widens   whether the schema NEW is a widening of OLD, so that what was accepted stays accepted;
            what grew, or the first breach
-  upgrade  how rules fare when NEW takes the place of OLD: where it is a widening, those that are
+  upgrade  what happens to rules when NEW replaces OLD: where it is a widening, those that are
            accepted stay so by the theorem and are not checked again; all others are checked
            under both
   instant  whether texts are instants, and their fields
   show     prints schema sheets, rules, templates, rule books and name tables as trees, each entry
            with its number
-  explain  what a number of an answer means, as 18 or, with a detail, 18.3; with an example
+  explain  what a number of an answer means, such as 18 or, with its detail, 18.3; with an example
   table    prints the stock name table
 
-  SCHEMA, OLD, NEW    files that hold a schema sheet; one of all files may be -, which is standard
-                      input
-  RULE                files that hold a rule sheet, a template or a rule book; a file that begins
-                      with a digit is a book, and each of its sheets counts as a rule of its own
-  BOOK                a file of sheets, each with its length in bytes and a comma before it
+  SCHEMA, OLD, NEW    files that hold a schema sheet; one of the files named may be -, which is
+                      standard input
+  RULE                files that hold a rule sheet, a template or a rule book, or folders of such
+                      files; a file that begins with a digit is a book, and each of its sheets
+                      counts as a rule of its own
+  FILE                files that hold any of these sheets, or folders of such files
+  BOOK                a file of sheets, each with its length in bytes and a comma before it; for
+                      tally also a folder of files of rules
   PATH                a path of the record's fields, without `$fields.` before it
   TEXT                a text that may be an instant
   --kind KIND         check, tally, wall, upgrade: invariant, precondition, create_template,
                       operation_template, outcome_selector, create_selector, create_set or
-                      create_outcome_template, or as the format spells them (CreateSet)
+                      create_outcome_template, or as the format spells them (CreateSet); check
+                      and upgrade do without it where a list gives each file its kind
   --semantics SEMANTICS
                       kernel/1, service/1, service/2 or service/3
   --reader READER     path: kernel or projection, who will read the path (default: kernel)
@@ -56,19 +60,23 @@ usage: entity-rules check SCHEMA RULE.. --kind KIND --semantics SEMANTICS [OPTIO
                       each kind may read (default: the stock table, which the command `table`
                       prints); it may be -
   --label TEXT        check, wall, upgrade: what each path begins with (default: the file's name
-                      without its end, and, but for wall, in brackets the serial number of a sheet
-                      in a book)
+                      without its extension; for a sheet of a book, except by wall, followed by
+                      its serial number in brackets)
   --constants         check: under a rule that is accepted, its conditions that are always true or
                       always false, since they compare two dates that are written in the rule
   --json              one line of JSON for each rule, path, text, book or pair of schemas, and no
                       summary
-  --sarif             check: one SARIF 2.1.0 log, by which editors and code hosts show defects
-                      where they stand
-  --quiet             print nothing for what is accepted, for a widening and for a rule that fares
-                      as before, and no summary if that is all
+  --sarif             check: one SARIF 2.1.0 log, from which editors and code hosts show defects
+                      in their places
+  --quiet             print nothing for what is accepted, for a widening and for a rule whose
+                      answer is as before, and no summary if that is all
   --                  all words after this are files, paths or texts
   -h, --help          prints this
-  -V, --version       prints which library is linked, too
+  -V, --version       prints the version, and which library is linked
+
+A folder means its files in the order of their names, without hidden ones and without what is in
+folders below it. If it has a file rules.list, each line of that is `FILE KIND` or `FILE KIND LABEL`
+or begins with #. What it says of a file takes precedence over --kind and --label.
 
 Examples, in the crate's folder examples/mill:
   entity-rules check pattern.schema release.rule --kind precondition --semantics service/1
@@ -82,10 +90,11 @@ Examples, in the crate's folder examples/mill:
   entity-rules upgrade pattern.schema wider.schema release.rule misspelt.rule \\
       --kind precondition --semantics service/1
   entity-rules instant 2024-02-29 '2024-02-29 12:00:00.5Z'
+  entity-rules check pattern.schema rules --kind precondition --semantics service/1
 
-Exit status: 0 all are accepted, NEW is a widening, every rule fares as before; 1 one has a defect
-or is no instant, NEW is none, a rule's answer has changed; 2 one is refused or cannot be read, or
-the command line is wrong.
+Exit status: 0 if all are accepted, NEW is a widening, or every rule's answer is as before; 1 if one
+has a defect or is not an instant, NEW is not a widening, or a rule's answer has changed; 2 if one
+is refused or cannot be read, or the command line is wrong.
 
 Colours and a progress bar appear on a terminal only. NO_COLOR, set to anything that is not empty,
 switches the colours off; TERM=dumb switches off both.
@@ -172,7 +181,8 @@ pub struct Output {
 pub enum Asked {
     Rules {
         files: Vec<PathBuf>,
-        kind: Kind,
+        /// The kind of files for which no list gives one.
+        kind: Option<Kind>,
         label: Option<String>,
         table: Option<PathBuf>,
     },
@@ -346,8 +356,7 @@ impl Options {
     }
 
     fn kind(&self, command: &str) -> Result<Kind, String> {
-        self.kind
-            .ok_or_else(|| missing(command, "--kind KIND", Kind::ALL))
+        self.kind.ok_or_else(|| missing_kind(command))
     }
 
     fn semantics(&self, command: &str) -> Result<Semantics, String> {
@@ -409,10 +418,9 @@ impl Options {
         rules: &[OsString],
     ) -> Result<Arguments, String> {
         not_for(command, &[("--reader", self.reader.is_some())])?;
-        let kind = self.kind(command)?;
         let asked = Asked::Rules {
             files: rules.iter().map(PathBuf::from).collect(),
-            kind,
+            kind: self.kind,
             label: self.label.clone(),
             table: self.table.clone(),
         };
@@ -499,9 +507,16 @@ impl Options {
 /// That the command does not take an option that is given.
 fn not_for(command: &str, options: &[(&str, bool)]) -> Result<(), String> {
     match options.iter().find(|(_, is_given)| *is_given) {
-        Some((option, _)) => Err(format!("{command}: {option} is no option of this command")),
+        Some((option, _)) => Err(format!(
+            "{command}: {option} is not an option of this command"
+        )),
         None => Ok(()),
     }
+}
+
+/// That the option `--kind` is missing.
+pub fn missing_kind(command: &str) -> String {
+    missing(command, "--kind KIND", Kind::ALL)
 }
 
 /// That an option is missing, and what it could be.
@@ -548,7 +563,7 @@ mod tests {
             schema: "s".into(),
             asked: Asked::Rules {
                 files: vec!["a".into(), "b".into()],
-                kind: Kind::CreateSelector,
+                kind: Some(Kind::CreateSelector),
                 label: Some("x".to_owned()),
                 table: Some("t".into()),
             },
@@ -603,7 +618,7 @@ mod tests {
         );
         assert_eq!(
             error("path s a --reader store"),
-            "--reader: \"store\" is no reader; expected one of kernel, projection"
+            "--reader: \"store\" is not a known reader; expected one of kernel, projection"
         );
         for (line, option) in [
             ("path s a --kind invariant", "path: --kind"),
@@ -611,7 +626,7 @@ mod tests {
             ("path s a --table t", "path: --table"),
             ("check s r --reader kernel", "check: --reader"),
         ] {
-            let expected = format!("{option} is no option of this command");
+            let expected = format!("{option} is not an option of this command");
             assert_eq!(error(line), expected);
         }
     }
@@ -642,7 +657,7 @@ mod tests {
         }
         for option in ["--label x", "--sarif", "--constants"] {
             let (name, _) = option.split_once(' ').unwrap_or((option, ""));
-            let expected = format!("tally: {name} is no option of this command");
+            let expected = format!("tally: {name} is not an option of this command");
             assert_eq!(error(&format!("tally s b {settings} {option}")), expected);
         }
         assert!(error("tally s b").starts_with("tally: expected --kind KIND, one of"));
@@ -667,7 +682,7 @@ mod tests {
         assert_eq!(label(""), None);
         for option in ["--json", "--quiet", "--reader kernel", "--sarif"] {
             let (name, _) = option.split_once(' ').unwrap_or((option, ""));
-            let expected = format!("wall: {name} is no option of this command");
+            let expected = format!("wall: {name} is not an option of this command");
             assert_eq!(error(&format!("wall s b {settings} {option}")), expected);
         }
         assert_eq!(
@@ -692,7 +707,7 @@ mod tests {
         ] {
             let (name, _) = option.split_once(' ').unwrap_or((option, ""));
             for command in ["book", "show"] {
-                let expected = format!("{command}: {name} is no option of this command");
+                let expected = format!("{command}: {name} is not an option of this command");
                 assert_eq!(error(&format!("{command} a {option}")), expected);
             }
         }
@@ -735,7 +750,7 @@ mod tests {
         ] {
             let (name, _) = option.split_once(' ').unwrap();
             for (command, words) in [("widens", "o n"), ("instant", "a")] {
-                let expected = format!("{command}: {name} is no option of this command");
+                let expected = format!("{command}: {name} is not an option of this command");
                 assert_eq!(error(&format!("{command} {words} {option}")), expected);
             }
         }
@@ -767,11 +782,7 @@ mod tests {
         );
         assert!(
             error("check s r --kind rule")
-                .starts_with("--kind: \"rule\" is no kind; expected one of invariant,")
-        );
-        assert!(
-            error("check s r")
-                .starts_with("check: expected --kind KIND, one of invariant, precondition,")
+                .starts_with("--kind: \"rule\" is not a known kind; expected one of invariant,")
         );
         let without_semantics = error("check s r --kind invariant");
         assert!(
@@ -836,10 +847,10 @@ mod tests {
             error("upgrade o - - --kind invariant --semantics kernel/1"),
             "upgrade: expected `-`, standard input, at most once"
         );
-        assert!(error("upgrade o n r").starts_with("upgrade: expected --kind KIND, one of"));
+        assert!(error("upgrade o n r").starts_with("upgrade: expected --semantics SEMANTICS,"));
         assert_eq!(
             error("upgrade o n r --reader kernel"),
-            "upgrade: --reader is no option of this command"
+            "upgrade: --reader is not an option of this command"
         );
     }
 

@@ -11,7 +11,7 @@ use std::ops::Range;
 /// The part of a text that is at fault.
 #[derive(Debug, PartialEq, Eq)]
 pub struct Blame {
-    /// What stands before it in the text.
+    /// What comes before it in the text.
     pub before: String,
     /// The part itself; empty where something is missing.
     pub part: String,
@@ -20,7 +20,7 @@ pub struct Blame {
     pub help: Option<Help>,
 }
 
-/// What may stand there.
+/// What is possible there.
 #[derive(Debug, PartialEq, Eq)]
 pub enum Help {
     /// This was likely meant.
@@ -35,7 +35,8 @@ impl Help {
             Self::Meant(name) => format!("did you mean {}?", quoted(name)),
             Self::Has(names) => {
                 let names: Vec<String> = names.iter().map(|name| quoted(name)).collect();
-                format!("there is {}", names.join(", "))
+                let verb = if names.len() == 1 { "is" } else { "are" };
+                format!("there {verb} {}", names.join(", "))
             }
         }
     }
@@ -108,7 +109,7 @@ impl Readable<'_> {
         }
     }
 
-    /// A name that cannot be read, or not with a path behind it.
+    /// A name that cannot be read, or not with a path after it.
     fn name(
         &self,
         text: &str,
@@ -232,8 +233,8 @@ impl Walk<'_> {
         let rest = self.text.get(self.start..)?;
         let segment = rest.split('.').next()?;
         let end = self.start.checked_add(segment.len())?;
-        let behind = end.checked_add(1).filter(|_| segment.len() < rest.len());
-        Some((segment, behind))
+        let after = end.checked_add(1).filter(|_| segment.len() < rest.len());
+        Some((segment, after))
     }
 
     fn blame(&self, what: String, help: Option<Help>) -> Option<Blame> {
@@ -244,17 +245,17 @@ impl Walk<'_> {
 
     /// What follows the segment is at fault.
     fn blame_rest(&self, what: String) -> Option<Blame> {
-        let (_, behind) = self.segment()?;
-        Blame::new(self.text, behind?..self.text.len(), what, None)
+        let (_, after) = self.segment()?;
+        Blame::new(self.text, after?..self.text.len(), what, None)
     }
 
     /// From the record or the arguments on.
     fn root(self, root: &Holder) -> Option<Blame> {
-        let (segment, behind) = self.segment()?;
+        let (segment, after) = self.segment()?;
         if segment.is_empty() {
             return self.empty();
         }
-        match (root.property(segment), behind) {
+        match (root.property(segment), after) {
             (Some(field), Some(start)) => Walk { start, ..self }.member(field),
             (Some(_), None) => None,
             (None, _) => {
@@ -276,8 +277,8 @@ impl Walk<'_> {
     fn member(mut self, field: &Holder) -> Option<Blame> {
         let mut field = field;
         loop {
-            let (segment, behind) = self.segment()?;
-            match (next(field, segment), behind) {
+            let (segment, after) = self.segment()?;
+            match (next(field, segment), after) {
                 _ if segment.is_empty() => return self.empty(),
                 (Some(member), Some(start)) => (field, self.start) = (member, start),
                 _ => return self.stops(field),

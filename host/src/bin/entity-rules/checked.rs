@@ -4,6 +4,7 @@ use crate::arguments::{Arguments, Asked, Output};
 use crate::blame::{self, Blame, Readable};
 use crate::constant::{self, Always};
 use crate::files::{Fault, NoSheet, Rule, Rules, Sheet, Unreadable, fault, read_sheet};
+use crate::folders::Settings;
 use crate::hint::{hint, no_member};
 use crate::outline::reached;
 use crate::region::Region;
@@ -38,7 +39,7 @@ pub enum Subject<'a> {
 
 impl Subject<'_> {
     /// What paths begin with where the command line does not say it: a file's name without its end, with the serial number of a sheet in a book.
-    /// A name that is no UTF-8 is no label, which is the library's to say.
+    /// A name that is not UTF-8 cannot be a label, which is for the library to say.
     pub fn label(self) -> Vec<u8> {
         let stem = |file: &Path| {
             let stem = file.file_stem().unwrap_or_default();
@@ -79,15 +80,19 @@ impl<'a> Question<'a> {
 
 impl Asked {
     /// Each question, in the order given; the rules are those of the files that it names.
-    pub fn questions<'a>(&'a self, rules: &'a Rules<'_>) -> Vec<Question<'a>> {
+    pub fn questions<'a>(&'a self, rules: &'a Rules<Settings>) -> Vec<Question<'a>> {
         match self {
-            Self::Rules { kind, label, .. } => {
-                let (kind, label) = (*kind, label.as_deref());
-                let question = |rule| match rule {
-                    Ok(rule) => Question::Rule { rule, kind, label },
+            Self::Rules { .. } => {
+                let all = rules.all().into_iter();
+                all.map(|(rule, settings)| match rule {
+                    Ok(rule) => Question::Rule {
+                        rule,
+                        kind: settings.kind,
+                        label: settings.label.as_deref(),
+                    },
                     Err((file, why)) => Question::NoRule { file, why },
-                };
-                rules.all().into_iter().map(question).collect()
+                })
+                .collect()
             }
             Self::Keys { paths, reader } => {
                 let reader = *reader;

@@ -24,13 +24,13 @@ pub fn all(label: &[u8], rule: Rule<'_>, constants: &[Constant]) -> Vec<Always> 
     let entries = read_rule(rule.bytes).unwrap_or_default();
     let always = |constant: &Constant| {
         let place = usize::try_from(constant.entry).ok()?;
-        let behind = entries.get(place.checked_sub(1)?..)?;
+        let after = entries.get(place.checked_sub(1)?..)?;
         Some(Always {
             holds: constant.holds,
             place: constant.entry,
-            line: rule.line_of(behind.first()?.byte),
+            line: rule.line_of(after.first()?.byte),
             path: format!("{label}{}", reached(&entries, constant.entry)?.path),
-            text: condition(behind)?,
+            text: condition(after)?,
         })
     };
     constants.iter().filter_map(always).collect()

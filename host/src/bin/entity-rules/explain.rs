@@ -121,14 +121,12 @@ fn mend(number: u32) -> &'static str {
         }
         4 => "The tool names the line, the entry and the byte, and what was expected there.",
         5 => {
-            "The tool names the line, the entry and the byte, and what was expected there. rulecheck_rule refuses templates so, and rulecheck_template rules."
+            "The tool names the line, the entry and the byte, and what was expected there. rulecheck_rule also answers 5 to a template, and rulecheck_template to a rule."
         }
         11 => "Give the rule a name that is not all white space, or none.",
         12 => "Give the rule a message that is not all white space, or none.",
-        13 => {
-            "Conditions may stand 32 deep in one another; `all` and `any` take many side by side."
-        }
-        14 => "A number must be below 2^1024 - 2^970 in magnitude, so that it can be a binary64.",
+        13 => "Conditions may nest 32 deep; `all` and `any` take many side by side.",
+        14 => "A number must be below 2^1024 - 2^970 in magnitude, so that it fits a binary64.",
         15 => {
             "`compare`, `truthy`, `for_all` and `for_any` need service/1, service/2 or service/3."
         }
@@ -137,9 +135,9 @@ fn mend(number: u32) -> &'static str {
             "Compare something that is neither an array nor an object, such as one of its members."
         }
         18 => {
-            "Read a name that the kind may read, and behind it what the schema declares. `entity-rules table` prints which kind may read which name."
+            "Read a name that the kind may read, followed by what the schema declares. `entity-rules table` prints which kind may read which name."
         }
-        19 => "Both operands must be strings; references are.",
+        19 => "Both operands must be strings; a reference is one.",
         20 => {
             "An instant is YYYY-MM-DD or YYYY-MM-DDTHH:MM:SS, with up to 9 digits of a second and a Z if wanted."
         }

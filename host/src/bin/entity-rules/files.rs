@@ -1,6 +1,7 @@
 //! The files that the command line names, and where they are not what they should be.
 
 use crate::checked::Subject;
+use crate::folders::RuleFile;
 use crate::region::{Position, Region};
 use entity_rules::entries::{Entry, Malformed, read_rule};
 use entity_rules::limits::{MAX_SHEET_BYTES, MAX_TEXT_BYTES};
@@ -35,7 +36,7 @@ pub struct Fault {
     pub at: Position,
     /// The entry of the sheet, or the sheet of the book.
     pub place: usize,
-    /// How many bytes of the sheet or book stand before the fault.
+    /// How many bytes of the sheet or book come before the fault.
     pub byte: usize,
     /// All of it in words.
     pub told: String,
@@ -90,7 +91,7 @@ pub struct Rule<'a> {
 }
 
 impl<'a> Rule<'a> {
-    /// What a file holds that is no book.
+    /// What a file holds that is not a book.
     pub fn of_file(file: &'a Path, bytes: &'a [u8]) -> Self {
         Self {
             subject: Subject::File(file),
@@ -100,14 +101,14 @@ impl<'a> Rule<'a> {
         }
     }
 
-    /// The line of the file on which a byte of the sheet stands.
+    /// The line of the file that a byte of the sheet is on.
     pub fn line_of(&self, byte: usize) -> usize {
-        Position::new(self.bytes, byte).behind(self.start).line
+        Position::new(self.bytes, byte).after(self.start).line
     }
 
-    /// Where in the file an entry stands that begins at a byte of the sheet, or this part of its text.
+    /// Where in the file an entry is that begins at a byte of the sheet, or this part of its text.
     pub fn region(&self, entry: usize, part: Option<(usize, usize)>) -> Region {
-        Region::of_entry(self.bytes, entry, part).behind(self.start)
+        Region::of_entry(self.bytes, entry, part).after(self.start)
     }
 
     /// Where it stops being a rule sheet.
@@ -122,49 +123,58 @@ impl<'a> Rule<'a> {
             Subject::InBook { serial, .. } => format!("sheet {serial}, {}", fault.told),
             _ => fault.told,
         };
-        let at = fault.at.behind(self.start);
+        let at = fault.at.after(self.start);
         Some(Fault { at, told, ..fault })
     }
 }
 
-/// Files of rules, each a sheet or a book.
-pub struct Rules<'a>(Vec<(&'a Path, Result<Vec<u8>, NoSheet>)>);
+/// A sheet of a rule or template, or the file that has none, and why.
+pub type RuleOrNone<'a> = Result<Rule<'a>, (&'a Path, &'a NoSheet)>;
 
-impl<'a> Rules<'a> {
+/// What a file holds: a sheet, or a book that is of its form.
+type Held = Result<Vec<u8>, NoSheet>;
+
+/// Files of rules with their settings.
+pub struct Rules<S>(Vec<(RuleFile<S>, Held)>);
+
+impl<S> Rules<S> {
     /// As much of each sheet as its check needs, and all of a book.
-    pub fn read(files: &'a [PathBuf]) -> Self {
+    pub fn read(files: Vec<RuleFile<S>>) -> Self {
         Self::read_by(files, |file| read_sheet(file, Sheet::Rule))
     }
 
     /// The same of files that may hold other sheets instead.
-    pub fn read_any(files: &'a [PathBuf]) -> Self {
+    pub fn read_any(files: Vec<RuleFile<S>>) -> Self {
         Self::read_by(files, |file| read_sheet(file, Sheet::Any))
     }
 
     /// All of each file, however long.
-    pub fn read_whole(files: &'a [PathBuf]) -> Self {
+    pub fn read_whole(files: Vec<RuleFile<S>>) -> Self {
         Self::read_by(files, |file| read_by(file, Sheet::Rule, all))
     }
 
-    fn read_by(files: &'a [PathBuf], read: impl Fn(&Path) -> Result<Vec<u8>, Unreadable>) -> Self {
-        let files = files.iter().map(PathBuf::as_path);
-        Self(
-            files
-                .map(|file| (file, rules_of(file, read(file))))
-                .collect(),
-        )
+    fn read_by(
+        files: Vec<RuleFile<S>>,
+        read: impl Fn(&Path) -> Result<Vec<u8>, Unreadable>,
+    ) -> Self {
+        let read = |file: RuleFile<S>| {
+            let rules = rules_of(&file.file, read(&file.file));
+            (file, rules)
+        };
+        Self(files.into_iter().map(read).collect())
     }
 
-    /// Every sheet in the order given, or why a file has none.
-    pub fn all(&self) -> Vec<Result<Rule<'_>, (&Path, &NoSheet)>> {
+    /// Every sheet in the order given, or why a file has none; with the settings of its file.
+    pub fn all(&self) -> Vec<(RuleOrNone<'_>, &S)> {
         let mut all = Vec::new();
-        for &(file, ref read) in &self.0 {
+        for (RuleFile { file, settings }, read) in &self.0 {
             match read {
                 Ok(bytes) if is_book(bytes) => {
-                    all.extend(sheets(file, bytes).into_iter().map(Ok));
+                    let sheets = sheets(file, bytes).into_iter();
+                    all.extend(sheets.map(|sheet| (Ok(sheet), settings)));
                 }
-                Ok(bytes) => all.push(Ok(Rule::of_file(file, bytes))),
-                Err(no_sheet) => all.push(Err((file, no_sheet))),
+                Ok(bytes) => all.push((Ok(Rule::of_file(file, bytes)), settings)),
+                Err(no_sheet) => all.push((Err((&**file, no_sheet)), settings)),
             }
         }
         all
@@ -177,7 +187,7 @@ fn is_book(file: &[u8]) -> bool {
 }
 
 /// The bytes of a sheet, or of a book that is of its form.
-fn rules_of(file: &Path, read: Result<Vec<u8>, Unreadable>) -> Result<Vec<u8>, NoSheet> {
+fn rules_of(file: &Path, read: Result<Vec<u8>, Unreadable>) -> Held {
     let bytes = read?;
     match Book::read(&bytes) {
         Err(error) if is_book(&bytes) => Err(NoSheet::Refused {
@@ -194,7 +204,7 @@ fn sheets<'a>(file: &'a Path, book: &'a [u8]) -> Vec<Rule<'a>> {
     let sheets = Book::read(book).unwrap_or_default().into_iter().zip(1..);
     let rule = |(sheet, serial): (BookSheet<'a>, usize)| {
         let between = book.get(before..sheet.byte).unwrap_or_default();
-        start = Position::new(between, between.len()).behind(start);
+        start = Position::new(between, between.len()).after(start);
         before = sheet.byte;
         Rule {
             subject: Subject::InBook { book: file, serial },

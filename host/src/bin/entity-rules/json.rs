@@ -176,7 +176,7 @@ impl Object {
         self.string(text);
     }
 
-    /// A word of the command line. Where it is no UTF-8, its bytes follow in hexadecimal, since JSON has no room for them.
+    /// A word of the command line. Where it is not UTF-8, its bytes follow in hexadecimal, since JSON has no room for them.
     pub fn given(&mut self, key: &str, word: &OsStr) {
         match word.to_str() {
             Some(text) => self.text(key, text),

@@ -19,6 +19,7 @@ mod checked;
 mod constant;
 mod explain;
 mod files;
+mod folders;
 mod hint;
 mod json;
 mod near;
@@ -38,6 +39,7 @@ use arguments::{Arguments, Asked, BookRun, Command, Instants, Output, Pair, Upgr
 use checked::{Checked, Shared, Subject};
 use entity_rules::{Book, Table};
 use files::{Rules, Sheet, read_sheet};
+use folders::{NotSettled, Settings, expand, settle};
 use progress::Progress;
 use report::{Counts, Palette};
 use sarif::Log;
@@ -45,6 +47,7 @@ use std::env;
 use std::io::{self, ErrorKind, IsTerminal, Write};
 use std::path::{Path, PathBuf};
 use std::process::ExitCode;
+use std::slice;
 use tallied::{Tallied, Walled};
 use upgraded::{Fates, Upgraded};
 use widened::{Compared, Comparison};
@@ -55,7 +58,7 @@ const REFUSED: u8 = 2;
 fn main() -> ExitCode {
     let status = match arguments::parse(env::args_os().skip(1)) {
         Ok(command) => run(&command),
-        Err(message) => Ok(complain(&format!("{message}\nTry `entity-rules --help`."))),
+        Err(message) => Ok(misused(&message)),
     };
     ExitCode::from(status.unwrap_or_else(|error| match error.kind() {
         // Whoever read the output has seen enough.
@@ -68,6 +71,11 @@ fn main() -> ExitCode {
 fn complain(message: &str) -> u8 {
     let _ = writeln!(io::stderr(), "entity-rules: {message}");
     REFUSED
+}
+
+/// Says what was expected on the command line instead.
+fn misused(message: &str) -> u8 {
+    complain(&format!("{message}\nTry `entity-rules --help`."))
 }
 
 fn run(command: &Command) -> io::Result<u8> {
@@ -99,10 +107,14 @@ fn run(command: &Command) -> io::Result<u8> {
 /// Prints every sheet as a tree, under its name where there are several.
 fn show_sheets(files: &[PathBuf], out: &mut impl Write) -> io::Result<u8> {
     let palette = Palette::new(io::stdout().is_terminal());
+    let files = match expand(files) {
+        Ok(files) => files,
+        Err(message) => return Ok(complain(&message)),
+    };
     let sheets = Rules::read_any(files);
     let sheets = sheets.all();
     let (is_named, mut status) = (sheets.len() > 1, 0);
-    for sheet in sheets {
+    for (sheet, _) in sheets {
         let (subject, shown) = match sheet {
             Ok(sheet) => (sheet.subject, show::text(sheet)),
             Err((file, why)) => (Subject::File(file), Err(why.clone())),
@@ -122,12 +134,28 @@ fn show_sheets(files: &[PathBuf], out: &mut impl Write) -> io::Result<u8> {
     Ok(status)
 }
 
-/// The files of rules that are named, read.
-fn rules(arguments: &Arguments) -> Rules<'_> {
-    Rules::read(match &arguments.asked {
-        Asked::Rules { files, .. } => files,
-        Asked::Keys { .. } => &[],
-    })
+/// The files of rules that a command names, read; or the exit status where one has no kind or a folder cannot be read.
+fn rules(command: &str, asked: &Asked) -> Result<Rules<Settings>, u8> {
+    let files = match asked {
+        Asked::Rules {
+            files, kind, label, ..
+        } => settle(files, *kind, label.as_deref()),
+        Asked::Keys { .. } => Ok(Vec::new()),
+    };
+    let rules = files.map(Rules::read);
+    rules.map_err(|why| not_settled(command, why))
+}
+
+/// Says why files cannot be checked.
+fn not_settled(command: &str, why: NotSettled) -> u8 {
+    match why {
+        NotSettled::Folder(message) => complain(&message),
+        NotSettled::Kind(line) => {
+            let expected = arguments::missing_kind(command);
+            let line = line.map(|line| format!("; or {line}")).unwrap_or_default();
+            misused(&format!("{expected}{line}"))
+        }
+    }
 }
 
 /// A bar for several of what the noun says.
@@ -138,7 +166,11 @@ fn bar(total: usize, noun: &'static str) -> Progress<io::Stderr> {
 
 /// Checks every rule or path, and prints what comes of it.
 fn check(arguments: &Arguments, out: &mut impl Write) -> io::Result<u8> {
-    let (shared, rules) = (Shared::of(arguments), rules(arguments));
+    let rules = match rules("check", &arguments.asked) {
+        Ok(rules) => rules,
+        Err(status) => return Ok(status),
+    };
+    let shared = Shared::of(arguments);
     let questions = arguments.asked.questions(&rules).into_iter();
     let all = questions.map(|question| Checked::new(arguments, &shared, question));
     print(all, arguments.asked.noun(), arguments.output, out)
@@ -188,9 +220,13 @@ fn print<'a>(
     Ok(status)
 }
 
-/// Tallies a rule book, and prints what comes of it.
+/// Tallies a rule book, or the files of a folder, and prints what comes of it.
 fn tally(asked: &BookRun, out: &mut impl Write) -> io::Result<u8> {
-    let tallied = Tallied::new(asked, |sheets| bar(sheets, "sheets"));
+    let files = match settle(slice::from_ref(&asked.book), Some(asked.kind), None) {
+        Ok(files) => files,
+        Err(why) => return Ok(not_settled("tally", why)),
+    };
+    let tallied = Tallied::new(asked, files, |sheets| bar(sheets, "sheets"));
     let status = tallied.status();
     if !(asked.output.quiet && status == 0) {
         let palette = Palette::new(io::stdout().is_terminal());
@@ -219,21 +255,28 @@ fn wall(asked: &BookRun, out: &mut impl Write) -> io::Result<u8> {
     }
 }
 
-/// Writes the book of the sheets in these files, or nothing if one of them cannot be read. A sheet that is none is noted.
+/// Writes the book of the sheets in these files, or nothing if one of them cannot be read. A sheet that is not well formed is noted.
 fn book(files: &[PathBuf], out: &mut impl Write) -> io::Result<u8> {
     if io::stdout().is_terminal() {
         let expected =
             "expected standard output to be a file, as in `entity-rules book RULE.. > BOOK`";
         return Ok(complain(&format!("book: {expected}")));
     }
+    let files = match expand(files) {
+        Ok(files) => files,
+        Err(message) => return Ok(complain(&message)),
+    };
     let mut book = Book::new();
-    for rule in Rules::read_whole(files).all() {
+    for (rule, _) in Rules::read_whole(files).all() {
         match rule {
             Ok(rule) => {
                 book.extend([rule.bytes]);
                 if let Some(fault) = rule.fault() {
                     let place = report::name(fault.file.as_os_str());
-                    let note = format!("{place}:{}: written, though no rule sheet", fault.at.line);
+                    let note = format!(
+                        "{place}:{}: written, though it is not a rule sheet",
+                        fault.at.line
+                    );
                     complain(&format!("{note}: {}", fault.told));
                 }
             }
@@ -272,6 +315,10 @@ fn show_compared(compared: &Compared, output: Output, out: &mut impl Write) -> i
 fn upgrade(asked: &Upgrade, out: &mut impl Write) -> io::Result<u8> {
     let (arguments, files) = (&asked.check, [&*asked.check.schema, &*asked.new]);
     let [old_file, new_file] = files;
+    let rules = match rules("upgrade", &arguments.asked) {
+        Ok(rules) => rules,
+        Err(status) => return Ok(status),
+    };
     let shared = Shared::of(arguments);
     let new = read_sheet(new_file, Sheet::Schema);
     let compared = match (shared.schema(), &new) {
@@ -284,30 +331,27 @@ fn upgrade(asked: &Upgrade, out: &mut impl Write) -> io::Result<u8> {
     let is_widening = matches!(compared.comparison, Comparison::Widening { .. });
     match new {
         Ok(new) if compared.status() < REFUSED => {
-            upgrade_rules(arguments, &shared, files, &new, is_widening, out)
+            let questions = arguments.asked.questions(&rules);
+            let fares = |question| Upgraded::new(arguments, &shared, &new, is_widening, question);
+            upgrade_rules(arguments, questions.into_iter().map(fares), files, out)
         }
         _ => Ok(REFUSED),
     }
 }
 
 /// Prints how every rule fares.
-fn upgrade_rules(
+fn upgrade_rules<'a>(
     arguments: &Arguments,
-    shared: &Shared,
+    all: impl ExactSizeIterator<Item = Upgraded<'a>>,
     files: [&Path; 2],
-    new: &[u8],
-    is_widening: bool,
     out: &mut impl Write,
 ) -> io::Result<u8> {
     let output = arguments.output;
-    let rules = rules(arguments);
-    let questions = arguments.asked.questions(&rules);
-    let total = questions.len();
+    let total = all.len();
     let palette = Palette::new(io::stdout().is_terminal());
     let mut progress = bar(total, arguments.asked.noun());
     let mut fates = Fates::default();
-    for question in questions {
-        let upgraded = Upgraded::new(arguments, shared, new, is_widening, question);
+    for upgraded in all {
         let is_last = !output.json && upgraded.blames_what_is_shared();
         fates.count(&upgraded.fate);
         if !(output.quiet && upgraded.is_as_before()) {

@@ -1,4 +1,4 @@
-//! A sheet as a tree, read for people: where an entry stands, how it is reached, and which binds can be read there.
+//! A sheet as a tree, read for people: the place of an entry, how it is reached, and which binds can be read there.
 
 use entity_rules::Operator;
 use entity_rules::entries::{Content, Entry};
@@ -16,7 +16,7 @@ pub struct Reached<'a> {
 #[derive(Clone, Copy, Debug, PartialEq, Eq)]
 pub struct Binder<'a> {
     pub bind: &'a str,
-    /// The text of `in`; empty where it is no string.
+    /// The text of `in`; empty where it is not a string.
     pub over: &'a str,
 }
 
@@ -28,7 +28,7 @@ struct Frame<'a> {
     over: &'a str,
 }
 
-/// Where an entry stands.
+/// The place of an entry.
 pub struct Standing<'a> {
     /// How many entries it lies below.
     pub depth: usize,
@@ -49,7 +49,7 @@ pub fn reached<'a>(entries: &[Entry<'a>], place: u32) -> Option<Reached<'a>> {
     })
 }
 
-/// Where each entry stands, in a sheet that is well formed.
+/// The place of each entry, in a sheet that is well formed.
 pub fn standings<'a>(entries: &[Entry<'a>]) -> Vec<Standing<'a>> {
     let mut frames: Vec<Frame<'a>> = Vec::new();
     let standing = |entry: &Entry<'a>| {

@@ -53,7 +53,7 @@ impl<W: Write> Progress<W> {
         }
     }
 
-    /// Takes the bar off the terminal, before something else is printed. A bar that cannot be written is no reason to stop.
+    /// Takes the bar off the terminal, before something else is printed. A bar that cannot be written is not a reason to stop.
     pub fn clear(&mut self) {
         if std::mem::take(&mut self.is_drawn) {
             let _ = self.out.write_all(b"\r\x1b[K");

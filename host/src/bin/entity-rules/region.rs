@@ -21,10 +21,10 @@ impl Region {
     }
 
     /// The same in the file in which its sheet begins at this place.
-    pub fn behind(self, start: Position) -> Self {
+    pub fn after(self, start: Position) -> Self {
         Self {
-            start: self.start.behind(start),
-            end: self.end.behind(start),
+            start: self.start.after(start),
+            end: self.end.after(start),
         }
     }
 
@@ -44,7 +44,7 @@ impl Region {
             .iter()
             .zip(1_usize..)
             .filter(|(byte, _)| **byte == b',');
-        let text = length(&mut commas.map(|(_, behind)| behind).skip(2));
+        let text = length(&mut commas.map(|(_, after)| after).skip(2));
         let line = length(&mut tail.iter().position(|&byte| byte == b'\n').into_iter());
         let bytes = match part {
             Some((before, part)) => {
@@ -75,7 +75,7 @@ impl Position {
     }
 
     /// The same in the file in which its sheet begins at this place.
-    pub fn behind(self, start: Self) -> Self {
+    pub fn after(self, start: Self) -> Self {
         let sum = |start: usize, own: usize| start.saturating_add(own).saturating_sub(1);
         Self {
             line: sum(start.line, self.line),
@@ -110,8 +110,8 @@ mod tests {
         for byte in 0..5 {
             let start = Position::new(file, 6);
             let place = Position::new(&file[6..], byte);
-            assert_eq!(place.behind(start), Position::new(file, 6 + byte));
-            assert_eq!(place.behind(Position::START), place);
+            assert_eq!(place.after(start), Position::new(file, 6 + byte));
+            assert_eq!(place.after(Position::START), place);
         }
     }
 

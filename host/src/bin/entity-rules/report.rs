@@ -38,10 +38,10 @@ impl Palette {
     }
 }
 
-/// What is said of a text that is no instant.
-pub const NO_INSTANT: &str = "the text is no instant";
+/// What is said of a text that is not an instant.
+pub const NO_INSTANT: &str = "the text is not an instant";
 
-/// What is printed for one rule, path or text. A sheet that is at fault is named itself, be it the rule's, the schema's or the table's.
+/// What is printed for one rule, path or text. A sheet that is at fault is named itself: the rule's, the schema's or the table's.
 pub fn text(palette: &Palette, checked: &Checked) -> String {
     let subject = subject(checked.subject);
     match &checked.outcome {
@@ -184,7 +184,7 @@ pub fn explained(explanation: String, blame: Option<&Blame>) -> String {
     })
 }
 
-/// Marks under the part at fault, behind what is printed before it, and what helps.
+/// Marks under the part at fault, after as many blanks as what is before it takes, and what helps.
 fn marks(before: &str, part: &str, blame: &Blame) -> String {
     let marks = "^".repeat(columns(part).max(1));
     let help = blame.help.as_ref().map(|help| format!(" {}", help.text()));
@@ -256,7 +256,9 @@ fn string_marks(spot: &Spot, blame: &Blame) -> String {
 pub fn refused(refusal: Refusal, fault: Option<&Fault>) -> String {
     match (refusal, fault) {
         (_, Some(fault)) => fault.told.clone(),
-        (Refusal::Label, None) => format!("{refusal}; expected another, as by --label"),
+        (Refusal::Label, None) => {
+            format!("{refusal}; expected another label, for instance by --label")
+        }
         (refusal, None) => refusal.to_string(),
     }
 }

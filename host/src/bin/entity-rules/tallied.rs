@@ -2,13 +2,15 @@
 
 use crate::arguments::BookRun;
 use crate::checked::{Checked, Outcome, Shared, Subject};
-use crate::files::{Fault, NoSheet, Sheet, fault, read_sheet};
+use crate::files::{Fault, NoSheet, Rules, Sheet, fault, read_sheet};
+use crate::folders::{RuleFile, Settings};
 use crate::json::{Object, fault_members, outcome_members, subject_member};
 use crate::progress::Progress;
 use crate::report::{self, Colour, Palette, refused_text};
 use entity_rules::entries::read_schema;
-use entity_rules::{Book, BookSheet, Check, DefectNumber, Refusal, Tally};
+use entity_rules::{Book, BookSheet, Check, DefectNumber, Kind, Refusal, Tally};
 use std::io::Write;
+use std::path::Path;
 
 /// So many sheets are tallied by one call, between which a bar can show how far it is. The schema is read once in each.
 const PART: usize = 256;
@@ -40,11 +42,15 @@ impl Counted {
 }
 
 impl<'a> Tallied<'a> {
-    /// Reads what is asked for and tallies it; the bar is for that many sheets.
-    pub fn new<W: Write>(asked: &'a BookRun, bar: impl FnOnce(usize) -> Progress<W>) -> Self {
+    /// Reads what is asked for, a book or these files of a folder, and tallies it; the bar is for that many sheets.
+    pub fn new<W: Write>(
+        asked: &'a BookRun,
+        files: Vec<RuleFile<Settings>>,
+        bar: impl FnOnce(usize) -> Progress<W>,
+    ) -> Self {
         Self {
             subject: Subject::File(&asked.book),
-            result: counted(asked, bar),
+            result: counted(asked, files, bar),
         }
     }
 
@@ -79,28 +85,64 @@ impl<'a> Tallied<'a> {
 
 fn counted<W: Write>(
     asked: &BookRun,
+    files: Vec<RuleFile<Settings>>,
     bar: impl FnOnce(usize) -> Progress<W>,
 ) -> Result<Counted, NoSheet> {
     let read = Read::new(asked)?;
-    let parts = parts(&read.book);
-    let mut progress = bar(parts.iter().map(|(_, sheets)| sheets).sum());
-    let tallied = parts.into_iter().map(|(part, sheets)| {
-        let tally = read.check(b"").tally(&read.schema, part);
-        progress.steps(sheets);
-        tally
+    let books = match files.as_slice() {
+        [file] if file.file == asked.book => vec![(asked.kind, read_book(&asked.book)?)],
+        _ => books(files)?,
+    };
+    let parts = books.iter().flat_map(|(kind, book)| {
+        let parts = parts(book).into_iter();
+        parts.map(|(part, sheets)| (*kind, part, sheets))
     });
-    let tally = tallied.sum::<Result<Tally, Refusal>>();
+    let parts: Vec<(Kind, &[u8], usize)> = parts.collect();
+    let mut progress = bar(parts.iter().map(|(_, _, sheets)| sheets).sum());
+    let tallied = parts.into_iter().map(|(kind, part, sheets)| {
+        let tally = read.check(kind, b"").tally(&read.schema, part);
+        progress.steps(sheets);
+        tally.map_err(|refusal| refused(&asked.book, part, refusal))
+    });
+    let tally = tallied.sum::<Result<Tally, NoSheet>>();
     progress.clear();
-    read.counted(tally)
+    Ok(read.counted(tally?))
 }
 
-/// The files that a command about a book names.
+fn read_book(file: &Path) -> Result<Vec<u8>, NoSheet> {
+    Ok(read_sheet(file, Sheet::Book)?)
+}
+
+/// The sheets of these files as books, one for each run of sheets of the same kind; or why a file has none.
+fn books(files: Vec<RuleFile<Settings>>) -> Result<Vec<(Kind, Vec<u8>)>, NoSheet> {
+    let rules = Rules::read_whole(files);
+    let mut sheets = Vec::new();
+    for (rule, settings) in rules.all() {
+        sheets.push((settings.kind, rule.map_err(|(_, why)| why.clone())?.bytes));
+    }
+    let runs = sheets.chunk_by(|(kind, _), (next, _)| kind == next);
+    let book = |run: &[(Kind, &[u8])]| {
+        let book: Book = run.iter().map(|(_, sheet)| sheet).collect();
+        Some((run.first()?.0, book.bytes().to_vec()))
+    };
+    Ok(runs.filter_map(book).collect())
+}
+
+/// A refusal of a book, with its fault if it is that one.
+fn refused(file: &Path, book: &[u8], refusal: Refusal) -> NoSheet {
+    let fault = match (refusal, Book::read(book)) {
+        (Refusal::BookForm, Err(error)) => Some(Fault::of_book(file, book, &error)),
+        _ => None,
+    };
+    NoSheet::Refused { refusal, fault }
+}
+
+/// What a command about a book names besides the book.
 struct Read<'a> {
     asked: &'a BookRun,
     /// The name table as it is lent.
     table: Vec<u8>,
     schema: Vec<u8>,
-    book: Vec<u8>,
 }
 
 impl<'a> Read<'a> {
@@ -111,36 +153,20 @@ impl<'a> Read<'a> {
             asked,
             table: names.lent.clone(),
             schema: schema.to_vec(),
-            book: read_sheet(&asked.book, Sheet::Book)?,
         })
     }
 
-    fn check<'b>(&'b self, label: &'b [u8]) -> Check<'b> {
-        let BookRun {
-            kind, semantics, ..
-        } = self.asked;
-        Check::new(*kind, *semantics, label).table(&self.table)
-    }
-
-    /// A refusal, with the book's fault if it is that one.
-    fn refused(&self, refusal: Refusal) -> NoSheet {
-        let fault = match (refusal, Book::read(&self.book)) {
-            (Refusal::BookForm, Err(error)) => {
-                Some(Fault::of_book(&self.asked.book, &self.book, &error))
-            }
-            _ => None,
-        };
-        NoSheet::Refused { refusal, fault }
+    fn check<'b>(&'b self, kind: Kind, label: &'b [u8]) -> Check<'b> {
+        Check::new(kind, self.asked.semantics, label).table(&self.table)
     }
 
     /// A tally, with the schema's fault if sheets are refused for that.
-    fn counted(&self, tally: Result<Tally, Refusal>) -> Result<Counted, NoSheet> {
-        let tally = tally.map_err(|refusal| self.refused(refusal))?;
+    fn counted(&self, tally: Tally) -> Counted {
         let fault = match tally.schema_refused {
             0 => None,
             _ => fault(&self.asked.schema, &self.schema, read_schema),
         };
-        Ok(Counted { tally, fault })
+        Counted { tally, fault }
     }
 }
 
@@ -160,9 +186,12 @@ impl Walled {
         let label = asked.label.as_deref().map_or(&*own, str::as_bytes);
         let walled = || {
             let read = Read::new(asked)?;
-            let counted = read.counted(read.check(label).tally(&read.schema, &read.book))?;
-            let pages = read.check(label).wall(&read.schema, &read.book);
-            Ok((pages.map_err(|refusal| read.refused(refusal))?, counted))
+            let book = read_book(&asked.book)?;
+            let check = read.check(asked.kind, label);
+            let refused = |refusal| refused(&asked.book, &book, refusal);
+            let tally = check.tally(&read.schema, &book).map_err(refused)?;
+            let pages = check.wall(&read.schema, &book).map_err(refused)?;
+            Ok((pages, read.counted(tally)))
         };
         let plain = Palette::new(false);
         let (pages, counted) = walled().map_err(|why: NoSheet| {
@@ -188,7 +217,7 @@ fn nothing(subject: &str) -> String {
     format!("{subject}: no sheets, nothing to check\n")
 }
 
-/// The book in parts that are books, each with the number of its sheets; all of it where it has none or is no book, for the library to say so.
+/// The book in parts that are books, each with the number of its sheets; all of it where it has none or is not a book, for the library to say so.
 fn parts(book: &[u8]) -> Vec<(&[u8], usize)> {
     let sheets = Book::read(book).unwrap_or_default();
     if sheets.is_empty() {

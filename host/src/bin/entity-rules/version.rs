@@ -7,6 +7,8 @@ use entity_rules::identity;
 pub fn text() -> (String, bool) {
     let linked = identity();
     let mut lines = vec![format!("entity-rules {}", env!("CARGO_PKG_VERSION"))];
+    let [_, major, minor, patch] = entity_rules::raw::version().to_be_bytes();
+    lines.push(format!("  functions {major}.{minor}.{patch}"));
     lines.push(format!("  library   SHA-256 {}", linked.sha256));
     match linked.packed {
         Some(packed) => {

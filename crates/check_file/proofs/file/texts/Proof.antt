@@ -1,4 +1,4 @@
--- `check_file::file::texts` meets its contract: counts that do not add up, no line end behind the label, or the three texts.
+-- `check_file::file::texts` meets its contract: counts that do not add up, no line end after the label, or the three texts.
 use Prim.Native.Nat.{_+_}
 use Rattle.check_file.proofs.Apart.{placed-length, placed-byte, placed-all}
 use native.Mathlib.Omega.{arith}

@@ -1,4 +1,4 @@
--- `check_file::line::write_line` meets its contract: eight writes, one behind the other.
+-- `check_file::line::write_line` meets its contract: eight writes, one after the other.
 use lib.ListN.{take}
 use Rattle.check_file.proofs.Writing.{wrote-line}
 use borrow.Author.Needs.{needs}

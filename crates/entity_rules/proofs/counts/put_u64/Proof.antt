@@ -1,4 +1,4 @@
--- `entity_rules::counts::put_u64` meets its contract: two halves, one behind the other.
+-- `entity_rules::counts::put_u64` meets its contract: two halves, one after the other.
 use mathlib.Core.Path.{refl}
 use Rattle.entity_rules.proofs.CountSteps.{long-written}
 use borrow.Author.Needs.{needs}

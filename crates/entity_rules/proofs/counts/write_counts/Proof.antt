@@ -1,4 +1,4 @@
--- `entity_rules::counts::write_counts` meets its contract. The first `i` numbers stand. The measure is how many are left.
+-- `entity_rules::counts::write_counts` meets its contract. The first `i` numbers are written. The measure is how many are left.
 use Prim.Native.Nat.{_≤_, _-_, _*_}
 use lib.ListN.{length, take}
 use Rattle.buffer.specs.Wrote.{Wrote}

@@ -1,4 +1,4 @@
--- `entity_rules::report::write_report` meets its contract: eight numbers, one behind the other.
+-- `entity_rules::report::write_report` meets its contract: eight numbers, one after the other.
 use mathlib.Core.Path.{refl}
 use native.Mathlib.Omega.{arith}
 use borrow.Author.Needs.{needs}

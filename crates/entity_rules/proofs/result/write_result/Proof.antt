@@ -1,4 +1,4 @@
--- `entity_rules::result::write_result` meets its contract: seven numbers, one behind the other.
+-- `entity_rules::result::write_result` meets its contract: seven numbers, one after the other.
 use mathlib.Core.Path.{refl}
 use Rattle.entity_rules.specs.Entry.{fieldsOf}
 use Rattle.entity_rules.proofs.Writing.{result-short, result-written, small-numbers}

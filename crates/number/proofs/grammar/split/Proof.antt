@@ -1,4 +1,4 @@
--- `number::grammar::split` meets its contract: the sign, and what stands behind it.
+-- `number::grammar::split` meets its contract: the sign, and what follows it.
 use borrow.Author.Needs.{needs}
 use Rattle.number.proofs.Reading.{number-empty, number-minus, number-bare}
 use Rattle.number.proofs.grammar.split.Statement.{statement}

@@ -1,4 +1,4 @@
--- `number::magnitude::capped` meets its contract: what the digits from `i` on write behind `v` is what the whole text writes, at each turn; one more digit behind a tenth of LARGEST passes it.
+-- `number::magnitude::capped` meets its contract: what the digits from `i` on write after `v` is what the whole text writes, at each turn; one more digit after a tenth of LARGEST passes it.
 use Prim.Native.Nat.{_+_, _-_, _<_}
 use mathlib.Core.Path.{_≡_, _∙_, sym, refl}
 use mathlib.Core.List.{map}

@@ -1,4 +1,4 @@
--- `number::magnitude::compare` meets its contract: what is left from `i` on decides as the whole does, at each turn. The table read here is `bound`: both are written out, and the check holds them against each other.
+-- `number::magnitude::compare` meets its contract: what is left from `i` on decides as the whole does, at each turn. The table read here is `bound`: both are written out, and the check compares the two.
 use Prim.Native.Nat.{_-_, _≤_}
 use mathlib.Core.List.{map, _++_}
 use native.Mathlib.Omega.{arith}

@@ -1,4 +1,4 @@
--- `number::magnitude::digit_at` meets its contract: the place lies in the first row, in the second, or behind both.
+-- `number::magnitude::digit_at` meets its contract: the place lies in the first row, in the second, or after both.
 use mathlib.Core.Path.{_∙_}
 use borrow.Author.Needs.{needs}
 use Rattle.number.proofs.Digits.{digit-high, digit-low, digit-out}

@@ -1,4 +1,4 @@
--- `number::magnitude::test_parts` meets its contract: one law for each way: the first nonzero digit stands before the point, behind it, or nowhere.
+-- `number::magnitude::test_parts` meets its contract: one law for each way: the first nonzero digit is before the point, after it, or nowhere.
 use native.Mathlib.Omega.{arith}
 use borrow.Author.Needs.{needs}
 use Rattle.number.proofs.Levels.{tests-whole, tests-fraction, tests-zero}

@@ -1,4 +1,4 @@
--- `rule::keys::slot_of` meets its contract: the bytes left, stirred into what is at hand, give what all give.
+-- `rule::keys::slot_of` meets its contract: the bytes left, stirred into the number so far, give what all give.
 use native.Mathlib.Omega.{arith}
 use borrow.Author.Needs.{needs}
 use Rattle.rule.proofs.keys.slot_of.Statement.{statement}

@@ -1,4 +1,4 @@
--- `rule_book::sheets::digits` meets its contract. The digits from `i` on, behind `value`, are those from `at` on, behind `first`.
+-- `rule_book::sheets::digits` meets its contract. The digits from `i` on, after `value`, are those from `at` on, after `first`.
 -- The measure is what is left of the bytes.
 use Prim.Native.Nat.{_≤_, _-_, _+_}
 use mathlib.Core.Path.{_≡_, refl, sym, _∙_}

@@ -1,5 +1,5 @@
 -- `rule_book::tally::tally` meets its contract: each way to the end of the call.
-use Rattle.validator.proofs.WholeSteps.{words-enough}
+use Rattle.single_check.proofs.WholeSteps.{words-enough}
 use Rattle.rule_book.proofs.CallSteps.{meets-settings, meets-form, meets-table, ready, meets-tally}
 use native.Mathlib.Omega.{arith}
 use borrow.Author.Needs.{needs}

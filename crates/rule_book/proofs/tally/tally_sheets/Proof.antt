@@ -2,7 +2,7 @@
 -- The measure is what is left of the book.
 use Prim.Native.Nat.{_-_}
 use lib.ListN.{length}
-use Rattle.validator.specs.Settings.{settingBy}
+use Rattle.single_check.specs.Settings.{settingBy}
 use Rattle.rule_book.proofs.TallySteps.{Tallying, counting-some, tallying-start, number-low, step-counts, step-passes, step-reads, tallying-step, tallying-end}
 use native.Mathlib.Omega.{arith}
 use borrow.Author.Needs.{needs}

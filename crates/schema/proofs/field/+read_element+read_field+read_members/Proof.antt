@@ -1,7 +1,7 @@
 -- The readers of a field, of its element and of siblings meet their contracts. The depth that is left falls from a field to its children;
 -- siblings are read in a loop, whose invariant says what was read so far and what the whole reads once the rest is known.
 use Prim.Native.Nat.{ℕ, suc, _+_, _-_, _*_, _<_, _≤_}
-use mathlib.Core.Path.{_≡_, sym, ap, _∙_}
+use mathlib.Core.Path.{_≡_, refl, sym, ap, _∙_}
 use native.Mathlib.Omega.{arith}
 use lib.ListN.{length}
 use borrow.Author.Needs.{needs}
@@ -196,7 +196,10 @@ read-field-returns-3 t c =
     record { kept = kept-all (c10 .args .words .now); answer = field-crowded (c10 .args .sheet .now) (c10 .args .from) (fieldOf (c10 .args .sheet .now) (c4 .head .given .0 .0)) (c4 .head .given .0 .1 .0) (c2 .to-count .result) (e .0 .reads) (c2 .to-count .ensures) (c10 .args .depth) (c .if2 .taken) }
 
 read-field-put-slot-requires : (t : ℕ) → read-field-lts.Need-put-slot-requires (cs-read-field t) (read-field-at t) read-field.Post
-read-field-put-slot-requires t c κs = search needs
+read-field-put-slot-requires t c κs =
+    let c6 = c .before .before .before .before .before .before in
+    let c8 = c6 .before .before in
+    let e = rw (c6 .head .given .1) at (c8 .field-head .ensures) in omega (arith, e .3)
 
 read-field-add-read-element : (t : ℕ) → read-field-lts.Need-add-read-element (cs-read-field t) (read-field-at t) read-field.Post
 read-field-add-read-element t c = search needs
@@ -210,8 +213,8 @@ read-field-same-length t c = search needs
 read-field-returns-4 : (t : ℕ) → read-field-lts.Need-returns-4 (cs-read-field t) (read-field-at t) read-field.Post
 unfolding fieldOf
 read-field-returns-4 t c =
-    let c5 = c .before .before .before .before .before in
-    let c7 = c5 .before .before in
+    let c4 = c .before .before .before .before in
+    let c7 = c4 .before .before .before in
     let c9 = c7 .before .before in
     let c11 = c9 .before .before in
     let c13 = c11 .before .before in
@@ -220,12 +223,12 @@ read-field-returns-4 t c =
     let s = c17 .args .sheet .now in
     let e = rw (c11 .head .given .1) at (c13 .field-head .ensures) in
     let deeper : c17 .args .depth ≡ suc (c17 .args .depth - 1) = omega (arith, c14 .if1 .left) in
-    let none-here : c9 .to-count .result ≡ 0 = omega (arith, c .before .if3 .taken) in
+    let none-here : c9 .to-count .result ≡ 0 = omega (arith, c .if3 .taken) in
     let inner : Cursor = record { next = c17 .args .from .next + 1; used = c17 .args .from .used + (c9 .to-count .result + c11 .head .given .0 .0 .count); at = c11 .head .given .0 .1 .0 } in
     let used : inner .used ≤ maxSlots = omega (arith, c7 .if2 .left, c17 .pre .1 .used) in
     let one = element-absent s _ (c17 .args .depth - 1) (c11 .head .given .0 .0 .items) (c17 .args .from .used) inner (toCount-none _ (sym (c9 .to-count .ensures) ∙ none-here)) (e .0 .within) used in
-    let many = sofar-all s _ _ (c17 .args .depth - 1) (c17 .args .from .used + c9 .to-count .result) (c11 .head .given .0 .0 .count) inner inner _ 0 (sofar-none s _ (c17 .args .depth - 1) _ _ inner (c11 .head .given .0 .0 .name) (e .0 .within) used) (omega (arith, c .before .if3 .taken)) in
-    record { kept = c5 .put-slot .ensures .kept; answer = field-good s (c17 .args .from) (fieldOf s (c11 .head .given .0 .0)) (c11 .head .given .0 .1 .0) (c9 .to-count .result) (e .0 .reads) (c9 .to-count .ensures) (c17 .args .depth) (c17 .args .depth - 1) deeper (c7 .if2 .left) (c17 .args .slot) (c17 .args .words .now) _ _ _ (c17 .pre .1) (c5 .put-slot .ensures) _ _ one many }
+    let many = sofar-all s _ _ (c17 .args .depth - 1) (c17 .args .from .used + c9 .to-count .result) (c11 .head .given .0 .0 .count) inner inner _ 0 (sofar-none s _ (c17 .args .depth - 1) _ _ inner (c11 .head .given .0 .0 .name) (e .0 .within) used) (omega (arith, c .if3 .taken)) in
+    record { kept = c4 .put-slot .ensures .kept; answer = field-good s (c17 .args .from) (fieldOf s (c11 .head .given .0 .0)) (c11 .head .given .0 .1 .0) (c9 .to-count .result) (e .0 .reads) (c9 .to-count .ensures) (c17 .args .depth) (c17 .args .depth - 1) deeper (c7 .if2 .left) (c17 .args .slot) (c17 .args .words .now) _ _ _ (c17 .pre .1) (c11 .head .given .0 .0 .name) refl (c4 .put-slot .ensures) _ _ one many }
 
 read-field-sub-read-element : (t : ℕ) → read-field-lts.Need-sub-read-element (cs-read-field t) (read-field-at t) read-field.Post
 read-field-sub-read-element t c = search needs
@@ -233,13 +236,13 @@ read-field-sub-read-element t c = search needs
 read-field-read-element-requires : (t : ℕ) → read-field-lts.Need-read-element-requires (cs-read-field t) (read-field-at t) read-field.Post
 read-field-read-element-requires t c κs =
     let c5 = c .before .before .before .before .before in
-    let c7 = c5 .before .before in
-    let c9 = c7 .before .before in
-    let c11 = c9 .before .before in
-    let c13 = c11 .before .before in
-    let c17 = c13 .before .before .before .before in
-    let e = rw (c11 .head .given .1) at (c13 .field-head .ensures) in
-    (omega arith, inner-ready (c11 .head .given .0 .0 .items) (c9 .to-count .result) (c11 .head .given .0 .0 .count) _ (c17 .pre .1) (c5 .put-slot .ensures .kept) (e .0 .within) (c9 .to-count .ensures) (c7 .if2 .left))
+    let c8 = c5 .before .before .before in
+    let c10 = c8 .before .before in
+    let c12 = c10 .before .before in
+    let c14 = c12 .before .before in
+    let c18 = c14 .before .before .before .before in
+    let e = rw (c12 .head .given .1) at (c14 .field-head .ensures) in
+    (omega arith, inner-ready (c12 .head .given .0 .0 .items) (c10 .to-count .result) (c12 .head .given .0 .0 .count) _ (c18 .pre .1) (c5 .put-slot .ensures .kept) (e .0 .within) (c10 .to-count .ensures) (c8 .if2 .left))
 
 read-field-enum-known-behind : (t : ℕ) → read-field-lts.Need-enum-known-behind (cs-read-field t) (read-field-at t) read-field.Post
 read-field-enum-known-behind t c = search needs
@@ -255,15 +258,15 @@ unfolding fieldOf
 read-field-returns-5 t c =
     let c4 = c .before .before .before .before in
     let c10 = c4 .before .before .before .before .before .before in
-    let c12 = c10 .before .before in
-    let c14 = c12 .before .before in
-    let c16 = c14 .before .before in
-    let c18 = c16 .before .before in
-    let c19 = c18 .before in
-    let c22 = c19 .before .before .before in
-    let e = rw (c16 .head .given .1) at (c18 .field-head .ensures) in
-    let deeper : c22 .args .depth ≡ suc (c22 .args .depth - 1) = omega (arith, c19 .if1 .left) in
-    record { kept = kept-more (c10 .put-slot .ensures .kept) (c4 .read-element .ensures .kept); answer = field-elementless (c22 .args .sheet .now) (c22 .args .from) (fieldOf (c22 .args .sheet .now) (c16 .head .given .0 .0)) (c16 .head .given .0 .1 .0) (c14 .to-count .result) (e .0 .reads) (c14 .to-count .ensures) (c22 .args .depth) (c22 .args .depth - 1) deeper (c12 .if2 .left) (rw (c .enum-told2 .given .1) at (c4 .read-element .ensures .answer)) }
+    let c13 = c10 .before .before .before in
+    let c15 = c13 .before .before in
+    let c17 = c15 .before .before in
+    let c19 = c17 .before .before in
+    let c20 = c19 .before in
+    let c23 = c20 .before .before .before in
+    let e = rw (c17 .head .given .1) at (c19 .field-head .ensures) in
+    let deeper : c23 .args .depth ≡ suc (c23 .args .depth - 1) = omega (arith, c20 .if1 .left) in
+    record { kept = kept-more (c10 .put-slot .ensures .kept) (c4 .read-element .ensures .kept); answer = field-elementless (c23 .args .sheet .now) (c23 .args .from) (fieldOf (c23 .args .sheet .now) (c17 .head .given .0 .0)) (c17 .head .given .0 .1 .0) (c15 .to-count .result) (e .0 .reads) (c15 .to-count .ensures) (c23 .args .depth) (c23 .args .depth - 1) deeper (c13 .if2 .left) (rw (c .enum-told2 .given .1) at (c4 .read-element .ensures .answer)) }
 
 read-field-sub-read-members : (t : ℕ) → read-field-lts.Need-sub-read-members (cs-read-field t) (read-field-at t) read-field.Post
 read-field-sub-read-members t c = search needs
@@ -276,15 +279,15 @@ read-field-read-members-requires t c κs =
     let c2 = c .before .before in
     let c6 = c2 .before .before .before .before in
     let c12 = c6 .before .before .before .before .before .before in
-    let c14 = c12 .before .before in
-    let c16 = c14 .before .before in
-    let c18 = c16 .before .before in
-    let c20 = c18 .before .before in
-    let c21 = c20 .before in
-    let c24 = c21 .before .before .before in
-    let e = rw (c18 .head .given .1) at (c20 .field-head .ensures) in
+    let c15 = c12 .before .before .before in
+    let c17 = c15 .before .before in
+    let c19 = c17 .before .before in
+    let c21 = c19 .before .before in
+    let c22 = c21 .before in
+    let c25 = c22 .before .before .before in
+    let e = rw (c19 .head .given .1) at (c21 .field-head .ensures) in
     let one = rw (c2 .behind .given .1) at (c6 .read-element .ensures .answer) in
-    (omega (arith, c24 .pre .0, c21 .if1 .left), behind-ready (c18 .head .given .0 .0 .items) (c16 .to-count .result) (c18 .head .given .0 .0 .count) (c18 .head .given .0 .1 .0) (c24 .pre .1) (c12 .put-slot .ensures .kept) (c6 .read-element .ensures .kept) (c16 .to-count .ensures) (c14 .if2 .left) one)
+    (omega (arith, c25 .pre .0, c22 .if1 .left), behind-ready (c19 .head .given .0 .0 .items) (c17 .to-count .result) (c19 .head .given .0 .0 .count) (c19 .head .given .0 .1 .0) (c25 .pre .1) (c12 .put-slot .ensures .kept) (c6 .read-element .ensures .kept) (c17 .to-count .ensures) (c15 .if2 .left) one)
 
 read-field-enum-known-to : (t : ℕ) → read-field-lts.Need-enum-known-to (cs-read-field t) (read-field-at t) read-field.Post
 read-field-enum-known-to t c = search needs
@@ -302,16 +305,16 @@ read-field-returns-6 t c =
     let c7 = c4 .before .before .before in
     let c11 = c7 .before .before .before .before in
     let c17 = c11 .before .before .before .before .before .before in
-    let c19 = c17 .before .before in
-    let c21 = c19 .before .before in
-    let c23 = c21 .before .before in
-    let c25 = c23 .before .before in
-    let c26 = c25 .before in
-    let c29 = c26 .before .before .before in
-    let e = rw (c23 .head .given .1) at (c25 .field-head .ensures) in
-    let deeper : c29 .args .depth ≡ suc (c29 .args .depth - 1) = omega (arith, c26 .if1 .left) in
+    let c20 = c17 .before .before .before in
+    let c22 = c20 .before .before in
+    let c24 = c22 .before .before in
+    let c26 = c24 .before .before in
+    let c27 = c26 .before in
+    let c30 = c27 .before .before .before in
+    let e = rw (c24 .head .given .1) at (c26 .field-head .ensures) in
+    let deeper : c30 .args .depth ≡ suc (c30 .args .depth - 1) = omega (arith, c27 .if1 .left) in
     let one = rw (c7 .behind .given .1) at (c11 .read-element .ensures .answer) in
-    record { kept = kept-more (c17 .put-slot .ensures .kept) (kept-more (c11 .read-element .ensures .kept) (c4 .read-members .ensures .kept)); answer = field-memberless (c29 .args .sheet .now) (c29 .args .from) (fieldOf (c29 .args .sheet .now) (c23 .head .given .0 .0)) (c23 .head .given .0 .1 .0) (c21 .to-count .result) (e .0 .reads) (c21 .to-count .ensures) (c29 .args .depth) (c29 .args .depth - 1) deeper (c19 .if2 .left) _ _ (one .reads) (rw (c .enum-told3 .given .1) at (c4 .read-members .ensures .answer)) }
+    record { kept = kept-more (c17 .put-slot .ensures .kept) (kept-more (c11 .read-element .ensures .kept) (c4 .read-members .ensures .kept)); answer = field-memberless (c30 .args .sheet .now) (c30 .args .from) (fieldOf (c30 .args .sheet .now) (c24 .head .given .0 .0)) (c24 .head .given .0 .1 .0) (c22 .to-count .result) (e .0 .reads) (c22 .to-count .ensures) (c30 .args .depth) (c30 .args .depth - 1) deeper (c20 .if2 .left) _ _ (one .reads) (rw (c .enum-told3 .given .1) at (c4 .read-members .ensures .answer)) }
 
 read-field-same-length-4 : (t : ℕ) → read-field-lts.Need-same-length-4 (cs-read-field t) (read-field-at t) read-field.Post
 read-field-same-length-4 t c = search needs
@@ -319,12 +322,12 @@ read-field-same-length-4 t c = search needs
 read-field-returns-7 : (t : ℕ) → read-field-lts.Need-returns-7 (cs-read-field t) (read-field-at t) read-field.Post
 unfolding fieldOf
 read-field-returns-7 t c =
-    let c2 = c .before .before in
-    let c6 = c2 .before .before .before .before in
-    let c9 = c6 .before .before .before in
-    let c13 = c9 .before .before .before .before in
-    let c19 = c13 .before .before .before .before .before .before in
-    let c21 = c19 .before .before in
+    let c1 = c .before in
+    let c5 = c1 .before .before .before .before in
+    let c8 = c5 .before .before .before in
+    let c12 = c8 .before .before .before .before in
+    let c18 = c12 .before .before .before .before .before .before in
+    let c21 = c18 .before .before .before in
     let c23 = c21 .before .before in
     let c25 = c23 .before .before in
     let c27 = c25 .before .before in
@@ -332,9 +335,9 @@ read-field-returns-7 t c =
     let c31 = c28 .before .before .before in
     let e = rw (c25 .head .given .1) at (c27 .field-head .ensures) in
     let deeper : c31 .args .depth ≡ suc (c31 .args .depth - 1) = omega (arith, c28 .if1 .left) in
-    let one = rw (c9 .behind .given .1) at (c13 .read-element .ensures .answer) in
-    let many = rw (c2 .to .given .1) at (c6 .read-members .ensures .answer) in
-    record { kept = kept-more (c19 .put-slot .ensures .kept) (kept-more (c13 .read-element .ensures .kept) (c6 .read-members .ensures .kept)); answer = field-good (c31 .args .sheet .now) (c31 .args .from) (fieldOf (c31 .args .sheet .now) (c25 .head .given .0 .0)) (c25 .head .given .0 .1 .0) (c23 .to-count .result) (e .0 .reads) (c23 .to-count .ensures) (c31 .args .depth) (c31 .args .depth - 1) deeper (c21 .if2 .left) (c31 .args .slot) (c31 .args .words .now) _ _ _ (c31 .pre .1) (c19 .put-slot .ensures) _ _ one many }
+    let one = rw (c8 .behind .given .1) at (c12 .read-element .ensures .answer) in
+    let many = rw (c1 .to .given .1) at (c5 .read-members .ensures .answer) in
+    record { kept = kept-more (c18 .put-slot .ensures .kept) (kept-more (c12 .read-element .ensures .kept) (c5 .read-members .ensures .kept)); answer = field-good (c31 .args .sheet .now) (c31 .args .from) (fieldOf (c31 .args .sheet .now) (c25 .head .given .0 .0)) (c25 .head .given .0 .1 .0) (c23 .to-count .result) (e .0 .reads) (c23 .to-count .ensures) (c31 .args .depth) (c31 .args .depth - 1) deeper (c21 .if2 .left) (c31 .args .slot) (c31 .args .words .now) _ _ _ (c31 .pre .1) (c25 .head .given .0 .0 .name) refl (c18 .put-slot .ensures) _ _ one many }
 
 abbrev read-members-Inv-loop : read-members-lts.InvT-loop
 read-members-Inv-loop sheet words₀ depth first count to₀ before₀ i₀ words to before i = Sofar sheet words₀ words depth first count to₀ to before i

@@ -1,4 +1,5 @@
 -- `schema::index::indexed_field` meets its contract: the head that is read is that of the field in the slot.
+use Prim.Native.Nat.{_%_}
 use native.Mathlib.Omega.{arith}
 use borrow.Author.Needs.{needs}
 use Rattle.schema.proofs.FieldSteps.{toCount-small}
@@ -25,8 +26,8 @@ returns c =
     let c6 = c3 .before .before .before in
     headless-parts (c6 .args .sheet .now) (c6 .args .words .now) (c6 .args .k) _ (rw (c1 .enum-told .given .1) at (c3 .head-of .ensures))
 
-child-word-requires : tie.Need-child-word-requires
-child-word-requires c κs = search needs
+name-word-requires : tie.Need-name-word-requires
+name-word-requires c κs = search needs
 
 cast-first : tie.Need-cast-first
 cast-first c = search needs
@@ -55,7 +56,7 @@ returns-2 c =
     let c7 = c5 .before .before in
     let c10 = c7 .before .before .before in
     let e = rw (c5 .head .given .1) at (c7 .head-of .ensures) in
-    indexed-parts (c10 .args .sheet .now) (c10 .args .words .now) (c10 .args .k) (c5 .head .given .0 .0) (c .place-word .result) (c3 .child-word .result) (c1 .to-count .result) (c2 .element-at .result) e (c .place-word .ensures) (c3 .child-word .ensures) (c1 .to-count .ensures) (c2 .element-at .ensures)
+    indexed-parts (c10 .args .sheet .now) (c10 .args .words .now) (c10 .args .k) (c5 .head .given .0 .0) (c .place-word .result) (c3 .name-word .result % 4096) (c1 .to-count .result) (c2 .element-at .result) e (c .place-word .ensures) (rw (c3 .name-word .ensures)) (c1 .to-count .ensures) (c2 .element-at .ensures)
 
 pub indexed-field-spec : {M : Type 1} → statement M
 indexed-field-spec =
@@ -66,7 +67,7 @@ indexed-field-spec =
     enum-told
     no-field-requires
     returns
-    child-word-requires
+    name-word-requires
     cast-first
     element-at-requires
     to-count-requires

@@ -12,6 +12,9 @@ mul-i c = search needs
 add-i : tie.Need-add-i
 add-i c = search needs
 
+sub-prefix : tie.Need-sub-prefix
+sub-prefix c = search needs
+
 mul-words : tie.Need-mul-words
 mul-words c = search needs
 
@@ -27,14 +30,26 @@ mul-words-2 c = search needs
 slice-write-words : tie.Need-slice-write-words
 slice-write-words c = search needs
 
-cast-words-2 : tie.Need-cast-words-2
-cast-words-2 c = search needs
+mul-words-3 : tie.Need-mul-words-3
+mul-words-3 c = search needs
+
+mul-words-4 : tie.Need-mul-words-4
+mul-words-4 c = search needs
 
 add-words-2 : tie.Need-add-words-2
 add-words-2 c = search needs
 
-mul-words-3 : tie.Need-mul-words-3
-mul-words-3 c = search needs
+add-words-3 : tie.Need-add-words-3
+add-words-3 c = search needs
+
+cast-words-2 : tie.Need-cast-words-2
+cast-words-2 c = search needs
+
+add-words-4 : tie.Need-add-words-4
+add-words-4 c = search needs
+
+mul-words-5 : tie.Need-mul-words-5
+mul-words-5 c = search needs
 
 slice-write-words-2 : tie.Need-slice-write-words-2
 slice-write-words-2 c = simp length-set (omega arith)
@@ -43,7 +58,9 @@ same-length : tie.Need-same-length
 same-length c = simp length-set
 
 returns : tie.Need-returns
-returns c = slot-put (c .args .words .now) (c .args .k) (c .args .start) (c .args .entry) (c .args .child) (c .pre)
+returns c =
+    let a = c .before .before .args in
+    slot-put (a .words .now) (a .k) (a .start) (a .entry) (a .child) (a .name) _ _ (c .before .before .pre) (omega arith) (omega arith)
 
 pub put-slot-spec : {M : Type 1} → statement M
 put-slot-spec =
@@ -51,14 +68,19 @@ put-slot-spec =
     (tie.spec
     mul-i
     add-i
+    sub-prefix
     mul-words
     add-words
     cast-words
     mul-words-2
     slice-write-words
-    cast-words-2
-    add-words-2
     mul-words-3
+    mul-words-4
+    add-words-2
+    add-words-3
+    cast-words-2
+    add-words-4
+    mul-words-5
     slice-write-words-2
     same-length
     returns)

@@ -2,8 +2,7 @@
 use Prim.Native.Nat.{_+_, _-_, _/_}
 use native.Mathlib.Omega.{arith}
 use borrow.Author.Needs.{needs}
-use Rattle.sheet.specs.Places.{fieldOf}
-use Rattle.schema.proofs.Halving.{Narrowed, narrowed-none, holder-past, narrowed-all, narrowed-headless, narrowed-lower, narrowed-upper, narrowed-found}
+use Rattle.schema.proofs.Halving.{Narrowed, narrowed-none, holder-past, narrowed-all, narrowed-lower, narrowed-upper, narrowed-found}
 use Rattle.schema.proofs.lookup.lookup.Statement.{statement}
 use Rattle.schema.proofs.lookup.lookup.Tie as tie
 
@@ -37,22 +36,8 @@ add-middle c = search needs
 add-slot : tie.Need-add-slot Inv-loop μ-loop
 add-slot c = search needs
 
-head-of-requires : tie.Need-head-of-requires Inv-loop μ-loop
-head-of-requires c κs = search needs
-
-enum-known-head : tie.Need-enum-known-head Inv-loop μ-loop
-enum-known-head c = search needs
-
-enum-told : tie.Need-enum-told Inv-loop μ-loop
-enum-told c = search needs
-
-returns-3 : tie.Need-returns-3 Inv-loop μ-loop
-returns-3 c =
-    let c2 = c .before .before in
-    let c3 = c2 .before in
-    let c4 = c3 .before in
-    let c10 = c4 .before .before .before .before .before .before in
-    narrowed-headless (c10 .args .sheet .now) (c10 .args .words .now) (c10 .args .holder .first) (c10 .args .holder .count) (c10 .args .name .now) (c4 .loop .low) (c4 .loop .high) (c4 .loop .inv) (c4 .loop .low + (c4 .loop .high - c4 .loop .low) / 2) (omega (arith, c3 .loop-test .taken)) (omega (arith, c3 .loop-test .taken)) (c10 .args .holder .opened) (rw (c .enum-told .given .1) at (c2 .head-of .ensures))
+name-of-slot-requires : tie.Need-name-of-slot-requires Inv-loop μ-loop
+name-of-slot-requires c κs = search needs
 
 bytes-of-requires : tie.Need-bytes-of-requires Inv-loop μ-loop
 bytes-of-requires c κs = search needs
@@ -60,8 +45,8 @@ bytes-of-requires c κs = search needs
 compare-requires : tie.Need-compare-requires Inv-loop μ-loop
 compare-requires c κs = search needs
 
-enum-told-2 : tie.Need-enum-told-2 Inv-loop μ-loop
-enum-told-2 c = search needs
+enum-told : tie.Need-enum-told Inv-loop μ-loop
+enum-told c = search needs
 
 add-low : tie.Need-add-low Inv-loop μ-loop
 add-low c = search needs
@@ -70,58 +55,49 @@ loop-less : tie.Need-loop-less Inv-loop μ-loop
 loop-less c = search needs
 
 loop-again : tie.Need-loop-again Inv-loop μ-loop
-unfolding fieldOf
 loop-again c =
     let c2 = c .before .before in
     let c3 = c2 .before in
-    let c6 = c3 .before .before .before in
-    let c8 = c6 .before .before in
-    let c9 = c8 .before in
-    let c10 = c9 .before in
-    let c16 = c10 .before .before .before .before .before .before in
-    let e = rw (c6 .head .given .1) at (c8 .head-of .ensures) in
-    let q = rw (c .enum-told2 .given .1, c3 .bytes-of .ensures) at (c2 .compare .ensures) in
-    narrowed-lower (c16 .args .sheet .now) (c16 .args .words .now) (c16 .args .holder .first) (c16 .args .holder .count) (c16 .args .name .now) (c10 .loop .low) (c10 .loop .high) (c10 .loop .inv) (c10 .loop .low + (c10 .loop .high - c10 .loop .low) / 2) (omega (arith, c9 .loop-test .taken)) (omega (arith, c9 .loop-test .taken)) (fieldOf (c16 .args .sheet .now) (c6 .head .given .0 .0)) e (q .before-is)
+    let c4 = c3 .before in
+    let c5 = c4 .before in
+    let c6 = c5 .before in
+    let c12 = c6 .before .before .before .before .before .before in
+    let q = rw (c .enum-told .given .1, c3 .bytes-of .ensures, c4 .name-of-slot .ensures) at (c2 .compare .ensures) in
+    narrowed-lower (c12 .args .sheet .now) (c12 .args .words .now) (c12 .args .holder .first) (c12 .args .holder .count) (c12 .args .name .now) (c6 .loop .low) (c6 .loop .high) (c6 .loop .inv) (c6 .loop .low + (c6 .loop .high - c6 .loop .low) / 2) (omega (arith, c5 .loop-test .taken)) (omega (arith, c5 .loop-test .taken)) (q .before-is)
 
-enum-told-3 : tie.Need-enum-told-3 Inv-loop μ-loop
-enum-told-3 c = search needs
+enum-told-2 : tie.Need-enum-told-2 Inv-loop μ-loop
+enum-told-2 c = search needs
 
 loop-less-2 : tie.Need-loop-less-2 Inv-loop μ-loop
 loop-less-2 c = search needs
 
 loop-again-2 : tie.Need-loop-again-2 Inv-loop μ-loop
-unfolding fieldOf
 loop-again-2 c =
     let c2 = c .before .before in
     let c3 = c2 .before in
-    let c6 = c3 .before .before .before in
-    let c8 = c6 .before .before in
-    let c9 = c8 .before in
-    let c10 = c9 .before in
-    let c16 = c10 .before .before .before .before .before .before in
-    let e = rw (c6 .head .given .1) at (c8 .head-of .ensures) in
-    let q = rw (c .enum-told3 .given .1, c3 .bytes-of .ensures) at (c2 .compare .ensures) in
-    narrowed-upper (c16 .args .sheet .now) (c16 .args .words .now) (c16 .args .holder .first) (c16 .args .holder .count) (c16 .args .name .now) (c10 .loop .low) (c10 .loop .high) (c10 .loop .inv) (c10 .loop .low + (c10 .loop .high - c10 .loop .low) / 2) (omega (arith, c9 .loop-test .taken)) (omega (arith, c9 .loop-test .taken)) (fieldOf (c16 .args .sheet .now) (c6 .head .given .0 .0)) e (q .behind-is)
+    let c4 = c3 .before in
+    let c5 = c4 .before in
+    let c6 = c5 .before in
+    let c12 = c6 .before .before .before .before .before .before in
+    let q = rw (c .enum-told2 .given .1, c3 .bytes-of .ensures, c4 .name-of-slot .ensures) at (c2 .compare .ensures) in
+    narrowed-upper (c12 .args .sheet .now) (c12 .args .words .now) (c12 .args .holder .first) (c12 .args .holder .count) (c12 .args .name .now) (c6 .loop .low) (c6 .loop .high) (c6 .loop .inv) (c6 .loop .low + (c6 .loop .high - c6 .loop .low) / 2) (omega (arith, c5 .loop-test .taken)) (omega (arith, c5 .loop-test .taken)) (q .behind-is)
 
-enum-told-4 : tie.Need-enum-told-4 Inv-loop μ-loop
-enum-told-4 c = search needs
+enum-told-3 : tie.Need-enum-told-3 Inv-loop μ-loop
+enum-told-3 c = search needs
 
-returns-4 : tie.Need-returns-4 Inv-loop μ-loop
-unfolding fieldOf
-returns-4 c =
+returns-3 : tie.Need-returns-3 Inv-loop μ-loop
+returns-3 c =
     let c2 = c .before .before in
     let c3 = c2 .before in
-    let c6 = c3 .before .before .before in
-    let c8 = c6 .before .before in
-    let c9 = c8 .before in
-    let c10 = c9 .before in
-    let c16 = c10 .before .before .before .before .before .before in
-    let e = rw (c6 .head .given .1) at (c8 .head-of .ensures) in
-    let q = rw (c .enum-told4 .given .1, c3 .bytes-of .ensures) at (c2 .compare .ensures) in
-    narrowed-found (c16 .args .sheet .now) (c16 .args .words .now) (c16 .args .holder .first) (c16 .args .holder .count) (c16 .args .name .now) (c10 .loop .low) (c10 .loop .high) (c10 .loop .inv) (c10 .loop .low + (c10 .loop .high - c10 .loop .low) / 2) (omega (arith, c9 .loop-test .taken)) (omega (arith, c9 .loop-test .taken)) (fieldOf (c16 .args .sheet .now) (c6 .head .given .0 .0)) e (c16 .args .holder .opened) (q .same-is)
+    let c4 = c3 .before in
+    let c5 = c4 .before in
+    let c6 = c5 .before in
+    let c12 = c6 .before .before .before .before .before .before in
+    let q = rw (c .enum-told3 .given .1, c3 .bytes-of .ensures, c4 .name-of-slot .ensures) at (c2 .compare .ensures) in
+    narrowed-found (c12 .args .sheet .now) (c12 .args .words .now) (c12 .args .holder .first) (c12 .args .holder .count) (c12 .args .name .now) (c6 .loop .low) (c6 .loop .high) (c6 .loop .inv) (c6 .loop .low + (c6 .loop .high - c6 .loop .low) / 2) (omega (arith, c5 .loop-test .taken)) (omega (arith, c5 .loop-test .taken)) (c12 .args .holder .opened) (q .same-is)
 
-returns-5 : tie.Need-returns-5 Inv-loop μ-loop
-returns-5 c =
+returns-4 : tie.Need-returns-4 Inv-loop μ-loop
+returns-4 c =
     let c1 = c .before in
     let c7 = c1 .before .before .before .before .before .before in
     narrowed-all (c7 .args .sheet .now) (c7 .args .words .now) (c7 .args .holder .first) (c7 .args .holder .count) (c7 .args .name .now) (c1 .loop .low) (c1 .loop .high) (c1 .loop .inv) (c7 .args .holder .opened) (c .loop-test .left)
@@ -138,19 +114,16 @@ lookup-spec =
     sub-middle
     add-middle
     add-slot
-    head-of-requires
-    enum-known-head
-    enum-told
-    returns-3
+    name-of-slot-requires
     bytes-of-requires
     compare-requires
-    enum-told-2
+    enum-told
     add-low
     loop-less
     loop-again
-    enum-told-3
+    enum-told-2
     loop-less-2
     loop-again-2
-    enum-told-4
-    returns-4
-    returns-5)
+    enum-told-3
+    returns-3
+    returns-4)

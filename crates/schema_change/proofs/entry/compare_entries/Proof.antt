@@ -1,4 +1,4 @@
--- `schema_change::entry::compare_entries` meets its contract: four tests, one behind the other.
+-- `schema_change::entry::compare_entries` meets its contract: four tests, one after the other.
 use borrow.Author.Needs.{needs}
 use Rattle.schema_change.proofs.EntryLaws.{entries-go}
 use Rattle.schema_change.proofs.entry.compare_entries.Statement.{statement}

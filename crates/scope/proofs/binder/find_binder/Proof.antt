@@ -25,14 +25,20 @@ sub-binder c = search needs
 mul-binder : tie.Need-mul-binder Inv-loop μ-loop
 mul-binder c = search needs
 
-array-copy-out-binder : tie.Need-array-copy-out-binder Inv-loop μ-loop
-array-copy-out-binder c = search needs
+array-read-binder : tie.Need-array-read-binder Inv-loop μ-loop
+array-read-binder c = search needs
+
+name-in-requires : tie.Need-name-in-requires Inv-loop μ-loop
+name-in-requires c κs = search needs
 
 bytes-of-requires : tie.Need-bytes-of-requires Inv-loop μ-loop
 bytes-of-requires c κs = search needs
 
 same-bytes-requires : tie.Need-same-bytes-requires Inv-loop μ-loop
 same-bytes-requires c κs = search needs
+
+element-in-requires : tie.Need-element-in-requires Inv-loop μ-loop
+element-in-requires c κs = search needs
 
 returns-2 : tie.Need-returns-2 Inv-loop μ-loop
 returns-2 c = search (searched-found, needs)
@@ -59,9 +65,11 @@ find-binder-spec =
     loop-holds
     sub-binder
     mul-binder
-    array-copy-out-binder
+    array-read-binder
+    name-in-requires
     bytes-of-requires
     same-bytes-requires
+    element-in-requires
     returns-2
     sub-left
     loop-less

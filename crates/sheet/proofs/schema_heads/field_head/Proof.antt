@@ -1,6 +1,7 @@
 -- `sheet::schema_heads::field_head` meets its contract: its two pieces, one behind the other.
 use borrow.Author.Needs.{needs}
 use Rattle.sheet.proofs.Heads.{field-no-marks, field-no-texts, field-reads}
+use Rattle.sheet.proofs.Sizes.{field-placed}
 use Rattle.sheet.proofs.schema_heads.field_head.Statement.{statement}
 use Rattle.sheet.proofs.schema_heads.field_head.Tie as tie
 
@@ -37,7 +38,7 @@ returns-3 : tie.Need-returns-3
 returns-3 c =
     let field-marks = rw (c .before .before .before .before .before .before .marks .given .1) at (c .before .before .before .before .before .before .before .before .field-marks .ensures) in
     let field-texts = rw (c .before .before .texts .given .1) at (c .before .before .before .before .field-texts .ensures) in
-    (field-reads (field-marks .0) _ _ field-texts, field-marks .1, field-marks .2)
+    (field-reads (field-marks .0) _ _ (field-texts .0), field-marks .1, field-marks .2, field-placed _ (field-marks .0) (field-texts .1))
 
 pub field-head-spec : {M : Type 1} → statement M
 field-head-spec =

@@ -3,6 +3,7 @@ use Rattle.sheet.specs.Parts.{partOf}
 use native.Mathlib.Omega.{arith}
 use borrow.Author.Needs.{needs}
 use Rattle.sheet.proofs.Heads.{texts-no-length, texts-no-tag-length, texts-no-tag, texts-read, texts-no-end, texts-no-name, texts-no-comma}
+use Rattle.sheet.proofs.Sizes.{texts-placed}
 use Rattle.sheet.proofs.schema_heads.field_texts.Statement.{statement}
 use Rattle.sheet.proofs.schema_heads.field_texts.Tie as tie
 
@@ -89,8 +90,10 @@ returns-4 c =
     let starts-with = rw (c .before .before .before .before .before .before .before .before .if1 .taken) at (c .before .before .before .before .before .before .before .before .before .starts-with .ensures) in
     let is-text = rw (c .before .before .before .before .before .before .if2 .taken) at (c .before .before .before .before .before .before .before .is-text .ensures) in
     let optional-text = rw (c .before .before .before .tag .given .1) at (c .before .before .before .before .before .optional-text .ensures) in
-    let starts-with2 = rw (c .if3 .taken) at (c .before .starts-with2 .ensures) in
-    texts-read (item .0) text-length starts-with is-text (c .before .before .before .tag .given .0 .1 .0) _ (optional-text .0) (optional-text .1) starts-with2
+    let starts-with2 = rw (c .if3 .taken) at (c .before .starts-with2 .ensures) in (
+      texts-read (item .0) text-length starts-with is-text (c .before .before .before .tag .given .0 .1 .0) _ (optional-text .0) (optional-text .1) starts-with2,
+      texts-placed (item .0) (item .2) text-length,
+    )
 
 returns-5 : tie.Need-returns-5
 returns-5 c =

@@ -11,10 +11,13 @@ validate-literals-requires : tie.Need-validate-literals-requires
 validate-literals-requires c κs = search needs
 
 returns : tie.Need-returns
-returns c = observed-yes (c .before .if1 .taken) (c .before .before .is-observed .ensures) (c .validate-literals .ensures)
+returns c = observed-yes (c .before .before .is-observed .ensures) (c .before .if1 .taken) (c .validate-literals .ensures)
+
+going-requires : tie.Need-going-requires
+going-requires c κs = search needs
 
 returns-2 : tie.Need-returns-2
-returns-2 c = observed-no (c .if1 .left) (c .before .is-observed .ensures)
+returns-2 c = rw (c .going .ensures) (observed-no (c .before .before .is-observed .ensures) (c .before .if1 .left))
 
 pub validate-observed-spec : {M : Type 1} → statement M
-validate-observed-spec = tie.close (tie.spec is-observed-requires validate-literals-requires returns returns-2)
+validate-observed-spec = tie.close (tie.spec is-observed-requires validate-literals-requires returns going-requires returns-2)

@@ -1,7 +1,7 @@
 -- `wall::page::put_page` meets its contract. What is written and the rows that are left make the page.
 -- The measure is how many rows are left.
 use Rattle.wall.specs.Pages.{perPage}
-use Rattle.validator.specs.Settings.{settingBy}
+use Rattle.single_check.specs.Settings.{settingBy}
 use Rattle.buffer.specs.WroteLaws.{wrote-kept}
 use mathlib.Core.Path.{_∙_}
 use Prim.Native.Nat.{_-_}

@@ -1,6 +1,6 @@
 -- `wall::page::put_pages` meets its contract. What is written and the pages that are left make the whole.
 -- The measure is how many pages are left.
-use Rattle.validator.specs.Settings.{settingBy}
+use Rattle.single_check.specs.Settings.{settingBy}
 use mathlib.Core.Path.{_∙_}
 use Prim.Native.Nat.{_-_}
 use Rattle.wall.proofs.PageSteps.{given-ready, Printing, printing-start, printing-step, printing-end}

@@ -1,4 +1,4 @@
--- `wall::page::put_row` meets its contract: behind the last sheet, and at one.
+-- `wall::page::put_row` meets its contract: after the last sheet, and at one.
 use Rattle.wall.proofs.PageSteps.{row-blank, row-line}
 use native.Mathlib.Omega.{arith}
 use borrow.Author.Needs.{needs}

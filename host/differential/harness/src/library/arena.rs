@@ -1,18 +1,20 @@
 //! The buffers that are lent, each amid bytes that the library must not touch.
 
-use super::books::TallyLent;
-use super::walls::WallLent;
-use super::{numbers, raw, Entry, Lent, Slot};
-use crate::books::BookCase;
-use crate::case::Case;
-use crate::keys::KeyCase;
-use crate::random::Random;
-use crate::refusals::MIN_PATH_BYTES;
-use crate::walls::{Printed, WallCase};
-use crate::widens::WidensCase;
-use differential::model::{Answer, TallyNumbers, MARKS_BYTES};
+use super::entry::{numbers, Entry};
+use super::lent::{Lent, Slot, TallyLent, WallLent};
+use super::raw;
+use cases::books::BookCase;
+use cases::case::Case;
+use cases::keys::KeyCase;
+use cases::limits::MIN_PATH_BYTES;
+use cases::random::Random;
+use cases::walls::{Printed, WallCase};
+use cases::widens::WidensCase;
+use model::{Answer, TallyNumbers, MARKS_BYTES};
+use std::cell::RefCell;
+use std::fmt::Debug;
 
-/// Bytes before and behind what is lent.
+/// Bytes before and after what is lent.
 const AROUND: usize = 128;
 const PATH_ARENA: usize = AROUND + MIN_PATH_BYTES + 2 * AROUND;
 const MARKS_ARENA: usize = AROUND + MARKS_BYTES + 2 * AROUND;
@@ -33,7 +35,7 @@ pub struct Arena {
 impl Arena {
     pub fn new() -> Self {
         let mut random = Random::new(7);
-        let first: Vec<u8> = (0..PATH_ARENA).map(|_| random.next() as u8).collect();
+        let first: Vec<u8> = (0..PATH_ARENA).map(|_| random.bits() as u8).collect();
         let second = first.iter().map(|byte| !byte).collect();
         let patterns = [first, second];
         let start = |length: usize| [patterns[0][..length].to_vec(), patterns[1][..length].to_vec()];
@@ -282,4 +284,29 @@ fn fields(result: &[u8]) -> Result<(), String> {
         }
     }
     Ok(())
+}
+
+thread_local! {
+    static ARENA: RefCell<Arena> = RefCell::new(Arena::new());
+}
+
+/// Makes a call in the arena, which is a new one after a difference.
+pub fn in_arena(
+    lent: &impl Debug,
+    expected: impl FnOnce() -> String,
+    call: impl FnOnce(&mut Arena) -> Result<(), String>,
+) -> Result<(), String> {
+    ARENA.with_borrow_mut(|arena| {
+        call(arena).map_err(|what| {
+            *arena = Arena::new();
+            format!("the library, {lent:?}: {what}; expected {}", expected())
+        })
+    })
+}
+
+/// A number that depends on the whole case: on its settings and on all its bytes.
+pub fn mixed(settings: [u64; 2], parts: &[&[u8]]) -> u64 {
+    let bytes = parts.iter().flat_map(|part| part.chunks(8)).map(|chunk| chunk.iter().fold(0, |sum, byte| sum << 8 | u64::from(*byte)));
+    let mix = |sum: u64, part: u64| (sum ^ part).wrapping_mul(0x9E37_79B9_7F4A_7C15).rotate_left(29);
+    mix(settings.into_iter().chain(bytes).fold(1, mix), 1)
 }

@@ -1,16 +1,10 @@
 //! `rulecheck_tally`, held against what the model answers: every byte of the result, of the path buffer past what is free, and around both, and every number.
 
-use super::{in_arena, mixed, Extent, Slot};
-use crate::books::BookCase;
-use crate::refusals::MIN_PATH_BYTES;
-use differential::model::{TallyNumbers, TALLY_BYTES};
-
-/// One call, with a path buffer of that length and a result.
-#[derive(Clone, Copy, Debug, PartialEq, Eq)]
-pub struct TallyLent {
-    pub path: usize,
-    pub slot: Slot,
-}
+use crate::library::arena::{in_arena, mixed};
+use crate::library::lent::{Extent, Slot, TallyLent};
+use cases::books::BookCase;
+use cases::limits::MIN_PATH_BYTES;
+use model::{TallyNumbers, TALLY_BYTES};
 
 /// Holds the library against the model's numbers. An error tells in what they differ.
 pub fn hold(case: &BookCase, numbers: &TallyNumbers, extent: Extent) -> Result<(), String> {

@@ -1,7 +1,10 @@
 //! `rulecheck_instant`, held against what the model answers: the number, every byte of the fields and around them, and every byte of the text.
 
-use super::{in_arena, mixed, raw, Slot, RESULT_BYTES};
-use crate::instants::{answer, Fields};
+use crate::library::arena::{in_arena, mixed};
+use crate::library::lent::Slot;
+use crate::library::raw;
+use crate::readings::instants::{answer, Fields};
+use cases::limits::RESULT_BYTES;
 
 /// Holds the library against the fields that the model reads, or none. An error tells in what they differ.
 pub fn hold(text: &[u8], fields: Option<Fields>) -> Result<(), String> {

@@ -1,9 +1,11 @@
 //! `rulecheck_path`, held against what the model answers: every byte of the result and around it, and every number.
 
-use super::{in_arena, mixed, Extent, Slot, RESULT_BYTES};
-use crate::agreement::line;
-use crate::keys::KeyCase;
-use differential::model::Answer;
+use crate::library::arena::{in_arena, mixed};
+use crate::library::lent::{Extent, Slot};
+use crate::readings::answer::line;
+use cases::keys::KeyCase;
+use cases::limits::RESULT_BYTES;
+use model::Answer;
 
 /// Holds the library against the model's answer to the case. An error tells in what they differ.
 pub fn hold(case: &KeyCase, answer: &Answer, extent: Extent) -> Result<(), String> {

@@ -1,133 +1,21 @@
 //! The C functions on slices.
 
-use super::{Entry, CHECK_RESULT_BYTES, RESULT_BYTES};
-use crate::books::BookCase;
-use crate::case::Case;
-use crate::keys::KeyCase;
-use crate::walls::WallCase;
-use crate::widens::WidensCase;
-use differential::model::{TallyNumbers, MARKS_BYTES, PAGE_BYTES, TALLY_BYTES, WALL_BYTES};
+use crate::library::entry::Entry;
+use crate::library::functions::{
+    rulecheck_check, rulecheck_count, rulecheck_field, rulecheck_finite, rulecheck_instant, rulecheck_load_table, rulecheck_path,
+    rulecheck_rule, rulecheck_tally, rulecheck_template, rulecheck_wall, rulecheck_widens,
+};
+use cases::books::BookCase;
+use cases::case::Case;
+use cases::keys::KeyCase;
+use cases::limits::{CHECK_RESULT_BYTES, RESULT_BYTES};
+use cases::walls::WallCase;
+use cases::widens::WidensCase;
+use model::{TallyNumbers, MARKS_BYTES, PAGE_BYTES, TALLY_BYTES, WALL_BYTES};
 use std::mem::MaybeUninit;
 
 /// An entry that takes one sort of sheet.
 type Alone = unsafe extern "C" fn(u64, u64, *const u8, usize, *const u8, usize, *const u8, usize, *mut u8, usize, *mut u8, usize) -> u32;
-
-extern "C" {
-    fn rulecheck_rule(
-        kind: u64,
-        semantics: u64,
-        label: *const u8,
-        label_length: usize,
-        schema: *const u8,
-        schema_length: usize,
-        rule: *const u8,
-        rule_length: usize,
-        path: *mut u8,
-        path_length: usize,
-        result: *mut u8,
-        result_length: usize,
-    ) -> u32;
-
-    fn rulecheck_template(
-        kind: u64,
-        semantics: u64,
-        label: *const u8,
-        label_length: usize,
-        schema: *const u8,
-        schema_length: usize,
-        rule: *const u8,
-        rule_length: usize,
-        path: *mut u8,
-        path_length: usize,
-        result: *mut u8,
-        result_length: usize,
-    ) -> u32;
-
-    fn rulecheck_check(
-        kind: u64,
-        semantics: u64,
-        label: *const u8,
-        label_length: usize,
-        table: *const u8,
-        table_length: usize,
-        schema: *const u8,
-        schema_length: usize,
-        rule: *const u8,
-        rule_length: usize,
-        path: *mut u8,
-        path_length: usize,
-        marks: *mut u8,
-        marks_length: usize,
-        result: *mut u8,
-        result_length: usize,
-    ) -> u32;
-
-    fn rulecheck_widens(
-        first: *const u8,
-        first_length: usize,
-        second: *const u8,
-        second_length: usize,
-        result: *mut u8,
-        result_length: usize,
-    ) -> u32;
-
-    fn rulecheck_load_table(table: *const u8, table_length: usize, buffer: *mut u8, buffer_length: usize) -> u32;
-
-    fn rulecheck_path(
-        semantics: u64,
-        reader: u64,
-        path: *const u8,
-        path_length: usize,
-        schema: *const u8,
-        schema_length: usize,
-        result: *mut u8,
-        result_length: usize,
-    ) -> u32;
-
-    fn rulecheck_tally(
-        kind: u64,
-        semantics: u64,
-        label: *const u8,
-        label_length: usize,
-        table: *const u8,
-        table_length: usize,
-        schema: *const u8,
-        schema_length: usize,
-        book: *const u8,
-        book_length: usize,
-        path: *mut u8,
-        path_length: usize,
-        result: *mut u8,
-        result_length: usize,
-    ) -> u32;
-
-    fn rulecheck_wall(
-        kind: u64,
-        semantics: u64,
-        label: *const u8,
-        label_length: usize,
-        table: *const u8,
-        table_length: usize,
-        schema: *const u8,
-        schema_length: usize,
-        book: *const u8,
-        book_length: usize,
-        path: *mut u8,
-        path_length: usize,
-        pages: *mut u8,
-        pages_length: usize,
-        result: *mut u8,
-        result_length: usize,
-    ) -> u32;
-
-    fn rulecheck_count(result: *const u8, result_length: usize, index: u32) -> u64;
-
-    fn rulecheck_field(result: *const u8, result_length: usize, index: u32) -> u32;
-
-    fn rulecheck_finite(text: *const u8, text_length: usize) -> u32;
-
-    fn rulecheck_instant(text: *const u8, text_length: usize, fields: *mut u8, fields_length: usize) -> u32;
-}
 
 /// One call of the case, the slices lent as they are, and the table from a place of its own. An entry without marks is lent none.
 pub fn check(case: &Case, entry: Entry, table: &[u8], path: &mut [u8], marks: &mut [u8], result: &mut [u8]) -> u32 {

@@ -1,7 +1,9 @@
 //! `rulecheck_load_table`, held against what the model answers: the number, every byte of the buffer and around it, and every byte of the table.
 
-use super::{in_arena, mixed, raw, Slot};
-use crate::tables::LoadCase;
+use crate::library::arena::{in_arena, mixed};
+use crate::library::lent::Slot;
+use crate::library::raw;
+use cases::tables::LoadCase;
 
 /// Holds the library against the model's number. An error tells in what they differ.
 pub fn hold(case: &LoadCase, number: u32) -> Result<(), String> {

@@ -1,17 +1,10 @@
 //! `rulecheck_wall`, held against what the model prints: every byte of the pages' buffer, of the result, of the path buffer past what is free, and around all three.
 
-use super::books::TallyLent;
-use super::{in_arena, mixed, Extent, Slot};
-use crate::refusals::MIN_PATH_BYTES;
-use crate::walls::{Printed, WallCase};
-use differential::model::{sheets, PAGE_BYTES, PAGE_SHEETS, WALL_BYTES};
-
-/// One call, with a buffer of that length for the pages.
-#[derive(Clone, Copy, Debug, PartialEq, Eq)]
-pub struct WallLent {
-    pub tally: TallyLent,
-    pub pages: usize,
-}
+use crate::library::arena::{in_arena, mixed};
+use crate::library::lent::{Extent, Slot, TallyLent, WallLent};
+use cases::limits::MIN_PATH_BYTES;
+use cases::walls::{Printed, WallCase};
+use model::{sheets, PAGE_BYTES, PAGE_SHEETS, WALL_BYTES};
 
 /// Holds the library against the model. An error tells in what they differ.
 pub fn hold(case: &WallCase, printed: &Printed, extent: Extent) -> Result<(), String> {

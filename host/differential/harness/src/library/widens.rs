@@ -1,7 +1,9 @@
 //! `rulecheck_widens`, held against what the model answers: every byte of the result and around it, and every number.
 
-use super::{in_arena, mixed, Extent, Slot, RESULT_BYTES};
-use crate::widens::WidensCase;
+use crate::library::arena::{in_arena, mixed};
+use crate::library::lent::{Extent, Slot};
+use cases::limits::RESULT_BYTES;
+use cases::widens::WidensCase;
 
 /// Holds the library against the model's numbers. An error tells in what they differ.
 pub fn hold(case: &WidensCase, numbers: &[u32; 7], extent: Extent) -> Result<(), String> {

@@ -1,7 +1,7 @@
 //! From the trees of the sheets to the Rust's own types.
 
-use differential::trees;
 use entity_core::{CompareOp, Comparison, Condition, FieldDefinition, FieldKind, ObjectSchema, Quantifier, RuleDefinition};
+use model::trees;
 use serde_json::{Number, Value};
 use std::collections::BTreeMap;
 

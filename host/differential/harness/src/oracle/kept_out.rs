@@ -1,6 +1,6 @@
 //! Numbers on which the Rust may overflow or not come to an end. A rule that holds one is counted and not run.
 
-use differential::trees::{Condition, Data, Operator, Sheet, Value};
+use model::trees::{Condition, Data, Operator, Sheet, Value};
 
 /// The largest exponent with which the Rust is asked about a zero: it counts the places one by one.
 const MAX_ZERO_EXPONENT: u128 = 1_000_000;

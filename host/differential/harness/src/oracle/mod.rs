@@ -3,53 +3,16 @@
 mod convert;
 mod kept_out;
 mod sentences;
+pub mod verdict;
 
 pub use kept_out::is_kept_out;
 
-use differential::model::table::Table;
-use differential::trees::{Schema, Sheet, Value};
 use entity_core::validation::entry::{self, Setting};
 use entity_core::DefinitionError;
+use model::table::Table;
+use model::trees::{Schema, Sheet, Value};
 use std::panic::{catch_unwind, AssertUnwindSafe};
-
-/// What the Rust answers, in the numbers of docs/FORMAT.md.
-#[derive(Clone, Debug, PartialEq, Eq)]
-pub enum Verdict {
-    Accepted,
-    Defect(Defect),
-}
-
-#[derive(Clone, Debug, PartialEq, Eq)]
-pub struct Defect {
-    pub number: u32,
-    pub family: u32,
-    pub detail: u32,
-    pub path: String,
-    /// What the Rust quotes of the entry at fault, to be held against the entry at the place.
-    pub quoted: Quoted,
-    /// Family 8: the text of the quantifier's `in`, to be held against the entry at the over place.
-    pub over: Option<String>,
-}
-
-/// The part of the rule that a message quotes, which tells where the defect was found.
-#[derive(Clone, Debug, PartialEq, Eq)]
-pub enum Quoted {
-    Nothing,
-    /// A string as it stands in the rule.
-    Text(String),
-    /// A value as compact JSON.
-    Json(String),
-    /// The operator's spelling.
-    Operator(String),
-    /// The depth of the whole condition.
-    Depth(usize),
-    /// A quantifier's bind.
-    Bind(String),
-    /// A quantifier's `in`: the text, or compact JSON of what is no string.
-    Over(String),
-    /// A side of `compare`, by the detail alone.
-    Side,
-}
+use verdict::{Defect, Quoted, Verdict};
 
 /// Kind, semantics, label and table of a call that no refusal answers.
 #[derive(Clone, Copy)]
@@ -96,7 +59,7 @@ pub fn ask_key(schemas: &Schemas, semantics: u64, reader: u64, path: &str) -> Re
     }
 }
 
-/// The marks that stand in place of the Rust's name test; none for the stock table, under which the Rust is asked as it is.
+/// The marks that take the place of the Rust's name test; none for the stock table, under which the Rust is asked as it is.
 fn table(lent: &[u8]) -> Option<entry::Table> {
     let is_stock = lent.is_empty() || lent.starts_with(&Table::stock().write());
     let mark = |row: usize, mark: usize| lent.get(row * 22 + 4 + 2 * mark) == Some(&b'1');

@@ -1,11 +1,11 @@
 //! The one table from the Rust's messages to number and detail.
 //!
 //! Names in a message may hold pieces of other messages. So every row is a whole sentence: either constant, or with a constant end that no value
-//! can imitate, or written anew from the parts of a reference that stands in the rule and then compared as a whole.
+//! can imitate, or written again from the parts of a reference of the rule and then compared as a whole.
 
-use super::Quoted;
-use differential::trees::{Condition, Data, Operator, Sheet, Value};
+use crate::oracle::verdict::Quoted;
 use entity_core::validation::entry::readable;
+use model::trees::{Condition, Data, Operator, Sheet, Value};
 
 /// What a message says: number, detail, and the part of the rule that it quotes.
 pub struct Found {
@@ -148,7 +148,7 @@ fn reference_detail(kind: u64, reference: &str, message: &str) -> Option<u32> {
     }
 }
 
-/// The detail of 18 for a path of the record: its sentence stands alone, without the reference before it.
+/// The detail of 18 for a path of the record: its sentence comes alone, without the reference before it.
 pub fn of_key(path: &str, sentence: &str) -> Result<u32, String> {
     path_detail(path, "field", sentence).ok_or_else(|| unknown(sentence))
 }
@@ -231,7 +231,7 @@ fn is_union_end(sentence: &str) -> bool {
     tag_and_content().is_some_and(|(tag, content)| content == if tag == "value" { "content" } else { "value" })
 }
 
-/// The detail of 22. `over` is the text of `in`, or JSON where it is no string.
+/// The detail of 22. `over` is the text of `in`, or JSON where it is not a string.
 pub fn of_collection(over: &str, sentence: &str) -> Result<u32, String> {
     if sentence == "`in` is a reference to an array or map field" {
         return Ok(1);

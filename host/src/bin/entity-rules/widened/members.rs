@@ -72,7 +72,7 @@ impl Tree {
         Some(Self { record, arguments })
     }
 
-    /// What a path behind `$fields`, `$old_fields` or `$args` begins at.
+    /// What a path after `$fields`, `$old_fields` or `$args` begins at.
     pub fn root(&self, name: Name) -> Option<&Holder> {
         match name {
             Name::Fields | Name::OldFields => Some(&self.record),
@@ -267,7 +267,7 @@ impl<'a, I: Iterator<Item = (&'a Entry<'a>, usize)>> Reading<'a, I> {
     }
 }
 
-/// A name as it stands in a path: quoted, unless nothing in it could be taken for something else.
+/// A name as it is written in a path: quoted, unless nothing in it could be taken for something else.
 fn segment(name: &str) -> String {
     let is_plain = |letter: char| letter.is_alphanumeric() || matches!(letter, '_' | '-');
     match !name.is_empty() && name.chars().all(is_plain) {

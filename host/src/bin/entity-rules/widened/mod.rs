@@ -121,7 +121,7 @@ fn located(breach: Breach, one: &[u8], two: &[u8]) -> Comparison {
     }
 }
 
-/// Why it is none, where it looks like a widening.
+/// Why it is not a widening, where it looks like one.
 fn hint(reason: BreachReason, new: Option<&Member>) -> Option<&'static str> {
     let is_json = new.is_some_and(|new| new.kind == Some(FieldKind::Json));
     let has_element = new.is_some_and(|new| new.has_element);

@@ -26,7 +26,7 @@ pub fn text(palette: &Palette, compared: &Compared) -> String {
             hint,
         } => {
             let reason = breach.reason;
-            let word = palette.paint(Colour::Red, "no widening");
+            let word = palette.paint(Colour::Red, "not a widening");
             let mut text = format!(
                 "{new}: {word} of {old}, reason {}: {reason}\n",
                 reason.number()

@@ -1,0 +1,270 @@
+// The checks of a condition. A condition that is a quantifier has a condition as its body: the functions call one another, with one level less left.
+use rule::index::start_of;
+use scope::binder::Element;
+use scope::binder::Scope;
+use scope::binder::bind;
+use scope::collections::collection_element;
+use sheet::part::Part;
+use sheet::part::bytes_of;
+use sheet::rule_heads::COMPARE;
+use sheet::rule_heads::ConditionHead;
+use sheet::rule_heads::ConditionRead;
+use sheet::rule_heads::LITERAL;
+use sheet::rule_heads::NOT;
+use sheet::rule_heads::TRUTHY;
+use sheet::rule_heads::condition_head;
+use value_checks::kind::EXISTS;
+use value_checks::kind::operator_at;
+use value_checks::node::behind;
+use value_checks::operand::Form;
+use value_checks::operand::form_of;
+use value_checks::operand::validate_comparison;
+use value_checks::operand::validate_pair;
+use value_checks::references::validate_references;
+use value_checks::verdict::Fault;
+use value_checks::verdict::Over;
+use value_checks::verdict::Progress;
+use value_checks::verdict::Verdict;
+use value_checks::verdict::fail;
+use value_checks::verdict::going;
+use value_checks::verdict::pass;
+use value_checks::verdict::require;
+use walk::answer::Collected;
+use walk::answer::CollectionFault;
+use walk::path::Dot;
+use walk::path::first_dot;
+ghost use mathlib.Core.Path.{_≡_};
+ghost use mathlib.Core.Bool.{_||_};
+ghost use Prim.Native.Nat.{_+_, _*_, _-_, _<_, _≤_};
+ghost use Rattle.text.specs.Blank.{isBlank};
+ghost use Rattle.sheet.specs.Parts.{partOf};
+ghost use Rattle.validation.specs.Check.{hasDot};
+ghost use Rattle.value_checks.specs.Verdicts.{going, HasRoom};
+ghost use Rattle.value_checks.specs.Frames.{frame};
+ghost use Rattle.condition_checks.specs.Bodies.{NonemptyJudged, EntryJudged, OperandsJudged, BindAt, CollectionOf, BodyJudged, BodiesJudged, QuantifierJudged};
+
+// The bind of a quantifier.
+pub enum BindRead {
+    Is(Part),
+    Bad,
+}
+
+// `all` and `any` hold a condition: at word `i` they do not end right after their own entry.
+fn validate_nonempty(passed: usize, over: Over, op: usize, i: usize, end: usize) -> Progress
+    requires { ⌜ HasRoom (going passed) 1 × (i < 4096) ⌝ }
+    ensures { λ r. ⌜ NonemptyJudged over op i end (going passed) r ⌝ }
+{
+    if op <= LITERAL {
+        return going(passed);
+    }
+    if op < NOT {
+        return require(passed, i + 1 == end, Fault::Empty, i + 1, over);
+    }
+    going(passed)
+}
+
+// What a condition that ends at `end` is asked by its own entry. Operators from 18 on are there under service alone.
+fn validate_entry(
+    passed: usize,
+    scope: Scope,
+    over: Over,
+    op: usize,
+    i: usize,
+    end: usize,
+) -> Progress
+    requires { ⌜ HasRoom (going passed) 2 × (i < 4096) ⌝ }
+    ensures { λ r. ⌜ EntryJudged scope over op i end (going passed) r ⌝ }
+{
+    if op < COMPARE {
+        return validate_nonempty(passed + 1, over, op, i, end);
+    }
+    if scope.service {
+        return pass(passed);
+    }
+    fail(passed, Fault::Operator, i + 1, over)
+}
+
+// The values of a condition that holds no condition, from word `start` up to word `end`, by its operator.
+fn validate_operands(
+    passed: usize,
+    schema: &[u8],
+    rule: &[u8],
+    words: &[u32],
+    scope: Scope,
+    over: Over,
+    op: usize,
+    start: usize,
+    end: usize,
+) -> Progress
+    requires { ⌜ HasRoom (going passed) (end - start + 2) × (start ≤ end) × (end < 4096) ⌝ }
+    ensures { λ r. ⌜ OperandsJudged (frame (now (schema .entry)) (now (rule .entry)) (now (words .entry)) scope over) op start end (going passed) r ⌝ }
+{
+    if op <= EXISTS {
+        return validate_references(passed, schema, rule, words, scope, over, start, end);
+    }
+    if COMPARE < op {
+        return validate_references(passed, schema, rule, words, scope, over, start, end);
+    }
+    if op == COMPARE {
+        return validate_comparison(passed, schema, rule, words, scope, over, start, end);
+    }
+    validate_pair(passed, schema, rule, words, scope, over, op, start, end)
+}
+
+// The bind of the quantifier at word `i`.
+fn bind_of(rule: &[u8], words: &[u32], i: usize) -> BindRead
+    ensures { λ r. ⌜ BindAt (now (rule .entry)) (now (words .entry)) i r ⌝ }
+{
+    let ConditionRead::Is(head, _) = condition_head(rule, start_of(words, i)) else {
+        return BindRead::Bad;
+    };
+    match head {
+        ConditionHead::Literal(_) => BindRead::Bad,
+        ConditionHead::Many(_, _) => BindRead::Bad,
+        ConditionHead::Negation => BindRead::Bad,
+        ConditionHead::One(_) => BindRead::Bad,
+        ConditionHead::Two(_) => BindRead::Bad,
+        ConditionHead::Comparison(_) => BindRead::Bad,
+        ConditionHead::Quantifier(_, name) => BindRead::Is(name),
+    }
+}
+
+fn has_dot(text: &[u8]) -> bool
+    ensures { λ r. ⌜ r ≡ hasDot (now (text .entry)) ⌝ }
+{
+    match first_dot(text) {
+        Dot::At(_) => true,
+        Dot::Nowhere => false,
+    }
+}
+
+fn is_wrong_bind(name: &[u8]) -> bool
+    ensures { λ r. ⌜ r ≡ (isBlank (now (name .entry)) || hasDot (now (name .entry))) ⌝ }
+{
+    if text::is_blank(name) {
+        return true;
+    }
+    has_dot(name)
+}
+
+// What the value of word `i` leads to as the value of `in`.
+fn collection_of(schema: &[u8], rule: &[u8], words: &[u32], scope: Scope, i: usize) -> Collected
+    ensures { λ r. ⌜ CollectionOf (now (schema .entry)) (now (rule .entry)) (now (words .entry)) scope i r ⌝ }
+{
+    match form_of(rule, words, i) {
+        Form::Text(part) => collection_element(schema, rule, words, scope, bytes_of(rule, part)),
+        Form::Holder => Collected::No(CollectionFault::NotString, 0),
+        Form::Other => Collected::No(CollectionFault::NotString, 0),
+    }
+}
+
+// The condition at word `i`, which ends at `end` and is at most `left` deep.
+pub fn validate_condition_body(
+    passed: usize,
+    schema: &[u8],
+    rule: &[u8],
+    words: &[u32],
+    scope: Scope,
+    over: Over,
+    i: usize,
+    end: usize,
+    left: usize,
+) -> Progress
+    requires { ⌜ HasRoom (going passed) (8 * (end - i)) × (i < end) × (end < 4096) ⌝ }
+    ensures { λ r. ⌜ BodyJudged (frame (now (schema .entry)) (now (rule .entry)) (now (words .entry)) scope over) i end left (going passed) r ⌝ }
+{
+    if left == 0 {
+        return going(passed);
+    }
+    let op = operator_at(rule, start_of(words, i));
+    let r = validate_entry(passed, scope, over, op, i, end);
+    let verdict = r.verdict;
+    let Verdict::Pass = verdict else {
+        return r;
+    };
+    let n = r.passed;
+    if op <= LITERAL {
+        return going(n);
+    }
+    if op <= NOT {
+        return validate_conditions(n, schema, rule, words, scope, over, i + 1, end, left - 1);
+    }
+    if op <= TRUTHY {
+        return validate_operands(n, schema, rule, words, scope, over, op, i + 1, end);
+    }
+    let BindRead::Is(name) = bind_of(rule, words, i) else {
+        return going(n);
+    };
+    validate_quantifier(n, schema, rule, words, scope, over, name, i, end, left - 1)
+}
+
+// The conditions from word `start` on, which end at `end`.
+fn validate_conditions(
+    passed: usize,
+    schema: &[u8],
+    rule: &[u8],
+    words: &[u32],
+    scope: Scope,
+    over: Over,
+    start: usize,
+    end: usize,
+    left: usize,
+) -> Progress
+    requires { ⌜ HasRoom (going passed) (8 * (end - start)) × (end < 4096) ⌝ }
+    ensures { λ r. ⌜ BodiesJudged (frame (now (schema .entry)) (now (rule .entry)) (now (words .entry)) scope over) start end left (going passed) r ⌝ }
+{
+    let mut so_far = passed;
+    let mut i = start;
+    while i < end {
+        let next = behind(words, i, end);
+        let r = validate_condition_body(so_far, schema, rule, words, scope, over, i, next, left);
+        let verdict = r.verdict;
+        let Verdict::Pass = verdict else {
+            return r;
+        };
+        so_far = r.passed;
+        i = next;
+    }
+    going(so_far)
+}
+
+// A quantifier at word `i`, behind its operator: its bind, the value that it walks, and its body with one binder more.
+fn validate_quantifier(
+    passed: usize,
+    schema: &[u8],
+    rule: &[u8],
+    words: &[u32],
+    scope: Scope,
+    over: Over,
+    name: Part,
+    i: usize,
+    end: usize,
+    left: usize,
+) -> Progress
+    requires { ⌜ HasRoom (going passed) (2 + 8 * (end - (i + 1))) × (i < end) × (end < 4096) ⌝ }
+    ensures { λ r. ⌜ QuantifierJudged (frame (now (schema .entry)) (now (rule .entry)) (now (words .entry)) scope over) (partOf (now (rule .entry)) name) i end left (going passed) r ⌝ }
+{
+    let start = i + 1;
+    let mid = behind(words, start, end);
+    if is_wrong_bind(bytes_of(rule, name)) {
+        return fail(passed, Fault::Bind, start, over);
+    }
+    let r = validate_references(passed + 1, schema, rule, words, scope, over, start, mid);
+    let verdict = r.verdict;
+    let Verdict::Pass = verdict else {
+        return r;
+    };
+    let n = r.passed;
+    let within = Over::In(start + 1);
+    match collection_of(schema, rule, words, scope, start) {
+        Collected::Known(slot) => {
+            let inner = bind(scope, name, Element::Known(slot));
+            validate_conditions(n + 1, schema, rule, words, inner, within, mid, end, left)
+        }
+        Collected::Unknown => {
+            let inner = bind(scope, name, Element::Unknown);
+            validate_conditions(n + 1, schema, rule, words, inner, within, mid, end, left)
+        }
+        Collected::No(fault, at) => fail(n, Fault::Collection(fault, at), start, over),
+    }
+}

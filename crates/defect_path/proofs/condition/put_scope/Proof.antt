@@ -1,0 +1,49 @@
+use Rattle.sheet.specs.Ascii.{ascii}
+use borrow.Author.Tests.{eq-eqb, ne-eqb}
+use Rattle.buffer.specs.WroteLaws.{wrote-then}
+use borrow.Author.Needs.{needs}
+use Rattle.defect_path.proofs.condition.put_scope.Statement.{statement}
+use Rattle.defect_path.proofs.condition.put_scope.Tie as tie
+
+put-operator-requires : tie.Need-put-operator-requires
+put-operator-requires c κs = search needs
+
+slice-aggregate-put : tie.Need-slice-aggregate-put
+slice-aggregate-put c = search needs
+
+put-requires : tie.Need-put-requires
+put-requires c κs = search needs
+
+same-length : tie.Need-same-length
+same-length c = search needs
+
+returns : tie.Need-returns
+unfolding ascii
+returns c = rw (eq-eqb _ 0 (c .before .before .before .before .before .if1 .taken)) (wrote-then (c .before .before .before .before .before .before .before .before .put-operator .ensures) (c .before .before .put .ensures))
+
+slice-aggregate-put-2 : tie.Need-slice-aggregate-put-2
+slice-aggregate-put-2 c = search needs
+
+put-requires-2 : tie.Need-put-requires-2
+put-requires-2 c κs = search needs
+
+same-length-2 : tie.Need-same-length-2
+same-length-2 c = search needs
+
+returns-2 : tie.Need-returns-2
+unfolding ascii
+returns-2 c = rw (ne-eqb _ 0 (c .before .before .before .before .before .if1 .left)) (wrote-then (c .before .before .before .before .before .before .before .before .put-operator .ensures) (c .before .before .put2 .ensures))
+
+pub put-scope-spec : {M : Type 1} → statement M
+put-scope-spec =
+    tie.close
+    (tie.spec
+    put-operator-requires
+    slice-aggregate-put
+    put-requires
+    same-length
+    returns
+    slice-aggregate-put-2
+    put-requires-2
+    same-length-2
+    returns-2)

@@ -1,0 +1,54 @@
+use borrow.Author.Needs.{needs}
+use Rattle.walk.specs.Answers.{collectionDetail}
+use Rattle.single_check.proofs.finding.collection_detail.Statement.{statement}
+use Rattle.single_check.proofs.finding.collection_detail.Tie as tie
+
+enum-told : tie.Need-enum-told
+enum-told c = search needs
+
+enum-told-2 : tie.Need-enum-told-2
+enum-told-2 c = search needs
+
+enum-told-3 : tie.Need-enum-told-3
+enum-told-3 c = search needs
+
+enum-told-4 : tie.Need-enum-told-4
+enum-told-4 c = search needs
+
+enum-told-5 : tie.Need-enum-told-5
+enum-told-5 c = search needs
+
+returns : tie.Need-returns
+unfolding collectionDetail
+returns c = search needs
+
+returns-2 : tie.Need-returns-2
+unfolding collectionDetail
+returns-2 c = search needs
+
+returns-3 : tie.Need-returns-3
+unfolding collectionDetail
+returns-3 c = search needs
+
+returns-4 : tie.Need-returns-4
+unfolding collectionDetail
+returns-4 c = search needs
+
+returns-5 : tie.Need-returns-5
+unfolding collectionDetail
+returns-5 c = search needs
+
+pub collection-detail-spec : {M : Type 1} → statement M
+collection-detail-spec =
+    tie.close
+    (tie.spec
+    enum-told
+    enum-told-2
+    enum-told-3
+    enum-told-4
+    enum-told-5
+    returns
+    returns-2
+    returns-3
+    returns-4
+    returns-5)

@@ -1,0 +1,132 @@
+-- The kind of an entry by its bytes: what is read is the entry as it is written, of which the bytes at fixed places compute.
+use Prim.Native.Nat.{ℕ, _+_, _*_, _/_, _%_, _≤_, _<_}
+use native.Mathlib.Omega.{arith}
+use mathlib.Core.List.{List, _++_}
+use mathlib.Core.Logic.{⊎-elim}
+use mathlib.Core.Option.{some}
+use mathlib.Core.Path.{_≡_, refl, sym, ap, _∙_}
+use lib.Dec.{ltb}
+use lib.ListN.{length, getD, drop, List·getD-eq-default}
+use lib.Seq.{getD-drop}
+use borrow.Author.Tests.{ltb-true, ltb-false}
+use Rattle.sheet.specs.Ascii.{ascii}
+use Rattle.sheet.specs.NumeralLaws.{decimalOf-one, decimalOf-last}
+use Rattle.sheet.specs.Entries.{ConditionHead, literalHead, manyHead, negationHead, oneHead, twoHead, comparisonHead, quantifierHead, conditionHead, ValueHead, constantHead, numberHead, stringHead, arrayHead, objectHead}
+use Rattle.sheet.specs.Write.{writeItem, writeOperator, writeConditionHead, writeType, writeValueHead}
+use Rattle.sheet.specs.ReaderLaws.{by-test}
+use Rattle.sheet.specs.RuleHeadLaws.{ConditionHeadFits, conditionHead-exact, ValueHeadFits, valueHead-exact}
+use Rattle.value_checks.specs.Kinds.{operatorIn, typeIn, OperatorAt, TypeAt}
+
+-- The entry as it is written.
+
+head-written : (h : ConditionHead) → (n : ℕ) × (text : List ℕ) × (writeConditionHead h ≡ writeOperator (operatorIn h) n text)
+unfolding writeConditionHead operatorIn
+head-written (literalHead truth) = (_, _, refl)
+head-written (manyHead op count) = (_, _, refl)
+head-written negationHead = (_, _, refl)
+head-written (oneHead op) = (_, _, refl)
+head-written (twoHead op) = (_, _, refl)
+head-written (comparisonHead which) = (_, _, refl)
+head-written (quantifierHead op bind) = (_, _, refl)
+
+head-most : (h : ConditionHead) → ConditionHeadFits h → operatorIn h ≤ 21
+unfolding operatorIn
+head-most (literalHead truth) f = omega arith
+head-most (manyHead op count) f = omega (arith, f .0 .1)
+head-most negationHead f = omega arith
+head-most (oneHead op) f = ⊎-elim (λ e. omega arith) (λ e. omega arith) f
+head-most (twoHead op) f = omega (arith, f .1)
+head-most (comparisonHead which) f = omega arith
+head-most (quantifierHead op bind) f = omega (arith, f .0 .1)
+
+value-written : (h : ValueHead) → (n : ℕ) × (text : List ℕ) × (writeValueHead h ≡ writeType (typeIn h) n text)
+unfolding writeValueHead typeIn
+value-written (constantHead type) = (_, _, refl)
+value-written (numberHead digits) = (_, _, refl)
+value-written (stringHead string) = (_, _, refl)
+value-written (arrayHead count) = (_, _, refl)
+value-written (objectHead count) = (_, _, refl)
+
+value-most : (h : ValueHead) → ValueHeadFits h → typeIn h ≤ 7
+unfolding typeIn
+value-most (constantHead type) f = omega (arith, f .1)
+value-most (numberHead digits) f = omega arith
+value-most (stringHead string) f = omega arith
+value-most (arrayHead count) f = omega arith
+value-most (objectHead count) f = omega arith
+
+-- The digits of its number.
+
+module _ (op n : ℕ) (text rest : List ℕ) where
+  one-digit : op < 10 → (getD (writeOperator op n text ++ rest) 2 0 ≡ 48 + op) × (getD (writeOperator op n text ++ rest) 3 0 ≡ 44)
+  unfolding writeOperator writeItem ascii
+  one-digit h = (rw (decimalOf-one op h), rw (decimalOf-one op h))
+
+  two-digits : 10 ≤ op → op < 100 → (getD (writeOperator op n text ++ rest) 2 0 ≡ 48 + op / 10) × (getD (writeOperator op n text ++ rest) 3 0 ≡ 48 + op % 10)
+  unfolding writeOperator writeItem ascii
+  two-digits h k =
+      let q : op / 10 < 10 = omega arith in
+      (rw (decimalOf-last op h, decimalOf-one (op / 10) q), rw (decimalOf-last op h, decimalOf-one (op / 10) q))
+
+  type-digit : op < 10 → getD (writeType op n text ++ rest) 2 0 ≡ 48 + op
+  unfolding writeType writeItem ascii
+  type-digit h = rw (decimalOf-one op h)
+
+module _ (rule : List ℕ) (at : ℕ) where
+  byte-in : (s : List ℕ) (n : ℕ) → drop at rule ≡ s → getD rule (at + n) 0 ≡ getD s n 0
+  byte-in s n e = sym (getD-drop at rule n 0) ∙ ap (λ (l : List ℕ). getD l n 0) e
+
+  module _ {h : ConditionHead} {rest : List ℕ} (reads : conditionHead (drop at rule) ≡ some (h, rest)) where
+    operator-written : drop at rule ≡ writeOperator (operatorIn h) (head-written h .0) (head-written h .1) ++ rest
+    operator-written =
+        conditionHead-exact .sound (drop at rule) h rest reads .0 ∙ ap (λ (l : List ℕ). l ++ rest) (head-written h .2)
+
+    operator-most : operatorIn h ≤ 21
+    operator-most = head-most h (conditionHead-exact .sound (drop at rule) h rest reads .1)
+
+    by-digits : {C : Type 0}
+        → (operatorIn h < 10 → getD rule (at + 2) 0 ≡ 48 + operatorIn h → getD rule (at + 3) 0 ≡ 44 → C)
+        → (10 ≤ operatorIn h → getD rule (at + 2) 0 ≡ 48 + operatorIn h / 10 → getD rule (at + 3) 0 ≡ 48 + operatorIn h % 10 → C)
+        → C
+    by-digits f g =
+        by-test (ltb (operatorIn h) 10) (λ q.
+        let l = ltb-true (operatorIn h) 10 q in
+        let d = one-digit (operatorIn h) _ _ rest l in
+        f l (byte-in _ 2 operator-written ∙ d .0) (byte-in _ 3 operator-written ∙ d .1)) (λ q.
+        let l = ltb-false (operatorIn h) 10 q in
+        let d = two-digits (operatorIn h) _ _ rest l (omega (arith, operator-most)) in
+        g l (byte-in _ 2 operator-written ∙ d .0) (byte-in _ 3 operator-written ∙ d .1))
+
+-- The code's answers.
+
+digit-of : (d : ℕ) → d < 10 → (48 + d) % 16 ≡ d
+digit-of d h = omega arith
+
+pub past-end : (s : List ℕ) (i : ℕ) → length s ≤ i → 0 ≡ getD s i 0
+past-end s i h = sym (List·getD-eq-default s 0 h)
+
+module _ {rule : List ℕ} {at first second : ℕ} (a : first ≡ getD rule (at + 2) 0) (b : second ≡ getD rule (at + 3) 0) where
+  pub operator-one : second ≡ 44 → OperatorAt rule at (first % 16)
+  operator-one e =
+      record { is = λ h rest reads. by-digits rule at reads (λ l p q. omega arith) (λ l p q. omega arith) }
+
+  pub operator-two : (second ≡ 44 → ⊥) → OperatorAt rule at (10 * (first % 16) + second % 16)
+  operator-two e =
+      record {
+        is = λ h rest reads.
+            by-digits rule at reads (λ l p q. absurd (e (b ∙ q))) (λ l p q.
+            let m : operatorIn h ≤ 21 = operator-most rule at reads in
+            let x : first % 16 ≡ operatorIn h / 10 = ap (λ (y : ℕ). y % 16) (a ∙ p) ∙ digit-of (operatorIn h / 10) (omega arith) in
+            let y : second % 16 ≡ operatorIn h % 10 = ap (λ (z : ℕ). z % 16) (b ∙ q) ∙ digit-of (operatorIn h % 10) (omega arith) in
+            omega arith);
+      }
+
+pub type-byte : {rule : List ℕ} {at digit : ℕ} → digit ≡ getD rule (at + 2) 0 → TypeAt rule at digit
+type-byte {rule} {at} {digit} a =
+    record {
+      is = λ h rest reads.
+          let s = valueHead-exact .sound (drop at rule) h rest reads in
+          let w : drop at rule ≡ writeType (typeIn h) (value-written h .0) (value-written h .1) ++ rest =
+          s .0 ∙ ap (λ (l : List ℕ). l ++ rest) (value-written h .2) in
+          a ∙ byte-in rule at _ 2 w ∙ type-digit (typeIn h) _ _ rest (omega (arith, value-most h (s .1)));
+    }

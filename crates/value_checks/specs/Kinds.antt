@@ -1,0 +1,33 @@
+-- The kind of an entry: the operator of a condition, and the type of a value. Where no such entry stands, nothing is said.
+use Prim.Native.Nat.{ℕ, _+_}
+use mathlib.Core.List.{List}
+use mathlib.Core.Option.{some}
+use mathlib.Core.Path.{_≡_}
+use lib.ListN.{drop}
+use Rattle.sheet.specs.Entries.{ConditionHead, literalHead, manyHead, negationHead, oneHead, twoHead, comparisonHead, quantifierHead, conditionHead, ValueHead, constantHead, numberHead, stringHead, arrayHead, objectHead, valueHead}
+
+-- the operator's number, which a literal's, a negation's and a comparison's head leave out
+unfoldable pub operatorIn : ConditionHead → ℕ
+operatorIn (literalHead truth) = 1
+operatorIn (manyHead op count) = op
+operatorIn negationHead = 4
+operatorIn (oneHead op) = op
+operatorIn (twoHead op) = op
+operatorIn (comparisonHead which) = 18
+operatorIn (quantifierHead op bind) = op
+
+-- the type's number
+unfoldable pub typeIn : ValueHead → ℕ
+typeIn (constantHead type) = type
+typeIn (numberHead digits) = 4
+typeIn (stringHead string) = 5
+typeIn (arrayHead count) = 6
+typeIn (objectHead count) = 7
+
+-- `op` is the operator of the condition whose entry is read at `at`
+pub record OperatorAt (rule : List ℕ) (at op : ℕ) : Type 0 where
+  pub is : (h : ConditionHead) (rest : List ℕ) → conditionHead (drop at rule) ≡ some (h, rest) → op ≡ operatorIn h
+
+-- `digit` is the type's of the value whose entry is read at `at`
+pub record TypeAt (rule : List ℕ) (at digit : ℕ) : Type 0 where
+  pub is : (h : ValueHead) (rest : List ℕ) → valueHead (drop at rule) ≡ some (h, rest) → digit ≡ 48 + typeIn h

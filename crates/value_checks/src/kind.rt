@@ -1,0 +1,45 @@
+// The kind of an entry, read off its first bytes: the rest has been read when the index was made.
+ghost use mathlib.Core.Path.{_≡_};
+ghost use Prim.Native.Nat.{_+_};
+ghost use lib.ListN.{getD};
+ghost use Rattle.value_checks.specs.Kinds.{OperatorAt, TypeAt};
+
+// An operator's number, beside those of sheet::rule_heads.
+pub const EXISTS: usize = 5;
+
+// The type's digits that the checks tell apart (docs/FORMAT.md, "The rule sheet").
+pub const NUMBER: u8 = b'4';
+
+pub const STRING: u8 = b'5';
+
+// The byte `n` places after place `at`, 0 where there is none.
+fn byte_after(s: &[u8], at: usize, n: usize) -> u8
+    ensures { λ r. ⌜ r ≡ getD (now (s .entry)) (at + n) 0 ⌝ }
+{
+    if s.len() <= n {
+        return 0;
+    }
+    if s.len() - n <= at {
+        return 0;
+    }
+    s[at + n]
+}
+
+// The operator of the condition whose entry begins at `at`: a number of one or two digits, and a comma after it. Of another entry's bytes any number.
+pub fn operator_at(rule: &[u8], at: usize) -> usize
+    ensures { λ r. ⌜ OperatorAt (now (rule .entry)) at r ⌝ }
+{
+    let first = byte_after(rule, at, 2) as usize % 16;
+    let second = byte_after(rule, at, 3);
+    if second == b',' {
+        return first;
+    }
+    10 * first + second as usize % 16
+}
+
+// The digit of the type of the value whose entry begins at `at`. Of another entry's bytes any byte.
+pub fn type_at(rule: &[u8], at: usize) -> u8
+    ensures { λ r. ⌜ TypeAt (now (rule .entry)) at r ⌝ }
+{
+    byte_after(rule, at, 2)
+}

@@ -1,0 +1,4 @@
+//! Rules that compare instants.
+
+pub mod edges;
+pub mod generate;
