@@ -3,6 +3,7 @@ mod ConditionAnswers
 mod ConditionLaws
 mod KeptLaws
 mod KeyLaws
+mod LeafLaws
 mod ReaderLaws
 mod RuleLaws
 mod SearchLaws

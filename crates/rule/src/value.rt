@@ -117,6 +117,11 @@ fn read_headed(s: &[u8], words: &mut [u32], depth: usize, c: Cursor, read: Value
         word: word + 1,
         left: left - cost,
     };
+    // Most values hold nothing: these need no call.
+    if cost == 0 {
+        words[word] = word_of(at, word + 1);
+        return TreeRead::Good(inner);
+    }
     let TreeRead::Good(next) = read_held(s, words, depth - 1, held, inner) else {
         return TreeRead::Bad;
     };

@@ -137,8 +137,16 @@ pub fn read_members(
             return ManyRead::Bad;
         };
         if rises(sheet, i, before, name) {
-            before = name;
-            to = behind;
+            // Field by field: a copy of the whole waits for what was just stored.
+            before = Part {
+                start: name.start,
+                len: name.len,
+            };
+            to = Cursor {
+                next: behind.next,
+                used: behind.used,
+                at: behind.at,
+            };
             i += 1;
         } else {
             return ManyRead::Bad;

@@ -17,6 +17,7 @@ use Rattle.rule.specs.Read.{aheadOf}
 use borrow.Fn.Kinds.{In}
 use borrow.Fn.PlainCycle.{Measures, is, falls, and}
 use Rattle.rule.proofs.KeptLaws.{ready-fewer, ready-inside, kept-all, kept-wider}
+use Rattle.rule.proofs.LeafLaws.{leaf-answer}
 use Rattle.rule.proofs.ValueLaws.{pair-keyless, pair-valueless}
 use Rattle.rule.proofs.SiblingLaws.{Passing, siblings-begin, siblings-bad, siblings-next, siblings-end}
 use Rattle.rule.proofs.SiblingKinds.{values-kind, pairs-kind, sofar, pairs-next, object-bad, object-rises, object-differs, object-repeats}
@@ -108,10 +109,10 @@ cs-read-headed t = (
   held-by-reads.Learnt,
   cost-of-reads.Asked,
   cost-of-reads.Learnt,
-  read-held-below t,
-  read-held.Post,
   word-of-reads.Asked,
   word-of-reads.Learnt,
+  read-held-below t,
+  read-held.Post,
 )
 
 abbrev cs-read-held : ℕ → read-held-lts.Claims
@@ -168,14 +169,34 @@ read-headed-returns-3 t c =
     let head = rw (c .before .before .before .before .read .given .1) at (c .before .before .before .before .before .before .before .before .before .pre .1 .1) in
     held-unpaid-answer (now (c .before .before .before .before .before .before .before .before .before .args .s)) (now (c .before .before .before .before .before .before .before .before .before .args .words)) (c .before .before .before .before .before .before .before .before .before .args .depth) (c .before .before .before .before .read .given .0 .1 .0) (c .before .before .before .before .before .before .before .before .before .args .c) (c .before .before .before .before .read .given .0 .0) (c .before .before .before .before .before .before .if1 .left) (head .0) (c .before .cost-of .result) (c .before .before .held-by .result) (c .before .before .held-by .ensures) (c .before .cost-of .ensures) (c .if2 .taken)
 
-read-headed-add-read-held : (t : ℕ) → read-headed-lts.Need-add-read-held (cs-read-headed t) (read-headed-at t) read-headed.Post
-read-headed-add-read-held t c = search needs
+read-headed-add-words : (t : ℕ) → read-headed-lts.Need-add-words (cs-read-headed t) (read-headed-at t) read-headed.Post
+read-headed-add-words t c = search needs
+
+read-headed-add-word-of : (t : ℕ) → read-headed-lts.Need-add-word-of (cs-read-headed t) (read-headed-at t) read-headed.Post
+read-headed-add-word-of t c = search needs
+
+read-headed-word-of-requires : (t : ℕ) → read-headed-lts.Need-word-of-requires (cs-read-headed t) (read-headed-at t) read-headed.Post
+read-headed-word-of-requires t c κs = let ready = c .before .before .before .before .before .before .before .before .before .before .pre .1 .0 in omega (arith, ready .inside, ready .small, ready .budget)
+
+read-headed-mul-words : (t : ℕ) → read-headed-lts.Need-mul-words (cs-read-headed t) (read-headed-at t) read-headed.Post
+read-headed-mul-words t c = search needs
+
+read-headed-slice-write-words : (t : ℕ) → read-headed-lts.Need-slice-write-words (cs-read-headed t) (read-headed-at t) read-headed.Post
+read-headed-slice-write-words t c = let ready = c .before .before .before .before .before .before .before .before .before .before .before .pre .1 .0 in omega (arith, ready .room, ready .budget)
+
+read-headed-same-length : (t : ℕ) → read-headed-lts.Need-same-length (cs-read-headed t) (read-headed-at t) read-headed.Post
+read-headed-same-length t c = search needs
+
+read-headed-returns-4 : (t : ℕ) → read-headed-lts.Need-returns-4 (cs-read-headed t) (read-headed-at t) read-headed.Post
+read-headed-returns-4 t c =
+    let head = rw (c .before .before .before .before .before .before .read .given .1) at (c .before .before .before .before .before .before .before .before .before .before .before .pre .1 .1) in
+    leaf-answer (now (c .before .before .before .before .before .before .before .before .before .before .before .args .s)) (now (c .before .before .before .before .before .before .before .before .before .before .before .args .words)) (c .before .before .before .before .before .before .before .before .before .before .before .args .depth) (c .before .before .before .before .before .before .read .given .0 .1 .0) (c .before .before .before .before .before .before .before .before .before .before .before .args .c) (c .before .before .before .before .before .before .read .given .0 .0) (c .before .before .before .before .before .before .before .before .if1 .left) (head .0) (c .before .before .before .cost-of .result) (c .before .before .before .before .held-by .result) (c .before .before .before .before .held-by .ensures) (c .before .before .before .cost-of .ensures) (c .before .if3 .taken) (c .before .before .before .before .before .before .before .before .before .before .before .pre .1 .0) (c .word-of .ensures)
 
 read-headed-sub-read-held : (t : ℕ) → read-headed-lts.Need-sub-read-held (cs-read-headed t) (read-headed-at t) read-headed.Post
 read-headed-sub-read-held t c = search needs
 
 read-headed-read-held-requires : (t : ℕ) → read-headed-lts.Need-read-held-requires (cs-read-headed t) (read-headed-at t) read-headed.Post
-read-headed-read-held-requires t c κs = let head = rw (c .before .before .before .before .before .read .given .1) at (c .before .before .before .before .before .before .before .before .before .before .pre .1 .1) in (omega (arith, c .before .before .before .before .before .before .before .before .before .before .pre .0, c .before .before .before .before .before .before .before .if1 .left), rw (← c .before .before .cost-of .ensures) (ready-inside (c .before .before .before .before .before .before .before .before .before .before .pre .1 .0) (head .0 .within) (omega (arith, c .before .if2 .left))))
+read-headed-read-held-requires t c κs = let head = rw (c .before .before .before .before .before .before .read .given .1) at (c .before .before .before .before .before .before .before .before .before .before .before .pre .1 .1) in (omega (arith, c .before .before .before .before .before .before .before .before .before .before .before .pre .0, c .before .before .before .before .before .before .before .before .if1 .left), rw (← c .before .before .before .cost-of .ensures) (ready-inside (c .before .before .before .before .before .before .before .before .before .before .before .pre .1 .0) (head .0 .within) (omega (arith, c .before .before .if2 .left))))
 
 read-headed-enum-known-next : (t : ℕ) → read-headed-lts.Need-enum-known-next (cs-read-headed t) (read-headed-at t) read-headed.Post
 read-headed-enum-known-next t c = search needs
@@ -183,34 +204,34 @@ read-headed-enum-known-next t c = search needs
 read-headed-enum-told-2 : (t : ℕ) → read-headed-lts.Need-enum-told-2 (cs-read-headed t) (read-headed-at t) read-headed.Post
 read-headed-enum-told-2 t c = search needs
 
-read-headed-same-length : (t : ℕ) → read-headed-lts.Need-same-length (cs-read-headed t) (read-headed-at t) read-headed.Post
-read-headed-same-length t c = search needs
-
-read-headed-returns-4 : (t : ℕ) → read-headed-lts.Need-returns-4 (cs-read-headed t) (read-headed-at t) read-headed.Post
-read-headed-returns-4 t c =
-    let head = rw (c .before .before .before .before .before .before .before .before .before .before .read .given .1) at (c .before .before .before .before .before .before .before .before .before .before .before .before .before .before .before .pre .1 .1) in
-    held-bad-answer (now (c .before .before .before .before .before .before .before .before .before .before .before .before .before .before .before .args .s)) (now (c .before .before .before .before .before .before .before .before .before .before .before .before .before .before .before .args .words)) (c .before .before .before .before .before .before .before .before .before .before .before .before .before .before .before .args .depth) (c .before .before .before .before .before .before .before .before .before .before .read .given .0 .1 .0) (c .before .before .before .before .before .before .before .before .before .before .before .before .before .before .before .args .c) (c .before .before .before .before .before .before .before .before .before .before .read .given .0 .0) (c .before .before .before .before .before .before .before .before .before .before .before .before .if1 .left) (head .0) (c .before .before .before .before .read-held .last .1 .0) (c .before .before .before .before .before .before .before .cost-of .result) (c .before .before .before .before .before .before .if2 .left) (c .before .before .before .before .before .before .before .before .held-by .result) (c .before .before .before .before .before .before .before .before .held-by .ensures) (c .before .before .before .before .before .before .before .cost-of .ensures) (rw (c .enum-told2 .given .1) at (c .before .before .before .before .read-held .ensures))
-
-read-headed-word-of-requires : (t : ℕ) → read-headed-lts.Need-word-of-requires (cs-read-headed t) (read-headed-at t) read-headed.Post
-read-headed-word-of-requires t c κs = (
-  omega (arith, c .before .before .before .before .before .before .before .before .before .before .before .before .before .before .before .before .pre .1 .0 .inside, c .before .before .before .before .before .before .before .before .before .before .before .before .before .before .before .before .pre .1 .0 .small),
-  let head = rw (c .before .before .before .before .before .before .before .before .before .before .before .read .given .1) at (c .before .before .before .before .before .before .before .before .before .before .before .before .before .before .before .before .pre .1 .1) in
-      held-limit (now (c .before .before .before .before .before .before .before .before .before .before .before .before .before .before .before .before .args .s)) (now (c .before .before .before .before .before .before .before .before .before .before .before .before .before .before .before .before .args .words)) (c .before .before .before .before .before .before .before .before .before .before .before .before .before .before .before .before .args .depth) (c .before .before .before .before .before .before .before .before .before .before .before .read .given .0 .1 .0) (c .before .before .before .before .before .before .before .before .before .before .before .before .before .before .before .before .args .c) (c .before .before .before .before .before .before .before .before .before .before .before .read .given .0 .0) (c .before .before .before .before .before .before .before .before .before .before .before .before .before .if1 .left) (head .0) (c .before .before .before .before .before .read-held .last .1 .0) (c .before .before .before .before .before .before .before .before .cost-of .result) (c .before .before .before .before .before .before .before .if2 .left) (c .before .next .given .0 .0) (c .before .before .before .before .before .before .before .before .before .held-by .result) (c .before .before .before .before .before .before .before .before .before .before .before .before .before .before .before .before .pre .1 .0) (c .before .before .before .before .before .before .before .before .cost-of .ensures) (rw (c .before .next .given .1) at (c .before .before .before .before .before .read-held .ensures)),
-)
-
-read-headed-mul-words : (t : ℕ) → read-headed-lts.Need-mul-words (cs-read-headed t) (read-headed-at t) read-headed.Post
-read-headed-mul-words t c = search needs
-
-read-headed-slice-write-words : (t : ℕ) → read-headed-lts.Need-slice-write-words (cs-read-headed t) (read-headed-at t) read-headed.Post
-read-headed-slice-write-words t c = search needs
-
 read-headed-same-length-2 : (t : ℕ) → read-headed-lts.Need-same-length-2 (cs-read-headed t) (read-headed-at t) read-headed.Post
 read-headed-same-length-2 t c = search needs
 
 read-headed-returns-5 : (t : ℕ) → read-headed-lts.Need-returns-5 (cs-read-headed t) (read-headed-at t) read-headed.Post
 read-headed-returns-5 t c =
-    let head = rw (c .before .before .before .before .before .before .before .before .before .before .before .before .read .given .1) at (c .before .before .before .before .before .before .before .before .before .before .before .before .before .before .before .before .before .pre .1 .1) in
-    held-answer (now (c .before .before .before .before .before .before .before .before .before .before .before .before .before .before .before .before .before .args .s)) (now (c .before .before .before .before .before .before .before .before .before .before .before .before .before .before .before .before .before .args .words)) (c .before .before .before .before .before .before .before .before .before .before .before .before .before .before .before .before .before .args .depth) (c .before .before .before .before .before .before .before .before .before .before .before .before .read .given .0 .1 .0) (c .before .before .before .before .before .before .before .before .before .before .before .before .before .before .before .before .before .args .c) (c .before .before .before .before .before .before .before .before .before .before .before .before .read .given .0 .0) (c .before .before .before .before .before .before .before .before .before .before .before .before .before .before .if1 .left) (head .0) (c .before .before .before .before .before .before .read-held .last .1 .0) (c .before .before .before .before .before .before .before .before .before .cost-of .result) (c .before .before .before .before .before .before .before .before .if2 .left) (c .before .before .next .given .0 .0) (c .before .before .before .before .before .before .before .before .before .before .held-by .result) (c .before .before .before .before .before .before .before .before .before .before .held-by .ensures) (c .before .before .before .before .before .before .before .before .before .cost-of .ensures) (c .before .before .before .before .before .before .before .before .before .before .before .before .before .before .before .before .before .pre .1 .0) (c .word-of .ensures) (rw (c .before .before .next .given .1) at (c .before .before .before .before .before .before .read-held .ensures))
+    let head = rw (c .before .before .before .before .before .before .before .before .before .before .before .read .given .1) at (c .before .before .before .before .before .before .before .before .before .before .before .before .before .before .before .before .pre .1 .1) in
+    held-bad-answer (now (c .before .before .before .before .before .before .before .before .before .before .before .before .before .before .before .before .args .s)) (now (c .before .before .before .before .before .before .before .before .before .before .before .before .before .before .before .before .args .words)) (c .before .before .before .before .before .before .before .before .before .before .before .before .before .before .before .before .args .depth) (c .before .before .before .before .before .before .before .before .before .before .before .read .given .0 .1 .0) (c .before .before .before .before .before .before .before .before .before .before .before .before .before .before .before .before .args .c) (c .before .before .before .before .before .before .before .before .before .before .before .read .given .0 .0) (c .before .before .before .before .before .before .before .before .before .before .before .before .before .if1 .left) (head .0) (c .before .before .before .before .read-held .last .1 .0) (c .before .before .before .before .before .before .before .before .cost-of .result) (c .before .before .before .before .before .before .before .if2 .left) (c .before .before .before .before .before .before .before .before .before .held-by .result) (c .before .before .before .before .before .before .before .before .before .held-by .ensures) (c .before .before .before .before .before .before .before .before .cost-of .ensures) (rw (c .enum-told2 .given .1) at (c .before .before .before .before .read-held .ensures))
+
+read-headed-word-of-requires-2 : (t : ℕ) → read-headed-lts.Need-word-of-requires-2 (cs-read-headed t) (read-headed-at t) read-headed.Post
+read-headed-word-of-requires-2 t c κs = (
+  omega (arith, c .before .before .before .before .before .before .before .before .before .before .before .before .before .before .before .before .before .pre .1 .0 .inside, c .before .before .before .before .before .before .before .before .before .before .before .before .before .before .before .before .before .pre .1 .0 .small),
+  let head = rw (c .before .before .before .before .before .before .before .before .before .before .before .before .read .given .1) at (c .before .before .before .before .before .before .before .before .before .before .before .before .before .before .before .before .before .pre .1 .1) in
+      held-limit (now (c .before .before .before .before .before .before .before .before .before .before .before .before .before .before .before .before .before .args .s)) (now (c .before .before .before .before .before .before .before .before .before .before .before .before .before .before .before .before .before .args .words)) (c .before .before .before .before .before .before .before .before .before .before .before .before .before .before .before .before .before .args .depth) (c .before .before .before .before .before .before .before .before .before .before .before .before .read .given .0 .1 .0) (c .before .before .before .before .before .before .before .before .before .before .before .before .before .before .before .before .before .args .c) (c .before .before .before .before .before .before .before .before .before .before .before .before .read .given .0 .0) (c .before .before .before .before .before .before .before .before .before .before .before .before .before .before .if1 .left) (head .0) (c .before .before .before .before .before .read-held .last .1 .0) (c .before .before .before .before .before .before .before .before .before .cost-of .result) (c .before .before .before .before .before .before .before .before .if2 .left) (c .before .next .given .0 .0) (c .before .before .before .before .before .before .before .before .before .before .held-by .result) (c .before .before .before .before .before .before .before .before .before .before .before .before .before .before .before .before .before .pre .1 .0) (c .before .before .before .before .before .before .before .before .before .cost-of .ensures) (rw (c .before .next .given .1) at (c .before .before .before .before .before .read-held .ensures)),
+)
+
+read-headed-mul-words-2 : (t : ℕ) → read-headed-lts.Need-mul-words-2 (cs-read-headed t) (read-headed-at t) read-headed.Post
+read-headed-mul-words-2 t c = search needs
+
+read-headed-slice-write-words-2 : (t : ℕ) → read-headed-lts.Need-slice-write-words-2 (cs-read-headed t) (read-headed-at t) read-headed.Post
+read-headed-slice-write-words-2 t c = search needs
+
+read-headed-same-length-3 : (t : ℕ) → read-headed-lts.Need-same-length-3 (cs-read-headed t) (read-headed-at t) read-headed.Post
+read-headed-same-length-3 t c = search needs
+
+read-headed-returns-6 : (t : ℕ) → read-headed-lts.Need-returns-6 (cs-read-headed t) (read-headed-at t) read-headed.Post
+read-headed-returns-6 t c =
+    let head = rw (c .before .before .before .before .before .before .before .before .before .before .before .before .before .read .given .1) at (c .before .before .before .before .before .before .before .before .before .before .before .before .before .before .before .before .before .before .pre .1 .1) in
+    held-answer (now (c .before .before .before .before .before .before .before .before .before .before .before .before .before .before .before .before .before .before .args .s)) (now (c .before .before .before .before .before .before .before .before .before .before .before .before .before .before .before .before .before .before .args .words)) (c .before .before .before .before .before .before .before .before .before .before .before .before .before .before .before .before .before .before .args .depth) (c .before .before .before .before .before .before .before .before .before .before .before .before .before .read .given .0 .1 .0) (c .before .before .before .before .before .before .before .before .before .before .before .before .before .before .before .before .before .before .args .c) (c .before .before .before .before .before .before .before .before .before .before .before .before .before .read .given .0 .0) (c .before .before .before .before .before .before .before .before .before .before .before .before .before .before .before .if1 .left) (head .0) (c .before .before .before .before .before .before .read-held .last .1 .0) (c .before .before .before .before .before .before .before .before .before .before .cost-of .result) (c .before .before .before .before .before .before .before .before .before .if2 .left) (c .before .before .next .given .0 .0) (c .before .before .before .before .before .before .before .before .before .before .before .held-by .result) (c .before .before .before .before .before .before .before .before .before .before .before .held-by .ensures) (c .before .before .before .before .before .before .before .before .before .before .cost-of .ensures) (c .before .before .before .before .before .before .before .before .before .before .before .before .before .before .before .before .before .before .pre .1 .0) (c .word-of2 .ensures) (rw (c .before .before .next .given .1) at (c .before .before .before .before .before .before .read-held .ensures))
 
 read-held-enum-known-held : (t : ℕ) → read-held-lts.Need-enum-known-held (cs-read-held t) (read-held-at t) read-held.Post
 read-held-enum-known-held t c = search needs
@@ -423,18 +444,24 @@ pub +read-headed+read-held+read-pair+read-pairs+read-values-spec :
     (read-headed-held-by-requires t)
     (read-headed-cost-of-requires t)
     (read-headed-returns-3 t)
-    (read-headed-add-read-held t)
+    (read-headed-add-words t)
+    (read-headed-add-word-of t)
+    (read-headed-word-of-requires t)
+    (read-headed-mul-words t)
+    (read-headed-slice-write-words t)
+    (read-headed-same-length t)
+    (read-headed-returns-4 t)
     (read-headed-sub-read-held t)
     (read-headed-read-held-requires t)
     (read-headed-enum-known-next t)
     (read-headed-enum-told-2 t)
-    (read-headed-same-length t)
-    (read-headed-returns-4 t)
-    (read-headed-word-of-requires t)
-    (read-headed-mul-words t)
-    (read-headed-slice-write-words t)
     (read-headed-same-length-2 t)
-    (read-headed-returns-5 t))
+    (read-headed-returns-5 t)
+    (read-headed-word-of-requires-2 t)
+    (read-headed-mul-words-2 t)
+    (read-headed-slice-write-words-2 t)
+    (read-headed-same-length-3 t)
+    (read-headed-returns-6 t))
     (λ t. read-held-lts.spec (cs-read-held t)
     (read-held-at t)
     read-held.Post
