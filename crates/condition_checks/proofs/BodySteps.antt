@@ -26,7 +26,7 @@ use Rattle.walk.specs.Dots.{Cuts}
 use Rattle.walk.specs.declared.path.Dot.the-variants.{At, Nowhere}
 use Rattle.walk.specs.declared.answer.Collected.{Collected}
 use Rattle.walk.specs.declared.answer.Collected.the-variants as Collected
-use Rattle.walk.specs.declared.answer.CollectionFault.the-variants.{NotString}
+use Rattle.walk.specs.declared.answer.CollectionFault.the-variants.{NotAString}
 use Rattle.validation.specs.Check.{Binder, check, failsIf, entryOf, isString, hasDot, operatorCheck, isEmpty, operand, compareSide, body, bodies, depth, depthOfConditions}
 use Rattle.validation.specs.Judge.{outcome}
 use Rattle.value_checks.specs.Kinds.{OperatorAt}
@@ -188,7 +188,7 @@ module _ {schema rule words : List ℕ} {scope : Scope} {i : ℕ} where
             rw (g v w) q;
       }
 
-  pub collection-other : ((v : Value) → ValueAt rule words i v → isString v ≡ false) → CollectionOf schema rule words scope i (Collected.No NotString 0)
+  pub collection-other : ((v : Value) → ValueAt rule words i v → isString v ≡ false) → CollectionOf schema rule words scope i (Collected.No NotAString 0)
   unfolding collectionDetail
   collection-other g = record { leads = λ setting tree env v s w. (1, [], no-text tree env v (g v w), λ h. refl) }
 

@@ -153,8 +153,8 @@ fn collection_of(schema: &[u8], rule: &[u8], words: &[u32], scope: Scope, i: usi
 {
     match form_of(rule, words, i) {
         Form::Text(part) => collection_element(schema, rule, words, scope, bytes_of(rule, part)),
-        Form::Holder => Collected::No(CollectionFault::NotString, 0),
-        Form::Other => Collected::No(CollectionFault::NotString, 0),
+        Form::Holder => Collected::No(CollectionFault::NotAString, 0),
+        Form::Other => Collected::No(CollectionFault::NotAString, 0),
     }
 }
 

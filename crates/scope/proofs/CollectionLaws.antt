@@ -26,7 +26,7 @@ use Rattle.walk.specs.Dots.{Ends}
 use Rattle.walk.specs.DotLaws.{rest-whole}
 use Rattle.walk.specs.Answers.{collectionDetail}
 use Rattle.walk.specs.Steps.{FieldsAt, ElementIs}
-use Rattle.walk.specs.declared.answer.CollectionFault.the-variants.{NoCollection}
+use Rattle.walk.specs.declared.answer.CollectionFault.the-variants.{NoName}
 use Rattle.walk.specs.declared.answer.Collected.{Collected}
 use Rattle.walk.specs.declared.answer.Collected.the-variants as Collected
 use Rattle.scope.specs.Names.{nameIs, NamedIs}
@@ -100,7 +100,7 @@ module _ (sheet words path : List ℕ) (at : ℕ) (h : Holder) (n : ℕ) (ends :
     leads = λ t here. in-open at t (split path .first) (split path .others) (missing e t here) (sym (here .marked) ∙ o);
   }
 
-  pub root-closed : found ≡ Found.Missing → h .opened ≡ false → RootCollects sheet words at h path (Collected.No NoCollection at)
+  pub root-closed : found ≡ Found.Missing → h .opened ≡ false → RootCollects sheet words at h path (Collected.No NoName at)
   root-closed e o = record {
     leads = λ t here.
         (7, split path .first ∷ split path .others, in-closed at t (split path .first) (split path .others) (missing e t here) (sym (here .marked) ∙ o), λ small. absurd (omega arith));
@@ -151,7 +151,7 @@ unfolding collectionIn
 in-missing x s path e = rw e
 
 module _ (sheet words text : List ℕ) (scope : Scope) (end : ℕ) where
-  pub named-whole : length text ≤ end → NameCollects sheet words scope text end (Collected.No NoCollection 0)
+  pub named-whole : length text ≤ end → NameCollects sheet words scope text end (Collected.No NoName 0)
   unfolding collectionDetail
   named-whole past = record {
     leads = λ t at ends.
@@ -161,7 +161,7 @@ module _ (sheet words text : List ℕ) (scope : Scope) (end : ℕ) where
     whole ends = let within = ends .within in omega arith
 
   module _ (named : Named) (is : NamedIs (take end text) named) where
-    pub named-none : named ≡ Named.Nothing → NameCollects sheet words scope text end (Collected.No NoCollection 0)
+    pub named-none : named ≡ Named.Nothing → NameCollects sheet words scope text end (Collected.No NoName 0)
     unfolding collectionDetail
     named-none e = record {
       leads = λ t at ends.
@@ -181,7 +181,7 @@ module _ (sheet words text : List ℕ) (scope : Scope) (end : ℕ) where
           let q : nameOf (take end text) ≡ some (nameIs name) = rw found at is in
           name-path t (split text .others) (nameOf (split text .first)) (nameIs name) first others (ap nameOf (ends .first) ∙ q) (ends .more less)
 
-      pub named-no-path : root ≡ Root.Nothing → NameCollects sheet words scope text end (Collected.No NoCollection 0)
+      pub named-no-path : root ≡ Root.Nothing → NameCollects sheet words scope text end (Collected.No NoName 0)
       unfolding collectionDetail
       named-no-path e = record {
         leads = λ t at ends.
@@ -189,7 +189,7 @@ module _ (sheet words text : List ℕ) (scope : Scope) (end : ℕ) where
             (5, [], to-root t ends ∙ in-nothing (rootOf t (nameIs name)) first others q, λ small. refl);
       }
 
-      pub named-absent : root ≡ Root.Missing → NameCollects sheet words scope text end (Collected.No NoCollection 0)
+      pub named-absent : root ≡ Root.Missing → NameCollects sheet words scope text end (Collected.No NoName 0)
       named-absent e = record {
         leads = λ t at ends.
             let q : rootOf t (nameIs name) ≡ Reference.missing = rw e at (into .leads sheet words t at) in
@@ -247,7 +247,7 @@ module _ (sheet rule words text z : List ℕ) (behind : z ≡ behindFirst text) 
         rw (text-named t env entry text z behind (free e env (at .binders)) (sym d ∙ q)) (m .leads t (at .schema) ends);
   }
 
-  pub collection-plain : (b : Bool) → found ≡ Bound.Nothing → b ≡ beginsWithDollar text → b ≡ false → CollectionIs sheet rule words scope text (Collected.No NoCollection 0)
+  pub collection-plain : (b : Bool) → found ≡ Bound.Nothing → b ≡ beginsWithDollar text → b ≡ false → CollectionIs sheet rule words scope text (Collected.No NoName 0)
   unfolding collectionDetail
   collection-plain b e d q = record {
     leads = λ setting t env entry at. (5, [], text-plain t env entry text z behind (free e env (at .binders)) (sym d ∙ q), λ small. refl);

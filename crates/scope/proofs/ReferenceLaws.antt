@@ -24,7 +24,7 @@ use Rattle.walk.specs.Dots.{Ends}
 use Rattle.walk.specs.DotLaws.{ends-length, rest-whole, segment-empty, segment-full}
 use Rattle.walk.specs.Answers.{readerIs, referenceDetail}
 use Rattle.walk.specs.Steps.{Walks}
-use Rattle.walk.specs.declared.answer.ReferenceFault.the-variants.{EmptyPath, UnknownRoot, NotAvailable, NoReference}
+use Rattle.walk.specs.declared.answer.ReferenceFault.the-variants.{EmptyPath, UnknownRoot, RootNotAvailable, NoSuchReference}
 use Rattle.walk.specs.declared.answer.Readable.{Readable}
 use Rattle.walk.specs.declared.answer.Readable.the-variants.{Yes, No}
 use Rattle.scope.specs.Names.{nameIs, mayReadBy, NamedIs}
@@ -137,7 +137,7 @@ module _ (setting : Setting) (n : Setting.Name) (s : Text) (path : List Text) wh
   no-root x e = rw e
 
 module _ (sheet words path : List ℕ) (scope : Scope) (name : Name) (root : Root) (is : RootIs (scope .schema) name root) where
-  pub root-no-path : root ≡ Root.Nothing → RootReads sheet words scope name path (No NoReference 0)
+  pub root-no-path : root ≡ Root.Nothing → RootReads sheet words scope name path (No NoSuchReference 0)
   unfolding referenceDetail
   root-no-path e = record {
     leads = λ setting t v at.
@@ -145,7 +145,7 @@ module _ (sheet words path : List ℕ) (scope : Scope) (name : Name) (root : Roo
         (split path .first ∷ split path .others, no-root setting (nameIs name) (split path .first) (split path .others) (rootOf t (nameIs name)) q);
   }
 
-  pub root-absent : root ≡ Root.Missing → RootReads sheet words scope name path (No NotAvailable 0)
+  pub root-absent : root ≡ Root.Missing → RootReads sheet words scope name path (No RootNotAvailable 0)
   unfolding referenceDetail
   root-absent e = record {
     leads = λ setting t v at.
@@ -166,7 +166,7 @@ module _ (sheet words path : List ℕ) (scope : Scope) (name : Name) (root : Roo
           (m .leads (q .0) (q .2));
     }
 
-    pub root-unread : b ≡ false → RootReads sheet words scope name path (No NotAvailable 0)
+    pub root-unread : b ≡ false → RootReads sheet words scope name path (No RootNotAvailable 0)
     unfolding referenceDetail
     root-unread cannot = record {
       leads = λ setting t v here.
@@ -199,7 +199,7 @@ module _ (sheet words text : List ℕ) (scope : Scope) (end : ℕ) where
   name-behind past = record { leads = λ setting t v at ends. absurd (omega (arith, ends .within)) }
 
   module _ (named : Named) (is : NamedIs (take end text) named) where
-    pub name-none : named ≡ Named.Nothing → NameReads sheet words scope text end (No NoReference 0)
+    pub name-none : named ≡ Named.Nothing → NameReads sheet words scope text end (No NoSuchReference 0)
     unfolding referenceDetail
     name-none e = record {
       leads = λ setting t v at ends.
@@ -219,7 +219,7 @@ module _ (sheet words text : List ℕ) (scope : Scope) (end : ℕ) where
         whole : Ends text end → end ≡ length text
         whole ends = let within = ends .within in omega arith
 
-      pub name-refused : (b : Bool) → b ≡ mayReadBy (scope .row) (nameIs name) → b ≡ false → length text ≤ end → NameReads sheet words scope text end (No NoReference 0)
+      pub name-refused : (b : Bool) → b ≡ mayReadBy (scope .row) (nameIs name) → b ≡ false → length text ≤ end → NameReads sheet words scope text end (No NoSuchReference 0)
       unfolding referenceDetail
       name-refused b allowed cannot last = record {
         leads = λ setting t v at ends.

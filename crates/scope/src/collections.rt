@@ -56,7 +56,7 @@ fn collection_root(
         if holder.opened {
             return Collected::Unknown;
         }
-        return Collected::No(CollectionFault::NoCollection, at);
+        return Collected::No(CollectionFault::NoName, at);
     };
     if end == path.len() {
         return element_of(schema, words, Collected::Known(slot));
@@ -73,15 +73,15 @@ fn collection_name(schema: &[u8], words: &[u32], scope: Scope, text: &[u8], end:
     ensures { λ r. ⌜ NameCollects (now (schema .entry)) (now (words .entry)) scope (now (text .entry)) end r ⌝ }
 {
     if text.len() <= end {
-        return Collected::No(CollectionFault::NoCollection, 0);
+        return Collected::No(CollectionFault::NoName, 0);
     }
     let Named::Is(name) = name_of(&text[..end]) else {
-        return Collected::No(CollectionFault::NoCollection, 0);
+        return Collected::No(CollectionFault::NoName, 0);
     };
     let index = scope.schema;
     match root_of(index, name) {
-        Root::Nothing => Collected::No(CollectionFault::NoCollection, 0),
-        Root::Missing => Collected::No(CollectionFault::NoCollection, 0),
+        Root::Nothing => Collected::No(CollectionFault::NoName, 0),
+        Root::Missing => Collected::No(CollectionFault::NoName, 0),
         Root::At(at, holder) => collection_root(schema, words, at, holder, &text[end + 1..]),
     }
 }
@@ -102,7 +102,7 @@ pub fn collection_element(
         if begins_with_dollar(text) {
             return collection_name(schema, words, scope, behind, end);
         }
-        return Collected::No(CollectionFault::NoCollection, 0);
+        return Collected::No(CollectionFault::NoName, 0);
     };
     let Element::Known(slot) = element else {
         return Collected::Unknown;

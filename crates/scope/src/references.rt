@@ -54,8 +54,8 @@ fn validate_root(schema: &[u8], words: &[u32], scope: Scope, name: Name, path: &
 {
     let index = scope.schema;
     match root_of(index, name) {
-        Root::Nothing => Readable::No(ReferenceFault::NoReference, 0),
-        Root::Missing => Readable::No(ReferenceFault::NotAvailable, 0),
+        Root::Nothing => Readable::No(ReferenceFault::NoSuchReference, 0),
+        Root::Missing => Readable::No(ReferenceFault::RootNotAvailable, 0),
         Root::At(at, holder) => {
             let row = scope.row;
             if may_read(row, name) {
@@ -70,7 +70,7 @@ fn validate_root(schema: &[u8], words: &[u32], scope: Scope, name: Name, path: &
                     reader,
                 );
             }
-            Readable::No(ReferenceFault::NotAvailable, 0)
+            Readable::No(ReferenceFault::RootNotAvailable, 0)
         }
     }
 }
@@ -83,7 +83,7 @@ fn validate_name(schema: &[u8], words: &[u32], scope: Scope, text: &[u8], end: u
         return Readable::Yes;
     }
     let Named::Is(name) = name_of(&text[..end]) else {
-        return Readable::No(ReferenceFault::NoReference, 0);
+        return Readable::No(ReferenceFault::NoSuchReference, 0);
     };
     if end < text.len() {
         return validate_root(schema, words, scope, name, &text[end + 1..]);
@@ -92,7 +92,7 @@ fn validate_name(schema: &[u8], words: &[u32], scope: Scope, text: &[u8], end: u
     if may_read(row, name) {
         return Readable::Yes;
     }
-    Readable::No(ReferenceFault::NoReference, 0)
+    Readable::No(ReferenceFault::NoSuchReference, 0)
 }
 
 // Whether the reference of that text, behind its `$`, can be read. A binder wins over all other names, and its walk is always the kernel's.

@@ -32,8 +32,8 @@ fn instant_detail(fault: InstantFault) -> u32
     ensures { λ r. ⌜ r ≡ instantDetail fault ⌝ }
 {
     match fault {
-        InstantFault::Dollars => 1,
-        InstantFault::Other => 2,
+        InstantFault::Escaped => 1,
+        InstantFault::Unreadable => 2,
     }
 }
 
@@ -43,7 +43,7 @@ pub fn reference_detail(fault: ReferenceFault) -> u32
     match fault {
         ReferenceFault::EmptyPath => 1,
         ReferenceFault::UnknownRoot => 2,
-        ReferenceFault::ClosedObject => 3,
+        ReferenceFault::UnknownProperty => 3,
         ReferenceFault::ArrayMember => 4,
         ReferenceFault::MapMember => 5,
         ReferenceFault::AfterCount => 6,
@@ -51,8 +51,8 @@ pub fn reference_detail(fault: ReferenceFault) -> u32
         ReferenceFault::UnionMember => 8,
         ReferenceFault::NoCount => 9,
         ReferenceFault::NoMember => 10,
-        ReferenceFault::NotAvailable => 11,
-        ReferenceFault::NoReference => 12,
+        ReferenceFault::RootNotAvailable => 11,
+        ReferenceFault::NoSuchReference => 12,
         ReferenceFault::TextCount => 13,
     }
 }
@@ -61,11 +61,11 @@ fn collection_detail(fault: CollectionFault) -> u32
     ensures { λ r. ⌜ r ≡ collectionDetail fault ⌝ }
 {
     match fault {
-        CollectionFault::NotString => 1,
-        CollectionFault::ClosedObject => 2,
+        CollectionFault::NotAString => 1,
+        CollectionFault::UnknownProperty => 2,
         CollectionFault::NoMember => 3,
-        CollectionFault::NotCollection => 4,
-        CollectionFault::NoCollection => 5,
+        CollectionFault::NotACollection => 4,
+        CollectionFault::NoName => 5,
     }
 }
 

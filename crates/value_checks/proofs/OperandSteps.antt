@@ -34,7 +34,7 @@ use Rattle.value_checks.specs.declared.operand.InstantRead.{InstantRead}
 use Rattle.value_checks.specs.declared.operand.InstantRead.the-variants as InstantRead
 use Rattle.value_checks.specs.declared.operand.InstantRead.the-variants.{Bad}
 use Rattle.value_checks.specs.declared.verdict.InstantFault.{InstantFault}
-use Rattle.value_checks.specs.declared.verdict.InstantFault.the-variants.{Dollars, Other}
+use Rattle.value_checks.specs.declared.verdict.InstantFault.the-variants.{Escaped, Unreadable}
 use Rattle.value_checks.specs.declared.verdict.Side.{Side}
 use Rattle.value_checks.specs.declared.verdict.Fault.{Fault}
 use Rattle.value_checks.specs.declared.verdict.Fault.the-variants.{Operand, Affix, Instant}
@@ -162,18 +162,18 @@ instant-reference (a ∷ b ∷ t) h = by (eqb a 36) (eqb b 36) h
     by false e h = absurd (Option·none-ne-some _ h)
 
 -- text that begins with `$` and is no reference begins with `$$`
-pub instant-dollars : (t : Text) → IsReference t false → beginsWithDollar t ≡ true → TextReadAs t (Bad Dollars)
+pub instant-dollars : (t : Text) → IsReference t false → beginsWithDollar t ≡ true → TextReadAs t (Bad Escaped)
 unfolding referenceText beginsWithDollar instantText literalText formOf literalBy instantDetail failsIf
 instant-dollars [] h dollar = absurd (false≢true dollar)
 instant-dollars (a ∷ []) h dollar = absurd (Option·none-ne-some _ (sym (rw dollar at h)))
 instant-dollars (a ∷ b ∷ t) h dollar = by (eqb b 36) (rw dollar at h)
   where
     by : (e : Bool) → _≡_ {A = Option Text} (cond (not e) (some (b ∷ t)) none) none
-        → ReadAs (cond (eqb a 36) (failsIf e 1) (failsIf (isNone (instant (a ∷ b ∷ t))) 2)) (cond (eqb a 36) none (instant (a ∷ b ∷ t))) (Bad Dollars)
+        → ReadAs (cond (eqb a 36) (failsIf e 1) (failsIf (isNone (instant (a ∷ b ∷ t))) 2)) (cond (eqb a 36) none (instant (a ∷ b ∷ t))) (Bad Escaped)
     by true h = record { form = rw dollar; fields = rw dollar }
     by false h = absurd (Option·none-ne-some _ (sym h))
 
-pub instant-unread : (t : Text) → beginsWithDollar t ≡ false → instant t ≡ none → TextReadAs t (Bad Other)
+pub instant-unread : (t : Text) → beginsWithDollar t ≡ false → instant t ≡ none → TextReadAs t (Bad Unreadable)
 unfolding beginsWithDollar instantText literalText formOf literalBy instantDetail failsIf isNone
 instant-unread [] e r = record { form = refl; fields = refl }
 instant-unread (a ∷ []) e r = record { form = rw e; fields = rw (e, r) }
@@ -190,7 +190,7 @@ pub form-instant : {e : ℕ} {t text : Text} {r : InstantRead} (v : Value) → v
 unfolding instantForm literalInstant
 form-instant v g s p = record { form = rw (g, sym s) (p .form); fields = rw (g, sym s) (p .fields) }
 
-pub holder-instant : (v : Value) → isString v ≡ false → ReadAs (instantForm v) (literalInstant v) (Bad Other)
+pub holder-instant : (v : Value) → isString v ≡ false → ReadAs (instantForm v) (literalInstant v) (Bad Unreadable)
 unfolding instantForm literalInstant formOf literalBy instantDetail isString
 holder-instant (constant e type) s = record { form = refl; fields = refl }
 holder-instant (number e digits) s = record { form = refl; fields = refl }

@@ -11,7 +11,7 @@ use Rattle.value_checks.specs.Shown.{overOf, Shown, passes, fails, shown
 use Rattle.value_checks.specs.declared.verdict.Side.{Side}
 use Rattle.value_checks.specs.declared.verdict.Side.the-variants.{Left, Right}
 use Rattle.value_checks.specs.declared.verdict.InstantFault.{InstantFault}
-use Rattle.value_checks.specs.declared.verdict.InstantFault.the-variants.{Dollars, Other}
+use Rattle.value_checks.specs.declared.verdict.InstantFault.the-variants.{Escaped, Unreadable}
 use Rattle.value_checks.specs.declared.verdict.Fault.{Fault}
 use Rattle.value_checks.specs.declared.verdict.Fault.the-variants.{Name, Message, Deep, Literal, Operator, Empty, Operand, Reference, Affix, Instant, Bind, Collection}
 use Rattle.value_checks.specs.declared.verdict.Over.{Over}
@@ -41,8 +41,8 @@ sideDetail Right = 2
 
 -- the details of number 20
 unfoldable pub instantDetail : InstantFault → ℕ
-instantDetail Dollars = 1
-instantDetail Other = 2
+instantDetail Escaped = 1
+instantDetail Unreadable = 2
 
 unfoldable pub detailOf : Fault → ℕ
 detailOf Name = 0

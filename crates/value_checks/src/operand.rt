@@ -79,10 +79,10 @@ fn instant_text(text: &[u8]) -> InstantRead
         return InstantRead::Reference;
     }
     if begins_with_dollar(text) {
-        return InstantRead::Bad(InstantFault::Dollars);
+        return InstantRead::Bad(InstantFault::Escaped);
     }
     let Parsed::Instant(fields) = timestamp::parse(text) else {
-        return InstantRead::Bad(InstantFault::Other);
+        return InstantRead::Bad(InstantFault::Unreadable);
     };
     InstantRead::Literal(fields)
 }
@@ -93,8 +93,8 @@ pub fn instant_form(rule: &[u8], words: &[u32], i: usize) -> InstantRead
 {
     match form_of(rule, words, i) {
         Form::Text(part) => instant_text(bytes_of(rule, part)),
-        Form::Holder => InstantRead::Bad(InstantFault::Other),
-        Form::Other => InstantRead::Bad(InstantFault::Other),
+        Form::Holder => InstantRead::Bad(InstantFault::Unreadable),
+        Form::Other => InstantRead::Bad(InstantFault::Unreadable),
     }
 }
 

@@ -13,8 +13,8 @@ pub enum Side {
 // Why an operand of `before` or `after` is no instant.
 pub enum InstantFault {
     // Text that begins with `$$`.
-    Dollars,
-    Other,
+    Escaped,
+    Unreadable,
 }
 
 // Why a check fails; docs/FORMAT.md, "Answers", from 11 on, in its order.

@@ -19,7 +19,7 @@ use Rattle.schema.specs.declared.index.IndexedField.{IndexedField}
 use Rattle.schema.specs.declared.lookup.Found.{Found}
 use Rattle.schema.specs.declared.lookup.Found.the-variants as Found
 use Rattle.walk.specs.declared.answer.CollectionFault.{CollectionFault}
-use Rattle.walk.specs.declared.answer.CollectionFault.the-variants.{ClosedObject, NoMember, NotCollection}
+use Rattle.walk.specs.declared.answer.CollectionFault.the-variants.{UnknownProperty, NoMember, NotACollection}
 use Rattle.walk.specs.declared.answer.FieldStep.{FieldStep}
 use Rattle.walk.specs.declared.answer.FieldStep.the-variants.{Refuse, Free, Into}
 use Rattle.walk.specs.declared.answer.Collected.{Collected}
@@ -104,10 +104,10 @@ module _ (sheet words s : List ℕ) (x : IndexedField) where
           rw (step-object n k o tag items members s (sym (p .kinded) ∙ q), missing e (record { isOpen = o; members = members }) (p .members), sym (p .members .marked) ∙ mark);
     }
 
-    pub field-closed : x .kind ≡ 7 → found ≡ Found.Missing → x .members .opened ≡ false → FieldSteps sheet words x s (Refuse ClosedObject)
+    pub field-closed : x .kind ≡ 7 → found ≡ Found.Missing → x .members .opened ≡ false → FieldSteps sheet words x s (Refuse UnknownProperty)
     unfolding Ways memberStep collectionDetail
     field-closed q e mark = record {
-      leads = each-way (Refuse ClosedObject) λ n k o tag items members p.
+      leads = each-way (Refuse UnknownProperty) λ n k o tag items members p.
           rw (step-object n k o tag items members s (sym (p .kinded) ∙ q), missing e (record { isOpen = o; members = members }) (p .members), sym (p .members .marked) ∙ mark);
     }
 
@@ -198,10 +198,10 @@ module _ (sheet words : List ℕ) (k : ℕ) (x : IndexedField) (held : IndexedIs
         rw (element-mapped n kind o tag items members [] (sym (p .kinded) ∙ q)) (m .leads sheet words items (p .elements))) f (held f at);
   }
 
-  pub element-other : (x .kind ≡ 6 → ⊥) → (x .kind ≡ 10 → ⊥) → ElementOfField sheet words k (No NotCollection (x .entry))
+  pub element-other : (x .kind ≡ 6 → ⊥) → (x .kind ≡ 10 → ⊥) → ElementOfField sheet words k (No NotACollection (x .entry))
   unfolding ElementWays collectionDetail
   element-other a b = record {
-    leads = λ f at. each-element (No NotCollection (x .entry)) (λ n kind o tag items members p.
+    leads = λ f at. each-element (No NotACollection (x .entry)) (λ n kind o tag items members p.
         (4, [], element-no n kind o tag items members [] (λ z. a (p .kinded ∙ z)) (λ z. b (p .kinded ∙ z)) ∙ rw (p .numbered), λ small. refl)) f (held f at);
   }
 

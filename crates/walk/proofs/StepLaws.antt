@@ -36,7 +36,7 @@ use Rattle.schema.specs.declared.lookup.Found.{Found}
 use Rattle.schema.specs.declared.lookup.Found.the-variants as Found
 use Rattle.walk.specs.declared.answer.Reader as Code
 use Rattle.walk.specs.declared.answer.Reader.the-variants.{Kernel, Projection}
-use Rattle.walk.specs.declared.answer.ReferenceFault.the-variants.{EmptyPath, ClosedObject, ArrayMember, MapMember, AfterCount, AfterTag, UnionMember, NoCount, NoMember, TextCount}
+use Rattle.walk.specs.declared.answer.ReferenceFault.the-variants.{EmptyPath, UnknownProperty, ArrayMember, MapMember, AfterCount, AfterTag, UnionMember, NoCount, NoMember, TextCount}
 use Rattle.walk.specs.declared.answer.WalkStep.{WalkStep}
 use Rattle.walk.specs.declared.answer.WalkStep.the-variants.{Refuse, Leaf, Free, Into}
 
@@ -141,7 +141,7 @@ module _ (sheet words s : List ℕ) (h : Holder) (found : Found) (looked : Looke
   unfolding memberStep
   member-open e o = record { leads = λ t at. rw (missing e t at, sym (at .marked) ∙ o) }
 
-  pub member-closed : found ≡ Found.Missing → h .opened ≡ false → MemberSteps sheet words h s (Refuse ClosedObject)
+  pub member-closed : found ≡ Found.Missing → h .opened ≡ false → MemberSteps sheet words h s (Refuse UnknownProperty)
   unfolding memberStep referenceDetail
   member-closed e o = record { leads = λ t at. rw (missing e t at, sym (at .marked) ∙ o) }
 

@@ -9,7 +9,7 @@ use Rattle.schema.specs.Slot.{SlotHolds}
 use Rattle.walk.specs.declared.answer.Reader.{Reader}
 use Rattle.walk.specs.declared.answer.Reader.the-variants.{Kernel, Projection}
 use Rattle.walk.specs.declared.answer.ReferenceFault.{ReferenceFault}
-use Rattle.walk.specs.declared.answer.ReferenceFault.the-variants.{EmptyPath, UnknownRoot, ClosedObject, ArrayMember, MapMember, AfterCount, AfterTag, UnionMember, NoCount, NoMember, NotAvailable, NoReference, TextCount}
+use Rattle.walk.specs.declared.answer.ReferenceFault.the-variants.{EmptyPath, UnknownRoot, UnknownProperty, ArrayMember, MapMember, AfterCount, AfterTag, UnionMember, NoCount, NoMember, RootNotAvailable, NoSuchReference, TextCount}
 use Rattle.walk.specs.declared.answer.CollectionFault.{CollectionFault}
 use Rattle.walk.specs.declared.answer.CollectionFault.the-variants as Collection
 use Rattle.walk.specs.declared.answer.WalkStep.{WalkStep}
@@ -29,7 +29,7 @@ readerIs Projection = Setting.projection
 unfoldable pub referenceDetail : ReferenceFault → ℕ
 referenceDetail EmptyPath = 1
 referenceDetail UnknownRoot = 2
-referenceDetail ClosedObject = 3
+referenceDetail UnknownProperty = 3
 referenceDetail ArrayMember = 4
 referenceDetail MapMember = 5
 referenceDetail AfterCount = 6
@@ -37,17 +37,17 @@ referenceDetail AfterTag = 7
 referenceDetail UnionMember = 8
 referenceDetail NoCount = 9
 referenceDetail NoMember = 10
-referenceDetail NotAvailable = 11
-referenceDetail NoReference = 12
+referenceDetail RootNotAvailable = 11
+referenceDetail NoSuchReference = 12
 referenceDetail TextCount = 13
 
 -- the details of number 22
 unfoldable pub collectionDetail : CollectionFault → ℕ
-collectionDetail Collection.NotString = 1
-collectionDetail Collection.ClosedObject = 2
+collectionDetail Collection.NotAString = 1
+collectionDetail Collection.UnknownProperty = 2
 collectionDetail Collection.NoMember = 3
-collectionDetail Collection.NotCollection = 4
-collectionDetail Collection.NoCollection = 5
+collectionDetail Collection.NotACollection = 4
+collectionDetail Collection.NoName = 5
 
 abbrev pub StepIs : (sheet words : List ℕ) → WalkStep → Step → Type 0
 StepIs sheet words (WalkStep.Refuse fault) s = s ≡ refuse (referenceDetail fault)

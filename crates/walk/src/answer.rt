@@ -11,7 +11,7 @@ pub enum Reader {
 pub enum ReferenceFault {
     EmptyPath,
     UnknownRoot,
-    ClosedObject,
+    UnknownProperty,
     ArrayMember,
     MapMember,
     AfterCount,
@@ -19,18 +19,18 @@ pub enum ReferenceFault {
     UnionMember,
     NoCount,
     NoMember,
-    NotAvailable,
-    NoReference,
+    RootNotAvailable,
+    NoSuchReference,
     TextCount,
 }
 
 // Why a value names no collection; docs/FORMAT.md, "Details", number 22, in its order.
 pub enum CollectionFault {
-    NotString,
-    ClosedObject,
+    NotAString,
+    UnknownProperty,
     NoMember,
-    NotCollection,
-    NoCollection,
+    NotACollection,
+    NoName,
 }
 
 // Where one segment of a reference leads.

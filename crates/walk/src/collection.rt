@@ -33,7 +33,7 @@ fn field_step(schema: &[u8], words: &[u32], field: IndexedField, segment: &[u8])
             if members.opened {
                 return FieldStep::Free;
             }
-            return FieldStep::Refuse(CollectionFault::ClosedObject);
+            return FieldStep::Refuse(CollectionFault::UnknownProperty);
         };
         return FieldStep::Into(slot);
     }
@@ -98,7 +98,7 @@ fn element_of_field(schema: &[u8], words: &[u32], slot: usize) -> Collected
     if kind == MAP {
         return declared_element(element);
     }
-    Collected::No(CollectionFault::NotCollection, field.entry)
+    Collected::No(CollectionFault::NotACollection, field.entry)
 }
 
 // The element of what was reached.

@@ -95,7 +95,7 @@ fn member_step(schema: &[u8], words: &[u32], holder: Holder, segment: &[u8]) -> 
         if holder.opened {
             return WalkStep::Free;
         }
-        return WalkStep::Refuse(ReferenceFault::ClosedObject);
+        return WalkStep::Refuse(ReferenceFault::UnknownProperty);
     };
     WalkStep::Into(slot)
 }
