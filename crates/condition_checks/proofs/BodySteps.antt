@@ -283,7 +283,7 @@ module _ {f : Frame} {i end left op : ℕ} {b : Progress} where
             rw (Option·some-injective (partOf (f .rule) p) bind s) at j;
       }
 
-  -- a quantifier that stands there has a bind
+  -- a quantifier that is there has a bind
   pub inner-unbound : {x : BindRead} → 19 < op → BindAt (f .rule) (f .words) i x → x ≡ BindRead.Bad → Inner f i end left op b b
   unfolding bindBy
   inner-unbound {x} h k e =

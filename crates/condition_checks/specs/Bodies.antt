@@ -1,4 +1,4 @@
--- What the checks of a condition ask, by what the code has in hand.
+-- What the checks of a condition ask, by what the code is given.
 use Prim.Native.Nat.{ℕ, suc, _+_, _*_, _-_, _≤_}
 use mathlib.Core.Bool.{_||_}
 use mathlib.Core.List.{List, [], _∷_, _++_}
@@ -92,7 +92,7 @@ pub record BodiesJudged (f : Frame) (start end left : ℕ) (a r : Progress) : Ty
       → f .scope .count + left ≤ 32
       → GoesOn (outcome setting tree) a (bodies setting binders cs) r
 
--- what a quantifier at word `i` is asked behind its operator
+-- what a quantifier at word `i` is asked after its operator
 pub record QuantifierJudged (f : Frame) (bind : Text) (i end left : ℕ) (a r : Progress) : Type 0 where
   pub atMost : r .passed ≤ a .passed + 2 + 8 * (end - (i + 1))
   pub goes : (setting : Setting) (tree : Schema) (binders : List Binder) (env : Environment) (over : Value) (that : Condition)

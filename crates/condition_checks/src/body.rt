@@ -9,11 +9,11 @@ use sheet::part::bytes_of;
 use sheet::rule_heads::COMPARE;
 use sheet::rule_heads::ConditionHead;
 use sheet::rule_heads::ConditionRead;
+use sheet::rule_heads::EXISTS;
 use sheet::rule_heads::LITERAL;
 use sheet::rule_heads::NOT;
 use sheet::rule_heads::TRUTHY;
 use sheet::rule_heads::condition_head;
-use value_checks::kind::EXISTS;
 use value_checks::kind::operator_at;
 use value_checks::node::behind;
 use value_checks::operand::Form;
@@ -228,7 +228,7 @@ fn validate_conditions(
     going(so_far)
 }
 
-// A quantifier at word `i`, behind its operator: its bind, the value that it walks, and its body with one binder more.
+// A quantifier at word `i`, after its operator: its bind, the value that it walks, and its body with one binder more.
 fn validate_quantifier(
     passed: usize,
     schema: &[u8],

@@ -14,7 +14,9 @@ use Rattle.buffer.specs.WroteLaws.{wrote-then}
 use Rattle.buffer.specs.Bytes.{littleEndian, numberAt}
 use Rattle.rule_book.specs.Tally.{KeptFrom}
 use Rattle.rule_book.specs.TallyLaws.{AllWithin}
-use Rattle.entity_rules.specs.Counts.{eightBytes, longBytesOf, InEightBytes, no-more, one-more, longAt, countAt, countsAfter, lentFor}
+use Rattle.entity_rules.specs.Counts.{eightBytes, longBytesOf, InEightBytes, no-more, one-more, longAt, countAt, countsAfter}
+use Rattle.entity_rules.specs.Entry.{pathLent}
+use Rattle.entity_rules.proofs.Entries.{lent-nothing, lent-all}
 
 -- Eight bytes for a number.
 
@@ -79,22 +81,9 @@ count-there index l fits e f =
 
 -- The part of the path buffer that is lent.
 
-pub lent-nothing : (need path result : ℕ) → result < need → 0 ≡ lentFor need path result
-unfolding lentFor
-lent-nothing need path result short = rw (lt-leb need result short)
-
-pub lent-all : (need path result : ℕ) → need ≤ result → path ≡ lentFor need path result
-unfolding lentFor
-lent-all need path result room = rw (le-leb need result room)
-
-pub lent-within : (need path result : ℕ) → lentFor need path result ≤ path
-lent-within need path result =
-    by-test (leb need result) (λ e. omega (arith, lent-all need path result (leb-true need result e)))
-    (λ e. omega (arith, lent-nothing need path result (leb-false need result e)))
-
 -- it comes home
 pub path-home : (free need : ℕ) (path result : List ℕ) (lent : ℕ) (last : List ℕ)
-    → lent ≡ lentFor need (length path) (length result)
+    → lent ≡ pathLent need (length path) (length result)
     → (length result < need → free ≡ 0)
     → KeptFrom free (take (lent - 0) path) last
     → KeptFrom free path (last ++ drop (lent - 0) path)

@@ -31,7 +31,3 @@ countAt index bytes = cond (leb (8 * index + 8) (length bytes)) (longAt (8 * ind
 -- the result buffer after a call: the numbers lie at its start, and all other bytes keep their values; one too short for them is unchanged
 unfoldable pub countsAfter : (numbers before : List ℕ) → List ℕ
 countsAfter numbers before = cond (leb (8 * length numbers) (length before)) (sets before 0 (longBytesOf numbers)) before
-
--- A result buffer that is too short is refusal 3, in its place after 1 and 2: the path buffer counts as empty there, as with a single check.
-unfoldable pub lentFor : (need pathLength resultLength : ℕ) → ℕ
-lentFor need pathLength resultLength = cond (leb need resultLength) pathLength 0

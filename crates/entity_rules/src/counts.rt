@@ -5,7 +5,7 @@ ghost use mathlib.Core.Path.{_≡_};
 ghost use Prim.Native.Nat.{_+_, _≤_};
 ghost use lib.ListN.{length};
 ghost use Rattle.buffer.specs.Wrote.{Wrote};
-ghost use Rattle.entity_rules.specs.Counts.{eightBytes, countAt, countsAfter, lentFor};
+ghost use Rattle.entity_rules.specs.Counts.{eightBytes, countAt, countsAfter};
 
 // The lower half comes first.
 fn put_u64(n: u64, at: usize, bytes: &mut [u8])
@@ -28,13 +28,6 @@ pub fn write_counts(numbers: &[u64], bytes: &mut [u8])
         put_u64(numbers[i], i * 8, bytes);
         i += 1;
     }
-}
-
-// How much of the path buffer is lent: nothing where the result would have no room, so that both are refused as width.
-pub fn lent_for(need: usize, path: usize, result: usize) -> usize
-    ensures { λ r. ⌜ r ≡ lentFor need path result ⌝ }
-{
-    if result < need { 0 } else { path }
 }
 
 // A number of a tally or of a wall sheet's result by its index, or 0 where there is none.

@@ -31,7 +31,7 @@ pub enum Held {
 
 // What reading a key with its value finds.
 pub enum PairRead {
-    // The key, and the place behind the value.
+    // The key, and the place after the value.
     Good(Part, Cursor),
     // They are not well formed.
     Bad,
@@ -60,7 +60,7 @@ fn cost_of(held: Held) -> usize
     }
 }
 
-// Whether a key stands behind the one before it in the order of bytes, if there is one.
+// Whether a key comes after the one before it in the order of bytes, if there is one.
 fn is_next_key(s: &[u8], previous: OptionalPart, key: Part) -> bool
     ensures { λ r. ⌜ r ≡ follows (optionalOf (now (s .entry)) previous) (partOf (now (s .entry)) key) ⌝ }
 {

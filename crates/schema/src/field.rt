@@ -11,7 +11,7 @@ ghost use Rattle.schema.specs.Fields.{Ready, FieldAnswer, ItemsAnswer, M
 ghost use Rattle.sheet.specs.Parts.{partOf};
 ghost use Rattle.sheet.specs.Order.{follows};
 
-// Where reading stands: the next entry's number, how many slots are in use, and the next byte.
+// Where reading is: the next entry's number, how many slots are in use, and the next byte.
 pub struct Cursor {
     pub next: usize,
     pub used: usize,
@@ -100,7 +100,7 @@ fn read_element(
     ManyRead::Good(from)
 }
 
-// Whether a name may stand behind that of the sibling before it, if there is one.
+// Whether a name may come after that of the sibling before it, if there is one.
 fn rises(sheet: &[u8], i: usize, before: Part, name: Part) -> bool
     ensures { λ r. ⌜ r ≡ follows (nameBefore (now (sheet .entry)) i before) (partOf (now (sheet .entry)) name) ⌝ }
 {

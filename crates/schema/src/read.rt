@@ -6,7 +6,6 @@ use crate::index::MAX_SLOTS;
 use definition::limits::MAX_FIELD_NESTING;
 use definition::limits::MAX_SHEET_BYTES;
 use sheet::schema_heads::HolderHead;
-ghost use mathlib.Core.Path.{_≡_};
 ghost use Prim.Native.Nat.{_≤_};
 ghost use lib.ListN.{length};
 ghost use Rattle.schema.specs.Index.{indexEnd};

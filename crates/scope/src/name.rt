@@ -22,7 +22,7 @@ pub enum Named {
     Nothing,
 }
 
-// The name that is spelled so, behind the `$`.
+// The name that is spelled so, after the `$`.
 pub fn name_of(text: &[u8]) -> Named
     ensures { λ r. ⌜ NamedIs (now (text .entry)) r ⌝ }
 {

@@ -1,4 +1,4 @@
--- What the code's readers answer, by cases: what the definition of Entries reads from place `at` of the bytes on, and the place behind it.
+-- What the code's readers answer, by cases: what the definition of Entries reads from place `at` of the bytes on, and the place after it.
 use Prim.Native.Nat.{ℕ, _+_, _<_, _≤_}
 use mathlib.Core.Bool.{Bool, true, false}
 use mathlib.Core.List.{List}
@@ -77,7 +77,7 @@ abbrev pub NumeralIs : Reader (List ℕ) ℕ → ℕ → ℕ → List ℕ → �
 NumeralIs p low high s at (numeral.Is n next) = ReadsTo p s at n next × (low ≤ n) × (n ≤ high)
 NumeralIs p low high s at numeral.Bad = Refuses p s at
 
--- the digits behind those whose value is `value`; `Bad` where their value is above `high`
+-- the digits after those whose value is `value`; `Bad` where their value is above `high`
 abbrev pub DigitsAre : ℕ → ℕ → List ℕ → ℕ → NumeralRead → Type 0
 DigitsAre value high s at (numeral.Is n next) = (digits value (drop at s) ≡ (n, drop next s)) × (at ≤ next) × (next ≤ length s) × (n ≤ high)
 DigitsAre value high s at numeral.Bad = high < digits value (drop at s) .0
@@ -155,7 +155,7 @@ abbrev pub FieldMarksAre : List ℕ → ℕ → FieldMarksRead → Type 0
 FieldMarksAre s at (field-marks.Are m next) = ReadsTo fieldMarks s at m next × (m .kind ≤ 12) × (m .count ≤ entries.maxCount)
 FieldMarksAre s at field-marks.Bad = Refuses fieldMarks s at
 
--- a name of at most 512 bytes that stands at most `reach` bytes after place `at`
+-- a name of at most 512 bytes that is at most `reach` bytes after place `at`
 pub record NamePlaced (at reach : ℕ) (name : Part) : Type 0 where
   pub after : at ≤ name .start
   pub near : name .start ≤ at + reach
@@ -177,7 +177,7 @@ fieldOf s h =
       tag = optionalOf s (h .tag);
     }
 
--- what stands before a name is at longest `F,12,0,1,2048,512,512,`
+-- what comes before a name is at longest `F,12,0,1,2048,512,512,`
 abbrev pub maxPrefix : ℕ
 maxPrefix = 22
 

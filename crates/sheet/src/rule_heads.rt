@@ -20,6 +20,8 @@ pub const LITERAL: usize = 1;
 
 pub const NOT: usize = 4;
 
+pub const EXISTS: usize = 5;
+
 pub const AFTER: usize = 7;
 
 pub const EQ: usize = 8;
@@ -39,7 +41,7 @@ pub enum RuleHead {
 }
 
 pub enum RuleHeadRead {
-    // The head, and the place behind it.
+    // The head, and the place after it.
     Is(RuleHead, usize),
     Bad,
 }
@@ -59,7 +61,7 @@ pub enum ConditionHead {
 }
 
 pub enum ConditionRead {
-    // The head, and the place behind it.
+    // The head, and the place after it.
     Is(ConditionHead, usize),
     Bad,
 }
@@ -76,13 +78,13 @@ pub enum ValueHead {
 }
 
 pub enum ValueRead {
-    // The head, and the place behind it.
+    // The head, and the place after it.
     Is(ValueHead, usize),
     Bad,
 }
 
 pub enum KeyRead {
-    // The key, and the place behind its entry.
+    // The key, and the place after its entry.
     Is(Part, usize),
     Bad,
 }
@@ -98,7 +100,7 @@ enum Shape {
     Quantifier,
 }
 
-// What stands in the entry behind an operator: a number from `least` to `most`, and if `bound` a bind of so many bytes.
+// What is in the entry after an operator: a number from `least` to `most`, and if `bound` a bind of so many bytes.
 struct ConditionRow {
     least: u32,
     most: u32,
@@ -114,14 +116,14 @@ enum ValueKind {
     Object,
 }
 
-// What stands in the entry behind a value's type: a number up to `most`, and if `texted` a text of so many bytes, if `numeric` that of a number.
+// What is in the entry after a value's type: a number up to `most`, and if `texted` a text of so many bytes, if `numeric` that of a number.
 struct ValueRow {
     most: u32,
     texted: bool,
     numeric: bool,
 }
 
-// A rule's entry behind its letter.
+// A rule's entry after its letter.
 fn rule_texts(s: &[u8], at: usize) -> RuleHeadRead
     ensures { λ r. ⌜ RuleTextsAre (now (s .entry)) at r ⌝ }
 {
@@ -230,7 +232,7 @@ fn condition_row(shape: Shape) -> ConditionRow
     }
 }
 
-// The length of the text behind the number `n`, where there is one.
+// The length of the text after the number `n`, where there is one.
 fn text_len(texted: bool, n: usize) -> usize
     ensures { λ r. ⌜ r ≡ cond texted n 0 ⌝ }
 {

@@ -32,7 +32,7 @@ pub struct HolderHead {
 }
 
 pub enum HolderRead {
-    // The head, and the place behind it.
+    // The head, and the place after it.
     Is(HolderHead, usize),
     Bad,
 }
@@ -43,7 +43,7 @@ pub enum Arguments {
 }
 
 pub enum ArgumentsRead {
-    // The head, and the place behind it.
+    // The head, and the place after it.
     Is(Arguments, usize),
     Bad,
 }
@@ -54,7 +54,7 @@ pub struct SchemaHead {
 }
 
 pub enum SchemaHeadRead {
-    // The head, and the place behind it.
+    // The head, and the place after it.
     Is(SchemaHead, usize),
     Bad,
 }
@@ -69,7 +69,7 @@ pub struct FieldMarks {
 }
 
 pub enum FieldMarksRead {
-    // The marks, and the place behind them.
+    // The marks, and the place after them.
     Are(FieldMarks, usize),
     Bad,
 }
@@ -80,7 +80,7 @@ pub struct FieldTexts {
 }
 
 pub enum FieldTextsRead {
-    // The texts, and the place behind them.
+    // The texts, and the place after them.
     Are(FieldTexts, usize),
     Bad,
 }
@@ -97,7 +97,7 @@ pub struct FieldHead {
 }
 
 pub enum FieldRead {
-    // The head, and the place behind it.
+    // The head, and the place after it.
     Is(FieldHead, usize),
     Bad,
 }
@@ -179,7 +179,7 @@ fn field_marks(s: &[u8], at: usize) -> FieldMarksRead
     )
 }
 
-// A field's entry behind its count.
+// A field's entry after its count.
 fn field_texts(s: &[u8], at: usize) -> FieldTextsRead
     ensures { λ r. ⌜ FieldTextsAre (now (s .entry)) at r ⌝ }
 {

@@ -27,7 +27,7 @@ same-head {H} {reader} {rule} {words} {i} {at} {next} {size} {e} {h} {k} start r
     let q : _≡_ {A = H × List ℕ} (h, drop next rule) (k, a .rest) = cc (a .reads) in
     ap (λ (x : H × List ℕ). x .0) q
 
--- What an operator says of the condition that stands there.
+-- What an operator says of the condition that is there.
 
 abbrev pub HasOperator : ℕ → Condition → Type 0
 HasOperator op (literal e truth) = op ≡ 1

@@ -65,7 +65,7 @@ module _ (rule words : List ℕ) (i : ℕ) {at : ℕ} (start : at ≡ startOf wo
       reads-some (object e pairs) a = clash _ _ (a .0 .reads)
 
   module _ {digit : ℕ} (kind : TypeAt rule at digit) where
-    -- the digit of the value that stands there
+    -- the digit of the value that is there
     digit-is : {size e : ℕ} {h : ValueHead} → EntryAt valueHead rule words i size e h → (digit ≡ 48 + typeIn h) × ValueHeadFits h
     digit-is {h = h} a =
         let k : TypeAt rule (startOf words i) digit = rw start at kind in

@@ -1,4 +1,4 @@
--- What a judging function has in hand, and the trees that this stands for.
+-- What a judging function is given, and the trees that this stands for.
 use Prim.Native.Nat.{ℕ, _+_, _-_, _≤_}
 use mathlib.Core.Bool.{Bool, true, false}
 use mathlib.Core.List.{List, [], _++_}
@@ -69,7 +69,7 @@ pub record OperandJudged (f : Frame) (asked : List Binder → Value → List Che
       → IsValue (f .rule) (f .words) start end v
       → GoesOn (outcome setting tree) a (asked binders v) r
 
--- the same of two values, one behind the other
+-- the same of two values, one after the other
 pub record PairJudged (f : Frame) (first second : List Binder → Value → List Check) (start end : ℕ) (a r : Progress) : Type 0 where
   pub atMost : r .passed ≤ a .passed + (end - start) + 2
   pub goes : (setting : Setting) (tree : Schema) (binders : List Binder) (env : Environment) (mid : ℕ) (left right : Value)

@@ -1,4 +1,4 @@
--- The kind of an entry: the operator of a condition, and the type of a value. Where no such entry stands, nothing is said.
+-- The kind of an entry: the operator of a condition, and the type of a value. Where there is no such entry, nothing is said.
 use Prim.Native.Nat.{ℕ, _+_}
 use mathlib.Core.List.{List}
 use mathlib.Core.Option.{some}

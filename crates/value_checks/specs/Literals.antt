@@ -35,7 +35,7 @@ pub record ObservedJudged (rule words : List ℕ) (op start end : ℕ) (a r : Pr
   pub goes : (setting : Setting) (schema : Schema)
       → GoesOn (outcome setting schema) a (saidIn literalSays rule words (cond (isObserved op) (end - start) 0) start) r
 
--- the literals of the conditions that stand there
+-- the literals of the conditions that are there
 pub record ConditionLiterals (rule words : List ℕ) (start end : ℕ) (a r : Progress) : Type 0 where
   pub atMost : r .passed ≤ a .passed + (end - start)
   pub goes : (setting : Setting) (schema : Schema) (cs : Conditions)

@@ -1,4 +1,4 @@
--- Conditions and values as they stand in an index: a subtree from its first word up to the word behind its last.
+-- Conditions and values as they are in an index: a subtree from its first word up to the word after its last.
 use Prim.Native.Nat.{ℕ, _+_, _≤_, _<_}
 use mathlib.Core.List.{List}
 use mathlib.Core.Path.{_≡_}
@@ -18,7 +18,7 @@ pub record AreConditions (rule words : List ℕ) (i end : ℕ) (cs : Conditions)
   pub stand : ConditionsAt rule words i cs
   pub ends : end ≡ i + conditionsEntries cs
 
--- the word behind the subtree of word `i`, and `end` where the index has no such word up to there
+-- the word after the subtree of word `i`, and `end` where the index has no such word up to there
 pub record Behind (words : List ℕ) (i end r : ℕ) : Type 0 where
   pub most : r ≤ end
   pub least : i ≤ end → i ≤ r

@@ -92,7 +92,7 @@ pub record PassedOn (a r : Progress) : Type 0 where
   pub atMost : r .passed ≤ a .passed + 1
   pub goes : (ask : Check → CheckOutcome) (c : Check) → ask c ≡ none → GoesOn ask a (c ∷ []) r
 
--- one check more, which fails: nothing is asked behind it
+-- one check more, which fails: nothing is asked after it
 pub record Failed (a : Progress) (fault : Fault) (place : ℕ) (over : Over) (r : Progress) : Type 0 where
   pub same : r .passed ≡ a .passed
   pub goes : (ask : Check → CheckOutcome) (c : Check) (checks : List Check)

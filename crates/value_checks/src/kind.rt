@@ -4,9 +4,6 @@ ghost use Prim.Native.Nat.{_+_};
 ghost use lib.ListN.{getD};
 ghost use Rattle.value_checks.specs.Kinds.{OperatorAt, TypeAt};
 
-// An operator's number, beside those of sheet::rule_heads.
-pub const EXISTS: usize = 5;
-
 // The type's digits that the checks tell apart (docs/FORMAT.md, "The rule sheet").
 pub const NUMBER: u8 = b'4';
 

@@ -24,7 +24,6 @@ use sheet::rule_heads::ValueRead;
 use sheet::rule_heads::value_head;
 use timestamp::Fields;
 use timestamp::Parsed;
-ghost use mathlib.Core.Path.{_≡_};
 ghost use Prim.Native.Nat.{_+_, _-_, _<_, _≤_};
 ghost use Rattle.definition.specs.Tree.{Value};
 ghost use Rattle.rule.specs.Index.{ValueAt};

@@ -6,7 +6,7 @@ use Rattle.rule.proofs.keys.slot_of.Tie as tie
 use Prim.Native.Nat.{ℕ, _-_, _/_, _<_}
 use mathlib.Core.Path.{_≡_, refl, sym, ap, _∙_}
 use denote.Ref.{now}
-use lib.ListN.{length, drop, getD}
+use lib.ListN.{length, drop}
 use Rattle.rule.specs.Table.{stirred, slotOf}
 use Rattle.rule.proofs.TableLaws.{stirred-next, stirred-end}
 

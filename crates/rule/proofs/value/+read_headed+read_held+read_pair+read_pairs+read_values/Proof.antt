@@ -6,7 +6,7 @@ use borrow.Author.Needs.{needs}
 use Prim.Native.Nat.{ℕ, _+_, _*_, _-_, _<_}
 use mathlib.Core.Bool.{true}
 use mathlib.Core.Path.{_∙_}
-use lib.ListN.{drop, length-set}
+use lib.ListN.{drop}
 use Rattle.rule.proofs.CloseLaws.{pair-closed}
 use Rattle.rule.proofs.ValueAnswers.{value-deep-answer, value-headless-answer, held-few, held-unpaid-answer, held-bad-answer, held-limit, held-answer}
 use mathlib.Core.Option.{none}

@@ -1,4 +1,4 @@
--- `sheet::order::compare` meets its contract. However the bytes from `i` on stand to each other, so do the texts.
+-- `sheet::order::compare` meets its contract. However the bytes from `i` on compare, so do the texts.
 -- The measure is what is left of the first text.
 use Prim.Native.Nat.{_≤_, _-_}
 use native.Mathlib.Omega.{arith}

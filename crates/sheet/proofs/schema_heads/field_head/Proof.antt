@@ -1,4 +1,4 @@
--- `sheet::schema_heads::field_head` meets its contract: its two pieces, one behind the other.
+-- `sheet::schema_heads::field_head` meets its contract: its two pieces, one after the other.
 use borrow.Author.Needs.{needs}
 use Rattle.sheet.proofs.Heads.{field-no-marks, field-no-texts, field-reads}
 use Rattle.sheet.proofs.Sizes.{field-placed}
