@@ -25,7 +25,8 @@ use Rattle.walk.specs.declared.answer.Collected.the-variants as Collected
 use Rattle.walk.specs.declared.answer.CollectionFault.{CollectionFault}
 use Rattle.validation.specs.Check.{Binder, walkable, readable, Check, check, failsIf, referenceText, referenceCheck, references, hasDot, body, bodies, depth, depthOfConditions}
 use Rattle.validation.specs.Judge.{CheckOutcome, outcome, verdict, extend, enter, environment, answer, answerIn, decide, judgeFrom}
-use Rattle.value_checks.specs.Shown.{Shown, passes, fails, overOf, shownOf, goOn}
+use Rattle.validation.specs.Result.{overOf}
+use Rattle.value_checks.specs.Shown.{Shown, passes, fails, shownOf, goOn}
 use Rattle.value_checks.specs.Nodes.{Behind}
 use Rattle.value_checks.specs.Verdicts.{numberOf, detailOf, overBy, shownWith, shownBy, failed, GoesOn, PassedOn, Failed, Required}
 use Rattle.scope.specs.Scopes.{BoundElement, Binds}

@@ -22,7 +22,8 @@ use Rattle.validation.specs.Judge.{outcome, environment, judge}
 use Rattle.scope.specs.Scopes.{chainOf, ChainAt, ScopeAt}
 use Rattle.scope.specs.declared.binder.Scope.{Scope}
 use Rattle.condition_checks.specs.Depth.{DepthIs}
-use Rattle.value_checks.specs.Shown.{overOf, shownOf, goOn}
+use Rattle.validation.specs.Result.{overOf}
+use Rattle.value_checks.specs.Shown.{shownOf, goOn}
 use Rattle.value_checks.specs.Verdicts.{numberOf, detailOf, overBy, shownWith, shownBy, failed, going, GoesOn, PassedOn, Failed, Required}
 use Rattle.value_checks.specs.Literals.{ConditionLiterals}
 use Rattle.value_checks.specs.Frames.{frame, Stands, ReferencesIn}

@@ -16,7 +16,7 @@ use Rattle.rule.specs.Index.{startOf}
 use Rattle.validation.specs.Check.{Binder, check, failsIf, literalCheck}
 use Rattle.validation.specs.Judge.{outcome, environment, answer, answerIn}
 use Rattle.value_checks.specs.Leaves.{saysAt, saysIf, saidIn}
-use Rattle.value_checks.specs.Shown.{overOf}
+use Rattle.validation.specs.Result.{overOf}
 use Rattle.value_checks.specs.Kinds.{typeIn, TypeAt}
 use Rattle.value_checks.specs.Verdicts.{numberOf, detailOf, overBy, failed, Required}
 use Rattle.value_checks.specs.Literals.{literalSays, LiteralsJudged}

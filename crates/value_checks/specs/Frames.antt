@@ -14,7 +14,7 @@ use Rattle.reference.specs.Reference.{Environment}
 use Rattle.validation.specs.Check.{Binder, Question, settled, Check, entryOf, isString, isHolder, referenceText, referenceCheck, compareSide}
 use Rattle.validation.specs.Judge.{outcome, environment}
 use Rattle.value_checks.specs.Leaves.{saidIn}
-use Rattle.value_checks.specs.Shown.{overOf}
+use Rattle.validation.specs.Result.{overOf}
 use Rattle.value_checks.specs.Nodes.{IsValue}
 use Rattle.value_checks.specs.Verdicts.{GoesOn, overBy, sideDetail, instantDetail}
 use Rattle.scope.specs.Scopes.{ScopeAt}

@@ -7,7 +7,8 @@ use mathlib.Core.Path.{_≡_}
 use Rattle.walk.specs.Answers.{referenceDetail, collectionDetail}
 use Rattle.validation.specs.Check.{Check}
 use Rattle.validation.specs.Judge.{CheckOutcome, judgeFrom}
-use Rattle.value_checks.specs.Shown.{overOf, Shown, passes, fails, shownOf, goOn}
+use Rattle.validation.specs.Result.{overOf}
+use Rattle.value_checks.specs.Shown.{Shown, passes, fails, shownOf, goOn}
 use Rattle.value_checks.specs.declared.verdict.Side.{Side}
 use Rattle.value_checks.specs.declared.verdict.Side.the-variants.{Left, Right}
 use Rattle.value_checks.specs.declared.verdict.InstantFault.{InstantFault}
