@@ -9,12 +9,6 @@ pub struct Sibling {
     pub index: usize,
 }
 
-pub fn wide(word: u32) -> usize
-    ensures { λ r. ⌜ r ≡ word ⌝ }
-{
-    word as usize
-}
-
 // The first sibling, from the one at word `from` on, whose subtree ends after word `target`.
 pub fn find_sibling(words: &[u32], target: usize, from: usize) -> Sibling
     requires { ⌜ from ≤ target ⌝ }

@@ -17,7 +17,8 @@ pub fn is_digit(b: u8) -> bool
     b'0' <= b && b <= b'9'
 }
 
-fn wide(n: u32) -> usize
+// A number of 32 bits as a place or a count.
+pub fn wide(n: u32) -> usize
     ensures { λ r. ⌜ r ≡ n ⌝ }
 {
     n as usize
