@@ -3,7 +3,6 @@ use crate::numeral::NumeralRead;
 use crate::numeral::{self};
 use definition::limits::MAX_FILE_BYTES;
 use sheet::numeral::wide;
-ghost use mathlib.Core.Path.{_≡_};
 ghost use Prim.Native.Nat.{_≤_};
 ghost use lib.ListN.{length};
 ghost use Rattle.check_file.specs.Places.{TextsAre, TakenIs};

@@ -1,6 +1,5 @@
 // Siblings, found over the words of the index.
 use rule::index::end_of;
-ghost use mathlib.Core.Path.{_≡_};
 ghost use Prim.Native.Nat.{_≤_, _<_};
 ghost use Rattle.defect_path.specs.Siblings.{Reaches};
 

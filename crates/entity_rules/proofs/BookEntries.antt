@@ -8,11 +8,11 @@ use Rattle.validation.specs.Result.{pathBytes, scratchWords}
 use Rattle.rule_book.specs.Tally.{BookAnswer, bookRefused, tallied, bookAnswer, tallyNumbers, freed, BookRun, bookCallOf, MeetsBook}
 use Rattle.rule_book.specs.TallyLaws.{no-room-refused, cappedBook, capped-book, tally-first, numbers-within}
 use Rattle.rule_book.specs.Tallying.{bookRunOf}
-use Rattle.entity_rules.specs.Counts.{countsAfter}
+use Rattle.host_numbers.specs.Counts.{countsAfter}
 use Rattle.entity_rules.specs.Entry.{pathLent}
 use Rattle.entity_rules.specs.BookEntry.{tallyBytes, bookCallFor, tallyAnswer, refusalOf, TallyAnswered}
 use Rattle.entity_rules.proofs.Entries.{lent-nothing, lent-within}
-use Rattle.entity_rules.proofs.CountSteps.{path-home, in-eight}
+use Rattle.entity_rules.proofs.BookSteps.{path-home, in-eight}
 
 -- Settings of any size, and a scratch of its own.
 

@@ -10,12 +10,12 @@ use Rattle.rule_book.specs.TallyLaws.{cappedBook}
 use Rattle.wall.specs.Wall.{WallAnswer, wallRefused, printed, wallAnswer, wallNumbers, pagesAfter, wallFreed, WallRun, wallCallOf, MeetsWall}
 use Rattle.wall.specs.WallLaws.{no-room-refused, capped-wall, wall-first, wall-within}
 use Rattle.wall.specs.Printing.{wallRunOf}
-use Rattle.entity_rules.specs.Counts.{countsAfter}
+use Rattle.host_numbers.specs.Counts.{countsAfter}
 use Rattle.entity_rules.specs.Entry.{pathLent}
 use Rattle.entity_rules.specs.BookEntry.{bookCallFor}
 use Rattle.entity_rules.specs.WallEntry.{wallBytes, wallCallFor, wallEntryAnswer, wallRefusalOf, WallAnswered}
 use Rattle.entity_rules.proofs.Entries.{lent-nothing, lent-within}
-use Rattle.entity_rules.proofs.CountSteps.{path-home, in-eight}
+use Rattle.entity_rules.proofs.BookSteps.{path-home, in-eight}
 
 first-refusal : (a : WallAnswer) → getD (wallNumbers a) 0 0 ≡ wallRefusalOf a
 unfolding wallNumbers wallRefusalOf

@@ -5,7 +5,7 @@ use mathlib.Core.Path.{_≡_}
 use Rattle.validation.specs.Result.{pathBytes, scratchWords}
 use Rattle.rule_book.specs.Tally.{BookCall, BookAnswer, bookRefused, tallied, bookAnswer, tallyNumbers, freed, KeptFrom}
 use Rattle.entity_rules.specs.Entry.{pathLent}
-use Rattle.entity_rules.specs.Counts.{InEightBytes, countsAfter}
+use Rattle.host_numbers.specs.Counts.{InEightBytes, countsAfter}
 
 -- the call about a book that is made, with a scratch of its own and a result of so many bytes
 unfoldable pub bookCallFor : (need kind semantics : ℕ) (label table schema book : List ℕ) (pathLength resultLength : ℕ) → BookCall

@@ -1,8 +1,8 @@
 // A whole rule book for a host: the tally, with its eighteen numbers as bytes.
-use crate::counts::write_counts;
 use crate::path_lent;
 use crate::setting;
 use definition::limits::SCRATCH_WORDS;
+use host_numbers::counts::write_counts;
 use rule_book::tally::TALLY_NUMBERS;
 use rule_book::tally::tally;
 ghost use lib.ListN.{length};

@@ -1,8 +1,8 @@
 // A whole rule book for a host: the wall sheet, with its two numbers as bytes.
-use crate::counts::write_counts;
 use crate::path_lent;
 use crate::setting;
 use definition::limits::SCRATCH_WORDS;
+use host_numbers::counts::write_counts;
 use wall::WALL_NUMBERS;
 use wall::wall;
 ghost use lib.ListN.{length};

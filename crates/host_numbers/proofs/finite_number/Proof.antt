@@ -1,9 +1,9 @@
--- `entity_rules::rulecheck_finite` meets its contract: at most 309 digits are compared, so that twice as much and 1 is a u32.
+-- `host_numbers::finite_number` meets its contract: at most 309 digits are compared, so that twice as much and 1 is a u32.
 use native.Mathlib.Omega.{arith}
 use borrow.Author.Needs.{needs}
-use Rattle.entity_rules.proofs.NumberTests.{few, packed-finite, packed-other}
-use Rattle.entity_rules.proofs.rulecheck_finite.Statement.{statement}
-use Rattle.entity_rules.proofs.rulecheck_finite.Tie as tie
+use Rattle.host_numbers.proofs.NumberTests.{few, packed-finite, packed-other}
+use Rattle.host_numbers.proofs.finite_number.Statement.{statement}
+use Rattle.host_numbers.proofs.finite_number.Tie as tie
 
 test-requires : tie.Need-test-requires
 test-requires c κs = search needs
@@ -23,5 +23,5 @@ returns c = packed-finite (c .before .before .before .before .args .text .now) (
 returns-2 : tie.Need-returns-2
 returns-2 c = packed-other (c .before .before .before .before .args .text .now) (c .before .before .test .ensures) (c .if1 .left)
 
-pub rulecheck-finite-spec : {M : Type 1} → statement M
-rulecheck-finite-spec = tie.close (tie.spec test-requires cast-twice mul-twice add-result returns returns-2)
+pub finite-number-spec : {M : Type 1} → statement M
+finite-number-spec = tie.close (tie.spec test-requires cast-twice mul-twice add-result returns returns-2)

@@ -5,7 +5,7 @@ ghost use mathlib.Core.Path.{_≡_};
 ghost use Prim.Native.Nat.{_+_, _≤_};
 ghost use lib.ListN.{length};
 ghost use Rattle.buffer.specs.Wrote.{Wrote};
-ghost use Rattle.entity_rules.specs.Counts.{eightBytes, countAt, countsAfter};
+ghost use Rattle.host_numbers.specs.Counts.{eightBytes, countAt, countsAfter};
 
 // The lower half comes first.
 fn put_u64(n: u64, at: usize, bytes: &mut [u8])
@@ -30,9 +30,8 @@ pub fn write_counts(numbers: &[u64], bytes: &mut [u8])
     }
 }
 
-// A number of a tally or of a wall sheet's result by its index, or 0 where there is none.
-#[no_mangle]
-pub extern "C" fn rulecheck_count(result: &[u8], index: u32) -> u64
+// A number of eight bytes by its index, or 0 where there is none.
+pub fn count_at(result: &[u8], index: u32) -> u64
     ensures { λ r. ⌜ r ≡ countAt index (now (result .entry)) ⌝ }
 {
     let at = index as usize * 8;

@@ -1,9 +1,9 @@
--- `entity_rules::counts::rulecheck_count` meets its contract.
-use Rattle.entity_rules.proofs.CountSteps.{count-missing, count-there}
+-- `host_numbers::counts::count_at` meets its contract.
+use Rattle.host_numbers.proofs.CountSteps.{count-missing, count-there}
 use native.Mathlib.Omega.{arith}
 use borrow.Author.Needs.{needs}
-use Rattle.entity_rules.proofs.counts.rulecheck_count.Statement.{statement}
-use Rattle.entity_rules.proofs.counts.rulecheck_count.Tie as tie
+use Rattle.host_numbers.proofs.counts.count_at.Statement.{statement}
+use Rattle.host_numbers.proofs.counts.count_at.Tie as tie
 
 mul-at : tie.Need-mul-at
 mul-at c = search needs
@@ -38,8 +38,8 @@ add-result c = search needs
 returns-2 : tie.Need-returns-2
 returns-2 c = count-there (c .before .before .before .before .args .index) (c .before .before .before .before .args .result .now) (omega arith) (c .before .read-u32 .ensures) (c .read-u322 .ensures)
 
-pub rulecheck-count-spec : {M : Type 1} → statement M
-rulecheck-count-spec =
+pub count-at-spec : {M : Type 1} → statement M
+count-at-spec =
     tie.close
     (tie.spec
     mul-at

@@ -7,7 +7,7 @@ use Rattle.number.specs.Finite.{isFinite}
 use Rattle.number.specs.FirstDigit.{compared}
 use Rattle.number.specs.ComparedLaws.{compared-within}
 use Rattle.number.specs.declared.magnitude.Tested.{Tested}
-use Rattle.entity_rules.specs.NumberTest.{packed, finiteNumber}
+use Rattle.host_numbers.specs.NumberTest.{packed, finiteNumber}
 
 module _ (s : List ℕ) {t : Tested} (told : (t .finite ≡ isFinite s) × (t .compared ≡ compared s)) where
   pub few : t .compared ≤ 309

@@ -1,9 +1,9 @@
--- `entity_rules::rulecheck_field` meets its contract.
-use Rattle.entity_rules.proofs.Writing.{field-missing, field-there}
+-- `host_numbers::field_at` meets its contract.
+use Rattle.host_numbers.proofs.CountSteps.{field-missing, field-there}
 use native.Mathlib.Omega.{arith}
 use borrow.Author.Needs.{needs}
-use Rattle.entity_rules.proofs.rulecheck_field.Statement.{statement}
-use Rattle.entity_rules.proofs.rulecheck_field.Tie as tie
+use Rattle.host_numbers.proofs.field_at.Statement.{statement}
+use Rattle.host_numbers.proofs.field_at.Tie as tie
 
 mul-at : tie.Need-mul-at
 mul-at c = search needs
@@ -20,5 +20,5 @@ read-u32-requires c κs = search needs
 returns-2 : tie.Need-returns-2
 returns-2 c = field-there _ _ _ (omega arith) (c .read-u32 .ensures)
 
-pub rulecheck-field-spec : {M : Type 1} → statement M
-rulecheck-field-spec = tie.close (tie.spec mul-at add-if1 returns read-u32-requires returns-2)
+pub field-at-spec : {M : Type 1} → statement M
+field-at-spec = tie.close (tie.spec mul-at add-if1 returns read-u32-requires returns-2)

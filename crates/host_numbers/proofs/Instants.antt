@@ -10,27 +10,26 @@ use Rattle.timestamp.specs.Order.{listOf}
 use Rattle.timestamp.specs.declared.Fields.{Fields}
 use Rattle.buffer.specs.Wrote.{Wrote}
 use Rattle.buffer.specs.Bytes.{littleEndian, bytesOf}
-use Rattle.entity_rules.specs.Entry.{resultBytes}
-use Rattle.entity_rules.specs.InstantEntry.{instantNumber, instantAfter, InstantAnswered}
+use Rattle.host_numbers.specs.InstantEntry.{instantBytes, instantNumber, instantAfter, InstantAnswered}
 
-pub instant-short : (text before : List ℕ) → length before < resultBytes → InstantAnswered text before before 3
+pub instant-short : (text before : List ℕ) → length before < instantBytes → InstantAnswered text before before 3
 unfolding instantNumber instantAfter
 instant-short text before short = record { number = number (instant text); fields = fields (instant text) }
   where
     number : (o : Option Fields) → 3 ≡ instantNumber (length before) o
-    number none = rw (lt-leb resultBytes (length before) short)
-    number (some f) = rw (lt-leb resultBytes (length before) short)
+    number none = rw (lt-leb instantBytes (length before) short)
+    number (some f) = rw (lt-leb instantBytes (length before) short)
 
     fields : (o : Option Fields) → before ≡ instantAfter o before
     fields none = refl
-    fields (some f) = rw (lt-leb resultBytes (length before) short)
+    fields (some f) = rw (lt-leb instantBytes (length before) short)
 
-pub instant-unread : (text before : List ℕ) → resultBytes ≤ length before → instant text ≡ none → InstantAnswered text before before 20
+pub instant-unread : (text before : List ℕ) → instantBytes ≤ length before → instant text ≡ none → InstantAnswered text before before 20
 unfolding instantNumber instantAfter
-instant-unread text before room e = record { number = rw (e, le-leb resultBytes (length before) room); fields = rw e }
+instant-unread text before room e = record { number = rw (e, le-leb instantBytes (length before) room); fields = rw e }
 
 pub instant-written : (text : List ℕ) {f : Fields} {ns before after : List ℕ} {next : ℕ}
-    → resultBytes ≤ length before
+    → instantBytes ≤ length before
     → instant text ≡ some f
     → ns ≡ listOf f
     → Wrote before after 0 (bytesOf ns) next
@@ -38,8 +37,8 @@ pub instant-written : (text : List ℕ) {f : Fields} {ns before after : List ℕ
 unfolding instantNumber instantAfter
 instant-written text {before = before} room e q w =
     record {
-      number = rw (e, le-leb resultBytes (length before) room);
-      fields = rw (e, le-leb resultBytes (length before) room, ← q) (w .stands);
+      number = rw (e, le-leb instantBytes (length before) room);
+      fields = rw (e, le-leb instantBytes (length before) room, ← q) (w .stands);
     }
 
 -- 2024-02-29T23:59:60.000000001

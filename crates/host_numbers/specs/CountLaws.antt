@@ -9,7 +9,7 @@ use borrow.Author.Tests.{le-leb}
 use Rattle.buffer.specs.Bytes.{littleEndian, bytesOf, InFourBytes}
 use Rattle.buffer.specs.Bytes as four
 use Rattle.buffer.specs.BytesLaws.{number-of-bytes}
-use Rattle.entity_rules.specs.Counts.{eightBytes, longBytesOf, InEightBytes, no-more, one-more, longAt, countAt, countsAfter}
+use Rattle.host_numbers.specs.Counts.{eightBytes, longBytesOf, InEightBytes, no-more, one-more, longAt, countAt, countsAfter}
 
 -- Numbers of eight bytes are numbers of four, two for each.
 

@@ -1,9 +1,9 @@
--- `entity_rules::counts::put_u64` meets its contract: two halves, one after the other.
+-- `host_numbers::counts::put_u64` meets its contract: two halves, one after the other.
 use mathlib.Core.Path.{refl}
-use Rattle.entity_rules.proofs.CountSteps.{long-written}
+use Rattle.host_numbers.proofs.CountSteps.{long-written}
 use borrow.Author.Needs.{needs}
-use Rattle.entity_rules.proofs.counts.put_u64.Statement.{statement}
-use Rattle.entity_rules.proofs.counts.put_u64.Tie as tie
+use Rattle.host_numbers.proofs.counts.put_u64.Statement.{statement}
+use Rattle.host_numbers.proofs.counts.put_u64.Tie as tie
 
 cast-put-u32 : tie.Need-cast-put-u32
 cast-put-u32 c = search needs

@@ -1,10 +1,10 @@
--- `entity_rules::rulecheck_instant` meets its contract: too few bytes, no instant, or the seven fields written.
+-- `host_numbers::instant_fields` meets its contract: too few bytes, no instant, or the seven fields written.
 use borrow.Author.Needs.{needs}
 use mathlib.Core.Path.{refl}
 use Rattle.timestamp.specs.Order.{listOf}
-use Rattle.entity_rules.proofs.Instants.{instant-short, instant-unread, instant-written}
-use Rattle.entity_rules.proofs.rulecheck_instant.Statement.{statement}
-use Rattle.entity_rules.proofs.rulecheck_instant.Tie as tie
+use Rattle.host_numbers.proofs.Instants.{instant-short, instant-unread, instant-written}
+use Rattle.host_numbers.proofs.instant_fields.Statement.{statement}
+use Rattle.host_numbers.proofs.instant_fields.Tie as tie
 
 returns : tie.Need-returns
 returns c = instant-short (c .before .before .before .args .text .now) (c .before .before .before .args .fields .now) (c .if1 .taken)
@@ -34,6 +34,6 @@ returns-3 : tie.Need-returns-3
 unfolding listOf
 returns-3 c = instant-written (c .before .before .before .before .before .before .before .before .before .before .before .before .args .text .now) (c .before .before .before .before .before .before .before .before .before .if1 .left) (rw (c .before .before .before .before .before .before .found .given .1) at (c .before .before .before .before .before .before .before .before .parse .ensures)) refl (c .before .before .put-numbers .ensures)
 
-pub rulecheck-instant-spec : {M : Type 1} → statement M
-rulecheck-instant-spec =
+pub instant-fields-spec : {M : Type 1} → statement M
+instant-fields-spec =
     tie.close (tie.spec returns parse-requires enum-known-found enum-told returns-2 slice-aggregate-put-numbers put-numbers-requires same-length returns-3)

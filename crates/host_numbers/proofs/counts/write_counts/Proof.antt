@@ -1,14 +1,14 @@
--- `entity_rules::counts::write_counts` meets its contract. The first `i` numbers are written. The measure is how many are left.
+-- `host_numbers::counts::write_counts` meets its contract. The first `i` numbers are written. The measure is how many are left.
 use Prim.Native.Nat.{_≤_, _-_, _*_}
 use lib.ListN.{length, take}
 use Rattle.buffer.specs.Wrote.{Wrote}
 use Rattle.buffer.specs.WroteLaws.{wrote-nothing, wrote-kept}
-use Rattle.entity_rules.specs.Counts.{longBytesOf}
-use Rattle.entity_rules.proofs.CountSteps.{one-long-more, counts-short, counts-written}
+use Rattle.host_numbers.specs.Counts.{longBytesOf}
+use Rattle.host_numbers.proofs.CountSteps.{one-long-more, counts-short, counts-written}
 use native.Mathlib.Omega.{arith}
 use borrow.Author.Needs.{needs}
-use Rattle.entity_rules.proofs.counts.write_counts.Statement.{statement}
-use Rattle.entity_rules.proofs.counts.write_counts.Tie as tie
+use Rattle.host_numbers.proofs.counts.write_counts.Statement.{statement}
+use Rattle.host_numbers.proofs.counts.write_counts.Tie as tie
 
 abbrev Inv-loop : tie.InvT-loop
 Inv-loop numbers bytes₀ i₀ bytes i = Wrote bytes₀ bytes 0 (longBytesOf (take i numbers)) (i * 8) × (i ≤ length numbers)

@@ -1,22 +1,16 @@
--- Counts as bytes, as the code writes and reads them, and the part of the path buffer that is lent.
-use Prim.Native.Nat.{ℕ, _+_, _*_, _/_, _%_, _^_, _-_, _<_, _≤_}
+-- Counts as bytes, as the code writes and reads them.
+use Prim.Native.Nat.{ℕ, _+_, _*_, _/_, _%_, _-_, _<_, _≤_}
 use native.Mathlib.Omega.{arith}
 use mathlib.Core.List.{List, [], _∷_, _++_, append-assoc, append-nil}
 use mathlib.Core.Path.{_≡_, refl, ap, _∙_}
 use native.Mathlib.Numerals.{add-one}
-use lib.Dec.{leb}
-use lib.ListN.{length, take, drop, getD}
-use lib.Seq.{sets, length-sets, take-length, drop-length, take-all, take-suc}
-use borrow.Author.Tests.{le-leb, lt-leb, leb-true, leb-false}
-use Rattle.sheet.specs.ReaderLaws.{by-test}
+use lib.ListN.{length, take, getD}
+use lib.Seq.{sets, length-sets, take-all, take-suc}
+use borrow.Author.Tests.{le-leb, lt-leb}
 use Rattle.buffer.specs.Wrote.{Wrote}
 use Rattle.buffer.specs.WroteLaws.{wrote-then}
-use Rattle.buffer.specs.Bytes.{littleEndian, numberAt}
-use Rattle.rule_book.specs.Tally.{KeptFrom}
-use Rattle.rule_book.specs.TallyLaws.{AllWithin}
-use Rattle.entity_rules.specs.Counts.{eightBytes, longBytesOf, InEightBytes, no-more, one-more, longAt, countAt, countsAfter}
-use Rattle.entity_rules.specs.Entry.{pathLent}
-use Rattle.entity_rules.proofs.Entries.{lent-nothing, lent-all}
+use Rattle.buffer.specs.Bytes.{littleEndian, numberAt, fieldAt}
+use Rattle.host_numbers.specs.Counts.{eightBytes, longBytesOf, longAt, countAt, countsAfter}
 
 -- Eight bytes for a number.
 
@@ -79,30 +73,14 @@ count-there index l fits e f =
     let same : index * 8 ≡ 8 * index = omega arith in
     rw (le-leb (8 * index + 8) (length l) (omega arith), e, f, same)
 
--- The part of the path buffer that is lent.
+-- A number of four bytes by its index.
 
--- it comes home
-pub path-home : (free need : ℕ) (path result : List ℕ) (lent : ℕ) (last : List ℕ)
-    → lent ≡ pathLent need (length path) (length result)
-    → (length result < need → free ≡ 0)
-    → KeptFrom free (take (lent - 0) path) last
-    → KeptFrom free path (last ++ drop (lent - 0) path)
-path-home free need path result lent last l unchanged k =
-    by-test (leb need (length result))
-    (λ t.
-    let all = lent-all need (length path) (length result) (leb-true need (length result) t) in
-    let whole : lent - 0 ≡ length path = omega arith in
-    rw (whole, drop-length path, append-nil) (rw (whole, take-length path) at k))
-    (λ t.
-    let short = leb-false need (length result) t in
-    let none = lent-nothing need (length path) (length result) short in
-    let nothing : lent - 0 ≡ 0 = omega arith in
-    let same : KeptFrom 0 [] last = rw (unchanged short, nothing) at k in
-    let empty : last ≡ [] = same .kept in
-    rw (nothing, empty) (record { size = refl; kept = refl }))
+pub field-missing : (index : ℕ) (l : List ℕ) → length l < index * 4 + 4 → 0 ≡ fieldAt index l
+unfolding fieldAt
+field-missing index l short = rw (lt-leb (4 * index + 4) (length l) (omega arith))
 
--- What eight bytes hold.
-
-pub in-eight : (most : ℕ) (ns : List ℕ) → most < 2 ^ 64 → AllWithin most ns → InEightBytes ns
-in-eight most [] small h = no-more
-in-eight most (n ∷ ns) small h = one-more {n = n} (omega (arith, h .0)) (in-eight most ns small (h .1))
+pub field-there : (index r : ℕ) (l : List ℕ) → index * 4 + 4 ≤ length l → r ≡ numberAt (index * 4) l → r ≡ fieldAt index l
+unfolding fieldAt
+field-there index r l fits e =
+    let same : index * 4 ≡ 4 * index = omega arith in
+    rw (le-leb (4 * index + 4) (length l) (omega arith), ← same) e
