@@ -10,12 +10,11 @@ use borrow.Author.Tests.{le-leb, eq-eqb, leb-true, leb-false}
 use Rattle.number.specs.Grammar.{isNumber}
 use Rattle.sheet.specs.Numeral.{isDigit, numeral}
 use Rattle.sheet.specs.ReaderLaws.{by-test}
-use Rattle.sheet.specs.Entries.{maxText, byte, comma, item, valueHead}
+use Rattle.sheet.specs.Entries.{maxText, byte, comma, item}
 use Rattle.sheet.specs.Parts.{partOf}
 use Rattle.sheet.specs.Pieces.{first, kindOf, valueRow, valueFrom}
 use Rattle.sheet.specs.Places.{ReadsTo, LastTextIs, LeafRead, LeafTypeIs, LeafEnds, valueCount}
 use Rattle.sheet.specs.declared.numeral.NumeralRead.the-variants as read
-use Rattle.sheet.specs.declared.part.Part.{Part}
 use Rattle.sheet.specs.declared.rule_heads.ValueKind.{ValueKind}
 use Rattle.sheet.specs.declared.rule_heads.ValueKind.the-variants as kind
 use Rattle.sheet.proofs.Chains.{byte-reads, item-some, first-some}
