@@ -9,7 +9,7 @@ use Rattle.sheet.specs.Reader.{Reader}
 use Rattle.sheet.specs.Numeral.{digits, decimal, numeral as numeralOf}
 use Rattle.sheet.specs.Entries as entries
 use Rattle.sheet.specs.Parts.{partOf, optionalOf}
-use Rattle.sheet.specs.Pieces.{dashed, lastText, fieldMarks, fieldTexts, ruleTexts}
+use Rattle.sheet.specs.Pieces.{first, dashed, lastText, fieldMarks, fieldTexts, ruleTexts}
 use Rattle.sheet.specs.declared.numeral.NumeralRead.{NumeralRead}
 use Rattle.sheet.specs.declared.numeral.NumeralRead.the-variants as numeral
 use Rattle.sheet.specs.declared.entry.MarkRead.{MarkRead}
@@ -250,6 +250,20 @@ valueCount (value-head.Object count) = count
 abbrev pub ValueIs : List ℕ → ℕ → ValueRead → Type 0
 ValueIs s at (value.Is h next) = ReadsTo entries.valueHead s at (valueOf s h) next × (valueCount h ≤ entries.maxCount)
 ValueIs s at value.Bad = Refuses entries.valueHead s at
+
+-- a value that holds no others is read from place `at` on, and stops at `next`
+pub record LeafRead (s : List ℕ) (at next : ℕ) : Type 0 where
+  pub head : ValueHead
+  pub reads : ReadsTo entries.valueHead s at (valueOf s head) next
+  pub bare : valueCount head ≡ 0
+
+-- the type's number of such a value, read with the comma after it; 0 says nothing
+abbrev pub LeafTypeIs : List ℕ → ℕ → ℕ → Type 0
+LeafTypeIs s at type = 0 < type → ReadsTo (first 86 1 7) s at type (at + 3) × ReadsTo entries.comma s (at + 3) tt (at + 4) × (type ≤ 5)
+
+-- the place after such a value; 0 says nothing
+abbrev pub LeafEnds : List ℕ → ℕ → ℕ → Type 0
+LeafEnds s at next = 0 < next → LeafRead s at next
 
 abbrev pub KeyIs : List ℕ → ℕ → KeyRead → Type 0
 KeyIs s at (key.Is k next) = ReadsTo entries.keyHead s at (partOf s k) next

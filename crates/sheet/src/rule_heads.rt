@@ -4,16 +4,18 @@ use crate::entry::LengthRead;
 use crate::entry::MAX_COUNT;
 use crate::entry::MAX_TEXT;
 use crate::entry::OptionalRead;
+use crate::numeral;
 use crate::numeral::NumeralRead;
 use crate::part;
 use crate::part::OptionalPart;
 use crate::part::Part;
 ghost use mathlib.Core.Bool.{true, cond};
 ghost use mathlib.Core.Path.{_≡_};
+ghost use lib.Dec.{leb};
 ghost use Rattle.number.specs.Grammar.{isNumber};
-ghost use Rattle.sheet.specs.Entries.{shapeOf};
+ghost use Rattle.sheet.specs.Entries.{maxText, shapeOf};
 ghost use Rattle.sheet.specs.Pieces.{shapeFor, conditionRow, conditionFrom, kindOf, valueRow, valueFrom};
-ghost use Rattle.sheet.specs.Places.{RuleTextsAre, RuleIs, ConditionIs, ValueIs, KeyIs};
+ghost use Rattle.sheet.specs.Places.{RuleTextsAre, RuleIs, ConditionIs, ValueIs, LeafTypeIs, LeafEnds, KeyIs};
 
 // Operators that the checks tell apart, by their numbers (docs/FORMAT.md, "The rule sheet").
 pub const LITERAL: usize = 1;
@@ -368,6 +370,63 @@ pub fn value_head(s: &[u8], at: usize) -> ValueRead
         }
     }
     ValueRead::Bad
+}
+
+// The type's number in the entry of a value that holds no others, or 0. It is one digit, read with no loop.
+fn leaf_type(s: &[u8], at: usize) -> usize
+    ensures { λ r. ⌜ LeafTypeIs (now (s .entry)) at r ⌝ }
+{
+    if s.len() <= at {
+        return 0;
+    }
+    if s.len() - at < 4 {
+        return 0;
+    }
+    if s[at] != b'V' {
+        return 0;
+    }
+    if s[at + 1] != b',' {
+        return 0;
+    }
+    if s[at + 3] != b',' {
+        return 0;
+    }
+    let digit = s[at + 2];
+    if digit < b'1' {
+        return 0;
+    }
+    if b'5' < digit {
+        return 0;
+    }
+    digit as usize - 48
+}
+
+// A constant has no text.
+fn leaf_most(number: usize) -> u32
+    ensures { λ r. ⌜ r ≡ cond (leb number 3) 0 maxText ⌝ }
+{
+    if number <= 3 { 0 } else { MAX_TEXT }
+}
+
+// The place after the entry of a value that holds no others, or 0. Most values are such, and a number is handed on sooner than a head.
+pub fn leaf_end(s: &[u8], at: usize) -> usize
+    ensures { λ r. ⌜ LeafEnds (now (s .entry)) at r ⌝ }
+{
+    let number = leaf_type(s, at);
+    if number == 0 {
+        return 0;
+    }
+    let most = leaf_most(number);
+    let NumeralRead::Is(len, end) = numeral::numeral(s, at + 4, 0, most) else {
+        return 0;
+    };
+    if entry::is_last_text(s, end, len) {
+        let start = end + 1;
+        if is_right(number == 4, part::bytes_of(s, Part { start, len })) {
+            return start + len + 1;
+        }
+    }
+    0
 }
 
 pub fn key_head(s: &[u8], at: usize) -> KeyRead
