@@ -4,7 +4,7 @@ use lib.ListN.{length}
 use native.Mathlib.Omega.{arith}
 use borrow.Author.Needs.{needs}
 use Rattle.walk.specs.Dots.{DotlessStart}
-use Rattle.walk.proofs.Dots.{dotless-none, dotless-more}
+use Rattle.walk.proofs.Dots.{dotless-more}
 use Rattle.walk.proofs.path.dotless_start.Statement.{statement}
 use Rattle.walk.proofs.path.dotless_start.Tie as tie
 
@@ -14,8 +14,11 @@ Inv-loop path i₀ i = DotlessStart path i
 abbrev μ-loop : tie.MeasureT-loop
 μ-loop path i₀ i = length path - i
 
+dotless-start-32-requires : tie.Need-dotless-start-32-requires Inv-loop μ-loop
+dotless-start-32-requires c κs = search needs
+
 loop-holds : tie.Need-loop-holds Inv-loop μ-loop
-loop-holds c = dotless-none _
+loop-holds c = c .dotless-start-32 .ensures
 
 sub-loop : tie.Need-sub-loop Inv-loop μ-loop
 sub-loop c = search needs
@@ -31,7 +34,7 @@ loop-less c = search needs
 
 loop-again : tie.Need-loop-again Inv-loop μ-loop
 loop-again c =
-    dotless-more (c .before .before .before .before .before .args .path .now) (c .before .before .before .loop .i) (c .before .before .before .loop .inv) (omega (arith, c .before .before .before .loop .inv .within)) (c .before .is-dotless-8 .ensures (c .if1 .taken))
+    dotless-more (c .before .before .before .before .before .before .args .path .now) (c .before .before .before .loop .i) 8 (c .before .before .before .loop .inv) (omega (arith, c .before .before .before .loop .inv .within)) (c .before .is-dotless-8 .ensures (c .if1 .taken))
 
 returns : tie.Need-returns Inv-loop μ-loop
 returns c = search needs
@@ -45,6 +48,7 @@ dotless-start-spec =
     (tie.spec
     Inv-loop
     μ-loop
+    dotless-start-32-requires
     loop-holds
     sub-loop
     is-dotless-8-requires
