@@ -42,7 +42,8 @@ fn is_dotless_32(path: &[u8], i: usize) -> bool
         & is_dotless_8(path, i + 24)
 }
 
-// How many bytes at the start are passed over by pieces of 32 bytes that have no dot.
+// How many bytes at the start are passed over by pieces of 32 bytes that have no dot. Both callers ask for long paths only: with two of them it
+// stays a call, and the search of a short path is built into its callers.
 fn dotless_start_32(path: &[u8]) -> usize
     ensures { λ r. ⌜ DotlessStart (now (path .entry)) r ⌝ }
 {
@@ -57,11 +58,12 @@ fn dotless_start_32(path: &[u8]) -> usize
     i
 }
 
-// How many bytes at the start are passed over by such pieces, and then by eights that have no dot.
-fn dotless_start(path: &[u8]) -> usize
+// How many bytes at the start have no dot, where that is known of the first ones and those after them are passed over by eights.
+fn dotless_start(path: &[u8], known: usize) -> usize
+    requires { ⌜ DotlessStart (now path) known ⌝ }
     ensures { λ r. ⌜ DotlessStart (now (path .entry)) r ⌝ }
 {
-    let mut i = dotless_start_32(path);
+    let mut i = known;
     while 8 <= path.len() - i {
         if is_dotless_8(path, i) {
             i += 8;
@@ -72,11 +74,12 @@ fn dotless_start(path: &[u8]) -> usize
     i
 }
 
-// Where the first segment of a path ends.
-pub fn first_end(path: &[u8]) -> usize
+// Where the first segment of a path ends, whose first bytes are known to have no dot.
+fn end_after(path: &[u8], known: usize) -> usize
+    requires { ⌜ DotlessStart (now path) known ⌝ }
     ensures { λ r. ⌜ Ends (now (path .entry)) r ⌝ }
 {
-    let mut i = dotless_start(path);
+    let mut i = dotless_start(path, known);
     while i < path.len() {
         if path[i] == b'.' {
             return i;
@@ -86,11 +89,26 @@ pub fn first_end(path: &[u8]) -> usize
     i
 }
 
+// Where the first segment of a path ends.
+pub fn first_end(path: &[u8]) -> usize
+    ensures { λ r. ⌜ Ends (now (path .entry)) r ⌝ }
+{
+    let mut known = 0;
+    if 32 <= path.len() {
+        known = dotless_start_32(path);
+    }
+    end_after(path, known)
+}
+
 // The first dot of a path.
 pub fn first_dot(path: &[u8]) -> Dot
     ensures { λ r. ⌜ Cuts (now (path .entry)) r ⌝ }
 {
-    let end = first_end(path);
+    let mut known = 0;
+    if 32 <= path.len() {
+        known = dotless_start_32(path);
+    }
+    let end = end_after(path, known);
     if end < path.len() {
         return Dot::At(end);
     }
