@@ -50,18 +50,15 @@ fn read_holder(sheet: &[u8], words: &mut [u32], head: HolderHead, from: Cursor) 
     if MAX_SLOTS - first < count {
         return HolderRead::Bad;
     }
-    let inner = Cursor {
-        next: from.next,
-        used: first + count,
-        at: from.at,
-    };
     let ManyRead::Good(to) = crate::field::read_members(
         sheet,
         words,
         MAX_FIELD_NESTING,
         first,
         count,
-        inner,
+        from.next,
+        first + count,
+        from.at,
     ) else {
         return HolderRead::Bad;
     };
