@@ -110,6 +110,9 @@ searched-all rule name i scope so-far none-left = record {
       so .2 ∙ bound-none name (so .0) (closed sheet rule words (so .0) (rw (chain-empty (scope .binders) i (λ h. omega arith)) at (so .1)));
 }
 
+pub bound-bare : (rule name : List ℕ) (scope : Scope) → scope .count ≡ 0 → BoundIs rule scope name Nothing
+bound-bare rule name scope bare = searched-all rule name (scope .count) scope (searched-none rule name (scope .binders) (scope .count)) (omega arith)
+
 pub bound-crowded : (rule name : List ℕ) (scope : Scope) → 31 < scope .count → BoundIs rule scope name Nothing
 bound-crowded rule name scope many = record { leads = λ sheet words env at. absurd (omega (arith, at .few)) }
 

@@ -128,6 +128,10 @@ pub fn find_binder(rule: &[u8], scope: Scope, name: &[u8]) -> Bound
     ensures { λ r. ⌜ BoundIs (now (rule .entry)) scope (now (name .entry)) r ⌝ }
 {
     let count = scope.count;
+    // Most scopes have no binders: then none are copied.
+    if count == 0 {
+        return Bound::Nothing;
+    }
     if MAX_BINDERS < count {
         return Bound::Nothing;
     }

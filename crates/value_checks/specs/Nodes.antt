@@ -2,13 +2,17 @@
 use Prim.Native.Nat.{ℕ, _+_, _≤_, _<_}
 use mathlib.Core.List.{List}
 use mathlib.Core.Path.{_≡_}
-use Rattle.definition.specs.Tree.{Value, Condition, literal, many, negation, one, two, comparison, quantifier, Conditions, noConditions, condition}
-use Rattle.definition.specs.Within.{conditionEntries, conditionsEntries, valueEntries}
-use Rattle.rule.specs.Index.{endOf, ValueAt, ConditionAt, ConditionsAt}
+use Rattle.definition.specs.Tree.{Value, Values, Condition, literal, many, negation, one, two, comparison, quantifier, Conditions, noConditions, condition}
+use Rattle.definition.specs.Within.{conditionEntries, conditionsEntries, valueEntries, valuesEntries}
+use Rattle.rule.specs.Index.{endOf, ValueAt, ValuesAt, ConditionAt, ConditionsAt}
 
 pub record IsValue (rule words : List ℕ) (i end : ℕ) (v : Value) : Type 0 where
   pub stands : ValueAt rule words i v
   pub ends : end ≡ i + valueEntries v
+
+pub record AreValues (rule words : List ℕ) (i end : ℕ) (vs : Values) : Type 0 where
+  pub stand : ValuesAt rule words i vs
+  pub ends : end ≡ i + valuesEntries vs
 
 pub record IsCondition (rule words : List ℕ) (i end : ℕ) (c : Condition) : Type 0 where
   pub stands : ConditionAt rule words i c
