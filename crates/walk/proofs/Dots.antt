@@ -117,7 +117,7 @@ ends-all path i h within end =
       more = λ less. absurd (omega arith);
     }
 
-segments-are : (p : Segments) {x : List ℕ} {y : List (List ℕ)} → p .first ≡ x → p .others ≡ y → p ≡ record { first = x; others = y }
+pub segments-are : (p : Segments) {x : List ℕ} {y : List (List ℕ)} → p .first ≡ x → p .others ≡ y → p ≡ record { first = x; others = y }
 segments-are p e f = rw (← e, ← f)
 
 pub cuts-at : (path : List ℕ) (n : ℕ) → Ends path n → n < length path → Cuts path (At n)
