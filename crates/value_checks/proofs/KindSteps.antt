@@ -1,21 +1,26 @@
 -- The kind of an entry by its bytes: what is read is the entry as it is written, of which the bytes at fixed places compute.
 use Prim.Native.Nat.{ℕ, _+_, _*_, _/_, _%_, _≤_, _<_}
 use native.Mathlib.Omega.{arith}
-use mathlib.Core.List.{List, _++_}
+use mathlib.Core.Bool.{Bool, true, false}
+use mathlib.Core.List.{List, _∷_, _++_, append-assoc}
 use mathlib.Core.Logic.{⊎-elim}
-use mathlib.Core.Option.{some}
+use mathlib.Core.Option.{none, some, Option·none-ne-some}
 use mathlib.Core.Path.{_≡_, refl, sym, ap, _∙_}
-use lib.Dec.{ltb}
-use lib.ListN.{length, getD, drop, List·getD-eq-default}
-use lib.Seq.{getD-drop}
-use borrow.Author.Tests.{ltb-true, ltb-false}
+use lib.Dec.{ltb, eqb}
+use lib.ListN.{length, getD, take, drop, List·getD-eq-default}
+use lib.Seq.{getD-drop, drop-drop, take-append-seam}
+use borrow.Author.Tests.{ltb-true, ltb-false, eqb-true, eqb-false}
 use Rattle.sheet.specs.Ascii.{ascii}
 use Rattle.sheet.specs.NumeralLaws.{decimalOf-one, decimalOf-last}
-use Rattle.sheet.specs.Entries.{ConditionHead, literalHead, manyHead, negationHead, oneHead, twoHead, comparisonHead, quantifierHead, conditionHead, ValueHead, constantHead, numberHead, stringHead, arrayHead, objectHead}
-use Rattle.sheet.specs.Write.{writeItem, writeOperator, writeConditionHead, writeType, writeValueHead}
+use Rattle.sheet.specs.Parts.{partOf}
+use Rattle.sheet.specs.Places.{ReadsTo}
+use Rattle.sheet.specs.ItemLaws.{item-complete, comma-begins}
+use Rattle.sheet.specs.declared.part.Part.{Part}
+use Rattle.sheet.specs.Entries.{maxText, item, ConditionHead, literalHead, manyHead, negationHead, oneHead, twoHead, comparisonHead, quantifierHead, conditionHead, ValueHead, constantHead, numberHead, stringHead, arrayHead, objectHead, valueHead, keyHead}
+use Rattle.sheet.specs.Write.{writeItem, writeEnd, writeLast, writeOperator, writeConditionHead, writeType, writeValueHead, writeKeyHead}
 use Rattle.sheet.specs.ReaderLaws.{by-test}
-use Rattle.sheet.specs.RuleHeadLaws.{ConditionHeadFits, conditionHead-exact, ValueHeadFits, valueHead-exact}
-use Rattle.value_checks.specs.Kinds.{operatorIn, typeIn, OperatorAt, TypeAt}
+use Rattle.sheet.specs.RuleHeadLaws.{ConditionHeadFits, conditionHead-exact, ValueHeadFits, valueHead-exact, keyHead-exact}
+use Rattle.value_checks.specs.Kinds.{operatorIn, typeIn, OperatorAt, TypeAt, StringAt, TextAt}
 
 -- The entry as it is written.
 
@@ -130,3 +135,68 @@ type-byte {rule} {at} {digit} a =
           s .0 ∙ ap (λ (l : List ℕ). l ++ rest) (value-written h .2) in
           a ∙ byte-in rule at _ 2 w ∙ type-digit (typeIn h) _ _ rest (omega (arith, value-most h (s .1)));
     }
+
+-- Strings.
+
+letter-value : (rule : List ℕ) (at : ℕ) {h : ValueHead} {rest : List ℕ} → valueHead (drop at rule) ≡ some (h, rest) → getD rule (at + 0) 0 ≡ 86
+unfolding writeType ascii
+letter-value rule at {h} {rest} reads =
+    byte-in rule at _ 0 (valueHead-exact .sound (drop at rule) h rest reads .0 ∙ ap (λ (l : List ℕ). l ++ rest) (value-written h .2))
+
+letter-key : (rule : List ℕ) (at : ℕ) {key rest : List ℕ} → keyHead (drop at rule) ≡ some (key, rest) → getD rule (at + 0) 0 ≡ 75
+unfolding writeKeyHead ascii
+letter-key rule at {key} {rest} reads = byte-in rule at _ 0 (keyHead-exact .sound (drop at rule) key rest reads .0)
+
+module _ (rule : List ℕ) (at : ℕ) {letter : ℕ} (a : letter ≡ getD rule (at + 0) 0) where
+  pub string-tested : {digit : ℕ} → letter ≡ 86 → TypeAt rule at digit → StringAt rule at (eqb digit 53)
+  string-tested {digit} e k = by (eqb digit 53) refl
+    where
+      by : (test : Bool) → eqb digit 53 ≡ test → StringAt rule at test
+      by true q = (
+        λ h rest reads. omega (arith, k .is h rest reads, eqb-true digit 53 q),
+        λ key rest reads. omega (arith, letter-key rule at reads),
+      )
+      by false q = λ h rest reads t. eqb-false digit 53 q (omega (arith, k .is h rest reads))
+
+  pub string-otherwise : (letter ≡ 86 → ⊥) → StringAt rule at false
+  string-otherwise n = λ h rest reads t. n (a ∙ letter-value rule at reads)
+
+string-parts : (t rest : List ℕ) → writeValueHead (stringHead t) ++ rest ≡ ascii "V" ++ (writeItem 5 ++ (writeItem (length t) ++ (ascii "," ++ (t ++ (writeEnd ++ rest)))))
+unfolding writeValueHead writeType writeLast
+string-parts t rest = simp append-assoc
+
+behind-type : (u : List ℕ) → drop 3 (ascii "V" ++ (writeItem 5 ++ u)) ≡ u
+unfolding writeItem ascii
+behind-type u = rw (decimalOf-one 5 (omega arith))
+
+module _ (rule : List ℕ) (at : ℕ) (t rest : List ℕ) (reads : valueHead (drop at rule) ≡ some (stringHead t, rest)) where
+  length-written : drop (at + 3) rule ≡ writeItem (length t) ++ (44 ∷ (t ++ (writeEnd ++ rest)))
+  unfolding ascii
+  length-written =
+      sym (drop-drop 3 at rule)
+      ∙ ap (drop 3) (valueHead-exact .sound (drop at rule) (stringHead t) rest reads .0 ∙ string-parts t rest)
+      ∙ behind-type _
+
+  length-read : item 0 maxText (drop (at + 3) rule) ≡ some (length t, 44 ∷ (t ++ (writeEnd ++ rest)))
+  length-read =
+      ap (item 0 maxText) length-written
+      ∙ item-complete 0 maxText (length t) _ (omega arith, valueHead-exact .sound (drop at rule) (stringHead t) rest reads .1 .short) (comma-begins _)
+
+  text-placed : (n next : ℕ) → item 0 maxText (drop (at + 3) rule) ≡ some (n, drop next rule) → take n (drop (next + 1) rule) ≡ t
+  text-placed n next e =
+      let q : _≡_ {A = ℕ × List ℕ} (n, drop next rule) (length t, 44 ∷ (t ++ (writeEnd ++ rest))) = cc (length-read) in
+      let m : n ≡ length t = ap (λ (x : ℕ × List ℕ). x .0) q in
+      let d : drop next rule ≡ 44 ∷ (t ++ (writeEnd ++ rest)) = ap (λ (x : ℕ × List ℕ). x .1) q in
+      let f : drop (next + 1) rule ≡ t ++ (writeEnd ++ rest) = sym (drop-drop 1 next rule) ∙ ap (drop 1) d in
+      rw (m, f) (take-append-seam t (writeEnd ++ rest))
+
+pub text-known : {rule : List ℕ} {at n next : ℕ} → ReadsTo (item 0 maxText) rule (at + 3) n next → TextAt rule at (record { start = next + 1; len = n })
+unfolding partOf
+text-known {rule} {at} {n} {next} r = record { is = λ t rest reads. text-placed rule at t rest reads n next (r .reads) }
+
+pub text-unread : {rule : List ℕ} {at : ℕ} {p : Part} → item 0 maxText (drop (at + 3) rule) ≡ none → TextAt rule at p
+text-unread {rule} {at} e = record { is = λ t rest reads. absurd (Option·none-ne-some _ (sym e ∙ length-read rule at t rest reads)) }
+
+pub text-past : {rule : List ℕ} {at : ℕ} {p : Part} → length rule ≤ at → TextAt rule at p
+text-past {rule} {at} h =
+    record { is = λ t rest reads. absurd (omega (arith, past-end rule (at + 0) (omega arith), letter-value rule at reads)) }

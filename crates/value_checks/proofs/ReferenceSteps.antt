@@ -1,15 +1,18 @@
 -- The references of a value, step by step.
 use Prim.Native.Nat.{ℕ, _+_, _-_, _≤_, _<_}
 use native.Mathlib.Omega.{arith}
-use mathlib.Core.Bool.{true, false}
-use mathlib.Core.List.{List, [], _∷_, _++_}
+use mathlib.Core.Bool.{Bool, true, false}
+use mathlib.Core.List.{List, [], _∷_, _++_, append-nil}
+use mathlib.Core.Logic.{⊎-elim}
 use mathlib.Core.Option.{Option, none, some}
-use mathlib.Core.Path.{_≡_, refl, sym, ap, ap₂, _∙_}
+use mathlib.Core.Path.{_≡_, refl, sym, ap, ap₂, subst, _∙_}
 use lib.ListN.{length, getD, take, drop, length-drop}
 use lib.Seq.{take-all}
 use borrow.Author.Tests.{eq-eqb, ne-eqb}
-use Rattle.sheet.specs.Entries.{ValueHead, constantHead, numberHead, stringHead, arrayHead, objectHead, valueHead}
-use Rattle.sheet.specs.Places.{ReadsTo}
+use Rattle.sheet.specs.Entries.{ValueHead, constantHead, numberHead, stringHead, arrayHead, objectHead, valueHead, keyHead}
+use Rattle.sheet.specs.Parts.{partOf}
+use Rattle.sheet.specs.RuleHeadLaws.{valueHead-exact}
+use Rattle.sheet.specs.declared.part.Part.{Part}
 use Rattle.definition.specs.Tree.{Text, Schema, Value, constant, number, string, array, object, Values, noValues, value, Pairs, noPairs, pair}
 use Rattle.reference.specs.Setting.{Setting}
 use Rattle.reference.specs.Walk.{Reached, refused, unknown, known}
@@ -22,9 +25,9 @@ use Rattle.walk.specs.declared.answer.Readable.{Readable}
 use Rattle.walk.specs.declared.answer.Readable.the-variants.{Yes, No}
 use Rattle.validation.specs.Check.{Binder, readable, check, referenceText, referenceCheck, references, referencesOfValues, referencesOfPairs}
 use Rattle.validation.specs.Judge.{outcome, environment, verdict, answer, answerIn}
-use Rattle.value_checks.specs.Leaves.{leaves, leavesOfValues, leavesOfPairs, saidIn, said-value}
-use Rattle.value_checks.specs.Kinds.{typeIn, TypeAt}
-use Rattle.value_checks.specs.Nodes.{IsValue}
+use Rattle.value_checks.specs.Leaves.{leaves, leavesOfValues, leavesOfPairs, saysIf, saysAt, saidIn, said-value}
+use Rattle.value_checks.specs.Kinds.{typeIn, StringAt, TextAt}
+use Rattle.value_checks.specs.Nodes.{IsValue, EntriesIn}
 use Rattle.value_checks.specs.Verdicts.{numberOf, detailOf, GoesOn, PassedOn, Failed}
 use Rattle.scope.specs.References.{ReferenceReads}
 use Rattle.value_checks.specs.Frames.{Frame, Stands, IsReference, referenceSays, ReferencesIn}
@@ -34,7 +37,7 @@ use Rattle.value_checks.specs.declared.verdict.Over.{Over}
 use Rattle.value_checks.specs.declared.verdict.Verdict.the-variants.{Defect}
 use Rattle.value_checks.specs.declared.verdict.Progress.{Progress}
 use Rattle.value_checks.proofs.Going.{goes-nothing, goes-then, goes-stopped, said-next}
-use Rattle.value_checks.proofs.LiteralSteps.{says-read, says-bad, says-other}
+use Rattle.value_checks.proofs.EntrySteps.{entries-part, entries-value}
 
 -- Texts.
 
@@ -84,58 +87,68 @@ reached-verdict (refused d at left) h = absurd h
 reached-verdict unknown h = refl
 reached-verdict (known f) h = refl
 
-said-some : (f : Frame) (i : ℕ) {at next : ℕ} {text t : Text} (binders : List Binder)
-    → at ≡ startOf (f .words) i
-    → ReadsTo valueHead (f .rule) at (stringHead t) next
-    → text ≡ t
-    → IsReference text true
-    → saidIn (referenceSays binders) (f .rule) (f .words) 1 i ≡ check 18 (i + 1) binders (readable (drop 1 text)) ∷ []
-unfolding referenceSays referenceCheck
-said-some f i {at} {next} {text} {t} binders start reads same e =
-    let g : referenceText t ≡ some (drop 1 text) = sym (ap referenceText same) ∙ e in
-    rw (says-read (referenceSays binders) (f .rule) (f .words) i start reads, g)
-
 pub reference-long : (t : Text) → IsReference t true → 1 ≤ length t
 unfolding referenceText
 reference-long [] e = let z : _≡_ {A = Option Text} none (some (drop 1 [])) = e in let y : _≡_ {A = ℕ} 0 1 = cc in omega arith
 reference-long (b ∷ t) e = omega arith
 
-no-string : {digit : ℕ} → (digit ≡ 53 → ⊥) → (binders : List Binder) (e : ℕ) (h : ValueHead) → digit ≡ 48 + typeIn h → referenceSays binders e h ≡ []
+no-string : (binders : List Binder) (e : ℕ) (h : ValueHead) → (typeIn h ≡ 5 → ⊥) → referenceSays binders e h ≡ []
 unfolding referenceSays typeIn
-no-string n binders e (constantHead type) k = refl
-no-string n binders e (numberHead digits) k = refl
-no-string n binders e (stringHead t) k = absurd (n k)
-no-string n binders e (arrayHead count) k = refl
-no-string n binders e (objectHead count) k = refl
+no-string binders e (constantHead type) n = refl
+no-string binders e (numberHead digits) n = refl
+no-string binders e (stringHead t) n = absurd (n refl)
+no-string binders e (arrayHead count) n = refl
+no-string binders e (objectHead count) n = refl
 
-module _ {f : Frame} {i at : ℕ} {a : Progress} (start : at ≡ startOf (f .words) i) where
-  pub reference-other : {digit : ℕ} → TypeAt (f .rule) at digit → (digit ≡ 53 → ⊥) → ReferencesIn f i 1 a a
-  reference-other kind n =
-      record {
-        atMost = omega arith;
-        goes =
-            λ setting tree binders env s.
-            rw (says-other (referenceSays binders) (f .rule) (f .words) i start kind (no-string n binders (i + 1))) goes-nothing;
-      }
+module _ (rule words : List ℕ) (i at : ℕ) (start : at ≡ startOf words i) where
+  -- an entry that is no string's says nothing
+  other-said : StringAt rule at false → (binders : List Binder) → saidIn (referenceSays binders) rule words 1 i ≡ []
+  unfolding saidIn saysAt saysIf
+  other-said n binders = rw (append-nil, sym start) (by (valueHead (drop at rule)) refl)
+    where
+      by : (o : Option (ValueHead × List ℕ)) → valueHead (drop at rule) ≡ o → saysIf (referenceSays binders) (i + 1) o ≡ []
+      by none e = refl
+      by (some h) e = no-string binders (i + 1) (h .0) (n (h .0) (h .1) e)
 
-  pub reference-bad : valueHead (drop at (f .rule)) ≡ none → ReferencesIn f i 1 a a
-  reference-bad r =
-      record { atMost = omega arith; goes = λ setting tree binders env s. rw (says-bad (referenceSays binders) (f .rule) (f .words) i start r) goes-nothing }
+  module _ (there : StringAt rule at true) (p : Part) (known : TextAt rule at p) (text : Text) (same : text ≡ partOf rule p) (binders : List Binder) where
+    string-says : (h : ValueHead) (rest : List ℕ) → valueHead (drop at rule) ≡ some (h, rest) → typeIn h ≡ 5
+        → referenceSays binders (i + 1) h ≡ referenceCheck binders (i + 1) (referenceText text)
+    unfolding referenceSays typeIn
+    string-says (constantHead type) rest e k = absurd (omega (arith, k, valueHead-exact .sound (drop at rule) (constantHead type) rest e .1 .1))
+    string-says (numberHead digits) rest e k = absurd (omega arith)
+    string-says (stringHead t) rest e k = ap (λ (x : Text). referenceCheck binders (i + 1) (referenceText x)) (sym (known .is t rest e) ∙ sym same)
+    string-says (arrayHead count) rest e k = absurd (omega arith)
+    string-says (objectHead count) rest e k = absurd (omega arith)
 
-  pub reference-silent : {h : ValueHead} {next : ℕ}
-      → ReadsTo valueHead (f .rule) at h next
-      → ((binders : List Binder) → referenceSays binders (i + 1) h ≡ [])
-      → ReferencesIn f i 1 a a
-  reference-silent r e =
-      record {
-        atMost = omega arith;
-        goes = λ setting tree binders env s. rw (says-read (referenceSays binders) (f .rule) (f .words) i start r, e binders) goes-nothing;
-      }
+    value-said : (h : ValueHead) (rest : List ℕ) → valueHead (drop (startOf words i) rule) ≡ some (h, rest)
+        → saidIn (referenceSays binders) rule words 1 i ≡ referenceCheck binders (i + 1) (referenceText text)
+    unfolding saidIn saysAt saysIf
+    value-said h rest r =
+        let e : valueHead (drop at rule) ≡ some (h, rest) = rw start r in
+        rw (append-nil, r) (string-says h rest e (there .0 h rest e))
 
-  module _ {text t : Text} {next : ℕ} (reads : ReadsTo valueHead (f .rule) at (stringHead t) next) (same : text ≡ t) where
+    no-key : (key : Text) (rest : List ℕ) → keyHead (drop (startOf words i) rule) ≡ some (key, rest) → ⊥
+    no-key key rest r = let e : keyHead (drop at rule) ≡ some (key, rest) = rw start r in there .1 key rest e
+
+    -- a string says what its text is asked
+    text-said : EntriesIn rule words i 1 → saidIn (referenceSays binders) rule words 1 i ≡ referenceCheck binders (i + 1) (referenceText text)
+    text-said w =
+        ⊎-elim
+        (λ (r : (h : ValueHead) × (rest : List ℕ) × (valueHead (drop (startOf words i) rule) ≡ some (h, rest))). value-said (r .0) (r .1) (r .2))
+        (λ (r : (key : Text) × (rest : List ℕ) × (keyHead (drop (startOf words i) rule) ≡ some (key, rest))). absurd (no-key (r .0) (r .1) (r .2)))
+        (w .each i (omega arith) (omega arith))
+
+module _ {f : Frame} {i at : ℕ} {a : Progress} {test : Bool} (start : at ≡ startOf (f .words) i) (string : StringAt (f .rule) at test) where
+  pub reference-other : test ≡ false → ReferencesIn f i 1 a a
+  reference-other e =
+      let m : StringAt (f .rule) at false = subst (λ (x : Bool). StringAt (f .rule) at x) e string in
+      record { atMost = omega arith; goes = λ setting tree binders env s w. rw (other-said (f .rule) (f .words) i at start m binders) goes-nothing }
+
+  module _ {part : Part} {text : Text} (tested : test ≡ true) (known : TextAt (f .rule) at part) (same : text ≡ partOf (f .rule) part) where
     pub reference-none : IsReference text false → ReferencesIn f i 1 a a
-    unfolding referenceSays referenceCheck
-    reference-none e = reference-silent reads (λ binders. let g : referenceText t ≡ none = rw same at e in rw g)
+    unfolding referenceCheck
+    reference-none e =
+        record { atMost = omega arith; goes = λ setting tree binders env s w. rw (text-said (f .rule) (f .words) i at start (subst (λ (x : Bool). StringAt (f .rule) at x) tested string) part known text same binders w, e) goes-nothing }
 
     pub reference-passes : {x : Readable} {r : Progress}
         → IsReference text true
@@ -143,14 +156,15 @@ module _ {f : Frame} {i at : ℕ} {a : Progress} (start : at ≡ startOf (f .wor
         → x ≡ Yes
         → PassedOn a r
         → ReferencesIn f i 1 a r
+    unfolding referenceCheck
     reference-passes {x} {r} e q y p =
         record {
           atMost = p .atMost;
           goes =
-              λ setting tree binders env s.
+              λ setting tree binders env s w.
               let m : ReadableIs Yes (reference setting tree env (drop 1 text)) =
               rw (behind-dollar text, y) at (q .leads setting tree env (s .scoped)) in
-              rw (said-some f i binders start reads same e)
+              rw (text-said (f .rule) (f .words) i at start (subst (λ (x : Bool). StringAt (f .rule) at x) tested string) part known text same binders w, e)
               (p .goes (outcome setting tree) _
               (readable-outcome setting tree binders env 18 (i + 1) (drop 1 text) (s .bound) ∙ reached-verdict _ m));
         }
@@ -161,15 +175,15 @@ module _ {f : Frame} {i at : ℕ} {a : Progress} (start : at ≡ startOf (f .wor
         → x ≡ No fault place
         → Failed a (Reference fault place) (i + 1) (f .over) r
         → ReferencesIn f i 1 a r
-    unfolding verdict numberOf detailOf check
+    unfolding referenceCheck verdict numberOf detailOf check
     reference-fails {x} {fault} {place} {r} e q y p =
         record {
           atMost = omega (arith, p .same);
           goes =
-              λ setting tree binders env s.
+              λ setting tree binders env s w.
               let m : ReadableIs (No fault place) (reference setting tree env (drop 1 text)) =
               rw (behind-dollar text, y) at (q .leads setting tree env (s .scoped)) in
-              rw (said-some f i binders start reads same e)
+              rw (text-said (f .rule) (f .words) i at start (subst (λ (x : Bool). StringAt (f .rule) at x) tested string) part known text same binders w, e)
               (p .goes (outcome setting tree) _ [] (record { numbered = refl; placed = refl; held = s .held })
               (readable-outcome setting tree binders env 18 (i + 1) (drop 1 text) (s .bound) ∙ ap verdict (m .1)));
         }
@@ -187,9 +201,10 @@ module _ {f : Frame} {a : Progress} {start i : ℕ} where
       record {
         atMost = omega (arith, p .atMost, q .atMost);
         goes =
-            λ setting tree binders env s.
+            λ setting tree binders env s w.
             rw (said-next (referenceSays binders) (f .rule) (f .words) n h k)
-            (goes-then (p .goes setting tree binders env s) (q .goes setting tree binders env s));
+            (goes-then (p .goes setting tree binders env s (entries-part (omega arith) (omega arith) w))
+            (q .goes setting tree binders env s (entries-part (omega arith) (omega arith) w)));
       }
 
   pub references-all : {end : ℕ} {r : Progress}
@@ -208,13 +223,13 @@ pub references-stopped : {f : Frame} {start i end : ℕ} {a b r : Progress} {fau
     → ReferencesIn f start (end - start) a r
 references-stopped {i = i} {end = end} h k p q t =
     references-next {i = i + 1} {n = end - (i + 1)} (omega arith) (omega arith) (references-next h refl p q)
-    (record { atMost = omega arith; goes = λ setting tree binders env s. goes-stopped t })
+    (record { atMost = omega arith; goes = λ setting tree binders env s w. goes-stopped t })
 
 pub references-begin : {f : Frame} {a : Progress} {start : ℕ} → ReferencesIn f start (start - start) a a
 unfolding saidIn
 references-begin {f} {a} {start} =
     let e : start - start ≡ 0 = omega arith in
-    record { atMost = omega arith; goes = λ setting tree binders env s. rw e goes-nothing }
+    record { atMost = omega arith; goes = λ setting tree binders env s w. rw e goes-nothing }
 
 -- A whole value.
 
@@ -246,4 +261,5 @@ references-judged {f} {start} {end} p setting tree binders env v s w =
     let n : end - start ≡ valueEntries v = omega (arith, w .ends) in
     let e : saidIn (referenceSays binders) (f .rule) (f .words) (end - start) start ≡ references binders v =
     rw n (said-value (referenceSays binders) (f .rule) (f .words) start v (w .stands) ∙ references-said binders v) in
-    rw e at (p .goes setting tree binders env s)
+    let entries : EntriesIn (f .rule) (f .words) start (end - start) = rw n (entries-value start v (w .stands)) in
+    rw e at (p .goes setting tree binders env s entries)
