@@ -17,10 +17,10 @@ module _ {rule words : List ℕ} where
   entries-one : {i : ℕ} → EntryIn rule words i → EntriesIn rule words i 1
   entries-one {i} e = record { each = λ k low high. let q : i ≡ k = omega arith in subst (λ (x : ℕ). EntryIn rule words x) q e }
 
-  entries-none : {i : ℕ} → EntriesIn rule words i 0
+  pub entries-none : {i : ℕ} → EntriesIn rule words i 0
   entries-none = record { each = λ k low high. absurd (omega arith) }
 
-  entries-both : {i m n : ℕ} → EntriesIn rule words i m → EntriesIn rule words (i + m) n → EntriesIn rule words i (m + n)
+  pub entries-both : {i m n : ℕ} → EntriesIn rule words i m → EntriesIn rule words (i + m) n → EntriesIn rule words i (m + n)
   entries-both {i} {m} {n} p q =
       record {
         each = λ k low high.

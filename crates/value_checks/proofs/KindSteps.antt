@@ -20,7 +20,7 @@ use Rattle.sheet.specs.Entries.{maxText, item, ConditionHead, literalHead, many
 use Rattle.sheet.specs.Write.{writeItem, writeEnd, writeLast, writeOperator, writeConditionHead, writeType, writeValueHead, writeKeyHead}
 use Rattle.sheet.specs.ReaderLaws.{by-test}
 use Rattle.sheet.specs.RuleHeadLaws.{ConditionHeadFits, conditionHead-exact, ValueHeadFits, valueHead-exact, keyHead-exact}
-use Rattle.value_checks.specs.Kinds.{operatorIn, typeIn, OperatorAt, TypeAt, StringAt, TextAt}
+use Rattle.value_checks.specs.Kinds.{operatorIn, typeIn, OperatorAt, TypeAt, HasType, TextAt}
 
 -- The entry as it is written.
 
@@ -136,7 +136,7 @@ type-byte {rule} {at} {digit} a =
           a ∙ byte-in rule at _ 2 w ∙ type-digit (typeIn h) _ _ rest (omega (arith, value-most h (s .1)));
     }
 
--- Strings.
+-- The letter of a value or a key.
 
 letter-value : (rule : List ℕ) (at : ℕ) {h : ValueHead} {rest : List ℕ} → valueHead (drop at rule) ≡ some (h, rest) → getD rule (at + 0) 0 ≡ 86
 unfolding writeType ascii
@@ -147,40 +147,37 @@ letter-key : (rule : List ℕ) (at : ℕ) {key rest : List ℕ} → keyHead (dro
 unfolding writeKeyHead ascii
 letter-key rule at {key} {rest} reads = byte-in rule at _ 0 (keyHead-exact .sound (drop at rule) key rest reads .0)
 
-module _ (rule : List ℕ) (at : ℕ) {letter : ℕ} (a : letter ≡ getD rule (at + 0) 0) where
-  pub string-tested : {digit : ℕ} → letter ≡ 86 → TypeAt rule at digit → StringAt rule at (eqb digit 53)
-  string-tested {digit} e k = by (eqb digit 53) refl
+module _ (rule : List ℕ) (at digit : ℕ) {letter : ℕ} (a : letter ≡ getD rule (at + 0) 0) where
+  pub type-tested : {found : ℕ} → letter ≡ 86 → TypeAt rule at found → HasType rule at digit (eqb found digit)
+  type-tested {found} e k = by (eqb found digit) refl
     where
-      by : (test : Bool) → eqb digit 53 ≡ test → StringAt rule at test
+      by : (test : Bool) → eqb found digit ≡ test → HasType rule at digit test
       by true q = (
-        λ h rest reads. omega (arith, k .is h rest reads, eqb-true digit 53 q),
+        λ h rest reads. sym (eqb-true found digit q) ∙ k .is h rest reads,
         λ key rest reads. omega (arith, letter-key rule at reads),
       )
-      by false q = λ h rest reads t. eqb-false digit 53 q (omega (arith, k .is h rest reads))
+      by false q = λ h rest reads t. eqb-false found digit q (k .is h rest reads ∙ sym t)
 
-  pub string-otherwise : (letter ≡ 86 → ⊥) → StringAt rule at false
-  string-otherwise n = λ h rest reads t. n (a ∙ letter-value rule at reads)
+  pub type-otherwise : (letter ≡ 86 → ⊥) → HasType rule at digit false
+  type-otherwise n = λ h rest reads t. n (a ∙ letter-value rule at reads)
 
-string-parts : (t rest : List ℕ) → writeValueHead (stringHead t) ++ rest ≡ ascii "V" ++ (writeItem 5 ++ (writeItem (length t) ++ (ascii "," ++ (t ++ (writeEnd ++ rest)))))
-unfolding writeValueHead writeType writeLast
-string-parts t rest = simp append-assoc
+-- Texts, of strings and numbers.
 
-behind-type : (u : List ℕ) → drop 3 (ascii "V" ++ (writeItem 5 ++ u)) ≡ u
+text-parts : (type : ℕ) (t rest : List ℕ) → writeType type (length t) t ++ rest ≡ ascii "V" ++ (writeItem type ++ (writeItem (length t) ++ (ascii "," ++ (t ++ (writeEnd ++ rest)))))
+unfolding writeType writeLast
+text-parts type t rest = simp append-assoc
+
+behind-type : (type : ℕ) → type < 10 → (u : List ℕ) → drop 3 (ascii "V" ++ (writeItem type ++ u)) ≡ u
 unfolding writeItem ascii
-behind-type u = rw (decimalOf-one 5 (omega arith))
+behind-type type h u = rw (decimalOf-one type h)
 
-module _ (rule : List ℕ) (at : ℕ) (t rest : List ℕ) (reads : valueHead (drop at rule) ≡ some (stringHead t, rest)) where
+module _ (rule : List ℕ) (at type : ℕ) (small : type < 10) (t rest : List ℕ) (short : length t ≤ maxText) (written : drop at rule ≡ writeType type (length t) t ++ rest) where
   length-written : drop (at + 3) rule ≡ writeItem (length t) ++ (44 ∷ (t ++ (writeEnd ++ rest)))
   unfolding ascii
-  length-written =
-      sym (drop-drop 3 at rule)
-      ∙ ap (drop 3) (valueHead-exact .sound (drop at rule) (stringHead t) rest reads .0 ∙ string-parts t rest)
-      ∙ behind-type _
+  length-written = sym (drop-drop 3 at rule) ∙ ap (drop 3) (written ∙ text-parts type t rest) ∙ behind-type type small _
 
   length-read : item 0 maxText (drop (at + 3) rule) ≡ some (length t, 44 ∷ (t ++ (writeEnd ++ rest)))
-  length-read =
-      ap (item 0 maxText) length-written
-      ∙ item-complete 0 maxText (length t) _ (omega arith, valueHead-exact .sound (drop at rule) (stringHead t) rest reads .1 .short) (comma-begins _)
+  length-read = ap (item 0 maxText) length-written ∙ item-complete 0 maxText (length t) _ (omega arith, short) (comma-begins _)
 
   text-placed : (n next : ℕ) → item 0 maxText (drop (at + 3) rule) ≡ some (n, drop next rule) → take n (drop (next + 1) rule) ≡ t
   text-placed n next e =
@@ -190,13 +187,36 @@ module _ (rule : List ℕ) (at : ℕ) (t rest : List ℕ) (reads : valueHead (dr
       let f : drop (next + 1) rule ≡ t ++ (writeEnd ++ rest) = sym (drop-drop 1 next rule) ∙ ap (drop 1) d in
       rw (m, f) (take-append-seam t (writeEnd ++ rest))
 
+  text-refused : item 0 maxText (drop (at + 3) rule) ≡ none → ⊥
+  text-refused e = Option·none-ne-some _ (sym e ∙ length-read)
+
+module _ (rule : List ℕ) (at : ℕ) (t rest : List ℕ) where
+  string-written : valueHead (drop at rule) ≡ some (stringHead t, rest) → (drop at rule ≡ writeType 5 (length t) t ++ rest) × (length t ≤ maxText)
+  unfolding writeValueHead
+  string-written reads = let s = valueHead-exact .sound (drop at rule) (stringHead t) rest reads in (s .0, s .1 .short)
+
+  number-written : valueHead (drop at rule) ≡ some (numberHead t, rest) → (drop at rule ≡ writeType 4 (length t) t ++ rest) × (length t ≤ maxText)
+  unfolding writeValueHead
+  number-written reads = let s = valueHead-exact .sound (drop at rule) (numberHead t) rest reads in (s .0, s .1 .0 .short)
+
 pub text-known : {rule : List ℕ} {at n next : ℕ} → ReadsTo (item 0 maxText) rule (at + 3) n next → TextAt rule at (record { start = next + 1; len = n })
 unfolding partOf
-text-known {rule} {at} {n} {next} r = record { is = λ t rest reads. text-placed rule at t rest reads n next (r .reads) }
+text-known {rule} {at} {n} {next} r =
+    record {
+      string = λ t rest reads. let w = string-written rule at t rest reads in text-placed rule at 5 (omega arith) t rest (w .1) (w .0) n next (r .reads);
+      number = λ t rest reads. let w = number-written rule at t rest reads in text-placed rule at 4 (omega arith) t rest (w .1) (w .0) n next (r .reads);
+    }
 
 pub text-unread : {rule : List ℕ} {at : ℕ} {p : Part} → item 0 maxText (drop (at + 3) rule) ≡ none → TextAt rule at p
-text-unread {rule} {at} e = record { is = λ t rest reads. absurd (Option·none-ne-some _ (sym e ∙ length-read rule at t rest reads)) }
+text-unread {rule} {at} e =
+    record {
+      string = λ t rest reads. let w = string-written rule at t rest reads in absurd (text-refused rule at 5 (omega arith) t rest (w .1) (w .0) e);
+      number = λ t rest reads. let w = number-written rule at t rest reads in absurd (text-refused rule at 4 (omega arith) t rest (w .1) (w .0) e);
+    }
+
+nothing-past : (rule : List ℕ) (at : ℕ) → length rule ≤ at → {h : ValueHead} {rest : List ℕ} → valueHead (drop at rule) ≡ some (h, rest) → ⊥
+nothing-past rule at past reads = omega (arith, past-end rule (at + 0) (omega arith), letter-value rule at reads)
 
 pub text-past : {rule : List ℕ} {at : ℕ} {p : Part} → length rule ≤ at → TextAt rule at p
-text-past {rule} {at} h =
-    record { is = λ t rest reads. absurd (omega (arith, past-end rule (at + 0) (omega arith), letter-value rule at reads)) }
+text-past {rule} {at} past =
+    record { string = λ t rest reads. absurd (nothing-past rule at past reads); number = λ t rest reads. absurd (nothing-past rule at past reads) }

@@ -104,7 +104,7 @@ module _ (rule words : List ℕ) (i : ℕ) {at : ℕ} (start : at ≡ startOf wo
     form-text known l m (number e digits) a = absurd (l (omega (arith, digit-is a .0)))
     form-text {p} known l m (string e t) a =
         let k : TextAt rule (startOf words i) p = rw start at known in
-        ap (λ (x : Text). string e x) (sym (k .is t (a .rest) (a .reads)))
+        ap (λ (x : Text). string e x) (sym (k .string t (a .rest) (a .reads)))
     form-text known l m (array e values) a = absurd (m (omega (arith, digit-is (a .0) .0)))
     form-text known l m (object e pairs) a = absurd (m (omega (arith, digit-is (a .0) .0)))
 

@@ -2,14 +2,13 @@
 use Prim.Native.Nat.{ℕ, _+_, _-_, _≤_, _<_}
 use native.Mathlib.Omega.{arith}
 use mathlib.Core.Bool.{Bool, true, false}
-use mathlib.Core.List.{List, [], _∷_, _++_, append-nil}
-use mathlib.Core.Logic.{⊎-elim}
+use mathlib.Core.List.{List, [], _∷_, _++_}
 use mathlib.Core.Option.{Option, none, some}
 use mathlib.Core.Path.{_≡_, refl, sym, ap, ap₂, subst, _∙_}
 use lib.ListN.{length, getD, take, drop, length-drop}
 use lib.Seq.{take-all}
 use borrow.Author.Tests.{eq-eqb, ne-eqb}
-use Rattle.sheet.specs.Entries.{ValueHead, constantHead, numberHead, stringHead, arrayHead, objectHead, valueHead, keyHead}
+use Rattle.sheet.specs.Entries.{ValueHead, constantHead, numberHead, stringHead, arrayHead, objectHead, valueHead}
 use Rattle.sheet.specs.Parts.{partOf}
 use Rattle.sheet.specs.RuleHeadLaws.{valueHead-exact}
 use Rattle.sheet.specs.declared.part.Part.{Part}
@@ -25,8 +24,8 @@ use Rattle.walk.specs.declared.answer.Readable.{Readable}
 use Rattle.walk.specs.declared.answer.Readable.the-variants.{Yes, No}
 use Rattle.validation.specs.Check.{Binder, readable, check, referenceText, referenceCheck, references, referencesOfValues, referencesOfPairs}
 use Rattle.validation.specs.Judge.{outcome, environment, verdict, answer, answerIn}
-use Rattle.value_checks.specs.Leaves.{leaves, leavesOfValues, leavesOfPairs, saysIf, saysAt, saidIn, said-value}
-use Rattle.value_checks.specs.Kinds.{typeIn, StringAt, TextAt}
+use Rattle.value_checks.specs.Leaves.{leaves, leavesOfValues, leavesOfPairs, saidIn, said-value}
+use Rattle.value_checks.specs.Kinds.{typeIn, HasType, TextAt}
 use Rattle.value_checks.specs.Nodes.{IsValue, EntriesIn}
 use Rattle.value_checks.specs.Verdicts.{numberOf, detailOf, GoesOn, PassedOn, Failed}
 use Rattle.scope.specs.References.{ReferenceReads}
@@ -38,6 +37,7 @@ use Rattle.value_checks.specs.declared.verdict.Verdict.the-variants.{Def
 use Rattle.value_checks.specs.declared.verdict.Progress.{Progress}
 use Rattle.value_checks.proofs.Going.{goes-nothing, goes-then, goes-stopped, said-next}
 use Rattle.value_checks.proofs.EntrySteps.{entries-part, entries-value}
+use Rattle.value_checks.proofs.LiteralSteps.{says-other, says-typed}
 
 -- Texts.
 
@@ -92,7 +92,7 @@ unfolding referenceText
 reference-long [] e = let z : _≡_ {A = Option Text} none (some (drop 1 [])) = e in let y : _≡_ {A = ℕ} 0 1 = cc in omega arith
 reference-long (b ∷ t) e = omega arith
 
-no-string : (binders : List Binder) (e : ℕ) (h : ValueHead) → (typeIn h ≡ 5 → ⊥) → referenceSays binders e h ≡ []
+no-string : (binders : List Binder) (e : ℕ) (h : ValueHead) → (53 ≡ 48 + typeIn h → ⊥) → referenceSays binders e h ≡ []
 unfolding referenceSays typeIn
 no-string binders e (constantHead type) n = refl
 no-string binders e (numberHead digits) n = refl
@@ -100,55 +100,28 @@ no-string binders e (stringHead t) n = absurd (n refl)
 no-string binders e (arrayHead count) n = refl
 no-string binders e (objectHead count) n = refl
 
-module _ (rule words : List ℕ) (i at : ℕ) (start : at ≡ startOf words i) where
-  -- an entry that is no string's says nothing
-  other-said : StringAt rule at false → (binders : List Binder) → saidIn (referenceSays binders) rule words 1 i ≡ []
-  unfolding saidIn saysAt saysIf
-  other-said n binders = rw (append-nil, sym start) (by (valueHead (drop at rule)) refl)
-    where
-      by : (o : Option (ValueHead × List ℕ)) → valueHead (drop at rule) ≡ o → saysIf (referenceSays binders) (i + 1) o ≡ []
-      by none e = refl
-      by (some h) e = no-string binders (i + 1) (h .0) (n (h .0) (h .1) e)
+-- a string says what its text is asked
+module _ (rule : List ℕ) (at i : ℕ) {p : Part} (known : TextAt rule at p) {text : Text} (same : text ≡ partOf rule p) (binders : List Binder) where
+  string-says : (h : ValueHead) (rest : List ℕ) → valueHead (drop at rule) ≡ some (h, rest) → 53 ≡ 48 + typeIn h
+      → referenceSays binders (i + 1) h ≡ referenceCheck binders (i + 1) (referenceText text)
+  unfolding referenceSays typeIn
+  string-says (constantHead type) rest e k = absurd (omega (arith, k, valueHead-exact .sound (drop at rule) (constantHead type) rest e .1 .1))
+  string-says (numberHead digits) rest e k = absurd (omega arith)
+  string-says (stringHead t) rest e k = ap (λ (x : Text). referenceCheck binders (i + 1) (referenceText x)) (sym (known .string t rest e) ∙ sym same)
+  string-says (arrayHead count) rest e k = absurd (omega arith)
+  string-says (objectHead count) rest e k = absurd (omega arith)
 
-  module _ (there : StringAt rule at true) (p : Part) (known : TextAt rule at p) (text : Text) (same : text ≡ partOf rule p) (binders : List Binder) where
-    string-says : (h : ValueHead) (rest : List ℕ) → valueHead (drop at rule) ≡ some (h, rest) → typeIn h ≡ 5
-        → referenceSays binders (i + 1) h ≡ referenceCheck binders (i + 1) (referenceText text)
-    unfolding referenceSays typeIn
-    string-says (constantHead type) rest e k = absurd (omega (arith, k, valueHead-exact .sound (drop at rule) (constantHead type) rest e .1 .1))
-    string-says (numberHead digits) rest e k = absurd (omega arith)
-    string-says (stringHead t) rest e k = ap (λ (x : Text). referenceCheck binders (i + 1) (referenceText x)) (sym (known .is t rest e) ∙ sym same)
-    string-says (arrayHead count) rest e k = absurd (omega arith)
-    string-says (objectHead count) rest e k = absurd (omega arith)
-
-    value-said : (h : ValueHead) (rest : List ℕ) → valueHead (drop (startOf words i) rule) ≡ some (h, rest)
-        → saidIn (referenceSays binders) rule words 1 i ≡ referenceCheck binders (i + 1) (referenceText text)
-    unfolding saidIn saysAt saysIf
-    value-said h rest r =
-        let e : valueHead (drop at rule) ≡ some (h, rest) = rw start r in
-        rw (append-nil, r) (string-says h rest e (there .0 h rest e))
-
-    no-key : (key : Text) (rest : List ℕ) → keyHead (drop (startOf words i) rule) ≡ some (key, rest) → ⊥
-    no-key key rest r = let e : keyHead (drop at rule) ≡ some (key, rest) = rw start r in there .1 key rest e
-
-    -- a string says what its text is asked
-    text-said : EntriesIn rule words i 1 → saidIn (referenceSays binders) rule words 1 i ≡ referenceCheck binders (i + 1) (referenceText text)
-    text-said w =
-        ⊎-elim
-        (λ (r : (h : ValueHead) × (rest : List ℕ) × (valueHead (drop (startOf words i) rule) ≡ some (h, rest))). value-said (r .0) (r .1) (r .2))
-        (λ (r : (key : Text) × (rest : List ℕ) × (keyHead (drop (startOf words i) rule) ≡ some (key, rest))). absurd (no-key (r .0) (r .1) (r .2)))
-        (w .each i (omega arith) (omega arith))
-
-module _ {f : Frame} {i at : ℕ} {a : Progress} {test : Bool} (start : at ≡ startOf (f .words) i) (string : StringAt (f .rule) at test) where
+module _ {f : Frame} {i at : ℕ} {a : Progress} {test : Bool} (start : at ≡ startOf (f .words) i) (string : HasType (f .rule) at 53 test) where
   pub reference-other : test ≡ false → ReferencesIn f i 1 a a
   reference-other e =
-      let m : StringAt (f .rule) at false = subst (λ (x : Bool). StringAt (f .rule) at x) e string in
-      record { atMost = omega arith; goes = λ setting tree binders env s w. rw (other-said (f .rule) (f .words) i at start m binders) goes-nothing }
+      let m : HasType (f .rule) at 53 false = subst (λ (x : Bool). HasType (f .rule) at 53 x) e string in
+      record { atMost = omega arith; goes = λ setting tree binders env s w. rw (says-other (referenceSays binders) (f .rule) (f .words) i at 53 start m (no-string binders (i + 1))) goes-nothing }
 
   module _ {part : Part} {text : Text} (tested : test ≡ true) (known : TextAt (f .rule) at part) (same : text ≡ partOf (f .rule) part) where
     pub reference-none : IsReference text false → ReferencesIn f i 1 a a
     unfolding referenceCheck
     reference-none e =
-        record { atMost = omega arith; goes = λ setting tree binders env s w. rw (text-said (f .rule) (f .words) i at start (subst (λ (x : Bool). StringAt (f .rule) at x) tested string) part known text same binders w, e) goes-nothing }
+        record { atMost = omega arith; goes = λ setting tree binders env s w. rw (says-typed (referenceSays binders) (f .rule) (f .words) i at 53 start (subst (λ (x : Bool). HasType (f .rule) at 53 x) tested string) _ (string-says (f .rule) at i known same binders) w, e) goes-nothing }
 
     pub reference-passes : {x : Readable} {r : Progress}
         → IsReference text true
@@ -164,7 +137,7 @@ module _ {f : Frame} {i at : ℕ} {a : Progress} {test : Bool} (start : at ≡ s
               λ setting tree binders env s w.
               let m : ReadableIs Yes (reference setting tree env (drop 1 text)) =
               rw (behind-dollar text, y) at (q .leads setting tree env (s .scoped)) in
-              rw (text-said (f .rule) (f .words) i at start (subst (λ (x : Bool). StringAt (f .rule) at x) tested string) part known text same binders w, e)
+              rw (says-typed (referenceSays binders) (f .rule) (f .words) i at 53 start (subst (λ (x : Bool). HasType (f .rule) at 53 x) tested string) _ (string-says (f .rule) at i known same binders) w, e)
               (p .goes (outcome setting tree) _
               (readable-outcome setting tree binders env 18 (i + 1) (drop 1 text) (s .bound) ∙ reached-verdict _ m));
         }
@@ -183,7 +156,7 @@ module _ {f : Frame} {i at : ℕ} {a : Progress} {test : Bool} (start : at ≡ s
               λ setting tree binders env s w.
               let m : ReadableIs (No fault place) (reference setting tree env (drop 1 text)) =
               rw (behind-dollar text, y) at (q .leads setting tree env (s .scoped)) in
-              rw (text-said (f .rule) (f .words) i at start (subst (λ (x : Bool). StringAt (f .rule) at x) tested string) part known text same binders w, e)
+              rw (says-typed (referenceSays binders) (f .rule) (f .words) i at 53 start (subst (λ (x : Bool). HasType (f .rule) at 53 x) tested string) _ (string-says (f .rule) at i known same binders) w, e)
               (p .goes (outcome setting tree) _ [] (record { numbered = refl; placed = refl; held = s .held })
               (readable-outcome setting tree binders env 18 (i + 1) (drop 1 text) (s .bound) ∙ ap verdict (m .1)));
         }

@@ -1,4 +1,4 @@
--- The kind of an entry: the operator of a condition, the type of a value, and the text of a string. Where there is no such entry, nothing is said.
+-- The kind of an entry: the operator of a condition, the type of a value, and the text of a string or a number. Where there is no such entry, nothing is said.
 use Prim.Native.Nat.{ℕ, _+_}
 use mathlib.Core.Bool.{Bool, true, false}
 use mathlib.Core.List.{List}
@@ -36,13 +36,14 @@ pub record OperatorAt (rule : List ℕ) (at op : ℕ) : Type 0 where
 pub record TypeAt (rule : List ℕ) (at digit : ℕ) : Type 0 where
   pub is : (h : ValueHead) (rest : List ℕ) → valueHead (drop at rule) ≡ some (h, rest) → digit ≡ 48 + typeIn h
 
--- whether the entry at `at`, of a value or of a key, is a string's
-abbrev pub StringAt : (rule : List ℕ) (at : ℕ) → Bool → Type 0
-StringAt rule at true =
-    ((h : ValueHead) (rest : List ℕ) → valueHead (drop at rule) ≡ some (h, rest) → typeIn h ≡ 5)
+-- whether the entry at `at`, of a value or of a key, is that of a value with that type's digit
+abbrev pub HasType : (rule : List ℕ) (at digit : ℕ) → Bool → Type 0
+HasType rule at digit true =
+    ((h : ValueHead) (rest : List ℕ) → valueHead (drop at rule) ≡ some (h, rest) → digit ≡ 48 + typeIn h)
     × ((key : Text) (rest : List ℕ) → keyHead (drop at rule) ≡ some (key, rest) → ⊥)
-StringAt rule at false = (h : ValueHead) (rest : List ℕ) → valueHead (drop at rule) ≡ some (h, rest) → typeIn h ≡ 5 → ⊥
+HasType rule at digit false = (h : ValueHead) (rest : List ℕ) → valueHead (drop at rule) ≡ some (h, rest) → digit ≡ 48 + typeIn h → ⊥
 
--- the text of the string whose entry is read at `at` is in that place
+-- the text of the string or the number whose entry is read at `at` is in that place
 pub record TextAt (rule : List ℕ) (at : ℕ) (p : Part) : Type 0 where
-  pub is : (t : Text) (rest : List ℕ) → valueHead (drop at rule) ≡ some (stringHead t, rest) → partOf rule p ≡ t
+  pub string : (t : Text) (rest : List ℕ) → valueHead (drop at rule) ≡ some (stringHead t, rest) → partOf rule p ≡ t
+  pub number : (digits : Text) (rest : List ℕ) → valueHead (drop at rule) ≡ some (numberHead digits, rest) → partOf rule p ≡ digits

@@ -6,7 +6,7 @@ use sheet::part::Part;
 ghost use mathlib.Core.Path.{_≡_};
 ghost use Prim.Native.Nat.{_+_};
 ghost use lib.ListN.{getD};
-ghost use Rattle.value_checks.specs.Kinds.{OperatorAt, TypeAt, StringAt, TextAt};
+ghost use Rattle.value_checks.specs.Kinds.{OperatorAt, TypeAt, HasType, TextAt};
 
 // The type's digits that the checks tell apart (docs/FORMAT.md, "The rule sheet").
 pub const NUMBER: u8 = b'4';
@@ -45,17 +45,17 @@ pub fn type_at(rule: &[u8], at: usize) -> u8
     byte_after(rule, at, 2)
 }
 
-// Whether the entry that begins at `at`, of a value or of a key, is a string's.
-pub fn is_string_at(rule: &[u8], at: usize) -> bool
-    ensures { λ r. ⌜ StringAt (now (rule .entry)) at r ⌝ }
+// Whether the entry that begins at `at`, of a value or of a key, is that of a value with that type's digit.
+pub fn has_type(rule: &[u8], at: usize, digit: u8) -> bool
+    ensures { λ r. ⌜ HasType (now (rule .entry)) at digit r ⌝ }
 {
     if byte_after(rule, at, 0) == b'V' {
-        return byte_after(rule, at, 2) == STRING;
+        return byte_after(rule, at, 2) == digit;
     }
     false
 }
 
-// Where the text of the string is whose entry begins at `at`. Of another entry's bytes any place.
+// Where the text of the string or the number is whose entry begins at `at`. Of another entry's bytes any place.
 pub fn text_at(rule: &[u8], at: usize) -> Part
     ensures { λ r. ⌜ TextAt (now (rule .entry)) at r ⌝ }
 {

@@ -1,5 +1,6 @@
 // The references of a value: its strings that begin with `$`, but not with `$$`.
-use crate::kind::is_string_at;
+use crate::kind::STRING;
+use crate::kind::has_type;
 use crate::kind::text_at;
 use crate::verdict::Fault;
 use crate::verdict::Over;
@@ -49,7 +50,7 @@ fn validate_value_reference(
     ensures { λ r. ⌜ ReferencesIn (frame (now (schema .entry)) (now (rule .entry)) (now (words .entry)) scope over) i 1 (going passed) r ⌝ }
 {
     let at = start_of(words, i);
-    if is_string_at(rule, at) {
+    if has_type(rule, at, STRING) {
         let text = bytes_of(rule, text_at(rule, at));
         if is_reference(text) {
             let found = validate_reference(schema, rule, words, scope, &text[1..]);
