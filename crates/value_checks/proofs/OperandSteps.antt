@@ -14,7 +14,6 @@ use Rattle.timestamp.specs.Instant.{instant}
 use Rattle.timestamp.specs.InstantLaws.{short-instant}
 use Rattle.timestamp.specs.declared.Fields.{Fields}
 use Rattle.sheet.specs.Entries.{ValueHead, constantHead, numberHead, stringHead, arrayHead, objectHead, valueHead}
-use Rattle.sheet.specs.Places.{ReadsTo}
 use Rattle.sheet.specs.Parts.{partOf}
 use Rattle.sheet.specs.RuleHeadLaws.{ValueHeadFits, valueHead-exact}
 use Rattle.sheet.specs.declared.part.Part.{Part}
@@ -26,7 +25,7 @@ use Rattle.validation.specs.Check.{Binder, Question, settled, Check, check, fai
 use Rattle.validation.specs.Constant.{literalText, literalInstant}
 use Rattle.validation.specs.Judge.{CheckOutcome, outcome, environment, answer, answerIn}
 use Rattle.scope.specs.declared.binder.Scope.{Scope}
-use Rattle.value_checks.specs.Kinds.{typeIn, TypeAt}
+use Rattle.value_checks.specs.Kinds.{typeIn, TypeAt, TextAt}
 use Rattle.value_checks.specs.Nodes.{AreValues, Behind}
 use Rattle.value_checks.specs.Verdicts.{numberOf, detailOf, sideDetail, instantDetail, failed, GoesOn, PassedOn, Failed, Required}
 use Rattle.value_checks.specs.Frames.{Frame, frame, Stands, IsReference, ReferencesIn, instantCheck, affixCheck, askedBefore, askedAfter, asked, askedOf, ValueJudged, OperandJudged, OperandsJudged, FormIs, formOf, literalBy, ReadAs}
@@ -45,29 +44,13 @@ use Rattle.value_checks.specs.declared.verdict.Over.{Over}
 use Rattle.value_checks.specs.declared.verdict.Verdict.the-variants.{Defect}
 use Rattle.value_checks.specs.declared.verdict.Progress.{Progress}
 use Rattle.value_checks.proofs.Going.{goes-nothing, goes-then, goes-stopped}
-use Rattle.value_checks.proofs.NodeSteps.{same-head, othersOf, value-stands, others-stand, no-values-left, no-values-end}
+use Rattle.value_checks.proofs.NodeSteps.{othersOf, value-stands, others-stand, no-values-left, no-values-end}
 use Rattle.value_checks.proofs.LiteralSteps.{settled-outcome}
 use Rattle.value_checks.proofs.ReferenceSteps.{references-judged}
 
 -- What a value's head says of its form.
 
 module _ (rule words : List ℕ) (i : ℕ) {at : ℕ} (start : at ≡ startOf words i) where
-  value-unread : (v : Value) → ValueAt rule words i v → valueHead (drop at rule) ≡ none → ⊥
-  value-unread v a r = reads-some v a
-    where
-      clash : (h : ValueHead) (rest : List ℕ) → valueHead (drop (startOf words i) rule) ≡ some (h, rest) → ⊥
-      clash h rest q =
-          let p : valueHead (drop (startOf words i) rule) ≡ none = rw (sym start) r in
-          let z : _≡_ {A = ℕ} 0 1 = cc in
-          omega arith
-
-      reads-some : (v : Value) → ValueAt rule words i v → ⊥
-      reads-some (constant e type) a = clash _ _ (a .reads)
-      reads-some (number e digits) a = clash _ _ (a .reads)
-      reads-some (string e t) a = clash _ _ (a .reads)
-      reads-some (array e values) a = clash _ _ (a .0 .reads)
-      reads-some (object e pairs) a = clash _ _ (a .0 .reads)
-
   module _ {digit : ℕ} (kind : TypeAt rule at digit) where
     -- the digit of the value that is there
     digit-is : {size e : ℕ} {h : ValueHead} → EntryAt valueHead rule words i size e h → (digit ≡ 48 + typeIn h) × ValueHeadFits h
@@ -115,51 +98,15 @@ module _ (rule words : List ℕ) (i : ℕ) {at : ℕ} (start : at ≡ startOf wo
     holder-by (array e values) a = sym (lt-ltb 53 digit (omega (arith, digit-is (a .0) .0)))
     holder-by (object e pairs) a = sym (lt-ltb 53 digit (omega (arith, digit-is (a .0) .0)))
 
-  pub form-bad : valueHead (drop at rule) ≡ none → (v : Value) → ValueAt rule words i v → FormIs rule Form.Other v
-  form-bad r v a = absurd (value-unread v a r)
-
--- by the head: what an operand is asked goes by it
-abbrev FormBy : List ℕ → Form → ValueHead → Type 0
-FormBy rule (Form.Text p) (constantHead type) = ⊥
-FormBy rule (Form.Text p) (numberHead digits) = ⊥
-FormBy rule (Form.Text p) (stringHead t) = t ≡ partOf rule p
-FormBy rule (Form.Text p) (arrayHead n) = ⊥
-FormBy rule (Form.Text p) (objectHead n) = ⊥
-FormBy rule Form.Holder (constantHead type) = ⊥
-FormBy rule Form.Holder (numberHead digits) = ⊥
-FormBy rule Form.Holder (stringHead t) = ⊥
-FormBy rule Form.Holder (arrayHead n) = Unit {0}
-FormBy rule Form.Holder (objectHead n) = Unit {0}
-FormBy rule Form.Other (constantHead type) = Unit {0}
-FormBy rule Form.Other (numberHead digits) = Unit {0}
-FormBy rule Form.Other (stringHead t) = ⊥
-FormBy rule Form.Other (arrayHead n) = ⊥
-FormBy rule Form.Other (objectHead n) = ⊥
-
-module _ (rule words : List ℕ) (i : ℕ) {at next : ℕ} {h : ValueHead} (start : at ≡ startOf words i) (reads : ReadsTo valueHead rule at h next) where
-  pub form-text : (p : Part) → FormBy rule (Form.Text p) h → (v : Value) → ValueAt rule words i v → FormIs rule (Form.Text p) v
-  unfolding entryOf
-  form-text p f (constant e type) a = absurd (rw (same-head start reads a) at f)
-  form-text p f (number e digits) a = absurd (rw (same-head start reads a) at f)
-  form-text p f (string e t) a = let g : t ≡ partOf rule p = rw (same-head start reads a) at f in ap (λ (x : Text). string e x) g
-  form-text p f (array e values) a = absurd (rw (same-head start reads (a .0)) at f)
-  form-text p f (object e pairs) a = absurd (rw (same-head start reads (a .0)) at f)
-
-  pub form-holder : FormBy rule Form.Holder h → (v : Value) → ValueAt rule words i v → FormIs rule Form.Holder v
-  unfolding isHolder isString
-  form-holder f (constant e type) a = absurd (rw (same-head start reads a) at f)
-  form-holder f (number e digits) a = absurd (rw (same-head start reads a) at f)
-  form-holder f (string e t) a = absurd (rw (same-head start reads a) at f)
-  form-holder f (array e values) a = (refl, refl)
-  form-holder f (object e pairs) a = (refl, refl)
-
-  pub form-other : FormBy rule Form.Other h → (v : Value) → ValueAt rule words i v → FormIs rule Form.Other v
-  unfolding isHolder isString
-  form-other f (constant e type) a = (refl, refl)
-  form-other f (number e digits) a = (refl, refl)
-  form-other f (string e t) a = absurd (rw (same-head start reads a) at f)
-  form-other f (array e values) a = absurd (rw (same-head start reads (a .0)) at f)
-  form-other f (object e pairs) a = absurd (rw (same-head start reads (a .0)) at f)
+    pub form-text : {p : Part} → TextAt rule at p → (digit < 53 → ⊥) → (53 < digit → ⊥) → (v : Value) → ValueAt rule words i v → FormIs rule (Form.Text p) v
+    unfolding entryOf typeIn
+    form-text known l m (constant e type) a = absurd (l (omega (arith, digit-is a .0, digit-is a .1 .1)))
+    form-text known l m (number e digits) a = absurd (l (omega (arith, digit-is a .0)))
+    form-text {p} known l m (string e t) a =
+        let k : TextAt rule (startOf words i) p = rw start at known in
+        ap (λ (x : Text). string e x) (sym (k .string t (a .rest) (a .reads)))
+    form-text known l m (array e values) a = absurd (m (omega (arith, digit-is (a .0) .0)))
+    form-text known l m (object e pairs) a = absurd (m (omega (arith, digit-is (a .0) .0)))
 
 pub text-string : {e : ℕ} {t : Text} (v : Value) → v ≡ string e t → (isString v ≡ true) × (isHolder v ≡ false)
 unfolding isString isHolder
@@ -397,7 +344,7 @@ module _ {schema rule words : List ℕ} {scope : Scope} {over : Over} {op : ℕ}
       → OperandJudged (frame schema rule words scope over) op which start end a r
   operand-refused p t =
       operand-judged p
-      (record { atMost = omega arith; goes = λ setting tree binders env s. goes-stopped t })
+      (record { atMost = omega arith; goes = λ setting tree binders env s w. goes-stopped t })
       (record { atMost = omega arith; goes = λ schema scope setting tree binders env v s w. goes-stopped t })
 
   -- where one of its references failed

@@ -17,7 +17,7 @@ use Rattle.validation.specs.Judge.{outcome, environment}
 use Rattle.validation.specs.Result.{overOf}
 use Rattle.value_checks.specs.Leaves.{saidIn}
 use Rattle.rule.specs.Index.{ValueAt}
-use Rattle.value_checks.specs.Nodes.{IsValue, AreValues}
+use Rattle.value_checks.specs.Nodes.{IsValue, AreValues, EntriesIn}
 use Rattle.value_checks.specs.Verdicts.{GoesOn, overBy, sideDetail, instantDetail}
 use Rattle.scope.specs.Scopes.{ScopeAt}
 use Rattle.scope.specs.declared.binder.Scope.{Scope}
@@ -57,11 +57,12 @@ referenceSays binders e (stringHead t) = referenceCheck binders e (referenceText
 referenceSays binders e (arrayHead count) = []
 referenceSays binders e (objectHead count) = []
 
--- the references of `n` words
+-- the references of `n` words, which are those of values and keys
 pub record ReferencesIn (f : Frame) (i n : ℕ) (a r : Progress) : Type 0 where
   pub atMost : r .passed ≤ a .passed + n
   pub goes : (setting : Setting) (tree : Schema) (binders : List Binder) (env : Environment)
       → Stands f setting tree binders env
+      → EntriesIn (f .rule) (f .words) i n
       → GoesOn (outcome setting tree) a (saidIn (referenceSays binders) (f .rule) (f .words) n i) r
 
 -- Operands.

@@ -1,5 +1,6 @@
 // Operands: what a value is asked besides its references.
 use crate::kind::STRING;
+use crate::kind::text_at;
 use crate::kind::type_at;
 use crate::node::behind;
 use crate::references::is_reference;
@@ -23,9 +24,6 @@ use sheet::rule_heads::AFTER;
 use sheet::rule_heads::COMPARE;
 use sheet::rule_heads::EXISTS;
 use sheet::rule_heads::STARTS_WITH;
-use sheet::rule_heads::ValueHead;
-use sheet::rule_heads::ValueRead;
-use sheet::rule_heads::value_head;
 use timestamp::Fields;
 use timestamp::Parsed;
 ghost use Prim.Native.Nat.{_*_, _-_, _<_, _≤_};
@@ -50,7 +48,7 @@ pub enum InstantRead {
     Bad(InstantFault),
 }
 
-// The value of word `i`: only a text is read.
+// The value of word `i`, by its type.
 pub fn form_of(rule: &[u8], words: &[u32], i: usize) -> Form
     ensures { λ r. ⌜ ((v : Value) → ValueAt (now (rule .entry)) (now (words .entry)) i v → FormIs (now (rule .entry)) r v) ⌝ }
 {
@@ -62,16 +60,7 @@ pub fn form_of(rule: &[u8], words: &[u32], i: usize) -> Form
     if STRING < digit {
         return Form::Holder;
     }
-    let ValueRead::Is(head, _) = value_head(rule, at) else {
-        return Form::Other;
-    };
-    match head {
-        ValueHead::Constant(_) => Form::Other,
-        ValueHead::Number(_) => Form::Other,
-        ValueHead::Text(part) => Form::Text(part),
-        ValueHead::Array(_) => Form::Holder,
-        ValueHead::Object(_) => Form::Holder,
-    }
+    Form::Text(text_at(rule, at))
 }
 
 // A reference may be an instant; text that begins with `$$` is none.
