@@ -1,5 +1,5 @@
 -- Where a line reader is: after the head that it read, or where it was if it read none; and whether a sheet ends there.
-use Prim.Native.Nat.{ℕ, _<_, _≤_}
+use Prim.Native.Nat.{ℕ, _/_, _<_, _≤_}
 use mathlib.Core.Bool.{Bool, true, false, cond}
 use mathlib.Core.List.{List}
 use lib.Dec.{eqb}
@@ -32,6 +32,10 @@ ruleEnd rule.Bad at = at
 abbrev pub conditionEnd : ConditionRead → ℕ → ℕ
 conditionEnd (condition.Is h next) at = next
 conditionEnd condition.Bad at = at
+
+-- 0 where no condition that only values follow was read, else four times the place and a little more
+abbrev pub plainStop : ℕ → ℕ → ℕ
+plainStop read at = cond (eqb read 0) at (read / 4)
 
 abbrev pub valueEnd : ValueRead → ℕ → ℕ
 valueEnd (value.Is h next) at = next

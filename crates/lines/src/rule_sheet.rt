@@ -6,8 +6,8 @@ use sheet::rule_heads::KeyRead;
 use sheet::rule_heads::RuleHeadRead;
 use sheet::rule_heads::ValueRead;
 ghost use mathlib.Core.Path.{_≡_};
-ghost use Rattle.sheet.specs.Places.{RuleIs, ConditionIs, ValueIs, LeafEnds, KeyIs};
-ghost use Rattle.lines.specs.Ends.{ruleEnd, conditionEnd, valueEnd, leafStop, keyEnd};
+ghost use Rattle.sheet.specs.Places.{RuleIs, ConditionIs, PlainIs, ValueIs, LeafEnds, KeyIs};
+ghost use Rattle.lines.specs.Ends.{ruleEnd, conditionEnd, plainStop, valueEnd, leafStop, keyEnd};
 ghost use Rattle.lines.specs.Passed.{Passed, BothRead};
 
 // The heads of the sheet's first entry and of a condition after it.
@@ -60,6 +60,30 @@ pub fn condition_head(sheet: &[u8], at: usize) -> ConditionRead
 {
     let mut lines = new(sheet, at);
     next_condition(&mut lines)
+}
+
+// Where the entry after that of a condition which only values follow starts; a reader that finds none stays where it is.
+fn plain_stop(read: usize, at: usize) -> usize
+    ensures { λ r. ⌜ r ≡ plainStop read at ⌝ }
+{
+    if read == 0 { at } else { read / 4 }
+}
+
+// Where the next entry ends, and how many values follow, if it is that of a condition which only values follow, with the reader moved past it.
+pub fn next_plain<'s, 'a>(lines: &'s mut Lines<'a>) -> usize
+    ensures { λ r. ⌜ Passed PlainIs plainStop (now (lines .entry)) (now (lines .exit)) r ⌝ }
+{
+    let read = sheet::rule_heads::plain_condition(lines.sheet, lines.at);
+    lines.at = plain_stop(read, lines.at);
+    read
+}
+
+// The same of the entry that starts at `at`, for callers without a reader.
+pub fn plain_condition(sheet: &[u8], at: usize) -> usize
+    ensures { λ r. ⌜ PlainIs (now (sheet .entry)) at r ⌝ }
+{
+    let mut lines = new(sheet, at);
+    next_plain(&mut lines)
 }
 
 // Where the entry after a value's entry starts; a reader that finds none stays where it is.

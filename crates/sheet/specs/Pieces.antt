@@ -107,6 +107,16 @@ conditionFrom op n bind two = condition.Two op
 conditionFrom op n bind comparison = condition.Comparison n
 conditionFrom op n bind quantifier = condition.Quantifier op bind
 
+-- how many values follow a condition after which no conditions do, or 3
+unfoldable pub valuesAfter : Shape → ℕ
+valuesAfter literal = 0
+valuesAfter many = 3
+valuesAfter negation = 3
+valuesAfter one = 1
+valuesAfter two = 2
+valuesAfter comparison = 2
+valuesAfter quantifier = 3
+
 -- What follows a value's type: likewise.
 
 unfoldable pub kindOf : ℕ → ValueKind

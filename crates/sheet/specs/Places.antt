@@ -1,5 +1,5 @@
 -- What the code's readers answer, by cases: what the definition of Entries reads from place `at` of the bytes on, and the place after it.
-use Prim.Native.Nat.{ℕ, _+_, _<_, _≤_}
+use Prim.Native.Nat.{ℕ, _+_, _/_, _%_, _<_, _≤_}
 use mathlib.Core.Bool.{Bool, true, false}
 use mathlib.Core.List.{List}
 use mathlib.Core.Option.{Option, none, some}
@@ -231,6 +231,27 @@ conditionCount (condition-head.Quantifier op bind) = 1
 abbrev pub ConditionIs : List ℕ → ℕ → ConditionRead → Type 0
 ConditionIs s at (condition.Is h next) = ReadsTo entries.conditionHead s at (conditionOf s h) next × (conditionCount h ≤ entries.maxCount)
 ConditionIs s at condition.Bad = Refuses entries.conditionHead s at
+
+-- how many values are announced
+unfoldable pub operandCount : ConditionHead → ℕ
+operandCount (condition-head.Literal truth) = 0
+operandCount (condition-head.Many op count) = 0
+operandCount condition-head.Negation = 0
+operandCount (condition-head.One op) = 1
+operandCount (condition-head.Two op) = 2
+operandCount (condition-head.Comparison which) = 2
+operandCount (condition-head.Quantifier op bind) = 1
+
+-- a condition that so many values follow, and no conditions, is read from place `at` on, and stops at `next`
+pub record PlainRead (s : List ℕ) (at next values : ℕ) : Type 0 where
+  pub head : ConditionHead
+  pub reads : ReadsTo entries.conditionHead s at (conditionOf s head) next
+  pub operands : operandCount head ≡ values
+  pub alone : conditionCount head ≡ 0
+
+-- four times the place after such a condition, with how many values follow; 0 says nothing
+abbrev pub PlainIs : List ℕ → ℕ → ℕ → Type 0
+PlainIs s at r = 0 < r → PlainRead s at (r / 4) (r % 4)
 
 unfoldable pub valueOf : List ℕ → ValueHead → entries.ValueHead
 valueOf s (value-head.Constant type) = entries.constantHead type

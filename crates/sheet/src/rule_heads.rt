@@ -14,8 +14,8 @@ ghost use mathlib.Core.Path.{_≡_};
 ghost use lib.Dec.{leb};
 ghost use Rattle.number.specs.Grammar.{isNumber};
 ghost use Rattle.sheet.specs.Entries.{maxText, shapeOf};
-ghost use Rattle.sheet.specs.Pieces.{shapeFor, conditionRow, conditionFrom, kindOf, valueRow, valueFrom};
-ghost use Rattle.sheet.specs.Places.{RuleTextsAre, RuleIs, ConditionIs, ValueIs, LeafTypeIs, LeafEnds, KeyIs};
+ghost use Rattle.sheet.specs.Pieces.{shapeFor, conditionRow, conditionFrom, valuesAfter, kindOf, valueRow, valueFrom};
+ghost use Rattle.sheet.specs.Places.{RuleTextsAre, RuleIs, ConditionIs, PlainIs, ValueIs, LeafTypeIs, LeafEnds, KeyIs};
 
 // Operators that the checks tell apart, by their numbers (docs/FORMAT.md, "The rule sheet").
 pub const LITERAL: usize = 1;
@@ -35,6 +35,9 @@ pub const STARTS_WITH: usize = 16;
 pub const COMPARE: usize = 18;
 
 pub const TRUTHY: usize = 19;
+
+// The furthest place that is handed on four times over: no sheet is as long.
+const FURTHEST: usize = 1000000000;
 
 pub enum RuleHead {
     // The name and the message.
@@ -273,6 +276,65 @@ pub fn condition_head(s: &[u8], at: usize) -> ConditionRead
         return ConditionRead::Is(head, start + len + 1);
     }
     ConditionRead::Bad
+}
+
+// How many values follow a condition after which no conditions do, or 3 where some do.
+fn values_after(shape: Shape) -> usize
+    ensures { λ r. ⌜ r ≡ valuesAfter (shapeFor shape) ⌝ }
+{
+    match shape {
+        Shape::Literal => 0,
+        Shape::Many => 3,
+        Shape::Negation => 3,
+        Shape::One => 1,
+        Shape::Two => 2,
+        Shape::Comparison => 2,
+        Shape::Quantifier => 3,
+    }
+}
+
+// Whether the operator begins with 2, 3 or 4, as those do after which conditions follow. It only saves reading these twice, and promises nothing.
+fn seems_to_hold(s: &[u8], at: usize) -> bool {
+    if s.len() <= at {
+        return true;
+    }
+    if s.len() - at < 3 {
+        return true;
+    }
+    let digit = s[at + 2];
+    if digit < b'2' {
+        return false;
+    }
+    digit <= b'4'
+}
+
+// Four times the place after the entry of a condition that values follow, and no conditions, with how many; or 0. Most conditions are such, and a
+// number is handed on sooner than a head.
+pub fn plain_condition(s: &[u8], at: usize) -> usize
+    ensures { λ r. ⌜ PlainIs (now (s .entry)) at r ⌝ }
+{
+    if seems_to_hold(s, at) {
+        return 0;
+    }
+    let NumeralRead::Is(op, behind) = entry::first(s, at, b'C', 1, 21) else {
+        return 0;
+    };
+    let shape = shape_of(op);
+    let values = values_after(shape);
+    if 2 < values {
+        return 0;
+    }
+    let row = condition_row(shape);
+    let NumeralRead::Is(_, end) = entry::item(s, behind, row.least, row.most) else {
+        return 0;
+    };
+    if FURTHEST < end {
+        return 0;
+    }
+    if entry::is_last_text(s, end, 0) {
+        return (end + 2) * 4 + values;
+    }
+    0
 }
 
 // Which kind of value the type's number says.

@@ -1,8 +1,8 @@
--- The readers of a condition whose head is read and of conditions side by side, which call each other: the nesting that is left falls.
+-- The readers of a condition whose head is read, of a condition among others and of conditions side by side, which call each other: the nesting that is left falls.
 -- The loop's invariant: what has been read is right for the whole if what is left is.
 use native.Mathlib.Omega.{arith}
 use borrow.Author.Needs.{needs}
-use Prim.Native.Nat.{ℕ, _+_, _*_, _-_, _<_}
+use Prim.Native.Nat.{ℕ, _+_, _*_, _-_, _/_, _%_, _<_}
 use mathlib.Core.Path.{ap, _∙_}
 use lib.ListN.{length-set}
 use denote.Ref.{now}
@@ -10,26 +10,34 @@ use Rattle.rule.proofs.KeptLaws.{ready-fewer, ready-inside}
 use Rattle.rule.proofs.SiblingLaws.{Passing, siblings-begin, siblings-bad, siblings-next, siblings-end}
 use Rattle.rule.proofs.SiblingKinds.{conditions-kind}
 use Rattle.rule.proofs.ConditionAnswers.{condition-deep-answer, condition-headless-answer, operands-few, operands-unpaid-answer, operands-valueless-answer, operands-ready, operands-conditionless-answer, operands-answer}
+use Rattle.rule.proofs.PlainLaws.{plain-unpaid-answer, plain-valueless-answer, plain-answer}
 use borrow.Fn.Kinds.{In}
 use borrow.Fn.PlainCycle.{Measures, is, falls, and}
 use Rattle.rule.proofs.condition.read_conditions.Reads as read-conditions
 use Rattle.rule.proofs.condition.read_conditions.Kinds as read-conditions-kinds
-use Rattle.rule.proofs.condition.+read_conditions+read_headed.Lts-read_conditions as read-conditions-lts
+use Rattle.rule.proofs.condition.+read_conditions+read_headed+read_sibling.Lts-read_conditions as read-conditions-lts
 use Rattle.rule.proofs.condition.read_headed.Reads as read-headed
 use Rattle.rule.proofs.condition.read_headed.Kinds as read-headed-kinds
-use Rattle.rule.proofs.condition.+read_conditions+read_headed.Lts-read_headed as read-headed-lts
+use Rattle.rule.proofs.condition.+read_conditions+read_headed+read_sibling.Lts-read_headed as read-headed-lts
+use Rattle.rule.proofs.condition.read_sibling.Reads as read-sibling
+use Rattle.rule.proofs.condition.read_sibling.Kinds as read-sibling-kinds
+use Rattle.rule.proofs.condition.+read_conditions+read_headed+read_sibling.Lts-read_sibling as read-sibling-lts
 use Rattle.lines.proofs.rule_sheet.condition_head.Reads as condition-head-reads
+use Rattle.lines.proofs.rule_sheet.plain_condition.Reads as plain-condition-reads
 use Rattle.rule.proofs.condition.operands_of.Reads as operands-of-reads
 use Rattle.rule.proofs.cursor.word_of.Reads as word-of-reads
 use Rattle.rule.proofs.value.read_values.Reads as read-values-reads
-use Rattle.rule.proofs.condition.+read_conditions+read_headed.{statement}
-use Rattle.rule.proofs.condition.+read_conditions+read_headed.Tie.{close}
+use Rattle.rule.proofs.condition.+read_conditions+read_headed+read_sibling.{statement}
+use Rattle.rule.proofs.condition.+read_conditions+read_headed+read_sibling.Tie.{close}
 
 abbrev μ-read-conditions : Measures 2 read-conditions-kinds.ps ℕ
-μ-read-conditions κs a = 2 * (a .1 .1 .0) + 1
+μ-read-conditions κs a = 3 * (a .1 .1 .0) + 2
 
 abbrev μ-read-headed : Measures 2 read-headed-kinds.ps ℕ
-μ-read-headed κs a = 2 * (a .1 .1 .0)
+μ-read-headed κs a = 3 * (a .1 .1 .0)
+
+abbrev μ-read-sibling : Measures 2 read-sibling-kinds.ps ℕ
+μ-read-sibling κs a = 3 * (a .1 .1 .0) + 1
 
 abbrev read-conditions-at : ℕ → In 2 read-conditions-kinds.ps
 read-conditions-at t =
@@ -55,8 +63,29 @@ abbrev read-headed-below : ℕ → In 2 read-headed-kinds.ps
 read-headed-below t =
     and 2 read-headed-kinds.ps (falls 2 read-headed-kinds.ps _<_ μ-read-headed t) read-headed.Pre
 
+abbrev read-sibling-at : ℕ → In 2 read-sibling-kinds.ps
+read-sibling-at t =
+    and 2 read-sibling-kinds.ps (is 2 read-sibling-kinds.ps μ-read-sibling t) read-sibling.Pre
+
+abbrev read-sibling-below : ℕ → In 2 read-sibling-kinds.ps
+read-sibling-below t =
+    and
+    2
+    read-sibling-kinds.ps
+    (falls 2 read-sibling-kinds.ps _<_ μ-read-sibling t)
+    read-sibling.Pre
+
+abbrev read-conditions-Inv-loop : read-conditions-lts.InvT-loop
+read-conditions-Inv-loop s words₀ depth count here₀ n₀ words here n = Passing (conditions-kind s depth) s words₀ words tt tt count count n n here₀ here
+
+abbrev read-conditions-μ-loop : read-conditions-lts.MeasureT-loop
+read-conditions-μ-loop s words₀ depth count here₀ n₀ words here n = n
+
 abbrev cs-read-conditions : ℕ → read-conditions-lts.Claims
-cs-read-conditions t = (condition-head-reads.Asked, condition-head-reads.Learnt, read-headed-below t, read-headed.Post)
+cs-read-conditions t = (
+  read-sibling-below t,
+  read-sibling.Post,
+)
 
 abbrev cs-read-headed : ℕ → read-headed-lts.Claims
 cs-read-headed t = (
@@ -70,21 +99,25 @@ cs-read-headed t = (
   word-of-reads.Learnt,
 )
 
-abbrev read-conditions-Inv-loop : read-conditions-lts.InvT-loop
-read-conditions-Inv-loop s words₀ depth count here₀ n₀ words here n = Passing (conditions-kind s depth) s words₀ words tt tt count count n n here₀ here
-
-abbrev read-conditions-μ-loop : read-conditions-lts.MeasureT-loop
-read-conditions-μ-loop s words₀ depth count here₀ n₀ words here n = n
+abbrev cs-read-sibling : ℕ → read-sibling-lts.Claims
+cs-read-sibling t = (
+  plain-condition-reads.Asked,
+  plain-condition-reads.Learnt,
+  condition-head-reads.Asked,
+  condition-head-reads.Learnt,
+  read-headed-below t,
+  read-headed.Post,
+  read-values-reads.Asked,
+  read-values-reads.Learnt,
+  word-of-reads.Asked,
+  word-of-reads.Learnt,
+)
 
 read-conditions-loop-holds : (t : ℕ) → read-conditions-lts.Need-loop-holds (cs-read-conditions t) (read-conditions-at t) read-conditions.Post read-conditions-Inv-loop read-conditions-μ-loop
 read-conditions-loop-holds t c = siblings-begin (conditions-kind (now (c .before .before .args .s)) (c .before .before .args .depth)) tt (c .before .before .args .count) (c .before .before .pre .1)
 
-read-conditions-condition-head-requires : (t : ℕ) → read-conditions-lts.Need-condition-head-requires (cs-read-conditions t) (read-conditions-at t) read-conditions.Post read-conditions-Inv-loop read-conditions-μ-loop
-read-conditions-condition-head-requires t c κs = search needs
-
-read-conditions-read-headed-requires :
-    (t : ℕ) → read-conditions-lts.Need-read-headed-requires (cs-read-conditions t) (read-conditions-at t) read-conditions.Post read-conditions-Inv-loop read-conditions-μ-loop
-read-conditions-read-headed-requires t c κs = (omega (arith, c .before .before .before .before .before .before .pre .0), (ready-fewer (c .before .before .before .loop .inv .ready) (omega (arith, c .before .before .loop-test .taken)), c .before .condition-head .ensures))
+read-conditions-read-sibling-requires : (t : ℕ) → read-conditions-lts.Need-read-sibling-requires (cs-read-conditions t) (read-conditions-at t) read-conditions.Post read-conditions-Inv-loop read-conditions-μ-loop
+read-conditions-read-sibling-requires t c κs = (omega (arith, c .before .before .before .before .before .pre .0), ready-fewer (c .before .before .loop .inv .ready) (omega (arith, c .before .loop-test .taken)))
 
 read-conditions-enum-known-next : (t : ℕ) → read-conditions-lts.Need-enum-known-next (cs-read-conditions t) (read-conditions-at t) read-conditions.Post read-conditions-Inv-loop read-conditions-μ-loop
 read-conditions-enum-known-next t c = search needs
@@ -93,10 +126,10 @@ read-conditions-enum-told : (t : ℕ) → read-conditions-lts.Need-enum-told (cs
 read-conditions-enum-told t c = search needs
 
 read-conditions-same-length : (t : ℕ) → read-conditions-lts.Need-same-length (cs-read-conditions t) (read-conditions-at t) read-conditions.Post read-conditions-Inv-loop read-conditions-μ-loop
-read-conditions-same-length t c = c .before .before .before .before .read-headed .kept .1 .0 ∙ c .before .before .before .before .before .before .before .before .loop .inv .kept .len
+read-conditions-same-length t c = c .before .before .before .before .read-sibling .kept .1 .0 ∙ c .before .before .before .before .before .before .before .loop .inv .kept .len
 
 read-conditions-returns : (t : ℕ) → read-conditions-lts.Need-returns (cs-read-conditions t) (read-conditions-at t) read-conditions.Post read-conditions-Inv-loop read-conditions-μ-loop
-read-conditions-returns t c = siblings-bad (c .before .before .before .before .before .before .before .before .loop .inv) (c .before .before .before .before .before .before .before .loop-test .taken) (rw (c .enum-told .given .1) at (c .before .before .before .before .read-headed .ensures))
+read-conditions-returns t c = siblings-bad (c .before .before .before .before .before .before .before .loop .inv) (c .before .before .before .before .before .before .loop-test .taken) (rw (c .enum-told .given .1) at (c .before .before .before .before .read-sibling .ensures))
 
 read-conditions-sub-n : (t : ℕ) → read-conditions-lts.Need-sub-n (cs-read-conditions t) (read-conditions-at t) read-conditions.Post read-conditions-Inv-loop read-conditions-μ-loop
 read-conditions-sub-n t c = search needs
@@ -105,7 +138,7 @@ read-conditions-loop-less : (t : ℕ) → read-conditions-lts.Need-loop-less (cs
 read-conditions-loop-less t c = search needs
 
 read-conditions-loop-again : (t : ℕ) → read-conditions-lts.Need-loop-again (cs-read-conditions t) (read-conditions-at t) read-conditions.Post read-conditions-Inv-loop read-conditions-μ-loop
-read-conditions-loop-again t c = siblings-next (c .before .before .before .before .before .before .before .before .before .loop .inv) (c .before .before .before .before .before .before .before .before .before .loop .n - 1) (c .before .before .before .before .before .before .before .before .loop-test .taken) (omega (arith, c .before .before .before .before .before .before .before .before .loop-test .taken)) (rw (c .before .next .given .1) at (c .before .before .before .before .before .read-headed .ensures))
+read-conditions-loop-again t c = siblings-next (c .before .before .before .before .before .before .before .before .loop .inv) (c .before .before .before .before .before .before .before .before .loop .n - 1) (c .before .before .before .before .before .before .before .loop-test .taken) (omega (arith, c .before .before .before .before .before .before .before .loop-test .taken)) (rw (c .before .next .given .1) at (c .before .before .before .before .before .read-sibling .ensures))
 
 read-conditions-same-length-2 : (t : ℕ) → read-conditions-lts.Need-same-length-2 (cs-read-conditions t) (read-conditions-at t) read-conditions.Post read-conditions-Inv-loop read-conditions-μ-loop
 read-conditions-same-length-2 t c = c .before .loop .inv .kept .len
@@ -161,8 +194,7 @@ read-headed-returns-4 t c =
 read-headed-sub-read-conditions : (t : ℕ) → read-headed-lts.Need-sub-read-conditions (cs-read-headed t) (read-headed-at t) read-headed.Post
 read-headed-sub-read-conditions t c = search needs
 
-read-headed-read-conditions-requires :
-    (t : ℕ) → read-headed-lts.Need-read-conditions-requires (cs-read-headed t) (read-headed-at t) read-headed.Post
+read-headed-read-conditions-requires : (t : ℕ) → read-headed-lts.Need-read-conditions-requires (cs-read-headed t) (read-headed-at t) read-headed.Post
 read-headed-read-conditions-requires t c κs = (
   omega (arith, c .before .before .before .before .before .before .before .before .before .before .before .before .before .before .before .before .before .pre .0, c .before .before .before .before .before .before .before .before .before .before .before .before .before .before .if1 .left),
   let head = rw (c .before .before .before .before .before .before .before .before .before .before .before .before .read .given .1) at (c .before .before .before .before .before .before .before .before .before .before .before .before .before .before .before .before .before .pre .1 .1) in
@@ -203,17 +235,69 @@ read-headed-returns-6 t c =
     let operands = c .before .before .before .before .before .before .before .before .before .before .before .before .before .before .before .before .before .operands-of .result in
     operands-answer (now (c .before .before .before .before .before .before .before .before .before .before .before .before .before .before .before .before .before .before .before .before .before .before .before .before .args .s)) (now (c .before .before .before .before .before .before .before .before .before .before .before .before .before .before .before .before .before .before .before .before .before .before .before .before .args .words)) (c .before .before .before .before .before .before .before .before .before .before .before .before .before .before .before .before .before .before .before .before .before .before .before .before .args .depth) (c .before .before .before .before .before .before .before .before .before .before .before .before .before .before .before .before .before .before .before .read .given .0 .1 .0) (operands .values) (operands .conditions) (c .before .before .before .before .before .before .before .before .before .before .before .before .before .before .before .before .before .before .before .before .before .before .before .before .args .c) (c .before .before .before .before .before .before .before .before .before .before .before .before .before .before .before .before .before .before .before .read .given .0 .0) (c .before .before .before .before .before .before .before .before .before .before .before .before .before .before .before .before .before .before .before .before .before .if1 .left) (head .0) (ap (λ o. o .values) (c .before .before .before .before .before .before .before .before .before .before .before .before .before .before .before .before .before .operands-of .ensures)) (ap (λ o. o .conditions) (c .before .before .before .before .before .before .before .before .before .before .before .before .before .before .before .before .before .operands-of .ensures)) (c .before .before .before .before .before .before .before .before .before .before .before .before .before .before .before .if2 .left) (c .before .before .before .before .before .before .before .before .before .before .before .before .before .before .before .before .before .before .before .before .before .before .before .before .pre .1 .0) (rw (c .before .before .before .before .before .before .before .before .before .middle .given .1) at (c .before .before .before .before .before .before .before .before .before .before .before .before .before .read-values .ensures)) (c .word-of .ensures) (rw (c .before .before .next .given .1) at (c .before .before .before .before .before .before .read-conditions .ensures))
 
-pub +read-conditions+read-headed-spec : {M : Type 1} → statement M
-+read-conditions+read-headed-spec =
-    close μ-read-conditions μ-read-headed (λ t. read-conditions-lts.spec
-    (condition-head-reads.Asked, condition-head-reads.Learnt, read-headed-below t, read-headed.Post)
+read-sibling-returns : (t : ℕ) → read-sibling-lts.Need-returns (cs-read-sibling t) (read-sibling-at t) read-sibling.Post
+read-sibling-returns t c = condition-deep-answer (now (c .before .before .before .args .s)) (now (c .before .before .before .args .words)) (c .before .before .before .args .depth) (c .before .before .before .args .c) (c .if1 .taken)
+
+read-sibling-plain-condition-requires : (t : ℕ) → read-sibling-lts.Need-plain-condition-requires (cs-read-sibling t) (read-sibling-at t) read-sibling.Post
+read-sibling-plain-condition-requires t c κs = search needs
+
+read-sibling-condition-head-requires : (t : ℕ) → read-sibling-lts.Need-condition-head-requires (cs-read-sibling t) (read-sibling-at t) read-sibling.Post
+read-sibling-condition-head-requires t c κs = search needs
+
+read-sibling-read-headed-requires : (t : ℕ) → read-sibling-lts.Need-read-headed-requires (cs-read-sibling t) (read-sibling-at t) read-sibling.Post
+read-sibling-read-headed-requires t c κs = (omega (arith, c .before .before .before .before .before .before .before .pre .0), (c .before .before .before .before .before .before .before .pre .1, c .before .condition-head .ensures))
+
+read-sibling-same-length : (t : ℕ) → read-sibling-lts.Need-same-length (cs-read-sibling t) (read-sibling-at t) read-sibling.Post
+read-sibling-same-length t c = c .before .before .read-headed .kept .1 .0
+
+read-sibling-returns-2 : (t : ℕ) → read-sibling-lts.Need-returns-2 (cs-read-sibling t) (read-sibling-at t) read-sibling.Post
+read-sibling-returns-2 t c = c .before .before .read-headed .ensures
+
+read-sibling-returns-3 : (t : ℕ) → read-sibling-lts.Need-returns-3 (cs-read-sibling t) (read-sibling-at t) read-sibling.Post
+read-sibling-returns-3 t c = plain-unpaid-answer (now (c .before .before .before .before .before .before .args .s)) (now (c .before .before .before .before .before .before .args .words)) (c .before .before .before .before .before .before .args .depth) (c .before .before .plain-condition .result / 4) (c .before .before .plain-condition .result % 4) (c .before .before .before .before .before .before .args .c) (c .before .before .before .if1 .left) (c .before .before .plain-condition .ensures (omega (arith, c .before .if2 .left))) (c .if3 .taken)
+
+read-sibling-add-t17 : (t : ℕ) → read-sibling-lts.Need-add-t17 (cs-read-sibling t) (read-sibling-at t) read-sibling.Post
+read-sibling-add-t17 t c = search needs
+
+read-sibling-read-values-requires : (t : ℕ) → read-sibling-lts.Need-read-values-requires (cs-read-sibling t) (read-sibling-at t) read-sibling.Post
+read-sibling-read-values-requires t c κs = let plain = c .before .before .before .plain-condition .ensures (omega (arith, c .before .before .if2 .left)) in ready-inside (c .before .before .before .before .before .before .before .pre .1) (plain .reads .within) (omega (arith, c .before .if3 .left))
+
+read-sibling-enum-known-end : (t : ℕ) → read-sibling-lts.Need-enum-known-end (cs-read-sibling t) (read-sibling-at t) read-sibling.Post
+read-sibling-enum-known-end t c = search needs
+
+read-sibling-enum-told : (t : ℕ) → read-sibling-lts.Need-enum-told (cs-read-sibling t) (read-sibling-at t) read-sibling.Post
+read-sibling-enum-told t c = search needs
+
+read-sibling-same-length-2 : (t : ℕ) → read-sibling-lts.Need-same-length-2 (cs-read-sibling t) (read-sibling-at t) read-sibling.Post
+read-sibling-same-length-2 t c = c .before .before .before .before .read-values .kept .1 .0
+
+read-sibling-returns-4 : (t : ℕ) → read-sibling-lts.Need-returns-4 (cs-read-sibling t) (read-sibling-at t) read-sibling.Post
+read-sibling-returns-4 t c = plain-valueless-answer (now (c .before .before .before .before .before .before .before .before .before .before .before .before .args .s)) (now (c .before .before .before .before .before .before .before .before .before .before .before .before .args .words)) (c .before .before .before .before .before .before .before .before .before .before .before .before .args .depth) (c .before .before .before .before .before .before .before .before .plain-condition .result / 4) (c .before .before .before .before .before .before .before .before .plain-condition .result % 4) (c .before .before .before .before .before .before .before .before .before .before .before .before .args .c) (c .before .before .before .before .before .before .before .before .before .if1 .left) (c .before .before .before .before .before .before .before .before .plain-condition .ensures (omega (arith, c .before .before .before .before .before .before .before .if2 .left))) (c .before .before .before .before .before .before .if3 .left) (rw (c .enum-told .given .1) at (c .before .before .before .before .read-values .ensures))
+
+read-sibling-word-of-requires : (t : ℕ) → read-sibling-lts.Need-word-of-requires (cs-read-sibling t) (read-sibling-at t) read-sibling.Post
+read-sibling-word-of-requires t c κs = let values = rw (c .before .end .given .1) at (c .before .before .before .before .before .read-values .ensures) in (omega (arith, c .before .before .before .before .before .before .before .before .before .before .before .before .before .pre .1 .inside, c .before .before .before .before .before .before .before .before .before .before .before .before .before .pre .1 .small), omega (arith, values .budget, c .before .before .before .before .before .before .before .before .before .before .before .before .before .pre .1 .budget, c .before .before .before .before .before .before .before .if3 .left))
+
+read-sibling-mul-words : (t : ℕ) → read-sibling-lts.Need-mul-words (cs-read-sibling t) (read-sibling-at t) read-sibling.Post
+read-sibling-mul-words t c = search needs
+
+read-sibling-slice-write-words : (t : ℕ) → read-sibling-lts.Need-slice-write-words (cs-read-sibling t) (read-sibling-at t) read-sibling.Post
+read-sibling-slice-write-words t c = omega (arith, c .before .before .before .before .before .before .read-values .kept .1 .0, c .before .before .before .before .before .before .before .before .before .before .before .before .before .before .pre .1 .room, c .before .before .before .before .before .before .before .before .before .before .before .before .before .before .pre .1 .budget)
+
+read-sibling-same-length-3 : (t : ℕ) → read-sibling-lts.Need-same-length-3 (cs-read-sibling t) (read-sibling-at t) read-sibling.Post
+read-sibling-same-length-3 t c = length-set (c .before .before .before .before .before .before .read-values .last .1 .0) (c .before .before .before .before .before .before .before .before .before .before .before .before .before .before .args .c .word) (c .word-of .result) ∙ c .before .before .before .before .before .before .read-values .kept .1 .0
+
+read-sibling-returns-5 : (t : ℕ) → read-sibling-lts.Need-returns-5 (cs-read-sibling t) (read-sibling-at t) read-sibling.Post
+read-sibling-returns-5 t c = plain-answer (now (c .before .before .before .before .before .before .before .before .before .before .before .before .before .before .args .s)) (now (c .before .before .before .before .before .before .before .before .before .before .before .before .before .before .args .words)) (c .before .before .before .before .before .before .before .before .before .before .before .before .before .before .args .depth) (c .before .before .before .before .before .before .before .before .before .before .plain-condition .result / 4) (c .before .before .before .before .before .before .before .before .before .before .plain-condition .result % 4) (c .before .before .before .before .before .before .before .before .before .before .before .before .before .before .args .c) (c .before .before .before .before .before .before .before .before .before .before .before .if1 .left) (c .before .before .before .before .before .before .before .before .before .before .plain-condition .ensures (omega (arith, c .before .before .before .before .before .before .before .before .before .if2 .left))) (c .before .before .before .before .before .before .before .before .if3 .left) (c .before .before .before .before .before .before .before .before .before .before .before .before .before .before .pre .1) (rw (c .before .before .end .given .1) at (c .before .before .before .before .before .before .read-values .ensures)) (c .word-of .ensures)
+
+pub +read-conditions+read-headed+read-sibling-spec : {M : Type 1} → statement M
++read-conditions+read-headed+read-sibling-spec =
+    close μ-read-conditions μ-read-headed μ-read-sibling (λ t. read-conditions-lts.spec (cs-read-conditions t)
     (read-conditions-at t)
     read-conditions.Post
     read-conditions-Inv-loop
     read-conditions-μ-loop
     (read-conditions-loop-holds t)
-    (read-conditions-condition-head-requires t)
-    (read-conditions-read-headed-requires t)
+    (read-conditions-read-sibling-requires t)
     (read-conditions-enum-known-next t)
     (read-conditions-enum-told t)
     (read-conditions-same-length t)
@@ -223,7 +307,7 @@ pub +read-conditions+read-headed-spec : {M : Type 1} → statement M
     (read-conditions-loop-again t)
     (read-conditions-same-length-2 t)
     (read-conditions-returns-2 t))
-    λ t. read-headed-lts.spec (cs-read-headed t)
+    (λ t. read-headed-lts.spec (cs-read-headed t)
     (read-headed-at t)
     read-headed.Post
     (read-headed-returns t)
@@ -249,4 +333,25 @@ pub +read-conditions+read-headed-spec : {M : Type 1} → statement M
     (read-headed-mul-words t)
     (read-headed-slice-write-words t)
     (read-headed-same-length-3 t)
-    (read-headed-returns-6 t)
+    (read-headed-returns-6 t))
+    λ t. read-sibling-lts.spec (cs-read-sibling t)
+    (read-sibling-at t)
+    read-sibling.Post
+    (read-sibling-returns t)
+    (read-sibling-plain-condition-requires t)
+    (read-sibling-condition-head-requires t)
+    (read-sibling-read-headed-requires t)
+    (read-sibling-same-length t)
+    (read-sibling-returns-2 t)
+    (read-sibling-returns-3 t)
+    (read-sibling-add-t17 t)
+    (read-sibling-read-values-requires t)
+    (read-sibling-enum-known-end t)
+    (read-sibling-enum-told t)
+    (read-sibling-same-length-2 t)
+    (read-sibling-returns-4 t)
+    (read-sibling-word-of-requires t)
+    (read-sibling-mul-words t)
+    (read-sibling-slice-write-words t)
+    (read-sibling-same-length-3 t)
+    (read-sibling-returns-5 t)
