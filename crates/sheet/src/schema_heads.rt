@@ -238,37 +238,27 @@ fn tag_at(at: usize, len: Length) -> OptionalPart
     }
 }
 
-// The head of an entry that was read before: its texts are known to be UTF-8 and are not looked at again. It reads the marks itself, so that
-// `field_marks` has one caller and is built into the loop over a schema's fields.
+// The head of an entry that was read before: its texts are known to be UTF-8 and are not looked at again.
 pub fn known_field(s: &[u8], at: usize) -> KnownField
     ensures { λ r. ⌜ KnownFieldIs (now (s .entry)) at r ⌝ }
 {
-    let NumeralRead::Is(kind, after) = entry::first(s, at, b'F', 1, 12) else {
+    let FieldMarksRead::Are(marks, behind) = field_marks(s, at) else {
         return KnownField::Bad;
     };
-    let MarkRead::Is(opened, b) = entry::mark(s, after) else {
+    let NumeralRead::Is(len, a) = entry::item(s, behind, 0, MAX_TEXT) else {
         return KnownField::Bad;
     };
-    let MarkRead::Is(items, c) = entry::mark(s, b) else {
+    let LengthRead::Is(tag_len, b) = entry::text_length(s, a) else {
         return KnownField::Bad;
     };
-    let NumeralRead::Is(count, d) = entry::item(s, c, 0, MAX_COUNT) else {
-        return KnownField::Bad;
-    };
-    let NumeralRead::Is(len, e) = entry::item(s, d, 0, MAX_TEXT) else {
-        return KnownField::Bad;
-    };
-    let LengthRead::Is(tag_len, f) = entry::text_length(s, e) else {
-        return KnownField::Bad;
-    };
-    let start = f + 1;
+    let start = b + 1;
     let name = Part { start, len };
     let tag = tag_at(start + len, tag_len);
     KnownField::Is(FieldHead {
-        kind,
-        opened,
-        items,
-        count,
+        kind: marks.kind,
+        opened: marks.opened,
+        items: marks.items,
+        count: marks.count,
         name,
         tag,
     })
