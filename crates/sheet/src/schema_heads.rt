@@ -204,10 +204,20 @@ fn field_texts(s: &[u8], at: usize) -> FieldTextsRead
     FieldTextsRead::Bad
 }
 
+// A field's entry. The marks are read here and not by `field_marks`: that has one caller then, and both are built into theirs.
 pub fn field_head(s: &[u8], at: usize) -> FieldRead
     ensures { λ r. ⌜ FieldIs (now (s .entry)) at r ⌝ }
 {
-    let FieldMarksRead::Are(marks, behind) = field_marks(s, at) else {
+    let NumeralRead::Is(kind, after) = entry::first(s, at, b'F', 1, 12) else {
+        return FieldRead::Bad;
+    };
+    let MarkRead::Is(opened, b) = entry::mark(s, after) else {
+        return FieldRead::Bad;
+    };
+    let MarkRead::Is(items, c) = entry::mark(s, b) else {
+        return FieldRead::Bad;
+    };
+    let NumeralRead::Is(count, behind) = entry::item(s, c, 0, MAX_COUNT) else {
         return FieldRead::Bad;
     };
     let FieldTextsRead::Are(texts, next) = field_texts(s, behind) else {
@@ -217,10 +227,10 @@ pub fn field_head(s: &[u8], at: usize) -> FieldRead
     let tag = texts.tag;
     FieldRead::Is(
         FieldHead {
-            kind: marks.kind,
-            opened: marks.opened,
-            items: marks.items,
-            count: marks.count,
+            kind,
+            opened,
+            items,
+            count,
             name,
             tag,
         },
