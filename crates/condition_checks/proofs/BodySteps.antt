@@ -19,7 +19,7 @@ use Rattle.reference.specs.Setting.{Setting}
 use Rattle.reference.specs.Path.{Segments, cut, extend, split}
 use Rattle.reference.specs.Walk.{refused}
 use Rattle.reference.specs.Reference.{Environment, collection}
-use Rattle.definition.specs.Within.{conditionEntries, conditionsEntries, valueEntries}
+use Rattle.definition.specs.Within.{conditionEntries, conditionsEntries}
 use Rattle.rule.specs.Index.{startOf, ValueAt}
 use Rattle.walk.specs.Answers.{collectionDetail, CollectedIs}
 use Rattle.walk.specs.Dots.{Cuts}

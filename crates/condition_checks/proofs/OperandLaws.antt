@@ -8,7 +8,7 @@ use Rattle.definition.specs.Tree.{Schema, Value, noValues, value}
 use Rattle.definition.specs.Within.{valueEntries, valuesEntries}
 use Rattle.reference.specs.Setting.{Setting}
 use Rattle.reference.specs.Reference.{Environment}
-use Rattle.validation.specs.Check.{Binder, Check, references, compareSide, operand}
+use Rattle.validation.specs.Check.{Binder, references, compareSide, operand}
 use Rattle.validation.specs.Judge.{outcome}
 use Rattle.value_checks.specs.Nodes.{IsValue, AreValues}
 use Rattle.value_checks.specs.Verdicts.{sideDetail, GoesOn}

@@ -33,7 +33,7 @@ use walk::path::Dot;
 use walk::path::first_dot;
 ghost use mathlib.Core.Path.{_≡_};
 ghost use mathlib.Core.Bool.{_||_};
-ghost use Prim.Native.Nat.{_+_, _*_, _-_, _<_, _≤_};
+ghost use Prim.Native.Nat.{_+_, _*_, _-_, _<_};
 ghost use Rattle.text.specs.Blank.{isBlank};
 ghost use Rattle.sheet.specs.Parts.{partOf};
 ghost use Rattle.validation.specs.Check.{hasDot};

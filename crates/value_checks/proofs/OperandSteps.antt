@@ -8,13 +8,12 @@ use mathlib.Core.Logic.{_⊎_, inl, inr, ⊎-elim}
 use mathlib.Core.Option.{Option, none, some, Option·none-ne-some}
 use mathlib.Core.Path.{_≡_, refl, sym, ap, _∙_}
 use lib.ListN.{drop}
-use lib.Dec.{leb, ltb, eqb}
+use lib.Dec.{ltb, eqb}
 use borrow.Author.Tests.{eq-eqb, ne-eqb, le-leb, lt-leb, le-ltb, lt-ltb}
 use Rattle.timestamp.specs.Instant.{instant}
 use Rattle.timestamp.specs.InstantLaws.{short-instant}
 use Rattle.timestamp.specs.declared.Fields.{Fields}
-use Rattle.sheet.specs.Entries.{ValueHead, constantHead, numberHead, stringHead, arrayHead, objectHead, valueHead}
-use Rattle.sheet.specs.Parts.{partOf}
+use Rattle.sheet.specs.Entries.{ValueHead, valueHead}
 use Rattle.sheet.specs.RuleHeadLaws.{ValueHeadFits, valueHead-exact}
 use Rattle.sheet.specs.declared.part.Part.{Part}
 use Rattle.definition.specs.Tree.{Text, Schema, Value, constant, number, string, array, object, Values, noValues, value}
@@ -107,13 +106,6 @@ module _ (rule words : List ℕ) (i : ℕ) {at : ℕ} (start : at ≡ startOf wo
         ap (λ (x : Text). string e x) (sym (k .string t (a .rest) (a .reads)))
     form-text known l m (array e values) a = absurd (m (omega (arith, digit-is (a .0) .0)))
     form-text known l m (object e pairs) a = absurd (m (omega (arith, digit-is (a .0) .0)))
-
-pub text-string : {e : ℕ} {t : Text} (v : Value) → v ≡ string e t → (isString v ≡ true) × (isHolder v ≡ false)
-unfolding isString isHolder
-text-string v g = (rw g, rw g)
-
-pub text-side : {e : ℕ} {t : Text} (v : Value) → v ≡ string e t → isHolder v ≡ false
-text-side v g = text-string v g .1
 
 -- Instants.
 

@@ -1,6 +1,5 @@
 -- `value_checks::literal::validate_literal` meets its contract: only a number is asked.
 use borrow.Author.Needs.{needs}
-use native.Mathlib.Omega.{arith}
 use Rattle.value_checks.proofs.LiteralSteps.{literal-other, literal-number}
 use Rattle.value_checks.proofs.literal.validate_literal.Statement.{statement}
 use Rattle.value_checks.proofs.literal.validate_literal.Tie as tie

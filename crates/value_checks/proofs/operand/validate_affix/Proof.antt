@@ -1,6 +1,5 @@
 -- `value_checks::operand::validate_affix` meets its contract: only a text passes.
 use borrow.Author.Needs.{needs}
-use native.Mathlib.Omega.{arith}
 use Rattle.value_checks.proofs.OperandSteps.{affix-passes, affix-fails}
 use Rattle.value_checks.proofs.operand.validate_affix.Statement.{statement}
 use Rattle.value_checks.proofs.operand.validate_affix.Tie as tie

@@ -1,6 +1,5 @@
 -- `value_checks::operand::validate_instant` meets its contract: a reference and a literal pass.
 use borrow.Author.Needs.{needs}
-use native.Mathlib.Omega.{arith}
 use Rattle.value_checks.specs.Frames.{formOf}
 use Rattle.value_checks.proofs.OperandSteps.{instant-passes, instant-fails}
 use Rattle.value_checks.proofs.operand.validate_instant.Statement.{statement}

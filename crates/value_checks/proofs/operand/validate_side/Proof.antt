@@ -1,6 +1,5 @@
 -- `value_checks::operand::validate_side` meets its contract: only a comparison asks.
 use borrow.Author.Needs.{needs}
-use native.Mathlib.Omega.{arith}
 use Rattle.value_checks.proofs.OperandSteps.{side-asked, side-unasked}
 use Rattle.value_checks.proofs.operand.validate_side.Statement.{statement}
 use Rattle.value_checks.proofs.operand.validate_side.Tie as tie
