@@ -20,7 +20,7 @@ ghost use Rattle.rule.specs.Table.{slots, slotOf, Falls, IsChained};
 const FEW_KEYS: usize = 12;
 
 // The table lies in the frame of a value, and values nest, so it is kept small.
-const SLOTS: usize = 256;
+const SLOTS: usize = 512;
 
 const LINKS: usize = 1024;
 
@@ -89,7 +89,7 @@ fn slot_of(key: &[u8]) -> usize
         mixed = (mixed + key[i] as usize) * 2654435761 % 4294967296;
         i += 1;
     }
-    mixed / 16777216
+    mixed / 8388608
 }
 
 // Whether the key of an entry is in the chain from `from` on.
