@@ -1,7 +1,8 @@
 // Bytes written one after another into a lent buffer; what does not fit is left out.
+use text::wide;
 ghost use mathlib.Core.List.{[], _∷_};
 ghost use mathlib.Core.Path.{_≡_};
-ghost use Prim.Native.Nat.{_+_, _≤_, _<_};
+ghost use Prim.Native.Nat.{_+_, _≤_};
 ghost use lib.ListN.{length};
 ghost use Rattle.sheet.specs.Numeral.{decimalOf};
 ghost use Rattle.buffer.specs.Wrote.{Wrote};
@@ -61,12 +62,6 @@ pub fn put_numbers(out: &mut [u8], at: usize, numbers: &[u32]) -> usize
         i += 1;
     }
     next
-}
-
-fn wide(byte: u8) -> u32
-    ensures { λ r. ⌜ (r ≡ byte) × (r < 256) ⌝ }
-{
-    byte as u32
 }
 
 // The number that four bytes stand for.

@@ -35,7 +35,7 @@ module _ {A : Type 0} where
   end-refused [] k f = absurd (f refl)
   end-refused (b ∷ t) k f = refl
 
--- The texts, by the length of what lies ahead and the byte behind the label.
+-- The texts, by the length of what lies ahead and the byte after the label.
 
 module _ (kind semantics label schema rule : ℕ) (t : List ℕ) where
   texts-length : (length t ≡ label + (1 + (schema + rule)) → ⊥) → texts kind semantics label schema rule t ≡ none

@@ -17,7 +17,7 @@ use Rattle.check_file.specs.Places.{tooLarge, ReadsTo, NumeralIs, digits
 use Rattle.check_file.specs.declared.numeral.NumeralRead.{NumeralRead}
 use Rattle.check_file.specs.declared.numeral.NumeralRead.the-variants.{Is, Missing}
 
--- The digits from place i on, behind those whose value is n: none at the end, none before another byte, one more.
+-- The digits from place i on, after those whose value is n: none at the end, none before another byte, one more.
 
 digits-end : (n : ℕ) (s : List ℕ) (i : ℕ) → length s ≤ i → digits n (drop i s) ≡ (n, drop i s)
 unfolding digits
@@ -108,7 +108,7 @@ module _ (s : List ℕ) (at : ℕ) (h : at < length s) where
         }
     decimal-some d Missing e = decimal-digits d ∙ e
 
--- A numeral and the comma behind it.
+-- A numeral and the comma after it.
 
 pub field-none : (s : List ℕ) (at : ℕ) → decimal (drop at s) ≡ none → field (drop at s) ≡ none
 unfolding field _>>=_ andThen

@@ -2,7 +2,7 @@
 use crate::numeral::NumeralRead;
 use crate::numeral::{self};
 use definition::limits::MAX_FILE_BYTES;
-ghost use mathlib.Core.Path.{_≡_};
+use sheet::numeral::wide;
 ghost use Prim.Native.Nat.{_≤_};
 ghost use lib.ListN.{length};
 ghost use Rattle.check_file.specs.Places.{TextsAre, TakenIs};
@@ -24,12 +24,6 @@ pub struct Placed {
 pub enum Taken {
     Apart(Placed),
     OtherForm,
-}
-
-fn wide(n: u32) -> usize
-    ensures { λ r. ⌜ r ≡ n ⌝ }
-{
-    n as usize
 }
 
 // The texts after the numbers, from `at` on. No sum here wraps: a slice is shorter than half the address space.

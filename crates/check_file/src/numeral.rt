@@ -1,6 +1,7 @@
 // Numerals of any length: decimal, without leading zeros. A number above the longest file's length is read as `TOO_LARGE`, so that nothing wraps.
 use definition::limits::MAX_FILE_BYTES;
 use sheet::numeral::is_digit;
+use text::wide;
 ghost use mathlib.Core.Path.{_≡_};
 ghost use Prim.Native.Nat.{min, _≤_};
 ghost use lib.ListN.{length};
@@ -14,12 +15,6 @@ pub enum NumeralRead {
     // The number, and the place after it.
     Is(u32, usize),
     Missing,
-}
-
-fn wide(b: u8) -> u32
-    ensures { λ r. ⌜ r ≡ b ⌝ }
-{
-    b as u32
 }
 
 fn capped(n: u32) -> u32

@@ -7,8 +7,8 @@ use mathlib.Core.Logic.{_⊎_, inl, inr, ⊎-elim}
 use mathlib.Core.Option.{Option, none, some, Option·none-ne-some, Option·some-injective}
 use mathlib.Core.Path.{_≡_, refl, sym, ap, subst, _∙_}
 use lib.ListN.{drop}
-use lib.Dec.{eqb}
-use borrow.Author.Tests.{eq-eqb, ne-eqb, le-leb, lt-leb}
+use lib.Dec.{leb, eqb}
+use borrow.Author.Tests.{eq-eqb, ne-eqb, le-leb, lt-leb, leb-true, leb-false}
 use Rattle.sheet.specs.Entries.{ConditionHead, literalHead, manyHead, negationHead, oneHead, twoHead, comparisonHead, quantifierHead, conditionHead}
 use Rattle.sheet.specs.Parts.{partOf}
 use Rattle.sheet.specs.Places.{ReadsTo}
@@ -19,7 +19,7 @@ use Rattle.reference.specs.Setting.{Setting}
 use Rattle.reference.specs.Path.{Segments, cut, extend, split}
 use Rattle.reference.specs.Walk.{refused}
 use Rattle.reference.specs.Reference.{Environment, collection}
-use Rattle.definition.specs.Within.{conditionEntries, conditionsEntries, valueEntries}
+use Rattle.definition.specs.Within.{conditionEntries, conditionsEntries}
 use Rattle.rule.specs.Index.{startOf, ValueAt}
 use Rattle.walk.specs.Answers.{collectionDetail, CollectedIs}
 use Rattle.walk.specs.Dots.{Cuts}
@@ -27,19 +27,18 @@ use Rattle.walk.specs.declared.path.Dot.the-variants.{At, Nowhere}
 use Rattle.walk.specs.declared.answer.Collected.{Collected}
 use Rattle.walk.specs.declared.answer.Collected.the-variants as Collected
 use Rattle.walk.specs.declared.answer.CollectionFault.the-variants.{NotAString}
-use Rattle.validation.specs.Check.{Binder, check, failsIf, entryOf, isString, hasDot, operatorCheck, isEmpty, operand, compareSide, body, bodies, depth, depthOfConditions}
+use Rattle.validation.specs.Check.{Binder, check, failsIf, entryOf, isString, hasDot, operatorCheck, isEmpty, body, bodies, depth, depthOfConditions}
 use Rattle.validation.specs.Judge.{outcome}
 use Rattle.value_checks.specs.Kinds.{OperatorAt}
 use Rattle.value_checks.specs.Nodes.{IsCondition, AreConditions, Behind}
-use Rattle.value_checks.specs.Verdicts.{numberOf, detailOf, sideDetail, failed, going, GoesOn, PassedOn, Failed, Required}
+use Rattle.value_checks.specs.Verdicts.{numberOf, detailOf, failed, going, GoesOn, PassedOn, Failed, Required}
 use Rattle.scope.specs.Collections.{CollectionIs}
-use Rattle.value_checks.specs.Frames.{Frame, frame, Stands, ReferencesIn, PairJudged, side}
-use Rattle.condition_checks.specs.Bodies.{OperatorJudged, NonemptyJudged, EntryJudged, OperandsJudged, bindBy, BindAt, CollectionOf, BodyJudged, BodiesJudged, QuantifierJudged}
+use Rattle.value_checks.specs.Frames.{Frame, frame, Stands, OperandsJudged}
+use Rattle.condition_checks.specs.Bodies.{OperatorJudged, NonemptyJudged, EntryJudged, Leaf, LeafJudged, bindBy, BindAt, CollectionOf, BodyJudged, BodiesJudged, QuantifierJudged}
 use Rattle.condition_checks.specs.declared.body.BindRead.{BindRead}
 use Rattle.condition_checks.specs.declared.body.BindRead.the-variants as BindRead
 use Rattle.scope.specs.declared.binder.Scope.{Scope}
 use Rattle.value_checks.specs.declared.verdict.Over.{Over}
-use Rattle.value_checks.specs.declared.verdict.Side.the-variants.{Left, Right}
 use Rattle.value_checks.specs.declared.verdict.Fault.{Fault}
 use Rattle.value_checks.specs.declared.verdict.Fault.the-variants.{Operator, Empty}
 use Rattle.value_checks.specs.declared.verdict.Verdict.the-variants.{Defect}
@@ -47,8 +46,8 @@ use Rattle.value_checks.specs.declared.verdict.Progress.{Progress}
 use Rattle.value_checks.proofs.Going.{goes-nothing, goes-then, goes-stopped, passed-on}
 use Rattle.value_checks.proofs.NodeSteps.{has-operator, condition-size, tailOf, first-stands, tail-stands, none-left, none-ends}
 use Rattle.value_checks.proofs.LiteralSteps.{settled-outcome}
-use Rattle.value_checks.proofs.ReferenceSteps.{references-judged}
 use Rattle.value_checks.proofs.OperandSteps.{asked-outcome}
+use Rattle.condition_checks.proofs.OperandLaws.{operands-none, operands-one, operands-two, operands-sides}
 
 -- Operators.
 
@@ -192,105 +191,67 @@ module _ {schema rule words : List ℕ} {scope : Scope} {i : ℕ} where
   unfolding collectionDetail
   collection-other g = record { leads = λ setting tree env v s w. (1, [], no-text tree env v (g v w), λ h. refl) }
 
--- The values of a condition that holds none.
+-- Whether a condition holds none.
 
-module _ {f : Frame} {op start end : ℕ} {a r : Progress} where
-  pub operands-exists : op ≤ 5 → ReferencesIn f start (end - start) a r → OperandsJudged f op start end a r
-  operands-exists h p =
-      record {
-        atMost = omega (arith, p .atMost);
-        one = λ q. p;
-        two = λ low high. absurd (omega arith);
-        comparison = λ q. absurd (omega arith);
-      }
+pub leaf-yes : {op : ℕ} {test : Bool} → Leaf op test → test ≡ true → ((op ≤ 1) ⊎ (5 ≤ op)) × (op ≤ 19)
+leaf-yes {op} l t = subst (λ (x : Bool). Leaf op x) t l
 
-  pub operands-two : 5 < op → op < 18 → PairJudged f (operand op) (operand op) start end a r → OperandsJudged f op start end a r
-  operands-two h k p =
-      record {
-        atMost = p .atMost;
-        one = λ q. absurd (⊎-elim (λ e. omega arith) (λ e. omega arith) q);
-        two = λ low high. p;
-        comparison = λ q. absurd (omega arith);
-      }
+pub leaf-no : {op : ℕ} {test : Bool} → Leaf op test → test ≡ false → (2 ≤ op) × ((op ≤ 4) ⊎ (20 ≤ op))
+leaf-no {op} l t = subst (λ (x : Bool). Leaf op x) t l
 
-  pub operands-comparison : op ≡ 18 → PairJudged f (side Left) (side Right) start end a r → OperandsJudged f op start end a r
-  operands-comparison h p =
-      record {
-        atMost = p .atMost;
-        one = λ q. absurd (⊎-elim (λ e. omega arith) (λ e. omega arith) q);
-        two = λ low high. absurd (omega arith);
-        comparison = λ q. p;
-      }
-
-  pub operands-truthy : 18 < op → ReferencesIn f start (end - start) a r → OperandsJudged f op start end a r
-  operands-truthy h p =
-      record {
-        atMost = omega (arith, p .atMost);
-        one = λ q. p;
-        two = λ low high. absurd (omega arith);
-        comparison = λ q. absurd (omega arith);
-      }
+pub leaf-late : (op : ℕ) → 4 < op → Leaf op (leb op 19)
+leaf-late op h = by (leb op 19) refl
+  where
+    by : (test : Bool) → leb op 19 ≡ test → Leaf op test
+    by true e = (inr (omega arith), leb-true op 19 e)
+    by false e = (omega arith, inr (omega (arith, leb-false op 19 e)))
 
 -- A condition, by its operator.
 
 pub record Inner (f : Frame) (i end left op : ℕ) (b r : Progress) : Type 0 where
-  pub literal : op ≤ 1 → r ≡ b
+  pub operands : (op ≤ 1) ⊎ (5 ≤ op) → op ≤ 19 → OperandsJudged f op (i + 1) end b r
   pub conditions : 2 ≤ op → op ≤ 4 → BodiesJudged f (i + 1) end (left - 1) b r
-  pub operands : 5 ≤ op → op ≤ 19 → OperandsJudged f op (i + 1) end b r
   pub quantifier : 20 ≤ op → (own : ℕ) (bind : Text) (rest : List ℕ)
       → conditionHead (drop (startOf (f .words) i) (f .rule)) ≡ some (quantifierHead own bind, rest)
       → QuantifierJudged f bind i end (left - 1) b r
 
 module _ {f : Frame} {i end left op : ℕ} {b : Progress} where
-  pub inner-literal : op ≤ 1 → Inner f i end left op b b
-  inner-literal h =
+  inner-operands : {r : Progress} → Leaf op true → OperandsJudged f op (i + 1) end b r → Inner f i end left op b r
+  inner-operands h j =
       record {
-        literal = λ p. refl;
-        conditions = λ p q. absurd (omega arith);
-        operands = λ p q. absurd (omega arith);
-        quantifier = λ p. absurd (omega arith);
+        operands = λ p q. j;
+        conditions = λ p q. absurd (⊎-elim (λ e. omega arith) (λ e. omega arith) (h .0));
+        quantifier = λ p. absurd (omega (arith, h .1));
       }
 
-  pub inner-conditions : {r : Progress} → 1 < op → op ≤ 4 → BodiesJudged f (i + 1) end (left - 1) b r → Inner f i end left op b r
+  pub inner-conditions : {r : Progress} → Leaf op false → op ≤ 4 → BodiesJudged f (i + 1) end (left - 1) b r → Inner f i end left op b r
   inner-conditions h k j =
       record {
-        literal = λ p. absurd (omega arith);
+        operands = λ p q. absurd (⊎-elim (λ e. omega (arith, h .0)) (λ e. omega arith) p);
         conditions = λ p q. j;
-        operands = λ p q. absurd (omega arith);
         quantifier = λ p. absurd (omega arith);
       }
 
-  pub inner-operands : {r : Progress} → 4 < op → op ≤ 19 → OperandsJudged f op (i + 1) end b r → Inner f i end left op b r
-  inner-operands h k j =
-      record {
-        literal = λ p. absurd (omega arith);
-        conditions = λ p q. absurd (omega arith);
-        operands = λ p q. j;
-        quantifier = λ p. absurd (omega arith);
-      }
-
-  pub inner-quantifier : {x : BindRead} {p : Part} {r : Progress} → 19 < op → BindAt (f .rule) (f .words) i x → x ≡ BindRead.Is p
+  pub inner-quantifier : {x : BindRead} {p : Part} {r : Progress} → Leaf op false → 4 < op → BindAt (f .rule) (f .words) i x → x ≡ BindRead.Is p
       → QuantifierJudged f (partOf (f .rule) p) i end (left - 1) b r
       → Inner f i end left op b r
   unfolding bindBy
-  inner-quantifier {x} {p} {r} h k e j =
+  inner-quantifier {x} {p} {r} l h k e j =
       record {
-        literal = λ p. absurd (omega arith);
+        operands = λ p q. absurd (⊎-elim (λ e. omega arith) (λ e. omega arith) (l .1));
         conditions = λ p q. absurd (omega arith);
-        operands = λ p q. absurd (omega arith);
         quantifier = λ q own bind rest reads.
             let s : _≡_ {A = Option Text} (some (partOf (f .rule) p)) (some bind) = rw e at (k .is own bind rest reads) in
             rw (Option·some-injective (partOf (f .rule) p) bind s) at j;
       }
 
-  -- a quantifier that stands there has a bind
-  pub inner-unbound : {x : BindRead} → 19 < op → BindAt (f .rule) (f .words) i x → x ≡ BindRead.Bad → Inner f i end left op b b
+  -- a quantifier that is there has a bind
+  pub inner-unbound : {x : BindRead} → Leaf op false → 4 < op → BindAt (f .rule) (f .words) i x → x ≡ BindRead.Bad → Inner f i end left op b b
   unfolding bindBy
-  inner-unbound {x} h k e =
+  inner-unbound {x} l h k e =
       record {
-        literal = λ p. absurd (omega arith);
+        operands = λ p q. absurd (⊎-elim (λ e. omega arith) (λ e. omega arith) (l .1));
         conditions = λ p q. absurd (omega arith);
-        operands = λ p q. absurd (omega arith);
         quantifier = λ q own bind rest reads. absurd (Option·none-ne-some bind (rw e at (k .is own bind rest reads)));
       }
 
@@ -298,16 +259,8 @@ module _ {f : Frame} {i end left op : ℕ} {b : Progress} where
   pub inner-stopped : {fault : Fault} {place : ℕ} {o : Over} → b .verdict ≡ Defect fault place o → Inner f i end left op b b
   inner-stopped t =
       record {
-        literal = λ p. refl;
+        operands = λ p q. record { atMost = omega arith; goes = λ setting tree binders env vs s w. goes-stopped t };
         conditions = λ p q. record { atMost = omega arith; goes = λ setting tree binders env cs s w d k. goes-stopped t };
-        operands =
-            λ p q.
-            record {
-              atMost = omega arith;
-              one = λ h. record { atMost = omega arith; goes = λ setting tree binders env s. goes-stopped t };
-              two = λ low high. record { atMost = omega arith; goes = λ setting tree binders env m left right s w u. goes-stopped t };
-              comparison = λ h. record { atMost = omega arith; goes = λ setting tree binders env m left right s w u. goes-stopped t };
-            };
         quantifier = λ p own bind rest reads. record { atMost = omega arith; goes = λ setting tree binders env v that s w u ends d k. goes-stopped t };
       }
 
@@ -352,10 +305,12 @@ module _ (schema rule words : List ℕ) (scope : Scope) (over : Over) (i end lef
         (operator-goes own e)
 
     body-goes : (c : Condition) → IsCondition rule words i end c → depth c ≤ left → scope .count + left ≤ 32 → GoesOn (outcome setting tree) a (body setting binders c) r
-    unfolding body depth depthOfConditions conditionEntries conditionsEntries bodies sideDetail compareSide numberOf detailOf check
+    unfolding body depth depthOfConditions conditionEntries conditionsEntries bodies numberOf detailOf check
     body-goes (literal e truth) w d k =
         let p : op ≡ 1 = has-operator rule words i start kind (literal e truth) (w .stands) in
-        rw (w .stands .isEntry, inner .literal (omega arith)) (entry-goes 1 p (inl (omega arith)))
+        rw (w .stands .isEntry)
+        (goes-then (entry-goes 1 p (inl (omega arith)))
+        (operands-none (inner .operands (inl (omega arith)) (omega arith)) setting tree binders env s (w .ends)))
     body-goes (many e own children) w d k =
         let p = has-operator rule words i start kind (many e own children) (w .stands) in
         rw (w .stands .0 .isEntry)
@@ -372,25 +327,26 @@ module _ (schema rule words : List ℕ) (scope : Scope) (over : Over) (i end lef
         rw (w .stands .0 .isEntry) (goes-then (entry-goes 4 p (inr (omega arith))) (rw append-nil at g))
     body-goes (one e own v) w d k =
         let p = has-operator rule words i start kind (one e own v) (w .stands) in
-        let n = ⊎-elim (λ q. inner .operands (omega arith) (omega arith)) (λ q. inner .operands (omega arith) (omega arith)) (p .1) in
+        let n = ⊎-elim (λ q. inner .operands (inr (omega arith)) (omega arith)) (λ q. inner .operands (inr (omega arith)) (omega arith)) (p .1) in
         rw (w .stands .0 .isEntry)
         (goes-then (entry-goes own (p .0) (inr (⊎-elim (λ q. omega arith) (λ q. omega arith) (p .1))))
-        (references-judged (n .one (p .1)) setting tree binders env v s (record { stands = w .stands .1; ends = omega (arith, w .ends) })))
+        (operands-one (p .1) n setting tree binders env v s (record { stands = w .stands .1; ends = omega (arith, w .ends) })))
     body-goes (two e own left right) w d k =
         let p = has-operator rule words i start kind (two e own left right) (w .stands) in
-        let n = inner .operands (omega (arith, p .1)) (omega (arith, p .2)) in
-        let g : PairJudged (frame schema rule words scope over) (operand own) (operand own) (i + 1) end b r = rw (p .0) at (n .two (p .1) (p .2)) in
+        let n = inner .operands (inr (omega (arith, p .1))) (omega (arith, p .2)) in
+        let g : OperandsJudged (frame schema rule words scope over) own (i + 1) end b r = rw (p .0) at n in
         rw (w .stands .0 .isEntry)
         (goes-then (entry-goes own (p .0) (inr (omega (arith, p .1))))
-        (g .goes setting tree binders env (i + 1 + valueEntries left) left right s
+        (operands-two (omega (arith, p .0, p .1)) (omega (arith, p .0, p .2)) g setting tree binders env left right s
         (record { stands = w .stands .1; ends = refl })
         (record { stands = w .stands .2; ends = omega (arith, w .ends) })))
     body-goes (comparison e which left right) w d k =
         let p : op ≡ 18 = has-operator rule words i start kind (comparison e which left right) (w .stands) in
-        let n = inner .operands (omega arith) (omega arith) in
+        let n = inner .operands (inr (omega arith)) (omega arith) in
+        let g : OperandsJudged (frame schema rule words scope over) 18 (i + 1) end b r = rw p at n in
         rw (w .stands .0 .isEntry)
         (goes-then (entry-goes 18 p (inr (omega arith)))
-        (n .comparison p .goes setting tree binders env (i + 1 + valueEntries left) left right s
+        (operands-sides g setting tree binders env left right s
         (record { stands = w .stands .1; ends = refl })
         (record { stands = w .stands .2; ends = omega (arith, w .ends) })))
     body-goes (quantifier e own bind in-value that) w d k =
@@ -403,6 +359,38 @@ module _ (schema rule words : List ℕ) (scope : Scope) (over : Over) (i end lef
   pub body-judged : r .passed ≤ a .passed + 8 * (end - i) → BodyJudged (frame schema rule words scope over) i end left a r
   body-judged most =
       record { atMost = most; goes = λ setting tree binders env c s w d k. body-goes setting tree binders env s c w d k }
+
+module _ (schema rule words : List ℕ) (scope : Scope) (over : Over) (i end left : ℕ) {at op : ℕ} {a : Progress} (r : Progress) (start : at ≡ startOf words i) (kind : OperatorAt rule at op) where
+  -- a condition that holds none is never too deep
+  pub body-leaf : Leaf op true → LeafJudged (frame schema rule words scope over) op i end a r → BodyJudged (frame schema rule words scope over) i end left a r
+  body-leaf h j =
+      record {
+        atMost = j .atMost;
+        goes =
+            λ setting tree binders env c s w d k.
+            body-goes schema rule words scope over i end left r (λ z. omega (arith, depth-some c, d, z)) start kind (j .entry)
+            (inner-operands h (j .operands)) setting tree binders env s c w d k;
+      }
+
+-- the checks of a leaf, one after the other
+pub leaf-judged : {schema rule words : List ℕ} {scope : Scope} {over : Over} {op i end : ℕ} {a b r : Progress} → i < end
+    → EntryJudged scope over op i end a b
+    → OperandsJudged (frame schema rule words scope over) op (i + 1) end b r
+    → LeafJudged (frame schema rule words scope over) op i end a r
+leaf-judged {b = b} inside p q =
+    record {
+      atMost = omega (arith, p .operator .atMost, p .nonempty .atMost, q .atMost);
+      between = b;
+      entry = p;
+      operands = q;
+    }
+
+pub leaf-stopped : {schema rule words : List ℕ} {scope : Scope} {over : Over} {op i end : ℕ} {a r : Progress} {fault : Fault} {place : ℕ} {o : Over} → i < end
+    → EntryJudged scope over op i end a r
+    → r .verdict ≡ Defect fault place o
+    → LeafJudged (frame schema rule words scope over) op i end a r
+leaf-stopped inside p t =
+    leaf-judged inside p (record { atMost = omega arith; goes = λ setting tree binders env vs s w. goes-stopped t })
 
 -- Several conditions.
 

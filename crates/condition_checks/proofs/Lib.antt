@@ -1,4 +1,5 @@
 mod DepthSteps
+mod OperandLaws
 mod BodySteps
 mod QuantifierSteps
 mod RuleSteps

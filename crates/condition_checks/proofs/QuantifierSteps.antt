@@ -25,12 +25,13 @@ use Rattle.walk.specs.declared.answer.Collected.the-variants as Collected
 use Rattle.walk.specs.declared.answer.CollectionFault.{CollectionFault}
 use Rattle.validation.specs.Check.{Binder, walkable, readable, Check, check, failsIf, referenceText, referenceCheck, references, hasDot, body, bodies, depth, depthOfConditions}
 use Rattle.validation.specs.Judge.{CheckOutcome, outcome, verdict, extend, enter, environment, answer, answerIn, decide, judgeFrom}
-use Rattle.value_checks.specs.Shown.{Shown, passes, fails, overOf, shownOf, goOn}
+use Rattle.validation.specs.Result.{overOf}
+use Rattle.value_checks.specs.Shown.{Shown, passes, fails, shownOf, goOn}
 use Rattle.value_checks.specs.Nodes.{Behind}
 use Rattle.value_checks.specs.Verdicts.{numberOf, detailOf, overBy, shownWith, shownBy, failed, GoesOn, PassedOn, Failed, Required}
 use Rattle.scope.specs.Scopes.{BoundElement, Binds}
 use Rattle.scope.specs.ScopeLaws.{scope-bound}
-use Rattle.value_checks.specs.Frames.{Frame, frame, Stands, ReferencesIn}
+use Rattle.value_checks.specs.Frames.{Frame, frame, Stands, OperandsJudged}
 use Rattle.condition_checks.specs.Bodies.{CollectionOf, BodiesJudged, QuantifierJudged}
 use Rattle.scope.specs.declared.binder.Element.{Element}
 use Rattle.scope.specs.declared.binder.Element.the-variants as Element
@@ -44,7 +45,8 @@ use Rattle.value_checks.specs.declared.verdict.Progress.{Progress}
 use Rattle.value_checks.proofs.Going.{goes-then, goes-stopped}
 use Rattle.value_checks.proofs.NodeSteps.{value-size}
 use Rattle.value_checks.proofs.LiteralSteps.{settled-outcome}
-use Rattle.value_checks.proofs.ReferenceSteps.{readable-outcome, references-judged}
+use Rattle.value_checks.proofs.ReferenceSteps.{readable-outcome}
+use Rattle.condition_checks.proofs.OperandLaws.{value-references}
 use Rattle.value_checks.proofs.OperandSteps.{value-entry}
 use Rattle.condition_checks.proofs.BodySteps.{depth-some}
 
@@ -180,7 +182,7 @@ quantifier-misnamed {rule = rule} name {i} {wrong = wrong} same said t p =
           ∙ ap (λ (x : Bool). failed x 0) (sym q ∙ t));
     }
 
-module _ (schema rule words : List ℕ) (scope : Scope) (over : Over) (name : Part) (i end left : ℕ) {wrong : Bool} {text : Text} {middle : ℕ} {a b d : Progress} (inside : i < end) (k : Behind words (i + 1) end middle) (same : text ≡ partOf rule name) (said : wrong ≡ (isBlank text || hasDot text)) (bound : Required a wrong Bind (i + 1) over b) (refs : ReferencesIn (frame schema rule words scope over) (i + 1) (middle - (i + 1)) b d) where
+module _ (schema rule words : List ℕ) (scope : Scope) (over : Over) (name : Part) (i end left : ℕ) {wrong : Bool} {text : Text} {middle : ℕ} {a b d : Progress} (inside : i < end) (k : Behind words (i + 1) end middle) (same : text ≡ partOf rule name) (said : wrong ≡ (isBlank text || hasDot text)) (bound : Required a wrong Bind (i + 1) over b) (refs : OperandsJudged (frame schema rule words scope over) 5 (i + 1) middle b d) where
   module _ (setting : Setting) (tree : Schema) (binders : List Binder) (env : Environment) (v : Value) (that : Condition) (s : Stands (frame schema rule words scope over) setting tree binders env) (w : ValueAt rule words (i + 1) v) (ends : end ≡ i + 1 + valueEntries v + conditionEntries that) where
     middle-is : middle ≡ i + 1 + valueEntries v
     middle-is =
@@ -197,7 +199,7 @@ module _ (schema rule words : List ℕ) (scope : Scope) (over : Over) (name : Pa
         ∙ ap (λ (x : Bool). failed x 0) (sym q))
 
     over-goes : GoesOn (outcome setting tree) b (references binders v) d
-    over-goes = references-judged refs setting tree binders env v s (record { stands = w; ends = middle-is })
+    over-goes = value-references refs setting tree binders env v s (record { stands = w; ends = middle-is })
 
   pub quantifier-stopped : {fault : Fault} {place : ℕ} {o : Over} → d .verdict ≡ Defect fault place o → QuantifierJudged (frame schema rule words scope over) (partOf rule name) i end left a d
   quantifier-stopped t =

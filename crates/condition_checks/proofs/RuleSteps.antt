@@ -22,10 +22,11 @@ use Rattle.validation.specs.Judge.{outcome, environment, judge}
 use Rattle.scope.specs.Scopes.{chainOf, ChainAt, ScopeAt}
 use Rattle.scope.specs.declared.binder.Scope.{Scope}
 use Rattle.condition_checks.specs.Depth.{DepthIs}
-use Rattle.value_checks.specs.Shown.{overOf, shownOf, goOn}
+use Rattle.validation.specs.Result.{overOf}
+use Rattle.value_checks.specs.Shown.{shownOf, goOn}
 use Rattle.value_checks.specs.Verdicts.{numberOf, detailOf, overBy, shownWith, shownBy, failed, going, GoesOn, PassedOn, Failed, Required}
 use Rattle.value_checks.specs.Literals.{ConditionLiterals}
-use Rattle.value_checks.specs.Frames.{frame, Stands, ReferencesIn}
+use Rattle.value_checks.specs.Frames.{frame, Stands, OperandsJudged}
 use Rattle.condition_checks.specs.Bodies.{BodyJudged}
 use Rattle.condition_checks.specs.Rules.{PassJudged, DefinitionJudged, RuleJudged}
 use Rattle.value_checks.specs.declared.verdict.Fault.{Fault}
@@ -35,7 +36,7 @@ use Rattle.value_checks.specs.declared.verdict.Progress.{Progress}
 use Rattle.value_checks.proofs.Going.{goes-nothing, goes-then}
 use Rattle.value_checks.proofs.NodeSteps.{same-head, condition-size}
 use Rattle.value_checks.proofs.LiteralSteps.{settled-outcome}
-use Rattle.value_checks.proofs.ReferenceSteps.{references-judged}
+use Rattle.condition_checks.proofs.OperandLaws.{value-references}
 
 pub begin-judges : (setting : Setting) (tree : Schema) (cs : List Check) (r : Progress) → GoesOn (outcome setting tree) (going 0) cs r → shownBy r ≡ shownOf (judge setting tree cs)
 unfolding shownBy shownWith goOn judge
@@ -239,7 +240,7 @@ module _ {schema sheet words : List ℕ} {scope : Scope} {at end : ℕ} (start :
 
   pub judge-template : {next : ℕ} {r : Progress}
       → ReadsTo ruleHead sheet at Entries.template next
-      → ReferencesIn (frame schema sheet words scope Outside) 1 (end - 1) (going 0) r
+      → OperandsJudged (frame schema sheet words scope Outside) 5 1 end (going 0) r
       → RuleJudged schema sheet words scope r
   unfolding checks
   judge-template {next} {r} reads p = record { shows = λ setting tree x s w. shows setting tree x s w }
@@ -254,4 +255,4 @@ module _ {schema sheet words : List ℕ} {scope : Scope} {at end : ℕ} (start :
           absurd (omega arith)
       shows setting tree (template v) s w =
           begin-judges setting tree (references [] v) r
-          (references-judged p setting tree [] [] v (outermost s) (record { stands = w .1; ends = ends ∙ w .0 .ends ∙ omega arith }))
+          (value-references p setting tree [] [] v (outermost s) (record { stands = w .1; ends = ends ∙ w .0 .ends ∙ omega arith }))

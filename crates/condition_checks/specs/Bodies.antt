@@ -1,6 +1,6 @@
--- What the checks of a condition ask, by what the code has in hand.
+-- What the checks of a condition ask, by what the code is given.
 use Prim.Native.Nat.{ℕ, suc, _+_, _*_, _-_, _≤_}
-use mathlib.Core.Bool.{_||_}
+use mathlib.Core.Bool.{Bool, true, false, _||_}
 use mathlib.Core.List.{List, [], _∷_, _++_}
 use mathlib.Core.Logic.{_⊎_}
 use mathlib.Core.Option.{Option, none, some}
@@ -17,16 +17,15 @@ use Rattle.definition.specs.Within.{conditionEntries, valueEntries}
 use Rattle.rule.specs.Index.{startOf, ValueAt, ConditionAt}
 use Rattle.walk.specs.Answers.{CollectedIs}
 use Rattle.walk.specs.declared.answer.Collected.{Collected}
-use Rattle.validation.specs.Check.{Binder, check, failsIf, walkable, references, hasDot, operatorCheck, operand, body, bodies, depth, depthOfConditions}
+use Rattle.validation.specs.Check.{Binder, check, failsIf, walkable, references, hasDot, operatorCheck, body, bodies, depth, depthOfConditions}
 use Rattle.validation.specs.Judge.{outcome}
 use Rattle.value_checks.specs.Nodes.{IsCondition, AreConditions}
 use Rattle.value_checks.specs.Verdicts.{GoesOn, Required}
 use Rattle.scope.specs.Scopes.{ScopeAt}
-use Rattle.value_checks.specs.Frames.{Frame, frame, Stands, ReferencesIn, PairJudged, side}
+use Rattle.value_checks.specs.Frames.{Frame, frame, Stands, OperandsJudged}
 use Rattle.scope.specs.declared.binder.Scope.{Scope}
 use Rattle.value_checks.specs.declared.verdict.Fault.the-variants.{Empty}
 use Rattle.value_checks.specs.declared.verdict.Over.{Over}
-use Rattle.value_checks.specs.declared.verdict.Side.the-variants.{Left, Right}
 use Rattle.value_checks.specs.declared.verdict.Progress.{Progress}
 use Rattle.condition_checks.specs.declared.body.BindRead.{BindRead}
 use Rattle.condition_checks.specs.declared.body.BindRead.the-variants as BindRead
@@ -49,12 +48,17 @@ pub record EntryJudged (scope : Scope) (over : Over) (op i end : ℕ) (a r : Pro
   pub operator : OperatorJudged scope over op i a between
   pub nonempty : NonemptyJudged over op i end between r
 
--- the values of a condition with operator `op`
-pub record OperandsJudged (f : Frame) (op start end : ℕ) (a r : Progress) : Type 0 where
-  pub atMost : r .passed ≤ a .passed + (end - start) + 2
-  pub one : (op ≡ 5) ⊎ (op ≡ 19) → ReferencesIn f start (end - start) a r
-  pub two : 6 ≤ op → op ≤ 17 → PairJudged f (operand op) (operand op) start end a r
-  pub comparison : op ≡ 18 → PairJudged f (side Left) (side Right) start end a r
+-- whether conditions with operator `op` hold no condition: 1, and 5 to 19
+abbrev pub Leaf : ℕ → Bool → Type 0
+Leaf op true = ((op ≤ 1) ⊎ (5 ≤ op)) × (op ≤ 19)
+Leaf op false = (2 ≤ op) × ((op ≤ 4) ⊎ (20 ≤ op))
+
+-- the checks of a condition that holds none: those of its own entry, then those of its operands
+pub record LeafJudged (f : Frame) (op i end : ℕ) (a r : Progress) : Type 0 where
+  pub atMost : r .passed ≤ a .passed + 8 * (end - i)
+  pub between : Progress
+  pub entry : EntryJudged (f .scope) (f .over) op i end a between
+  pub operands : OperandsJudged f op (i + 1) end between r
 
 unfoldable pub bindBy : List ℕ → BindRead → Option Text
 bindBy rule (BindRead.Is p) = some (partOf rule p)
@@ -92,7 +96,7 @@ pub record BodiesJudged (f : Frame) (start end left : ℕ) (a r : Progress) : Ty
       → f .scope .count + left ≤ 32
       → GoesOn (outcome setting tree) a (bodies setting binders cs) r
 
--- what a quantifier at word `i` is asked behind its operator
+-- what a quantifier at word `i` is asked after its operator
 pub record QuantifierJudged (f : Frame) (bind : Text) (i end left : ℕ) (a r : Progress) : Type 0 where
   pub atMost : r .passed ≤ a .passed + 2 + 8 * (end - (i + 1))
   pub goes : (setting : Setting) (tree : Schema) (binders : List Binder) (env : Environment) (over : Value) (that : Condition)

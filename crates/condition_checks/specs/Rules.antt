@@ -25,7 +25,7 @@ pub record PassJudged (rule words : List ℕ) (isService : Bool) (end : ℕ) (a 
       → IsCondition rule words 1 end c
       → GoesOn (outcome setting tree) a (literalChecks setting c) r
 
--- a rule with that name and that message, whose condition stands from word 1 on
+-- a rule with that name and that message, whose condition is from word 1 on
 pub record DefinitionJudged (schema sheet words : List ℕ) (scope : Scope) (name message : OptionalPart) (end : ℕ) (r : Progress) : Type 0 where
   pub shows : (setting : Setting) (tree : Schema) (assert : Condition)
       → ScopeAt schema sheet words scope setting tree []

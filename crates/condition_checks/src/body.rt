@@ -9,18 +9,16 @@ use sheet::part::bytes_of;
 use sheet::rule_heads::COMPARE;
 use sheet::rule_heads::ConditionHead;
 use sheet::rule_heads::ConditionRead;
+use sheet::rule_heads::EXISTS;
 use sheet::rule_heads::LITERAL;
 use sheet::rule_heads::NOT;
 use sheet::rule_heads::TRUTHY;
 use sheet::rule_heads::condition_head;
-use value_checks::kind::EXISTS;
 use value_checks::kind::operator_at;
 use value_checks::node::behind;
 use value_checks::operand::Form;
 use value_checks::operand::form_of;
-use value_checks::operand::validate_comparison;
-use value_checks::operand::validate_pair;
-use value_checks::references::validate_references;
+use value_checks::operand::validate_operands;
 use value_checks::verdict::Fault;
 use value_checks::verdict::Over;
 use value_checks::verdict::Progress;
@@ -35,13 +33,13 @@ use walk::path::Dot;
 use walk::path::first_dot;
 ghost use mathlib.Core.Path.{_≡_};
 ghost use mathlib.Core.Bool.{_||_};
-ghost use Prim.Native.Nat.{_+_, _*_, _-_, _<_, _≤_};
+ghost use Prim.Native.Nat.{_+_, _*_, _-_, _<_};
 ghost use Rattle.text.specs.Blank.{isBlank};
 ghost use Rattle.sheet.specs.Parts.{partOf};
 ghost use Rattle.validation.specs.Check.{hasDot};
 ghost use Rattle.value_checks.specs.Verdicts.{going, HasRoom};
 ghost use Rattle.value_checks.specs.Frames.{frame};
-ghost use Rattle.condition_checks.specs.Bodies.{NonemptyJudged, EntryJudged, OperandsJudged, BindAt, CollectionOf, BodyJudged, BodiesJudged, QuantifierJudged};
+ghost use Rattle.condition_checks.specs.Bodies.{NonemptyJudged, EntryJudged, Leaf, LeafJudged, BindAt, CollectionOf, BodyJudged, BodiesJudged, QuantifierJudged};
 
 // The bind of a quantifier.
 pub enum BindRead {
@@ -84,8 +82,21 @@ fn validate_entry(
     fail(passed, Fault::Operator, i + 1, over)
 }
 
-// The values of a condition that holds no condition, from word `start` up to word `end`, by its operator.
-fn validate_operands(
+// Whether a condition with that operator holds no condition.
+fn is_leaf(op: usize) -> bool
+    ensures { λ r. ⌜ Leaf op r ⌝ }
+{
+    if op <= LITERAL {
+        return true;
+    }
+    if op <= NOT {
+        return false;
+    }
+    op <= TRUTHY
+}
+
+// A condition at word `i` that holds no condition and ends at `end`: its own entry, and its operands. A literal has none.
+fn validate_leaf(
     passed: usize,
     schema: &[u8],
     rule: &[u8],
@@ -93,22 +104,18 @@ fn validate_operands(
     scope: Scope,
     over: Over,
     op: usize,
-    start: usize,
+    i: usize,
     end: usize,
 ) -> Progress
-    requires { ⌜ HasRoom (going passed) (end - start + 2) × (start ≤ end) × (end < 4096) ⌝ }
-    ensures { λ r. ⌜ OperandsJudged (frame (now (schema .entry)) (now (rule .entry)) (now (words .entry)) scope over) op start end (going passed) r ⌝ }
+    requires { ⌜ HasRoom (going passed) (8 * (end - i)) × (i < end) × (end < 4096) ⌝ }
+    ensures { λ r. ⌜ LeafJudged (frame (now (schema .entry)) (now (rule .entry)) (now (words .entry)) scope over) op i end (going passed) r ⌝ }
 {
-    if op <= EXISTS {
-        return validate_references(passed, schema, rule, words, scope, over, start, end);
-    }
-    if COMPARE < op {
-        return validate_references(passed, schema, rule, words, scope, over, start, end);
-    }
-    if op == COMPARE {
-        return validate_comparison(passed, schema, rule, words, scope, over, start, end);
-    }
-    validate_pair(passed, schema, rule, words, scope, over, op, start, end)
+    let r = validate_entry(passed, scope, over, op, i, end);
+    let verdict = r.verdict;
+    let Verdict::Pass = verdict else {
+        return r;
+    };
+    validate_operands(r.passed, schema, rule, words, scope, over, op, i + 1, end)
 }
 
 // The bind of the quantifier at word `i`.
@@ -177,20 +184,17 @@ pub fn validate_condition_body(
         return going(passed);
     }
     let op = operator_at(rule, start_of(words, i));
+    if is_leaf(op) {
+        return validate_leaf(passed, schema, rule, words, scope, over, op, i, end);
+    }
     let r = validate_entry(passed, scope, over, op, i, end);
     let verdict = r.verdict;
     let Verdict::Pass = verdict else {
         return r;
     };
     let n = r.passed;
-    if op <= LITERAL {
-        return going(n);
-    }
     if op <= NOT {
         return validate_conditions(n, schema, rule, words, scope, over, i + 1, end, left - 1);
-    }
-    if op <= TRUTHY {
-        return validate_operands(n, schema, rule, words, scope, over, op, i + 1, end);
     }
     let BindRead::Is(name) = bind_of(rule, words, i) else {
         return going(n);
@@ -198,7 +202,7 @@ pub fn validate_condition_body(
     validate_quantifier(n, schema, rule, words, scope, over, name, i, end, left - 1)
 }
 
-// The conditions from word `start` on, which end at `end`.
+// The conditions from word `start` on, which end at `end`. Those that hold none need no call of the cycle.
 fn validate_conditions(
     passed: usize,
     schema: &[u8],
@@ -217,18 +221,40 @@ fn validate_conditions(
     let mut i = start;
     while i < end {
         let next = behind(words, i, end);
-        let r = validate_condition_body(so_far, schema, rule, words, scope, over, i, next, left);
-        let verdict = r.verdict;
-        let Verdict::Pass = verdict else {
-            return r;
-        };
-        so_far = r.passed;
-        i = next;
+        let op = operator_at(rule, start_of(words, i));
+        if is_leaf(op) {
+            let r = validate_leaf(so_far, schema, rule, words, scope, over, op, i, next);
+            let verdict = r.verdict;
+            let Verdict::Pass = verdict else {
+                return r;
+            };
+            so_far = r.passed;
+            i = next;
+        } else {
+            let r = validate_condition_body(
+                so_far,
+                schema,
+                rule,
+                words,
+                scope,
+                over,
+                i,
+                next,
+                left,
+            );
+            let verdict = r.verdict;
+            let Verdict::Pass = verdict else {
+                return r;
+            };
+            so_far = r.passed;
+            i = next;
+        }
     }
     going(so_far)
 }
 
-// A quantifier at word `i`, behind its operator: its bind, the value that it walks, and its body with one binder more.
+// A quantifier at word `i`, after its operator: its bind, the value that it walks, which is asked what `exists` asks, and its body with one binder
+// more.
 fn validate_quantifier(
     passed: usize,
     schema: &[u8],
@@ -249,7 +275,17 @@ fn validate_quantifier(
     if is_wrong_bind(bytes_of(rule, name)) {
         return fail(passed, Fault::Bind, start, over);
     }
-    let r = validate_references(passed + 1, schema, rule, words, scope, over, start, mid);
+    let r = validate_operands(
+        passed + 1,
+        schema,
+        rule,
+        words,
+        scope,
+        over,
+        EXISTS,
+        start,
+        mid,
+    );
     let verdict = r.verdict;
     let Verdict::Pass = verdict else {
         return r;

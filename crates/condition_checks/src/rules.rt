@@ -6,11 +6,12 @@ use rule::index::start_of;
 use scope::binder::Scope;
 use sheet::part::OptionalPart;
 use sheet::part::bytes_of;
+use sheet::rule_heads::EXISTS;
 use sheet::rule_heads::RuleHead;
 use sheet::rule_heads::RuleHeadRead;
 use sheet::rule_heads::rule_head;
 use value_checks::literal::unobservable_condition_literals;
-use value_checks::references::validate_references;
+use value_checks::operand::validate_operands;
 use value_checks::verdict::Fault;
 use value_checks::verdict::Over;
 use value_checks::verdict::Progress;
@@ -98,7 +99,8 @@ pub fn judge(schema: &[u8], rule: &[u8], words: &[u32], scope: Scope) -> Progres
         return going(0);
     };
     let RuleHead::Rule(name, message) = head else {
-        return validate_references(0, schema, rule, words, scope, Over::Outside, 1, end);
+        // The value of a template is asked what `exists` asks.
+        return validate_operands(0, schema, rule, words, scope, Over::Outside, EXISTS, 1, end);
     };
     validate_rule_definition(schema, rule, words, scope, name, message, end)
 }

@@ -2,7 +2,7 @@
 use Prim.Native.Nat.{ℕ, _+_, _*_, _≤_, _<_}
 use native.Mathlib.Omega.{arith}
 use mathlib.Core.Bool.{Bool}
-use mathlib.Core.List.{List, [], _∷_, _++_, append-nil, append-assoc}
+use mathlib.Core.List.{List, [], _++_, append-nil, append-assoc}
 use mathlib.Core.Logic.{⊎-elim}
 use mathlib.Core.Option.{Option, none, some}
 use mathlib.Core.Path.{_≡_, refl, sym, ap, _∙_}
@@ -18,7 +18,7 @@ use Rattle.buffer.specs.Wrote.{Wrote}
 use Rattle.buffer.specs.WroteLaws.{sets-append}
 use Rattle.buffer.specs.Bytes.{littleEndian, bytesOf}
 use Rattle.buffer.specs.BytesLaws.{bytes-append, bytes-of-one, bytes-length}
-use Rattle.validation.specs.Constant.{constantOf, markOf, markIf, marksOf, marksOfConditions, marksIn}
+use Rattle.validation.specs.Constant.{markOf, markIf, marksOf, marksOfConditions, marksIn}
 use Rattle.value_checks.specs.Kinds.{OperatorAt}
 use Rattle.value_checks.specs.Nodes.{AreConditions, Behind, childrenOf, ChildrenFrom}
 use Rattle.value_checks.proofs.NodeSteps.{same-head, has-operator, none-left, none-ends}
@@ -43,7 +43,7 @@ unfolding truthBy markIf
 marked-one count entry {m = m} {before = before} e q w =
     record { most = omega arith; counted = rw e; written = rw (e, ← q) (w .stands ∙ ap (λ (b : List ℕ). sets before (4 * count) b) (sym (bytes-of-one m))) }
 
--- marks behind marks
+-- marks after marks
 marks-then : {ms before now after : List ℕ} {count entry r : ℕ} {k : Constant}
     → MarksAre ms before now count
     → MarkedOn count entry k now after r

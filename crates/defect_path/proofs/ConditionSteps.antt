@@ -329,7 +329,7 @@ module _ (sheet words : List ℕ) (defect target : ℕ) where
         rw (own-condition c p stands found, e) w;
   }
 
-  -- behind the last step the descent stands at the target
+  -- after the last step the descent is at the target
   end-reached : (word : ℕ) (before after : List ℕ) (at next : ℕ)
       → target ≤ word
       → ConditionWritten sheet words defect word word before after at next

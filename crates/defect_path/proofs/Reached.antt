@@ -12,7 +12,7 @@ use Rattle.defect_path.specs.Siblings.{Reaches, here, past}
 use Rattle.defect_path.proofs.Ranges.{Among, none-found, either-found, through-found}
 
 module _ {A : Type 0} (At : (k i : ℕ) → A → Type 0) (size : A → ℕ) where
-  -- one behind the other, from the one with index `k` at word `i`
+  -- one after the other, from the one with index `k` at word `i`
   abbrev pub Standing : (k i : ℕ) → List A → Type 0
   Standing k i [] = Unit {0}
   Standing k i (a ∷ xs) = At k i a × Standing (k + 1) (i + size a) xs

@@ -1,7 +1,7 @@
 -- One step down from a value, and the end of the way.
 use Prim.Native.Nat.{ℕ, _+_, _≤_, _<_}
 use native.Mathlib.Omega.{arith}
-use mathlib.Core.List.{List, [], _∷_, _++_}
+use mathlib.Core.List.{List, [], _∷_}
 use mathlib.Core.Option.{Option, none, some}
 use mathlib.Core.Path.{_≡_, refl, ap, sym, _∙_}
 use lib.Dec.{eqb}
@@ -209,11 +209,6 @@ module _ (sheet words : List ℕ) (target : ℕ) where
           → ValueLeads sheet words target i before at word now here
       string-leads text rest reads = record {
         leads = λ after next later. record { written = λ v p stands found. absurd (holds v p (stringHead text) rest less stands found reads) };
-      }
-
-      pub refused-leads : valueHead (drop (startOf words i) sheet) ≡ none → ValueLeads sheet words target i before at word now here
-      refused-leads reads = record {
-        leads = λ after next later. record { written = λ v p stands found. value-refused v stands reads };
       }
 
   own-value : (v : Value) (p : Text) → ValueAt sheet words target v → inValue (target + 1) v ≡ some p → p ≡ []

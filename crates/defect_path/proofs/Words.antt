@@ -3,12 +3,11 @@ use Prim.Native.Nat.{ℕ, _+_, _≤_, _<_}
 use native.Mathlib.Omega.{arith}
 use mathlib.Core.List.{List}
 use mathlib.Core.Path.{_≡_, refl}
-use lib.ListN.{length, List·getD-eq-default}
-use Rattle.rule.specs.Index.{startOf, endOf}
+use Rattle.rule.specs.Index.{endOf}
 use Rattle.defect_path.specs.Siblings.{Reaches, here, past}
 
 -- a word that is not there is 0
--- the search stands at `word`, whose subtree ends before `end`
+-- the search is at `word`, whose subtree ends before `end`
 pub record Passing (words : List ℕ) (target from word index end : ℕ) : Type 0 where
   pub ends : end ≡ endOf words word
   pub low : from ≤ word

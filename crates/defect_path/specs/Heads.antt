@@ -1,7 +1,7 @@
 -- What a path has for a part of a condition, by the condition's head.
 use Prim.Native.Nat.{ℕ}
 use mathlib.Core.Bool.{Bool, true, false, cond}
-use mathlib.Core.List.{[], _∷_, _++_}
+use mathlib.Core.List.{[], _++_}
 use lib.Dec.{eqb}
 use Rattle.sheet.specs.Ascii.{ascii}
 use Rattle.sheet.specs.Entries.{ConditionHead, literalHead, manyHead, negationHead, oneHead, twoHead, comparisonHead, quantifierHead}

@@ -2,16 +2,16 @@
 mod defect; // defect.rt: numbers of defects
 mod bracket; // bracket.rt: indexes in brackets
 mod operator; // operator.rt: the operators' names
-mod word; // word.rt: the words of the index
+mod word; // word.rt: siblings
 mod value; // value.rt: down through values
 mod condition; // condition.rt: down through conditions
 
 use crate::condition::put_condition;
 use crate::defect::MESSAGE;
 use crate::value::put_value;
-use crate::word::wide;
 use buffer::put;
 use rule::index::start_of;
+use sheet::numeral::wide;
 use sheet::rule_heads::RuleHead;
 use sheet::rule_heads::RuleHeadRead;
 use sheet::rule_heads::rule_head;

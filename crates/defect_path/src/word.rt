@@ -1,18 +1,11 @@
 // Siblings, found over the words of the index.
 use rule::index::end_of;
-ghost use mathlib.Core.Path.{_≡_};
 ghost use Prim.Native.Nat.{_≤_, _<_};
 ghost use Rattle.defect_path.specs.Siblings.{Reaches};
 
 pub struct Sibling {
     pub word: usize,
     pub index: usize,
-}
-
-pub fn wide(word: u32) -> usize
-    ensures { λ r. ⌜ r ≡ word ⌝ }
-{
-    word as usize
 }
 
 // The first sibling, from the one at word `from` on, whose subtree ends after word `target`.

@@ -8,9 +8,11 @@ use Rattle.validation.specs.Result.{pathBytes, scratchWords}
 use Rattle.rule_book.specs.Tally.{BookAnswer, bookRefused, tallied, bookAnswer, tallyNumbers, freed, BookRun, bookCallOf, MeetsBook}
 use Rattle.rule_book.specs.TallyLaws.{no-room-refused, cappedBook, capped-book, tally-first, numbers-within}
 use Rattle.rule_book.specs.Tallying.{bookRunOf}
-use Rattle.entity_rules.specs.Counts.{countsAfter, lentFor}
+use Rattle.host_numbers.specs.Counts.{countsAfter}
+use Rattle.entity_rules.specs.Entry.{pathLent}
 use Rattle.entity_rules.specs.BookEntry.{tallyBytes, bookCallFor, tallyAnswer, refusalOf, TallyAnswered}
-use Rattle.entity_rules.proofs.CountSteps.{lent-nothing, lent-within, path-home, in-eight}
+use Rattle.entity_rules.proofs.Entries.{lent-nothing, lent-within}
+use Rattle.entity_rules.proofs.BookSteps.{path-home, in-eight}
 
 -- Settings of any size, and a scratch of its own.
 
@@ -30,7 +32,7 @@ module _ (kind semantics : ℕ) (label table schema book path result : List ℕ)
   made : (k s lent : ℕ) (numbers last scratchNow : List ℕ)
       → k ≡ min kind 9
       → s ≡ min semantics 9
-      → lent ≡ lentFor tallyBytes (length path) (length result)
+      → lent ≡ pathLent tallyBytes (length path) (length result)
       → bookAnswer (bookCallOf (bookRunOf k s label table schema book (take (lent - 0) path) (replicate scratchWords 0) numbers last scratchNow)) ≡ answer
   unfolding bookCallOf tallyAnswer bookCallFor cappedBook
   made k s lent numbers last scratchNow ek es el =
@@ -41,7 +43,7 @@ module _ (kind semantics : ℕ) (label table schema book path result : List ℕ)
   pub tally-answered : {k s lent r : ℕ} (numbers last scratchNow : List ℕ) {resultNow : List ℕ}
       → k ≡ min kind 9
       → s ≡ min semantics 9
-      → lent ≡ lentFor tallyBytes (length path) (length result)
+      → lent ≡ pathLent tallyBytes (length path) (length result)
       → MeetsBook (bookRunOf k s label table schema book (take (lent - 0) path) (replicate scratchWords 0) numbers last scratchNow)
       → 38 + length book < 2 ^ 64
       → resultNow ≡ countsAfter numbers result

@@ -10,8 +10,7 @@ use borrow.Author.Tests.{le-leb, lt-leb, leb-true, leb-false}
 use Rattle.sheet.specs.ReaderLaws.{by-test}
 use Rattle.definition.specs.Decode.{decodeRule}
 use Rattle.buffer.specs.Bytes.{bytesOf}
-use Rattle.validation.specs.Result as Result
-use Rattle.validation.specs.Result.{Answer, refused, Numbers, resultOf, numbersOf, pathAfter, callOf, Meets, scratchWords, markBytes}
+use Rattle.validation.specs.Result.{Answer, Numbers, resultOf, numbersOf, pathAfter, callOf, Meets, scratchWords, markBytes}
 use Rattle.validation.specs.RefusalLaws.{capped, capped-same}
 use Rattle.validation.specs.Constant.{marksHeard}
 use Rattle.validation.specs.Marking.{marksBy, MeetsMarked}
@@ -24,7 +23,7 @@ use Rattle.single_check.specs.declared.outcome.Outcome.{Outcome}
 use Rattle.single_check.specs.declared.outcome.Report.{Report}
 use Rattle.entity_rules.specs.Entry.{resultBytes, pathLent, resultAfter, entryCall, entryAnswer, EntryAnswered, Written}
 use Rattle.entity_rules.specs.EntryLaws.{short-result-refused}
-use Rattle.entity_rules.specs.CheckEntry.{reportBytes, reportFields, reportAfter, checkCall, CheckAnswered, ReportWritten}
+use Rattle.entity_rules.specs.CheckEntry.{reportBytes, reportAfter, checkCall, CheckAnswered, ReportWritten}
 
 pub lent-nothing : (need path result : ℕ) → result < need → 0 ≡ pathLent need path result
 unfolding pathLent

@@ -10,7 +10,7 @@ use Rattle.widening.specs.Decision.{markCloses, refuted}
 use Rattle.widening.specs.SheetDecision as SheetDecision
 use Rattle.entity_rules.specs.Entry.{fieldsOf, resultAfter}
 use Rattle.entity_rules.specs.CheckEntry.{reportFields, reportAfter}
-use Rattle.entity_rules.specs.NumberTest.{packed}
+use Rattle.host_numbers.specs.NumberTest.{packed}
 use Rattle.entity_rules.specs.WidensEntry.{inPlaces}
 
 unfoldable result : List ℕ → List ℕ

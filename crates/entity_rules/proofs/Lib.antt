@@ -3,8 +3,6 @@ pub mod Entries
 pub mod KeyEntries
 pub mod WidensEntries
 pub mod Examples
-pub mod NumberTests
-pub mod Instants
-pub mod CountSteps
+pub mod BookSteps
 pub mod BookEntries
 pub mod WallEntries

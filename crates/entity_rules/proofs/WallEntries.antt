@@ -10,10 +10,12 @@ use Rattle.rule_book.specs.TallyLaws.{cappedBook}
 use Rattle.wall.specs.Wall.{WallAnswer, wallRefused, printed, wallAnswer, wallNumbers, pagesAfter, wallFreed, WallRun, wallCallOf, MeetsWall}
 use Rattle.wall.specs.WallLaws.{no-room-refused, capped-wall, wall-first, wall-within}
 use Rattle.wall.specs.Printing.{wallRunOf}
-use Rattle.entity_rules.specs.Counts.{countsAfter, lentFor}
+use Rattle.host_numbers.specs.Counts.{countsAfter}
+use Rattle.entity_rules.specs.Entry.{pathLent}
 use Rattle.entity_rules.specs.BookEntry.{bookCallFor}
 use Rattle.entity_rules.specs.WallEntry.{wallBytes, wallCallFor, wallEntryAnswer, wallRefusalOf, WallAnswered}
-use Rattle.entity_rules.proofs.CountSteps.{lent-nothing, lent-within, path-home, in-eight}
+use Rattle.entity_rules.proofs.Entries.{lent-nothing, lent-within}
+use Rattle.entity_rules.proofs.BookSteps.{path-home, in-eight}
 
 first-refusal : (a : WallAnswer) → getD (wallNumbers a) 0 0 ≡ wallRefusalOf a
 unfolding wallNumbers wallRefusalOf
@@ -31,7 +33,7 @@ module _ (kind semantics : ℕ) (label table schema book path pages result : Lis
   made : (k s lent : ℕ) (numbers last pagesNow scratchNow : List ℕ)
       → k ≡ min kind 9
       → s ≡ min semantics 9
-      → lent ≡ lentFor wallBytes (length path) (length result)
+      → lent ≡ pathLent wallBytes (length path) (length result)
       → wallAnswer (wallCallOf (wallRunOf k s label table schema book (take (lent - 0) path) pages (replicate scratchWords 0) numbers last pagesNow scratchNow)) ≡ answer
   unfolding wallCallOf bookCallOf wallEntryAnswer wallCallFor bookCallFor cappedBook
   made k s lent numbers last pagesNow scratchNow ek es el =
@@ -42,7 +44,7 @@ module _ (kind semantics : ℕ) (label table schema book path pages result : Lis
   pub wall-answered : {k s lent r : ℕ} (numbers last pagesNow scratchNow : List ℕ) {resultNow : List ℕ}
       → k ≡ min kind 9
       → s ≡ min semantics 9
-      → lent ≡ lentFor wallBytes (length path) (length result)
+      → lent ≡ pathLent wallBytes (length path) (length result)
       → MeetsWall (wallRunOf k s label table schema book (take (lent - 0) path) pages (replicate scratchWords 0) numbers last pagesNow scratchNow)
       → 38 + length book < 2 ^ 64
       → resultNow ≡ countsAfter numbers result

@@ -1,12 +1,11 @@
--- Seven numbers for a result, and one of them read.
-use Prim.Native.Nat.{ℕ, _+_, _*_, _^_, _≤_, _<_}
-use native.Mathlib.Omega.{arith}
+-- Seven numbers for a result.
+use Prim.Native.Nat.{ℕ, _^_, _≤_, _<_}
 use mathlib.Core.List.{List}
 use mathlib.Core.Path.{_≡_}
 use lib.ListN.{length}
 use borrow.Author.Tests.{le-leb, lt-leb}
 use Rattle.buffer.specs.Wrote.{Wrote}
-use Rattle.buffer.specs.Bytes.{bytesOf, InFourBytes, no-more, one-more, numberAt, fieldAt}
+use Rattle.buffer.specs.Bytes.{bytesOf, InFourBytes, no-more, one-more}
 use Rattle.single_check.specs.Outcomes.{numbersBy}
 use Rattle.single_check.specs.declared.outcome.Outcome.{Outcome}
 use Rattle.single_check.specs.declared.outcome.Report.{Report}
@@ -34,16 +33,6 @@ pub report-written : (r : Report) {ns before after : List ℕ} {next : ℕ} → 
     → after ≡ reportAfter (numbersBy (r .outcome)) (r .marks) before
 unfolding reportAfter
 report-written r {before = before} room e w = rw (le-leb reportBytes (length before) room, ← e) (w .stands)
-
-pub field-missing : (index : ℕ) (l : List ℕ) → length l < index * 4 + 4 → 0 ≡ fieldAt index l
-unfolding fieldAt
-field-missing index l short = rw (lt-leb (4 * index + 4) (length l) (omega arith))
-
-pub field-there : (index r : ℕ) (l : List ℕ) → index * 4 + 4 ≤ length l → r ≡ numberAt (index * 4) l → r ≡ fieldAt index l
-unfolding fieldAt
-field-there index r l fits e =
-    let same : index * 4 ≡ 4 * index = omega arith in
-    rw (le-leb (4 * index + 4) (length l) (omega arith), ← same) e
 
 -- the code's numbers are of 32 bits
 pub small-numbers : (o : Outcome) → o .number < 2 ^ 32 → o .family < 2 ^ 32 → o .detail < 2 ^ 32 → o .place < 2 ^ 32 → o .«over_place» < 2 ^ 32

@@ -4,7 +4,8 @@ use mathlib.Core.List.{List}
 use mathlib.Core.Path.{_≡_}
 use Rattle.validation.specs.Result.{pathBytes, scratchWords}
 use Rattle.rule_book.specs.Tally.{BookCall, BookAnswer, bookRefused, tallied, bookAnswer, tallyNumbers, freed, KeptFrom}
-use Rattle.entity_rules.specs.Counts.{InEightBytes, countsAfter, lentFor}
+use Rattle.entity_rules.specs.Entry.{pathLent}
+use Rattle.host_numbers.specs.Counts.{InEightBytes, countsAfter}
 
 -- the call about a book that is made, with a scratch of its own and a result of so many bytes
 unfoldable pub bookCallFor : (need kind semantics : ℕ) (label table schema book : List ℕ) (pathLength resultLength : ℕ) → BookCall
@@ -16,7 +17,7 @@ bookCallFor need kind semantics label table schema book pathLength resultLength 
       table = table;
       schema = schema;
       book = book;
-      lent = record { path = lentFor need pathLength resultLength; scratch = scratchWords };
+      lent = record { path = pathLent need pathLength resultLength; scratch = scratchWords };
     }
 
 -- eighteen numbers of eight bytes

@@ -6,8 +6,8 @@ use mathlib.Core.Path.{_≡_, ap, _∙_}
 use lib.ListN.{length, getD}
 use Rattle.rule_book.specs.Tally.{tallyNumbers}
 use Rattle.rule_book.specs.TallyLaws.{tally-size}
-use Rattle.entity_rules.specs.Counts.{countAt}
-use Rattle.entity_rules.specs.CountLaws.{count-of-written}
+use Rattle.host_numbers.specs.Counts.{countAt}
+use Rattle.host_numbers.specs.CountLaws.{count-of-written}
 use Rattle.entity_rules.specs.BookEntry.{bookCallFor, tallyBytes, tallyAnswer, TallyAnswered}
 
 -- the number at index i of a written result is the i-th of its eighteen

@@ -1,5 +1,5 @@
 -- What a host may rely on where it checks with a mark list: the eight numbers are read back as they were written, and the demands hold of each call.
-use Prim.Native.Nat.{ℕ, _*_, _≤_, _<_}
+use Prim.Native.Nat.{ℕ, _≤_, _<_}
 use native.Mathlib.Omega.{arith}
 use mathlib.Core.List.{List, [], _∷_}
 use mathlib.Core.Path.{_≡_, refl, ap, sym, _∙_}

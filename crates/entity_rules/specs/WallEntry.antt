@@ -5,7 +5,7 @@ use mathlib.Core.Path.{_≡_}
 use Rattle.validation.specs.Result.{pathBytes}
 use Rattle.rule_book.specs.Tally.{KeptFrom}
 use Rattle.wall.specs.Wall.{WallCall, WallAnswer, wallRefused, printed, wallAnswer, wallNumbers, pagesAfter, wallFreed}
-use Rattle.entity_rules.specs.Counts.{InEightBytes, countsAfter}
+use Rattle.host_numbers.specs.Counts.{InEightBytes, countsAfter}
 use Rattle.entity_rules.specs.BookEntry.{bookCallFor}
 
 -- two numbers of eight bytes

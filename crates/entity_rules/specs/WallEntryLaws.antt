@@ -6,8 +6,8 @@ use mathlib.Core.Path.{_≡_, ap, _∙_}
 use lib.ListN.{length, getD}
 use Rattle.wall.specs.Wall.{wallNumbers}
 use Rattle.wall.specs.WallLaws.{wall-size}
-use Rattle.entity_rules.specs.Counts.{countAt}
-use Rattle.entity_rules.specs.CountLaws.{count-of-written}
+use Rattle.host_numbers.specs.Counts.{countAt}
+use Rattle.host_numbers.specs.CountLaws.{count-of-written}
 use Rattle.entity_rules.specs.WallEntry.{wallBytes, wallCallFor, wallEntryAnswer, WallAnswered}
 
 -- the number at index i of a written result is the i-th of its two

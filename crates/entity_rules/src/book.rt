@@ -1,8 +1,8 @@
 // A whole rule book for a host: the tally, with its eighteen numbers as bytes.
-use crate::counts::lent_for;
-use crate::counts::write_counts;
+use crate::path_lent;
 use crate::setting;
 use definition::limits::SCRATCH_WORDS;
+use host_numbers::counts::write_counts;
 use rule_book::tally::TALLY_NUMBERS;
 use rule_book::tally::tally;
 ghost use lib.ListN.{length};
@@ -25,7 +25,7 @@ pub extern "C" fn rulecheck_tally(
     ensures { λ r. ⌜ TallyAnswered (tallyAnswer kind semantics (now (label .entry)) (now (table .entry)) (now (schema .entry)) (now (book .entry)) (length (now (path .entry))) (length (now (result .entry)))) (now (path .entry)) (now (path .exit)) (now (result .entry)) (now (result .exit)) r ⌝ }
 {
     let mut scratch = [0u32; SCRATCH_WORDS];
-    let lent = lent_for(TALLY_BYTES, path.len(), result.len());
+    let lent = path_lent(TALLY_BYTES, path.len(), result.len());
     let numbers = tally(
         setting(kind),
         setting(semantics),

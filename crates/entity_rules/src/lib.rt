@@ -2,21 +2,21 @@
 mod result; // result.rt: the seven numbers as bytes
 mod report; // report.rt: a check with a name table and a mark list
 mod change; // change.rt: what is answered about two schema sheets
-mod counts; // counts.rt: numbers of eight bytes
 mod book; // book.rt: the tally of a rule book
 mod pages; // pages.rt: a rule book's run for the wall
 
 use crate::change::told;
 use crate::result::RESULT_BYTES;
 use crate::result::write_result;
-use buffer::put_numbers;
-use buffer::read_u32;
 use definition::limits::SCRATCH_WORDS;
+use host_numbers::counts::count_at;
+use host_numbers::field_at;
+use host_numbers::finite_number;
+use host_numbers::instant_fields;
 use key_path::validate_path;
 use name_table::load;
 use single_check::sheets::Takes;
 use single_check::validate_under;
-use timestamp::Parsed;
 ghost use mathlib.Core.Path.{_≡_};
 ghost use mathlib.Core.List.{[]};
 ghost use Prim.Native.Nat.{min};
@@ -25,18 +25,13 @@ ghost use Rattle.buffer.specs.Bytes.{fieldAt};
 ghost use Rattle.validation.specs.Loading.{loadNumber, loadAfter};
 ghost use Rattle.validation.specs.Result.{rules, templates};
 ghost use Rattle.single_check.specs.Sheets.{takesOf};
+ghost use Rattle.host_numbers.specs.Counts.{countAt};
+ghost use Rattle.host_numbers.specs.NumberTest.{finiteNumber};
+ghost use Rattle.host_numbers.specs.Version.{version};
+ghost use Rattle.host_numbers.specs.InstantEntry.{InstantAnswered};
 ghost use Rattle.entity_rules.specs.Entry.{pathLent, entryAnswer, EntryAnswered};
 ghost use Rattle.entity_rules.specs.KeyEntry.{keyEntryAnswer};
-ghost use Rattle.entity_rules.specs.NumberTest.{finiteNumber};
-ghost use Rattle.entity_rules.specs.Version.{version};
 ghost use Rattle.entity_rules.specs.WidensEntry.{WidensAnswered};
-ghost use Rattle.entity_rules.specs.InstantEntry.{InstantAnswered};
-
-const MAJOR: u32 = 0;
-
-const MINOR: u32 = 1;
-
-const PATCH: u32 = 0;
 
 // Kinds end at 8 and semantics at 4, so 9 stands for all that is too large for either.
 fn setting(n: u64) -> u32
@@ -182,11 +177,15 @@ pub extern "C" fn rulecheck_widens(first: &[u8], second: &[u8], result: &mut [u8
 pub extern "C" fn rulecheck_field(result: &[u8], index: u32) -> u32
     ensures { λ r. ⌜ r ≡ fieldAt index (now (result .entry)) ⌝ }
 {
-    let at = index as usize * 4;
-    if result.len() < at + 4 {
-        return 0;
-    }
-    read_u32(result, at)
+    field_at(result, index)
+}
+
+// A number of a tally or of a wall sheet's result by its index, or 0 where there is none.
+#[no_mangle]
+pub extern "C" fn rulecheck_count(result: &[u8], index: u32) -> u64
+    ensures { λ r. ⌜ r ≡ countAt index (now (result .entry)) ⌝ }
+{
+    count_at(result, index)
 }
 
 // The version of these functions, which the header has too: major, minor and patch, eight bits for each of the last two.
@@ -194,7 +193,7 @@ pub extern "C" fn rulecheck_field(result: &[u8], index: u32) -> u32
 pub extern "C" fn rulecheck_version() -> u32
     ensures { λ r. ⌜ r ≡ version ⌝ }
 {
-    (MAJOR * 256 + MINOR) * 256 + PATCH
+    host_numbers::version()
 }
 
 // Whether `text` is a finite number, and how many of its digits were compared for that: the count, twice, and 1 more if it is finite.
@@ -202,9 +201,7 @@ pub extern "C" fn rulecheck_version() -> u32
 pub extern "C" fn rulecheck_finite(text: &[u8]) -> u32
     ensures { λ r. ⌜ r ≡ finiteNumber (now (text .entry)) ⌝ }
 {
-    let tested = number::test(text);
-    let twice = 2 * tested.compared as u32;
-    if tested.finite { twice + 1 } else { twice }
+    finite_number(text)
 }
 
 // The fields of the instant that `text` is: year, month, day, hour, minute, second, nanoseconds. `fields` takes at least 28 bytes, as a result does,
@@ -213,21 +210,5 @@ pub extern "C" fn rulecheck_finite(text: &[u8]) -> u32
 pub extern "C" fn rulecheck_instant(text: &[u8], fields: &mut [u8]) -> u32
     ensures { λ r. ⌜ InstantAnswered (now (text .entry)) (now (fields .entry)) (now (fields .exit)) r ⌝ }
 {
-    if fields.len() < RESULT_BYTES {
-        return 3;
-    }
-    let Parsed::Instant(found) = timestamp::parse(text) else {
-        return 20;
-    };
-    let numbers = [
-        found.year,
-        found.month,
-        found.day,
-        found.hour,
-        found.minute,
-        found.second,
-        found.nanoseconds,
-    ];
-    put_numbers(fields, 0, &numbers);
-    0
+    instant_fields(text, fields)
 }

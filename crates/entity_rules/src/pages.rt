@@ -1,8 +1,8 @@
 // A whole rule book for a host: the wall sheet, with its two numbers as bytes.
-use crate::counts::lent_for;
-use crate::counts::write_counts;
+use crate::path_lent;
 use crate::setting;
 use definition::limits::SCRATCH_WORDS;
+use host_numbers::counts::write_counts;
 use wall::WALL_NUMBERS;
 use wall::wall;
 ghost use lib.ListN.{length};
@@ -27,7 +27,7 @@ pub extern "C" fn rulecheck_wall(
     ensures { λ r. ⌜ WallAnswered (wallEntryAnswer kind semantics (now (label .entry)) (now (table .entry)) (now (schema .entry)) (now (book .entry)) (length (now (path .entry))) (length (now (pages .entry))) (length (now (result .entry)))) (now (path .entry)) (now (path .exit)) (now (pages .entry)) (now (pages .exit)) (now (result .entry)) (now (result .exit)) r ⌝ }
 {
     let mut scratch = [0u32; SCRATCH_WORDS];
-    let lent = lent_for(WALL_BYTES, path.len(), result.len());
+    let lent = path_lent(WALL_BYTES, path.len(), result.len());
     let numbers = wall(
         setting(kind),
         setting(semantics),

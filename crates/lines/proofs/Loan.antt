@@ -155,7 +155,7 @@ module _ {M : Type 1} (𝓤 : URA M) (H : Heap 𝓤) (A : Atoms 𝓤) (W : Given
           → Seq K W (raw (Next E Reads stands 𝓤 H A .post (to-next r l ν δ) u) ∷ raw (Kept l ν δ) ∷ Γ) G
       back t a r l ν δ u k = use2 W (later (some (λ (x : E .Denot). some (λ (z : Lines). Returned r l u x z)))) (comes-back r l ν δ u) $ await t a $ pick t (λ x. pick t (λ z. learn t (λ e. split t $ move t (1 ∷ []) $ split3 t $ move t (3 ∷ []) $ k x z e)))
 
--- what was read by a reader that stands at n in s
+-- what was read by a reader that is at n in s
 pub stands-at : {A : Type 0} (Reads : List ℕ → ℕ → A → Type 0) (s : RefT (List ℕ)) (n : ℕ) (r : Lines) (t : A) → (r .sheet ≡ s) × (r .at ≡ n) → Reads (now (r .sheet)) (r .at) t → Reads (now s) n t
 stands-at Reads s n r t e h = subst (λ (i : ℕ). Reads (now s) i t) (e .1) (subst (λ (z : RefT (List ℕ)). Reads (now z) (r .at) t) (e .0) h)
 

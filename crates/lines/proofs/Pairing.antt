@@ -101,7 +101,7 @@ module _ (E₁ E₂ : RattleType) (Reads₁ : List ℕ → ℕ → E₁ .Denot �
         back 𝓤 H A W κ q E₁ Reads₁ stands₁ ! tt r l₃ ν δ a (λ x z e₁. move ! (3 ∷ []) $
         -- [the answer; _3; what the struct owns; the token; what s owns; room for _8; …; _7; …; _6; …; room for _5; …; room for _4; …; …; _2; …; _1; …; room for _0; …]
         peeks ! E₁ (Is E₁) (shows 𝓤 H A E₁) x (a ∷ []) (λ is₁. land ! (from ! (stop !)) (init ! 13 refl (typed₁ x a is₁)) $
-        -- and once more by _8, where it stands now
+        -- and once more by _8, where it is now
         assigns ! (addr ! (from ! (stop !))) (from ! (stop !)) (init ! 5 refl (tt, tt)) $ move ! (1 ∷ 2 ∷ 3 ∷ []) $ lend 𝓤 H A W κ q E₂ Reads₂ stands₂ ! tt z (T′.lowered z) l₃ (λ ν′ δ′.
         -- [what `second` asks; the lender's part; the first answer; what s owns; _8; …; _7; …; _6; …; room for _5; …; _4; …; …; _2; …; _1; …; room for _0; …]
         calls-at ! fm (Next E₂ Reads₂ stands₂ 𝓤 H A) known-second (to-next 𝓤 H A W κ q E₂ Reads₂ stands₂ z l₃ ν′ δ′) (and-then ! (load ! (from ! (stop !)) (look ! 4 refl)) (no-more !)) (λ b.

@@ -1,7 +1,8 @@
 -- Where a line reader is: after the head that it read, or where it was if it read none; and whether a sheet ends there.
-use Prim.Native.Nat.{ℕ, _<_, _≤_}
-use mathlib.Core.Bool.{Bool, true, false}
+use Prim.Native.Nat.{ℕ, _/_, _<_, _≤_}
+use mathlib.Core.Bool.{Bool, true, false, cond}
 use mathlib.Core.List.{List}
+use lib.Dec.{eqb}
 use lib.ListN.{length}
 use Rattle.sheet.specs.declared.schema_heads.SchemaHeadRead.{SchemaHeadRead}
 use Rattle.sheet.specs.declared.schema_heads.SchemaHeadRead.the-variants as schema
@@ -32,9 +33,17 @@ abbrev pub conditionEnd : ConditionRead → ℕ → ℕ
 conditionEnd (condition.Is h next) at = next
 conditionEnd condition.Bad at = at
 
+-- 0 where no condition that only values follow was read, else four times the place and a little more
+abbrev pub plainStop : ℕ → ℕ → ℕ
+plainStop read at = cond (eqb read 0) at (read / 4)
+
 abbrev pub valueEnd : ValueRead → ℕ → ℕ
 valueEnd (value.Is h next) at = next
 valueEnd value.Bad at = at
+
+-- 0 where no value that holds no others was read
+abbrev pub leafStop : ℕ → ℕ → ℕ
+leafStop read at = cond (eqb read 0) at read
 
 abbrev pub keyEnd : KeyRead → ℕ → ℕ
 keyEnd (key.Is k next) at = next

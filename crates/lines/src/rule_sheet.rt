@@ -6,20 +6,14 @@ use sheet::rule_heads::KeyRead;
 use sheet::rule_heads::RuleHeadRead;
 use sheet::rule_heads::ValueRead;
 ghost use mathlib.Core.Path.{_≡_};
-ghost use Rattle.sheet.specs.Places.{RuleIs, ConditionIs, ValueIs, KeyIs};
-ghost use Rattle.lines.specs.Ends.{ruleEnd, conditionEnd, valueEnd, keyEnd};
+ghost use Rattle.sheet.specs.Places.{RuleIs, ConditionIs, PlainIs, ValueIs, LeafEnds, KeyIs};
+ghost use Rattle.lines.specs.Ends.{ruleEnd, conditionEnd, plainStop, valueEnd, leafStop, keyEnd};
 ghost use Rattle.lines.specs.Passed.{Passed, BothRead};
 
 // The heads of the sheet's first entry and of a condition after it.
 pub struct OpeningRead {
     pub head: RuleHeadRead,
     pub condition: ConditionRead,
-}
-
-// The heads of a key and of the value after it.
-pub struct MemberRead {
-    pub key: KeyRead,
-    pub value: ValueRead,
 }
 
 // Where the entry after the sheet's first entry starts; a reader that finds none stays where it is.
@@ -68,6 +62,30 @@ pub fn condition_head(sheet: &[u8], at: usize) -> ConditionRead
     next_condition(&mut lines)
 }
 
+// Where the entry after that of a condition which only values follow starts; a reader that finds none stays where it is.
+fn plain_stop(read: usize, at: usize) -> usize
+    ensures { λ r. ⌜ r ≡ plainStop read at ⌝ }
+{
+    if read == 0 { at } else { read / 4 }
+}
+
+// Where the next entry ends, and how many values follow, if it is that of a condition which only values follow, with the reader moved past it.
+pub fn next_plain<'s, 'a>(lines: &'s mut Lines<'a>) -> usize
+    ensures { λ r. ⌜ Passed PlainIs plainStop (now (lines .entry)) (now (lines .exit)) r ⌝ }
+{
+    let read = sheet::rule_heads::plain_condition(lines.sheet, lines.at);
+    lines.at = plain_stop(read, lines.at);
+    read
+}
+
+// The same of the entry that starts at `at`, for callers without a reader.
+pub fn plain_condition(sheet: &[u8], at: usize) -> usize
+    ensures { λ r. ⌜ PlainIs (now (sheet .entry)) at r ⌝ }
+{
+    let mut lines = new(sheet, at);
+    next_plain(&mut lines)
+}
+
 // Where the entry after a value's entry starts; a reader that finds none stays where it is.
 fn value_end(read: ValueRead, at: usize) -> usize
     ensures { λ r. ⌜ r ≡ valueEnd read at ⌝ }
@@ -93,6 +111,30 @@ pub fn value_head(sheet: &[u8], at: usize) -> ValueRead
 {
     let mut lines = new(sheet, at);
     next_value(&mut lines)
+}
+
+// Where the entry after that of a value which holds no others starts; a reader that finds none stays where it is.
+fn leaf_stop(read: usize, at: usize) -> usize
+    ensures { λ r. ⌜ r ≡ leafStop read at ⌝ }
+{
+    if read == 0 { at } else { read }
+}
+
+// Where the next entry ends, if it is that of a value which holds no others, with the reader moved past it.
+pub fn next_leaf<'s, 'a>(lines: &'s mut Lines<'a>) -> usize
+    ensures { λ r. ⌜ Passed LeafEnds leafStop (now (lines .entry)) (now (lines .exit)) r ⌝ }
+{
+    let read = sheet::rule_heads::leaf_end(lines.sheet, lines.at);
+    lines.at = leaf_stop(read, lines.at);
+    read
+}
+
+// Where the entry that starts at `at` ends, for callers without a reader.
+pub fn leaf_end(sheet: &[u8], at: usize) -> usize
+    ensures { λ r. ⌜ LeafEnds (now (sheet .entry)) at r ⌝ }
+{
+    let mut lines = new(sheet, at);
+    next_leaf(&mut lines)
 }
 
 // Where the entry after a key's entry starts; a reader that finds none stays where it is.
@@ -130,14 +172,4 @@ pub fn opening(sheet: &[u8], at: usize) -> OpeningRead
     let head = next_rule(&mut lines);
     let condition = next_condition(&mut lines);
     OpeningRead { head, condition }
-}
-
-// A key and its value, read by one reader.
-pub fn member(sheet: &[u8], at: usize) -> MemberRead
-    ensures { λ r. ⌜ BothRead KeyIs keyEnd ValueIs (now (sheet .entry)) at (r .key) (r .value) ⌝ }
-{
-    let mut lines = new(sheet, at);
-    let key = next_key(&mut lines);
-    let value = next_value(&mut lines);
-    MemberRead { key, value }
 }

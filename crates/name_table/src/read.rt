@@ -6,7 +6,6 @@ use sheet::entry::MarkRead;
 use sheet::numeral::NumeralRead;
 ghost use mathlib.Core.Bool.{cond, _&&_};
 ghost use mathlib.Core.Path.{_≡_};
-ghost use Prim.Native.Nat.{_≤_};
 ghost use Rattle.reference.specs.Table.{isSound};
 ghost use Rattle.scope.specs.Names.{rowBy};
 ghost use Rattle.name_table.specs.Tables.{MarksAre, RowIs, TableIs, LentIs};

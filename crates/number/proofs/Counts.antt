@@ -37,7 +37,7 @@ zero : tested (ascii "0") ≡ (true, 0)
 unfolding tested
 zero = refl
 
--- a digit other than 0 would stand at 10^308 here, and one place on
+-- a digit other than 0 would be at 10^308 here, and one place on
 zero-at-308 : tested (ascii "0e308") ≡ (true, 0)
 unfolding tested
 zero-at-308 = refl
@@ -116,7 +116,7 @@ last-but-one : tested (List._++_ (cut (take 307 bound)) (ascii "89")) ≡ (true,
 unfolding tested
 last-but-one = refl
 
--- what stands behind the 309th digit is not looked at
+-- what follows the 309th digit is not looked at
 half-behind : tested (List._++_ (cut bound) (ascii ".5")) ≡ (false, 309)
 unfolding tested
 half-behind = refl

@@ -43,7 +43,7 @@ module _ (d : ℕ) (ds : List ℕ) (nonzero : 0 < d) (t : tens (d ∷ ds) ≡ tr
   unfolding numeral
   first-most = lt-of-lt-of-le (numeral-most 0 (d ∷ ds) t) (le-of-eq (one-mul (10 ^ suc (length ds))))
 
-  -- behind 10^308: below 10^308 itself, which is below the limit
+  -- after 10^308: below 10^308 itself, which is below the limit
   place-below : (a b : ℕ) → suc (length ds) + a < 309 + b → numeral (d ∷ ds) * 10 ^ a < limit * 10 ^ b
   place-below a b h =
       lt-of-lt-of-le (mul-lt-mul-of-pos-right first-most (ten-pos a))

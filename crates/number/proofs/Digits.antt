@@ -74,7 +74,7 @@ zeros-through (d ∷ a) b h = go (eqb d 0) h (zeros-through a b)
     go true l e = omega (arith, e (le-of-suc-le-suc l))
     go false l e = absurd (not-suc-le-zero l)
 
--- the digits from the first nonzero one on, where that stands before the point, behind it, or nowhere
+-- the digits from the first nonzero one on, where that comes before the point, after it, or nowhere
 module _ (whole fraction : List ℕ) (w : ℕ) (is : w ≡ zeros (map digit whole)) where
   pub significant-whole : w < length whole → significant (map digit (whole ++ fraction)) ≡ map digit (drop w whole ++ fraction)
   unfolding significant
@@ -105,7 +105,7 @@ digit-out high low i h k =
     let n : length (map digit (high ++ low)) ≤ i = rw (length-map (high ++ low) digit, length-append high low) (omega (arith, h, k)) in
     sym (List·getD-eq-default (map digit (high ++ low)) 0 n)
 
--- digits against a bound's: what is left from place i on decides as the whole does, and is compared behind i digits
+-- digits against a bound's: what is left from place i on decides as the whole does, and is compared after i digits
 abbrev pub Left : List ℕ → List ℕ → ℕ → Type 0
 Left ds bs i = (isLess (drop i ds) (drop i bs) ≡ isLess ds bs) × (i + matched (drop i ds) (drop i bs) ≡ matched ds bs)
 

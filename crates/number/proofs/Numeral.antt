@@ -39,7 +39,7 @@ ten-pos n = one-le-pow n 10 (omega arith)
 tenfold : (a n : ℕ) → a * 10 ^ suc n ≡ a * 10 * 10 ^ n
 tenfold a n = ap (λ (k : ℕ). a * k) (pow-succ' 10 n) ∙ sym (mul-assoc a 10 (10 ^ n))
 
--- a row of n digits behind v writes from v * 10^n up to (v + 1) * 10^n
+-- a row of n digits after v writes from v * 10^n up to (v + 1) * 10^n
 pub numeral-least : (v : ℕ) (ds : List ℕ) → v * 10 ^ length ds ≤ numeralFrom v ds
 unfolding numeralFrom
 numeral-least v [] = omega (arith, mul-one v)
@@ -92,7 +92,7 @@ over-most a b p q hx hy h =
     le-trans (mul-le-mul-right p (le-of-lt hy))
     (rw (mul-right-comm b q p) (le-trans (mul-le-mul-right q (mul-le-mul-right p h)) (mul-le-mul-right q hx)))
 
--- one digit of each row, d and b, behind the same v: x is what v, d and a rest of one row write, y what v, b and a rest of the other
+-- one digit of each row, d and b, after the same v: x is what v, d and a rest of one row write, y what v, b and a rest of the other
 digit-says : (v d b x y p q : ℕ) (t : Bool)
     → (v * 10 + d) * p ≤ x → x < suc (v * 10 + d) * p
     → (v * 10 + b) * q ≤ y → y < suc (v * 10 + b) * q

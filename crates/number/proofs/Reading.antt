@@ -151,7 +151,7 @@ pub last-none : (lowered : Bool) (s : List ℕ) → digits s ≡ none → last l
 unfolding last bind
 last-none lowered s e = rw e
 
--- a rule at a place, by the byte that stands there
+-- a rule at a place, by the byte that is there
 module _ (s : List ℕ) (at : ℕ) (h : at < length s) where
   pub frac-point : getD s at 0 ≡ 0x2E → frac (drop at s) ≡ digits (drop (at + 1) s)
   unfolding frac

@@ -1,6 +1,6 @@
 // Takes a number text apart, rule by rule of RFC 8259, section 6.
 ghost use mathlib.Core.Path.{_≡_};
-ghost use Prim.Native.Nat.{ℕ, _+_, _≤_};
+ghost use Prim.Native.Nat.{_+_, _≤_};
 ghost use lib.ListN.{length, drop};
 ghost use Rattle.number.specs.Grammar.{isDigit, run, digits, int, frac, last, power, exp, unsigned, number};
 ghost use Rattle.number.specs.Parts.{Ends, Spans, Raises, Splits};

@@ -34,7 +34,7 @@ stock-bytes : length stockText ≡ tableBytes
 unfolding stockText
 stock-bytes = refl
 
--- bytes behind the table do not matter to a call, though they are no part of a table
+-- bytes after the table do not matter to a call, though they are no part of a table
 bytes-behind : tableIn (stockText ++ (0 ∷ [])) ≡ tableIn []
 unfolding stockText
 bytes-behind = refl

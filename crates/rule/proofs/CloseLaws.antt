@@ -31,7 +31,7 @@ entry-closed mid at w {behind} word reads inside e small =
 pub kept-closed : {before mid : List ℕ} {w end : ℕ} (x : ℕ) → Kept before mid (w + 1) end → w < end → Kept before (set mid w x) w end
 kept-closed {mid} {w} {end} x kept h = kept-then kept (kept-set mid w x {a = w} {b = end} (omega arith) h) (omega arith) (omega arith) (omega arith) (omega arith)
 
--- the words behind are as they were
+-- the words after are as they were
 pub agree-closed : (mid : List ℕ) (w x : ℕ) {b : ℕ} → Agree mid (set mid w x) (w + 1) b
 agree-closed mid w x = agree-above (kept-set mid w x {a = w} {b = w + 1} (omega arith) (omega arith)) (omega arith)
 

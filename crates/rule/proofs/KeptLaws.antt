@@ -64,7 +64,7 @@ pub ready-inside : {s words : List ℕ} {n m behind word left : ℕ} {c : Cursor
     → Ready s words m (record { at = behind; word = word; left = left })
 ready-inside ready inside h = record { small = ready .small; room = ready .room; inside = inside; budget = omega (arith, ready .budget) }
 
--- behind the last word
+-- after the last word
 pub getD-behind : (words : List ℕ) (i : ℕ) → length words ≤ i → getD words i 0 ≡ 0
 getD-behind [] i h = refl
 getD-behind (w ∷ words) zero h = absurd (omega arith)

@@ -48,7 +48,7 @@ unfolding risen risenBy
 fallen before noPairs = refl
 fallen before (pair key v others) = fallen (some key) others
 
--- each key stands behind the given one
+-- each key comes after the given one
 abbrev AllAbove : Text → Pairs → Type 0
 AllAbove key noPairs = Unit {0}
 AllAbove key (pair k v others) = (precedes key k ≡ true) × AllAbove key others

@@ -4,6 +4,7 @@ mod ConditionLaws
 mod KeptLaws
 mod KeyLaws
 mod LeafLaws
+mod PlainLaws
 mod ReaderLaws
 mod RuleLaws
 mod SearchLaws

@@ -70,7 +70,7 @@ module _ (s words : List ℕ) where
   unfolding start under entered andThen finish
   rule-headless-answer short e = (decode-short s short ∙ ap finish (rule-under (start s) ∙ ap (under (start s)) e), kept-all)
 
--- behind the first entry, which announced itself and its tree
+-- after the first entry, which announced itself and its tree
 abbrev tree-at : ℕ → Cursor
 tree-at behind = record { at = behind; word = 1; left = 2046 }
 

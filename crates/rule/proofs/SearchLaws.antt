@@ -1,5 +1,5 @@
 -- The search for a key that occurs twice, a step at a time.
-use Prim.Native.Nat.{ℕ, _+_, _-_, _≤_, _<_}
+use Prim.Native.Nat.{ℕ, _+_, _-_, _<_}
 use mathlib.Core.Bool.{Bool, true, false, false≢true}
 use mathlib.Core.List.{List, _++_}
 use mathlib.Core.Option.{none, some, Option·none-ne-some}
@@ -106,7 +106,7 @@ reads-entry {s} {start} {behind} {key} reads =
     let to : behind ≡ start + (behind - start) = omega (arith, reads .past) in
     subst (λ (to : ℕ). ReadsTo keyHead s start key to) to reads
 
--- Whether none of those stands twice: none is left, this one stands again, or it does not.
+-- Whether none of those occurs twice: none is left, this one occurs again, or it does not.
 module _ (s words : List ℕ) (i n : ℕ) where
   pub twice-none : n ≡ 0 → NoneTwice s words i n true
   unfolding countOfPairs noneTwice keysOf

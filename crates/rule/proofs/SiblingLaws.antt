@@ -12,7 +12,7 @@ use Rattle.rule.specs.IndexLaws.{Agree, agree-within, agree-then, agree-
 use Rattle.rule.specs.Read.{aheadOf, Kept, Ready, Indexed}
 use Rattle.rule.proofs.KeptLaws.{kept-all, kept-then, agree-below}
 
--- A kind of siblings. What is carried along goes from each to the next; `ending` is what is carried behind the last.
+-- A kind of siblings. What is carried along goes from each to the next; `ending` is what is carried after the last.
 pub record Siblings (K E T : Type 0) : Type 1 where
   pub item : Reader Ahead E
   pub all : ℕ → Reader Ahead T
@@ -120,7 +120,7 @@ module _ {K E T : Type 0} {S : Siblings K E T} {s before words : List ℕ} {firs
         budget = omega arith;
       }
 
-  -- all have been read, and what is carried behind the last is what is at hand
+  -- all have been read, and what is carried after the last is what is at hand
   pub siblings-ended : n ≡ 0 → paid ≡ 0
       → (i : Indexed (S .all count) (S .AllAt) (S .allSize) s before words cost c here) × (S .ending first (i .tree) ≡ k)
   unfolding andThen pure

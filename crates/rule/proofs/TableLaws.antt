@@ -3,7 +3,7 @@ use Prim.Native.Nat.{ℕ, zero, suc, _+_, _*_, _-_, _/_, _%_, _≤_, _<_}
 use mathlib.Core.Bool.{Bool, true, false, not, _&&_, _||_, false≢true}
 use mathlib.Core.List.{List, [], _∷_}
 use mathlib.Core.Option.{none, some, Option·none-ne-some}
-use mathlib.Core.Path.{_≡_, refl, sym, ap, _∙_, subst, subst₂}
+use mathlib.Core.Path.{_≡_, refl, sym, ap, _∙_}
 use native.Mathlib.Omega.{arith}
 use native.Mathlib.Numerals.{add-one}
 use lib.Dec.{eqb}
@@ -18,7 +18,7 @@ use Rattle.sheet.specs.Places.{ReadsTo}
 use Rattle.sheet.specs.Parts.{partOf}
 use Rattle.sheet.specs.declared.part.Part.{Part}
 use Rattle.definition.specs.Limits.{maxRuleEntries}
-use Rattle.definition.specs.Tree.{Text, Value, Pairs, noPairs, pair}
+use Rattle.definition.specs.Tree.{Text, Pairs, noPairs, pair}
 use Rattle.definition.specs.Decode.{keysOf}
 use Rattle.rule.specs.Index.{startOf, endOf, countOfPairs, PairsAt}
 use Rattle.rule.specs.Keys.{NoneTwice}
@@ -174,7 +174,7 @@ apart-none (key ∷ keys) = apart-none keys
 none-seen : (keys : List Text) → allNew [] keys ≡ noneTwice keys
 none-seen keys = all-new [] keys ∙ rw (apart-none keys)
 
--- whether `n` keys, whose words begin at `i`, are none of those seen, and none of them stands twice
+-- whether `n` keys, whose words begin at `i`, are none of those seen, and none of them occurs twice
 pub record NewBehind (s words : List ℕ) (seen : List Placed) (i n : ℕ) (r : Bool) : Type 0 where
   pub told : (ps : Pairs) → PairsAt s words i ps → countOfPairs ps ≡ n → r ≡ allNew (textsOf seen) (keysOf ps)
 
@@ -200,7 +200,7 @@ pub record Table (s words links heads : List ℕ) (seen : List Placed) : Type 0 
   pub chained : Chained s words links seen
   pub falls : (i : ℕ) → getD links i 0 ≤ 2 * i
 
--- a link more, for a word that stands behind
+-- a link more, for a word that comes after
 chained-frame : (s words links : List ℕ) (i x : ℕ) (seen : List Placed) → Before i seen → Chained s words links seen → Chained s words (set links (i / 2) x) seen
 chained-frame s words links i x [] before chained = tt
 chained-frame s words links i x (p ∷ earlier) before chained =

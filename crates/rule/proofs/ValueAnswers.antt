@@ -61,7 +61,7 @@ module _ (s words : List ℕ) (depth : ℕ) (c : Cursor) where
       let below : depth ≡ suc (depth - 1) = omega arith in
       (ap (λ (d : ℕ). valueIn d (aheadOf s c)) below ∙ value-headless (depth - 1) (aheadOf s c) e, kept-all)
 
--- inside an entry, behind its head
+-- inside an entry, after its head
 abbrev inside : Cursor → (behind cost : ℕ) → Cursor
 inside c behind cost = record { at = behind; word = c .word + 1; left = c .left - cost }
 

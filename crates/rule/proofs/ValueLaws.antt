@@ -90,7 +90,7 @@ pairs-count (suc n) p a b ps e =
     let z : countOfPairs (y .fst) ≡ n = pairs-count n p (x .mid) (y .mid) (y .fst) (y .first) in
     ap countOfPairs (sym (some-both (y .second) .0)) ∙ omega arith
 
--- An object's keys and values, by whether a key stands twice.
+-- An object's keys and values, by whether a key occurs twice.
 module _ (n : ℕ) (p : Reader Ahead Value) (a : Ahead) where
   tested : Option (Pairs × Ahead) → Option (Pairs × Ahead)
   tested o = andThen o (λ ps. ensure (noneTwice (keysOf ps)) >> pure ps)

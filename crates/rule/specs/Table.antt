@@ -1,5 +1,5 @@
 -- The table in which the keys of a wide object are looked up: keys with the same slot make a chain, the latest first.
-use Prim.Native.Nat.{ℕ, _+_, _*_, _-_, _/_, _%_, _≤_, _<_}
+use Prim.Native.Nat.{ℕ, _+_, _*_, _/_, _%_, _≤_}
 use mathlib.Core.Bool.{Bool, cond}
 use mathlib.Core.List.{List, [], _∷_}
 use mathlib.Core.Option.{some}
@@ -14,7 +14,7 @@ use Rattle.definition.specs.Tree.{Text}
 use Rattle.rule.specs.Index.{startOf}
 
 abbrev pub slots : ℕ
-slots = 256
+slots = 512
 
 -- a key's bytes, stirred to 32 bits; the upper 8 of them are its slot
 unfoldable pub stirred : ℕ → Text → ℕ
@@ -22,7 +22,7 @@ stirred h [] = h
 stirred h (b ∷ key) = stirred ((h + b) * 2654435761 % 4294967296) key
 
 unfoldable pub slotOf : Text → ℕ
-slotOf key = stirred 0 key / 16777216
+slotOf key = stirred 0 key / 8388608
 
 -- a key, with its word in the index
 abbrev pub Placed : Type 0

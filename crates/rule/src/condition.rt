@@ -5,6 +5,7 @@ use crate::cursor::word_of;
 use crate::value::read_values;
 use definition::limits::MAX_VALUE_NESTING;
 use lines::rule_sheet::condition_head;
+use lines::rule_sheet::plain_condition;
 use sheet::rule_heads::ConditionHead;
 use sheet::rule_heads::ConditionRead;
 ghost use mathlib.Core.Path.{_≡_};
@@ -94,6 +95,38 @@ pub fn read_headed(
     TreeRead::Good(next)
 }
 
+// A condition among others. Most are followed by values alone: these need no call, and no head that goes through memory.
+fn read_sibling(s: &[u8], words: &mut [u32], depth: usize, c: Cursor) -> TreeRead
+    requires { ⌜ Ready (now s) (now words) 1 c ⌝ }
+    ensures { λ r. ⌜ ConditionAnswer (now (s .entry)) (now (words .entry)) (now (words .exit)) depth c r ⌝ }
+{
+    if depth == 0 {
+        return TreeRead::Bad;
+    }
+    let at = c.at;
+    let word = c.word;
+    let left = c.left;
+    let plain = plain_condition(s, at);
+    if plain == 0 {
+        let head = condition_head(s, at);
+        return read_headed(s, words, depth, c, head);
+    }
+    let values = plain % 4;
+    if left < values {
+        return TreeRead::Bad;
+    }
+    let inner = Cursor {
+        at: plain / 4,
+        word: word + 1,
+        left: left - values,
+    };
+    let TreeRead::Good(end) = read_values(s, words, MAX_VALUE_NESTING, values, inner) else {
+        return TreeRead::Bad;
+    };
+    words[word] = word_of(at, end.word);
+    TreeRead::Good(end)
+}
+
 // `count` conditions, side by side.
 fn read_conditions(s: &[u8], words: &mut [u32], depth: usize, count: usize, c: Cursor) -> TreeRead
     requires { ⌜ Ready (now s) (now words) count c ⌝ }
@@ -102,8 +135,7 @@ fn read_conditions(s: &[u8], words: &mut [u32], depth: usize, count: usize, c: C
     let mut here = c;
     let mut n = count;
     while 0 < n {
-        let head = condition_head(s, here.at);
-        let TreeRead::Good(next) = read_headed(s, words, depth, here, head) else {
+        let TreeRead::Good(next) = read_sibling(s, words, depth, here) else {
             return TreeRead::Bad;
         };
         // Field by field: a copy of the whole waits for what was just stored.

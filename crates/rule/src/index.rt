@@ -1,4 +1,4 @@
-// The words of the index. The word of entry i + 1 stands at i: where the entry starts, and the word behind its subtree.
+// The words of the index. The word of entry i + 1 is at i: where the entry starts, and the word after its subtree.
 use definition::limits::WORD_ENTRIES;
 ghost use mathlib.Core.Path.{_≡_};
 ghost use Rattle.rule.specs.Index.{startOf, endOf};
@@ -13,7 +13,7 @@ pub fn start_of(words: &[u32], i: usize) -> usize
     0
 }
 
-// The word behind the subtree of word `i`: that of its next sibling, if it has one.
+// The word after the subtree of word `i`: that of its next sibling, if it has one.
 pub fn end_of(words: &[u32], i: usize) -> usize
     ensures { λ r. ⌜ r ≡ endOf (now (words .entry)) i ⌝ }
 {

@@ -20,11 +20,11 @@ ghost use Rattle.rule.specs.Table.{slots, slotOf, Falls, IsChained};
 const FEW_KEYS: usize = 12;
 
 // The table lies in the frame of a value, and values nest, so it is kept small.
-const SLOTS: usize = 256;
+const SLOTS: usize = 512;
 
 const LINKS: usize = 1024;
 
-// Whether the bytes of a part stand at another place too. An entry's bytes and its key say the same, so keys need not be read again.
+// Whether the bytes of a part are at another place too. An entry's bytes and its key say the same, so keys need not be read again.
 fn stands_at(s: &[u8], part: Part, at: usize) -> bool
     ensures { λ r. ⌜ r ≡ sameBytes (partOf (now (s .entry)) part) (partOf (now (s .entry)) (record { start = at; len = part .len })) ⌝ }
 {
@@ -39,7 +39,7 @@ fn stands_at(s: &[u8], part: Part, at: usize) -> bool
     }
 }
 
-// Whether the key of an entry stands among `count` keys, whose words begin at `first`.
+// Whether the key of an entry is among `count` keys, whose words begin at `first`.
 fn stands_among(s: &[u8], words: &[u32], entry: Part, first: usize, count: usize) -> bool
     ensures { λ r. ⌜ StandsAmong (now (s .entry)) (now (words .entry)) entry first count r ⌝ }
 {
@@ -55,7 +55,7 @@ fn stands_among(s: &[u8], words: &[u32], entry: Part, first: usize, count: usize
     false
 }
 
-// Whether none of a few keys, whose words begin at `first`, stands twice: each is compared with those behind it.
+// Whether none of a few keys, whose words begin at `first`, occurs twice: each is compared with those after it.
 fn few_differ(s: &[u8], words: &[u32], first: usize, count: usize) -> bool
     ensures { λ r. ⌜ NoneTwice (now (s .entry)) (now (words .entry)) first count r ⌝ }
 {
@@ -89,10 +89,10 @@ fn slot_of(key: &[u8]) -> usize
         mixed = (mixed + key[i] as usize) * 2654435761 % 4294967296;
         i += 1;
     }
-    mixed / 16777216
+    mixed / 8388608
 }
 
-// Whether the key of an entry stands in the chain from `from` on.
+// Whether the key of an entry is in the chain from `from` on.
 fn is_chained(s: &[u8], words: &[u32], links: &[u16], entry: Part, from: usize) -> bool
     requires { ⌜ Falls (now links) from ⌝ }
     ensures { λ r. ⌜ IsChained (now (s .entry)) (now (words .entry)) (now (links .entry)) entry from r ⌝ }
@@ -107,7 +107,7 @@ fn is_chained(s: &[u8], words: &[u32], links: &[u16], entry: Part, from: usize) 
     false
 }
 
-// Whether the word behind a key and its value may be that of the next key.
+// Whether the word after a key and its value may be that of the next key.
 fn is_further(i: usize, next: usize) -> bool
     requires { ⌜ i ≤ maxRuleEntries ⌝ }
     ensures { λ r. ⌜ (r ≡ true → (i + 2 ≤ next) × (next ≤ maxRuleEntries)) ⌝ }
@@ -118,7 +118,7 @@ fn is_further(i: usize, next: usize) -> bool
     next <= MAX_RULE_ENTRIES
 }
 
-// Whether none of many keys, whose words begin at `first`, stands twice: each is looked up among those before it that share its slot.
+// Whether none of many keys, whose words begin at `first`, occurs twice: each is looked up among those before it that share its slot.
 fn many_differ(s: &[u8], words: &[u32], first: usize, count: usize) -> bool
     requires { ⌜ first ≤ maxRuleEntries ⌝ }
     ensures { λ r. ⌜ NoneTwice (now (s .entry)) (now (words .entry)) first count r ⌝ }
@@ -153,7 +153,7 @@ fn many_differ(s: &[u8], words: &[u32], first: usize, count: usize) -> bool
     true
 }
 
-// Whether none of an object's `count` keys, whose words begin at `first`, stands twice.
+// Whether none of an object's `count` keys, whose words begin at `first`, occurs twice.
 pub fn none_twice(s: &[u8], words: &[u32], first: usize, count: usize) -> bool
     requires { ⌜ first ≤ maxRuleEntries ⌝ }
     ensures { λ r. ⌜ NoneTwice (now (s .entry)) (now (words .entry)) first count r ⌝ }

@@ -1,6 +1,6 @@
 // A rule sheet, read once: whether it is well formed, and an index of its entries in the lent scratch.
 pub mod index; // index.rt: the words of the index
-mod cursor; // cursor.rt: where reading stands
+mod cursor; // cursor.rt: where reading is
 mod keys; // keys.rt: the keys of an object
 mod value; // value.rt: values, with all that they hold
 mod condition; // condition.rt: conditions, with all that they hold

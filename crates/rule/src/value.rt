@@ -3,7 +3,8 @@ use crate::cursor::Cursor;
 use crate::cursor::TreeRead;
 use crate::cursor::word_of;
 use crate::keys::none_twice;
-use lines::rule_sheet::member;
+use lines::rule_sheet::key_head;
+use lines::rule_sheet::leaf_end;
 use lines::rule_sheet::value_head;
 use sheet::order::ByteOrder;
 use sheet::part::OptionalPart;
@@ -18,7 +19,6 @@ ghost use Prim.Native.Nat.{_*_, _≤_};
 ghost use Rattle.sheet.specs.Entries.{maxCount};
 ghost use Rattle.sheet.specs.Order.{follows};
 ghost use Rattle.sheet.specs.Parts.{partOf, optionalOf};
-ghost use Rattle.sheet.specs.Places.{ValueIs};
 ghost use Rattle.rule.specs.Read.{Ready, heldBy, countOf, costOf, HeldAnswer, ValueAnswer, ValuesAnswer, PairAnswer, PairsAnswer};
 
 // What a value holds.
@@ -31,7 +31,7 @@ pub enum Held {
 
 // What reading a key with its value finds.
 pub enum PairRead {
-    // The key, and the place behind the value.
+    // The key, and the place after the value.
     Good(Part, Cursor),
     // They are not well formed.
     Bad,
@@ -60,7 +60,7 @@ fn cost_of(held: Held) -> usize
     }
 }
 
-// Whether a key stands behind the one before it in the order of bytes, if there is one.
+// Whether a key comes after the one before it in the order of bytes, if there is one.
 fn is_next_key(s: &[u8], previous: OptionalPart, key: Part) -> bool
     ensures { λ r. ⌜ r ≡ follows (optionalOf (now (s .entry)) previous) (partOf (now (s .entry)) key) ⌝ }
 {
@@ -89,22 +89,13 @@ pub fn read_value(s: &[u8], words: &mut [u32], depth: usize, c: Cursor) -> TreeR
     requires { ⌜ Ready (now s) (now words) 1 c ⌝ }
     ensures { λ r. ⌜ ValueAnswer (now (s .entry)) (now (words .entry)) (now (words .exit)) depth c r ⌝ }
 {
-    let head = value_head(s, c.at);
-    read_headed(s, words, depth, c, head)
-}
-
-// A value whose head is read.
-fn read_headed(s: &[u8], words: &mut [u32], depth: usize, c: Cursor, read: ValueRead) -> TreeRead
-    requires { ⌜ Ready (now s) (now words) 1 c × ValueIs (now s) (c .at) read ⌝ }
-    ensures { λ r. ⌜ ValueAnswer (now (s .entry)) (now (words .entry)) (now (words .exit)) depth c r ⌝ }
-{
     if depth == 0 {
         return TreeRead::Bad;
     }
     let at = c.at;
     let word = c.word;
     let left = c.left;
-    let ValueRead::Is(head, behind) = read else {
+    let ValueRead::Is(head, behind) = value_head(s, at) else {
         return TreeRead::Bad;
     };
     let held = held_by(head);
@@ -117,16 +108,33 @@ fn read_headed(s: &[u8], words: &mut [u32], depth: usize, c: Cursor, read: Value
         word: word + 1,
         left: left - cost,
     };
-    // Most values hold nothing: these need no call.
-    if cost == 0 {
-        words[word] = word_of(at, word + 1);
-        return TreeRead::Good(inner);
-    }
     let TreeRead::Good(next) = read_held(s, words, depth - 1, held, inner) else {
         return TreeRead::Bad;
     };
     words[word] = word_of(at, next.word);
     TreeRead::Good(next)
+}
+
+// A value among others. Most hold nothing: these need no call, and no head that goes through memory.
+fn read_sibling(s: &[u8], words: &mut [u32], depth: usize, c: Cursor) -> TreeRead
+    requires { ⌜ Ready (now s) (now words) 1 c ⌝ }
+    ensures { λ r. ⌜ ValueAnswer (now (s .entry)) (now (words .entry)) (now (words .exit)) depth c r ⌝ }
+{
+    if depth == 0 {
+        return TreeRead::Bad;
+    }
+    let at = c.at;
+    let word = c.word;
+    let end = leaf_end(s, at);
+    if end == 0 {
+        return read_value(s, words, depth, c);
+    }
+    words[word] = word_of(at, word + 1);
+    TreeRead::Good(Cursor {
+        at: end,
+        word: word + 1,
+        left: c.left,
+    })
 }
 
 // What a value holds, its entries announced.
@@ -148,8 +156,7 @@ pub fn read_values(s: &[u8], words: &mut [u32], depth: usize, count: usize, c: C
     let mut here = c;
     let mut n = count;
     while 0 < n {
-        let head = value_head(s, here.at);
-        let TreeRead::Good(next) = read_headed(s, words, depth, here, head) else {
+        let TreeRead::Good(next) = read_sibling(s, words, depth, here) else {
             return TreeRead::Bad;
         };
         // Field by field: a copy of the whole waits for what was just stored.
@@ -170,9 +177,7 @@ fn read_pair(s: &[u8], words: &mut [u32], depth: usize, c: Cursor) -> PairRead
 {
     let at = c.at;
     let word = c.word;
-    let heads = member(s, at);
-    let first = heads.key;
-    let KeyRead::Is(key, behind) = first else {
+    let KeyRead::Is(key, behind) = key_head(s, at) else {
         return PairRead::Bad;
     };
     let inner = Cursor {
@@ -180,8 +185,7 @@ fn read_pair(s: &[u8], words: &mut [u32], depth: usize, c: Cursor) -> PairRead
         word: word + 1,
         left: c.left,
     };
-    let head = heads.value;
-    let TreeRead::Good(next) = read_headed(s, words, depth, inner, head) else {
+    let TreeRead::Good(next) = read_sibling(s, words, depth, inner) else {
         return PairRead::Bad;
     };
     words[word] = word_of(at, next.word);

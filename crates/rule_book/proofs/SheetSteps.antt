@@ -23,7 +23,7 @@ use Rattle.rule_book.specs.Places.{DigitsAre, LengthIs, sheetCount}
 
 -- Lengths.
 
--- one digit more, behind a value that is above a tenth of the file's length
+-- one digit more, after a value that is above a tenth of the file's length
 pub digits-beyond : (value first : ℕ) (s : List ℕ) (i at : ℕ) → i < length s → isDigit (getD s i 0) ≡ true
     → length s / 10 < value
     → digits value (drop i s) ≡ digits first (drop at s)

@@ -54,7 +54,7 @@ counting-start f book sheets e =
       passes = omega arith;
     }
 
--- the first sheet, and those behind it
+-- the first sheet, and those after it
 pub first-of : (x : List ℕ) (o : Option (List (List ℕ))) (rest : List (List ℕ)) → Option·map (λ (others : List (List ℕ)). x ∷ others) o ≡ some rest
     → (others : List (List ℕ)) × (o ≡ some others) × (rest ≡ x ∷ others)
 first-of x none rest e = absurd (Option·none-ne-some rest e)
@@ -166,7 +166,7 @@ module _ {f : List ℕ → Answer} {book counts : List ℕ} {read passed at : �
           each 22 (omega arith),
         )
 
--- The numbers and the buffers. The schema's index stands.
+-- The numbers and the buffers. The schema's index stays.
 
 pub record Tallying (setting : Setting) (label schema : List ℕ) (read : SchemaRead) (book pathBefore before path words counts : List ℕ) (sheets passed at : ℕ) : Type 0 where
   pub numbers : Counting (sheetAnswer any setting label schema) book counts sheets passed at

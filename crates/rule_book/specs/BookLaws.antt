@@ -14,7 +14,7 @@ use Rattle.sheet.specs.Reader.{Reader, _>>=_, _>>_, andThen, pure, either, orEl
 use Rattle.sheet.specs.ReaderLaws.{Reads, by-test, bind-inv, then-inv, bind-reads, then-reads, pure-inv}
 use Rattle.sheet.specs.Numeral.{decimal, decimalOf}
 use Rattle.sheet.specs.NumeralLaws.{decimal-sound, decimal-complete, decimalOf-begins}
-use Rattle.sheet.specs.Entries.{comma, bytes}
+use Rattle.sheet.specs.Entries.{bytes}
 use Rattle.sheet.specs.ItemLaws.{byte-sound, byte-complete, comma-begins}
 use Rattle.rule_book.specs.Book.{sheetIn, noMore, sheetsIn, sheetsOf, writeBook}
 

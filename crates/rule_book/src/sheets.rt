@@ -3,7 +3,6 @@ use sheet::entry::starts_with;
 use sheet::numeral::NumeralRead;
 use sheet::numeral::is_digit;
 use sheet::part::Part;
-ghost use mathlib.Core.Path.{_≡_};
 ghost use Prim.Native.Nat.{_≤_};
 ghost use lib.ListN.{length};
 ghost use Rattle.rule_book.specs.Places.{DigitsAre, LengthIs, SheetIs, CountIs};

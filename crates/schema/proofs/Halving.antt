@@ -14,11 +14,12 @@ use Rattle.sheet.specs.Parts.{partOf}
 use Rattle.sheet.specs.Order.{precedes, sameBytes}
 use Rattle.sheet.specs.OrderLaws.{sameBytes-equal, sameBytes-refl, sameBytes-symmetric, precedes-transitive, precedes-differs}
 use Rattle.definition.specs.Tree as Tree
-use Rattle.definition.specs.Tree.{Text, Field, field, Members, noMembers, member}
+use Rattle.definition.specs.Tree.{Text, Field, Members, noMembers, member}
 use Rattle.definition.specs.Within.{FieldRises, MembersRise}
 use Rattle.definition.specs.RisingLaws.{AllBehind, rising-behind}
 use Rattle.reference.specs.Walk.{lookup}
 use Rattle.schema.specs.Index.{maxSlots, slotName, countOf, below, belowMembers, FieldAt, MembersAt}
+use Rattle.schema.specs.IndexLaws.{slot-named}
 use Rattle.schema.specs.Slot.{HolderAt}
 use Rattle.schema.specs.Lookup.{FoundAt, LookedUp}
 use Rattle.schema.specs.declared.index.Holder.{Holder}
@@ -64,7 +65,7 @@ member-rises before i noMembers n f r p = absurd p
 member-rises before zero (member name e others) n f r p = rw (← (p .1)) (r .1)
 member-rises before (suc i) (member name e others) n f r p = member-rises (some name) i others n f (r .2) p
 
--- an earlier member stands before a later one
+-- an earlier member comes before a later one
 members-ordered : (before : Option Text) (i j : ℕ) (members : Members) (n m : Text) (f g : Field) → MembersRise before members → i < j
     → IsMember i members n f → IsMember j members m g → precedes n m ≡ true
 members-ordered before i j noMembers n m f g r h p q = absurd p
@@ -156,9 +157,6 @@ found-at s w k i members name rises slot m e =
     }
 
 -- The name that a slot leads to
-
-slot-named : (s w : List ℕ) (k low : ℕ) (name : Text) (f : Field) → FieldAt s w k low name f → partOf s (slotName w k) ≡ name
-slot-named s w k low name (field e kind o tag items members) at = at .2
 
 -- What is left of the `count` members in the slots from `first` on
 

@@ -2,19 +2,19 @@
 use Prim.Native.Nat.{ℕ, suc, _+_, _-_, _≤_, _<_}
 use mathlib.Core.Bool.{Bool, true, false}
 use mathlib.Core.List.{List, [], _∷_}
-use mathlib.Core.Option.{Option, none, some}
-use mathlib.Core.Path.{_≡_, refl, ap, _∙_}
+use mathlib.Core.Option.{Option, none, some, Option·some-injective, Option·none-ne-some, Option·some-ne-none}
+use mathlib.Core.Path.{_≡_, refl, sym, ap, _∙_}
 use native.Mathlib.Omega.{arith}
 use native.Mathlib.Nat.{add-zero}
 use native.Mathlib.Numerals.{add-one}
 use lib.ListN.{length}
 use borrow.Author.Tests.{eq-eqb, ne-eqb}
-use Rattle.sheet.specs.Reader.{_>>=_, _>>_, andThen, pure, ensure}
+use Rattle.sheet.specs.Reader.{Reader, _>>=_, _>>_, andThen, pure, ensure}
 use Rattle.sheet.specs.Order.{follows}
 use Rattle.definition.specs.Tree.{Text, Field, absent, element, Members, noMembers, member}
 use Rattle.definition.specs.Decode.{Ahead, toCount, elementOf, membersOf, fieldIn}
-use Rattle.schema.specs.Index.{maxSlots, hasElement, countOf, below, belowItems, belowMembers, FieldAt, MembersAt}
-use Rattle.schema.specs.IndexLaws.{MembersAt-kept}
+use Rattle.schema.specs.Index.{maxSlots, slotName, hasElement, countOf, below, belowItems, belowMembers, FieldAt, MembersAt}
+use Rattle.schema.specs.IndexLaws.{MembersAt-kept, slot-named}
 use Rattle.schema.specs.Kept.{Kept, OthersKept}
 use Rattle.schema.specs.Fields.{ahead, nameBefore, Moved, FieldGood, ItemsGood, MembersGood}
 use Rattle.sheet.specs.Parts.{partOf}
@@ -64,6 +64,51 @@ module _ (s a b : List ℕ) (depth : ℕ) (has : Bool) (here : has ≡ true) (sl
         others = good .others;
         moved = good .moved;
       })
+
+-- One sibling, whatever its name
+
+unfoldable alone : Option ((Text × Field) × Ahead) → Option (Members × Ahead)
+alone none = none
+alone (some r) = some (member (r .0 .0) (r .0 .1) noMembers, r .1)
+
+one-alone : (p : Reader Ahead (Text × Field)) (a : Ahead) (o : Option ((Text × Field) × Ahead)) → p a ≡ o → membersOf 1 none p a ≡ alone o
+unfolding membersOf _>>=_ _>>_ andThen ensure pure follows alone
+one-alone p a none e = rw e
+one-alone p a (some r) e = rw e
+
+pub one-none : (p : Reader Ahead (Text × Field)) (a : Ahead) → membersOf 1 none p a ≡ none → p a ≡ none
+unfolding alone
+one-none p a e = go (p a) refl
+  where
+    go : (o : Option ((Text × Field) × Ahead)) → p a ≡ o → p a ≡ none
+    go none q = q
+    go (some r) q = absurd (Option·some-ne-none _ (sym (one-alone p a (some r) q) ∙ e))
+
+module _ (s a b : List ℕ) (depth slot : ℕ) (from to : Cursor) (good : MembersGood s a b depth slot 1 from to) where
+  one-known : (name : Text) (f : Field) (rest : Ahead) → fieldIn depth (ahead s from) ≡ some ((name, f), rest)
+      → good .members ≡ member name f noMembers → rest ≡ ahead s to → FieldGood s a b depth slot from (partOf s (slotName b slot)) to
+  unfolding belowMembers
+  one-known name f rest reads only last =
+      let at : MembersAt s b slot (from .used) (member name f noMembers) = rw only at (good .indexed) in
+      let named = slot-named s b slot (from .used) name f (at .0) in
+      let moved : Moved s from to 1 (belowMembers (member name f noMembers)) = rw only at (good .moved) in
+      record {
+        f = f;
+        reads = rw (named, ← last) reads;
+        indexed = rw named (at .0);
+        others = good .others;
+        moved = record { at = moved .at; used = omega arith; room = moved .room; entries = omega arith };
+      }
+
+  pub one-good : FieldGood s a b depth slot from (partOf s (slotName b slot)) to
+  unfolding alone
+  one-good = go (fieldIn depth (ahead s from)) refl
+    where
+      go : (o : Option ((Text × Field) × Ahead)) → fieldIn depth (ahead s from) ≡ o → FieldGood s a b depth slot from (partOf s (slotName b slot)) to
+      go none e = absurd (Option·none-ne-some _ (sym (one-alone (fieldIn depth) (ahead s from) none e) ∙ good .reads))
+      go (some r) e =
+          let same = Option·some-injective _ _ (sym (good .reads) ∙ one-alone (fieldIn depth) (ahead s from) (some r) e) in
+          one-known (r .0 .0) (r .0 .1) (r .1) e (ap (λ (x : Members × Ahead). x .0) same) (sym (ap (λ (x : Members × Ahead). x .1) same))
 
 -- Siblings
 

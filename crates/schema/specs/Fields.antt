@@ -36,6 +36,9 @@ pub record SlotPut (before after : List ℕ) (k start entry child : ℕ) (name :
   pub named : slotName after k ≡ name
   pub others : OthersKept before after k 1 0 0
 
+abbrev pub cursorOf : (next used at : ℕ) → Cursor
+cursorOf next used at = record { next = next; used = used; at = at }
+
 -- what lies ahead of a cursor
 abbrev pub ahead : List ℕ → Cursor → Ahead
 ahead s c = record { next = c .next; left = maxSlots - c .used; rest = drop (c .at) s }

@@ -1,4 +1,4 @@
--- The index of a schema in the scratch: a slot of two words for each field. The children of a field stand in neighbouring slots, its
+-- The index of a schema in the scratch: a slot of two words for each field. The children of a field are in neighbouring slots, its
 -- element first, then its properties in the order of their names; they are followed by the slots of what lies below them, child by child.
 use Prim.Native.Nat.{ℕ, _+_, _-_, _*_, _/_, _%_}
 use mathlib.Core.Bool.{Bool, true, false}
@@ -36,7 +36,7 @@ nameWord words k = getD words (firstWord + 2 * k + 1) 0
 abbrev pub childSlot : List ℕ → ℕ → ℕ
 childSlot words k = nameWord words k % 4096
 
--- where its name stands: less than 32 bytes after the start of its entry
+-- where its name is: less than 32 bytes after the start of its entry
 abbrev pub slotName : List ℕ → ℕ → Part
 slotName words k = record { start = placeWord words k / 4096 + nameWord words k / 4096 % 32; len = nameWord words k / 131072 }
 

@@ -6,9 +6,10 @@ use mathlib.Core.Option.{Option·some-injective}
 use mathlib.Core.Path.{_≡_, refl, sym, ap, _∙_}
 use native.Mathlib.Omega.{arith}
 use Rattle.sheet.specs.Entries.{FieldHead}
+use Rattle.sheet.specs.Parts.{partOf}
 use Rattle.definition.specs.Tree.{Text, Field, field, Items, absent, element, Members, noMembers, member}
 use Rattle.definition.specs.Decode.{toCount}
-use Rattle.schema.specs.Index.{hasElement, elements, countOf, below, belowItems, belowMembers, HeadAt, FieldAt, ItemsAt, MembersAt}
+use Rattle.schema.specs.Index.{slotName, hasElement, elements, countOf, below, belowItems, belowMembers, HeadAt, FieldAt, ItemsAt, MembersAt}
 use Rattle.schema.specs.Kept.{SlotKept, SlotsKept}
 
 mutual
@@ -41,6 +42,10 @@ mutual
         (λ j p q. here j (omega arith) (omega arith))
         (λ j p q. there j (omega arith) (omega arith)) (h .1),
   )
+
+-- a slot's name is in its words
+pub slot-named : (s w : List ℕ) (k low : ℕ) (name : Text) (f : Field) → FieldAt s w k low name f → partOf s (slotName w k) ≡ name
+slot-named s w k low name (field e kind o tag items members) at = at .2
 
 -- Whatever two trees have the same index are the same.
 

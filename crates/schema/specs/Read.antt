@@ -50,7 +50,7 @@ pub record SchemaAnswer (sheet before after : List ℕ) (r : SchemaRead) : Type 
   pub kept : Kept before after
   pub answer : SchemaIs sheet after r
 
--- The record or the arguments, in the slots behind those in use
+-- The record or the arguments, in the slots after those in use
 
 pub record HolderPlaced (sheet words : List ℕ) (h : Holder) (t : Tree.Holder) : Type 0 where
   pub marked : h .opened ≡ t .isOpen

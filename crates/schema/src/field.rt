@@ -1,5 +1,6 @@
 // A schema sheet, read from left to right: fields within fields by recursion, siblings by a loop, so that the stack goes as deep as the fields nest.
 use crate::index::MAX_SLOTS;
+use crate::index::name_of_slot;
 use crate::index::put_slot;
 use crate::index::to_count;
 use sheet::order::ByteOrder;
@@ -7,11 +8,11 @@ use sheet::part::Part;
 use sheet::schema_heads::FieldRead;
 ghost use mathlib.Core.Path.{_≡_};
 ghost use Rattle.definition.specs.Decode.{toCount};
-ghost use Rattle.schema.specs.Fields.{Ready, FieldAnswer, ItemsAnswer, MembersAnswer, nameBefore};
+ghost use Rattle.schema.specs.Fields.{Ready, FieldAnswer, ItemsAnswer, MembersAnswer, cursorOf, nameBefore};
 ghost use Rattle.sheet.specs.Parts.{partOf};
 ghost use Rattle.sheet.specs.Order.{follows};
 
-// Where reading stands: the next entry's number, how many slots are in use, and the next byte.
+// Where reading is: the next entry's number, how many slots are in use, and the next byte.
 pub struct Cursor {
     pub next: usize,
     pub used: usize,
@@ -69,14 +70,16 @@ fn read_field(sheet: &[u8], words: &mut [u32], depth: usize, slot: usize, from: 
         depth - 1,
         low + elements,
         head.count,
-        behind,
+        behind.next,
+        behind.used,
+        behind.at,
     ) else {
         return OneRead::Bad;
     };
     OneRead::Good(name, to)
 }
 
-// The element, if there is one: it has no name.
+// The element, if there is one: it has no name. It is read as one sibling, so that `read_field` has one caller and is built into it.
 fn read_element(
     sheet: &[u8],
     words: &mut [u32],
@@ -89,9 +92,19 @@ fn read_element(
     ensures { λ r. ⌜ ItemsAnswer (now (sheet .entry)) (now (words .entry)) (now (words .exit)) depth has slot from r ⌝ }
 {
     if has {
-        let OneRead::Good(name, to) = read_field(sheet, words, depth, slot, from) else {
+        let ManyRead::Good(to) = read_members(
+            sheet,
+            words,
+            depth,
+            slot,
+            1,
+            from.next,
+            from.used,
+            from.at,
+        ) else {
             return ManyRead::Bad;
         };
+        let name = name_of_slot(words, slot);
         if sheet::part::bytes_of(sheet, name).len() == 0 {
             return ManyRead::Good(to);
         }
@@ -100,7 +113,7 @@ fn read_element(
     ManyRead::Good(from)
 }
 
-// Whether a name may stand behind that of the sibling before it, if there is one.
+// Whether a name may come after that of the sibling before it, if there is one.
 fn rises(sheet: &[u8], i: usize, before: Part, name: Part) -> bool
     ensures { λ r. ⌜ r ≡ follows (nameBefore (now (sheet .entry)) i before) (partOf (now (sheet .entry)) name) ⌝ }
 {
@@ -117,19 +130,22 @@ fn rises(sheet: &[u8], i: usize, before: Part, name: Part) -> bool
     }
 }
 
-// Siblings, as many as announced: their names rise.
+// Siblings, as many as announced: their names rise. The place goes by three numbers: a structure would be copied by sixteen bytes, which waits for
+// what was just stored by eights.
 pub fn read_members(
     sheet: &[u8],
     words: &mut [u32],
     depth: usize,
     first: usize,
     count: usize,
-    from: Cursor,
+    next: usize,
+    used: usize,
+    at: usize,
 ) -> ManyRead
-    requires { ⌜ Ready (now sheet) (now words) from first count ⌝ }
-    ensures { λ r. ⌜ MembersAnswer (now (sheet .entry)) (now (words .entry)) (now (words .exit)) depth first count from r ⌝ }
+    requires { ⌜ Ready (now sheet) (now words) (cursorOf next used at) first count ⌝ }
+    ensures { λ r. ⌜ MembersAnswer (now (sheet .entry)) (now (words .entry)) (now (words .exit)) depth first count (cursorOf next used at) r ⌝ }
 {
-    let mut to = from;
+    let mut to = Cursor { next, used, at };
     let mut before = Part { start: 0, len: 0 };
     let mut i = 0;
     while i < count {

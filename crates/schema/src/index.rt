@@ -1,4 +1,4 @@
-// The slots of the index: two words for each field, behind the words of a rule.
+// The slots of the index: two words for each field, after the words of a rule.
 use definition::limits::MAX_RULE_ENTRIES;
 use definition::limits::MAX_SCHEMA_ENTRIES;
 use definition::limits::WORD_ENTRIES;
@@ -76,7 +76,7 @@ fn name_word(words: &[u32], k: usize) -> u32
     word_at(words, FIRST_WORD + 2 * k + 1)
 }
 
-// Where the name of the field in slot `k` stands, found without reading its entry.
+// Where the name of the field in slot `k` is, found without reading its entry.
 pub fn name_of_slot(words: &[u32], k: usize) -> Part
     ensures { λ r. ⌜ r ≡ slotName (now (words .entry)) k ⌝ }
 {
@@ -99,7 +99,7 @@ pub fn put_slot(words: &mut [u32], k: usize, start: usize, entry: usize, child: 
 }
 
 // The head of slot `k`, read again.
-pub fn head_of(sheet: &[u8], words: &[u32], k: usize) -> KnownField
+fn head_of(sheet: &[u8], words: &[u32], k: usize) -> KnownField
     ensures { λ r. ⌜ KnownFieldIs (now (sheet .entry)) (placeWord (now (words .entry)) k / 4096) r ⌝ }
 {
     let start = place_word(words, k) as usize / WORD_ENTRIES;

@@ -6,7 +6,6 @@ use crate::index::MAX_SLOTS;
 use definition::limits::MAX_FIELD_NESTING;
 use definition::limits::MAX_SHEET_BYTES;
 use sheet::schema_heads::HolderHead;
-ghost use mathlib.Core.Path.{_≡_};
 ghost use Prim.Native.Nat.{_≤_};
 ghost use lib.ListN.{length};
 ghost use Rattle.schema.specs.Index.{indexEnd};
@@ -51,18 +50,15 @@ fn read_holder(sheet: &[u8], words: &mut [u32], head: HolderHead, from: Cursor) 
     if MAX_SLOTS - first < count {
         return HolderRead::Bad;
     }
-    let inner = Cursor {
-        next: from.next,
-        used: first + count,
-        at: from.at,
-    };
     let ManyRead::Good(to) = crate::field::read_members(
         sheet,
         words,
         MAX_FIELD_NESTING,
         first,
         count,
-        inner,
+        from.next,
+        first + count,
+        from.at,
     ) else {
         return HolderRead::Bad;
     };

@@ -71,7 +71,7 @@ module _ (first second : List ℕ) {x y : OptionalPart} where
   unfolding sameTag optionalOf
   tags-neither h g = rw (h, g)
 
--- the four tests one behind the other
+-- the four tests one after the other
 pub entries-go : (first second : List ℕ) (x y : IndexedField) {e f : ℕ} {found a b c r : Change} {shut same tags : Bool}
     → e ≡ entryNumber (x .entry)
     → f ≡ entryNumber (y .entry)

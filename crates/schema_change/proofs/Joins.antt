@@ -56,14 +56,14 @@ pub goes-nothing : {a : Change} → Goes a [] a
 unfolding decided
 goes-nothing {a} = record { is = joined-nothing (decisionOf a) }
 
--- a breach stays, whatever comes behind it
+-- a breach stays, whatever comes after it
 pub goes-closed : (a : Change) (ds : List Difference) → isOpenYet a ≡ false → Goes a ds a
 unfolding isOpenYet joined
 goes-closed Marks ds h = let z : _≡_ {A = ℕ} 0 1 = cc in absurd (omega arith)
 goes-closed Anything ds h = let z : _≡_ {A = ℕ} 0 1 = cc in absurd (omega arith)
 goes-closed (Refuted why e e′) ds h = record { is = refl }
 
--- behind a breach nothing counts
+-- after a breach nothing counts
 pub goes-breach : {a b : Change} {why : Decision.Reason} {e e′ : ℕ} {ds : List Difference} → Goes a (breach why e e′ ∷ []) b → Goes a (breach why e e′ ∷ ds) b
 unfolding decided
 goes-breach g = record { is = g .is }

@@ -9,7 +9,6 @@ use sheet::part::OptionalPart;
 use sheet::part::bytes_of;
 use walk::path::same_bytes;
 ghost use mathlib.Core.Path.{_≡_};
-ghost use mathlib.Core.Bool.{not};
 ghost use Rattle.sheet.specs.Parts.{optionalOf};
 ghost use Rattle.widening.specs.Decision.{closes, sameTag};
 ghost use Rattle.schema_change.specs.Answers.{Goes};

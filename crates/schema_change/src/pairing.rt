@@ -1,11 +1,10 @@
 // Which of two members comes next: names rise in both holders.
 use schema::index::Holder;
 use schema::index::MAX_SLOTS;
-use schema::index::head_of;
+use schema::index::name_of_slot;
 use sheet::order::ByteOrder;
 use sheet::order::compare;
 use sheet::part::bytes_of;
-use sheet::schema_heads::KnownField;
 ghost use Rattle.schema_change.specs.Pairs.{Rest, PairedBy};
 
 pub enum Pairing {
@@ -62,14 +61,8 @@ pub fn pair(
     if y.count == 0 {
         return Pairing::Missing;
     }
-    let KnownField::Is(head) = head_of(first, words, x.first) else {
-        return Pairing::Missing;
-    };
-    let KnownField::Is(other) = head_of(second, others, y.first) else {
-        return Pairing::Missing;
-    };
-    let name = head.name;
-    let next = other.name;
+    let name = name_of_slot(words, x.first);
+    let next = name_of_slot(others, y.first);
     match compare(bytes_of(first, name), bytes_of(second, next)) {
         ByteOrder::Less => Pairing::Missing,
         ByteOrder::Same => Pairing::Both,

@@ -19,7 +19,7 @@ use Rattle.reference.specs.Reference as Reference
 use Rattle.reference.specs.Reference.{Environment, bound}
 use Rattle.schema.specs.declared.read.Schema.{Schema}
 use Rattle.walk.specs.declared.answer.Reader.{Reader}
-use Rattle.scope.specs.Binders.{capped, elementNumber, binderNumber, binderName, elementBy, binderElement}
+use Rattle.scope.specs.Binders.{capped, lengthUnit, startUnit, elementNumber, binderNumber, binderName, elementBy, binderElement}
 use Rattle.scope.specs.Scopes.{chainOf, BoundElement, BinderAt, ChainAt, Unbound, Binds, BoundIs}
 use Rattle.scope.specs.declared.name.Row.{Row}
 use Rattle.scope.specs.declared.binder.Element.{Element}
@@ -110,6 +110,9 @@ searched-all rule name i scope so-far none-left = record {
       so .2 ∙ bound-none name (so .0) (closed sheet rule words (so .0) (rw (chain-empty (scope .binders) i (λ h. omega arith)) at (so .1)));
 }
 
+pub bound-bare : (rule name : List ℕ) (scope : Scope) → scope .count ≡ 0 → BoundIs rule scope name Nothing
+bound-bare rule name scope bare = searched-all rule name (scope .count) scope (searched-none rule name (scope .binders) (scope .count)) (omega arith)
+
 pub bound-crowded : (rule name : List ℕ) (scope : Scope) → 31 < scope .count → BoundIs rule scope name Nothing
 bound-crowded rule name scope many = record { leads = λ sheet words env at. absurd (omega (arith, at .few)) }
 
@@ -153,13 +156,13 @@ unfolding elementBy
 known-by zero h = absurd (h refl)
 known-by (suc n) h = let e : suc n - 1 ≡ n = omega arith in rw e
 
-pub unknown-in : (b : ℕ) → b % 131072 ≡ 0 → Unknown ≡ binderElement b
+pub unknown-in : (b : ℕ) → b % lengthUnit ≡ 0 → Unknown ≡ binderElement b
 unfolding binderElement
-unknown-in b e = unknown-by (b % 131072) e
+unknown-in b e = unknown-by (b % lengthUnit) e
 
-pub known-in : (b : ℕ) → (b % 131072 ≡ 0 → ⊥) → Known (b % 131072 - 1) ≡ binderElement b
+pub known-in : (b : ℕ) → (b % lengthUnit ≡ 0 → ⊥) → Known (b % lengthUnit - 1) ≡ binderElement b
 unfolding binderElement
-known-in b h = known-by (b % 131072) h
+known-in b h = known-by (b % lengthUnit) h
 
 taken : (l : List ℕ) (n : ℕ) → length l ≤ 65535 → take (capped n) l ≡ take n l
 taken l n small =
@@ -180,7 +183,7 @@ part-capped rule start n small =
     rw (p, q, take-nil n, take-nil (capped n)) refl)
     (eq-zero-or-pos (start - 65535))
 
-pub number-element : (element : Element) → elementNumber element < 131072
+pub number-element : (element : Element) → elementNumber element < lengthUnit
 unfolding elementNumber
 number-element (Known k) = omega arith
 number-element Unknown = omega arith
@@ -189,11 +192,11 @@ name-kept : (rule : List ℕ) (name : Part) (element : Element) → length rule 
 unfolding binderNumber partOf
 name-kept rule name element small =
     let n = number-element element in
-    let s : ((capped (name .start) * 65536 + capped (name .len)) * 131072 + elementNumber element) / 8589934592 ≡ capped (name .start) = omega arith in
-    let l : ((capped (name .start) * 65536 + capped (name .len)) * 131072 + elementNumber element) / 131072 % 65536 ≡ capped (name .len) = omega arith in
+    let s : (capped (name .start) * startUnit + capped (name .len) * lengthUnit + elementNumber element) / startUnit ≡ capped (name .start) = omega arith in
+    let l : (capped (name .start) * startUnit + capped (name .len) * lengthUnit + elementNumber element) % startUnit / lengthUnit ≡ capped (name .len) = omega arith in
     rw (s, l) (part-capped rule (name .start) (name .len) (omega arith))
 
-number-kept : (name : Part) (element : Element) → binderNumber name element % 131072 ≡ elementNumber element
+number-kept : (name : Part) (element : Element) → binderNumber name element % lengthUnit ≡ elementNumber element
 unfolding binderNumber
 number-kept name element = let n = number-element element in omega arith
 

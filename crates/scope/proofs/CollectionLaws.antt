@@ -73,7 +73,7 @@ unfolding beginsWithDollar
 dollar-first [] e = absurd (e refl)
 dollar-first (b ∷ t) e = refl
 
--- A path behind the record or the arguments, on the tree
+-- A path after the record or the arguments, on the tree
 
 module _ (at : ℕ) (t : Tree.Holder) (s : Text) (path : List Text) where
   in-open : lookup s (t .members) ≡ none → t .isOpen ≡ true → collectionIn (Reference.root at t) s path ≡ unknown

@@ -8,13 +8,17 @@ use mathlib.Core.Path.{_≡_, refl, sym, _∙_}
 use lib.ListN.{length, drop, getD, drop-of-length-le}
 use lib.Seq.{drop-cons}
 use borrow.Author.Tests.{eq-eqb, ne-eqb}
+use Rattle.sheet.specs.Ascii.{ascii}
 use Rattle.sheet.specs.Order.{sameBytes}
+use Rattle.sheet.specs.OrderLaws.{sameBytes-equal}
 use Rattle.reference.specs.Setting as Setting
-use Rattle.reference.specs.Setting.{spelling, named, oneOf, stock}
+use Rattle.reference.specs.Setting.{spelling, named, nameOf, oneOf, stock}
 use Rattle.reference.specs.Table as Table
 use Rattle.reference.specs.Table.{stockRow}
-use Rattle.scope.specs.Names.{nameIs, rowBy, mayReadBy}
+use Rattle.scope.specs.Names.{nameIs, rowBy, mayReadBy, NamedIs, otherNames, OtherIs}
 use Rattle.scope.specs.declared.name.Row.{Row}
+use Rattle.scope.specs.declared.name.Named.{Named}
+use Rattle.scope.specs.declared.name.Named.the-variants.{Is, Nothing}
 use Rattle.scope.specs.declared.name.Name.{Name}
 use Rattle.scope.specs.declared.name.Name.the-variants.{Id, Entity, Version, Fields, State, ToState, FromState, Args, OldFields}
 
@@ -31,6 +35,20 @@ hit n ns t b p q = rw (sym p ∙ q)
 pub no-more : (t : List ℕ) → named [] t ≡ none
 unfolding named
 no-more t = refl
+
+-- `fields` before all others
+
+pub named-fields : (t : List ℕ) (b : Bool) → b ≡ sameBytes (spelling Setting.fields) t → b ≡ true → nameOf t ≡ some Setting.fields
+unfolding nameOf named spelling ascii sameBytes
+named-fields t b p q = rw (sym (sameBytes-equal (spelling Setting.fields) t (sym p ∙ q)))
+
+without-fields : (t : List ℕ) (b : Bool) → b ≡ sameBytes (spelling Setting.fields) t → b ≡ false → nameOf t ≡ named otherNames t
+unfolding nameOf named
+without-fields t b p q = rw (sym p ∙ q)
+
+pub named-other : (t : List ℕ) (b : Bool) → b ≡ sameBytes (spelling Setting.fields) t → b ≡ false → (r : Named) → OtherIs t r → NamedIs t r
+named-other t b p q (Is n) o = without-fields t b p q ∙ o
+named-other t b p q Nothing o = without-fields t b p q ∙ o
 
 -- One of some kinds
 

@@ -42,7 +42,7 @@ use Rattle.scope.specs.declared.binder.Bound.the-variants as Bound
 use Rattle.scope.specs.declared.root.Root.{Root}
 use Rattle.scope.specs.declared.root.Root.the-variants as Root
 
--- A path behind the record or the arguments, on the tree
+-- A path after the record or the arguments, on the tree
 
 module _ (reader : Reader) (service : Bool) (at : ℕ) (t : Tree.Holder) (s : Text) (path : List Text) where
   walk-empty : isEmpty s ≡ true → rootWalk reader service at t s path ≡ refused 1 at (s ∷ path)

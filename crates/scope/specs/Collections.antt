@@ -16,7 +16,7 @@ use Rattle.walk.specs.declared.answer.Collected.{Collected}
 use Rattle.scope.specs.Scopes.{ScopeAt}
 use Rattle.scope.specs.declared.binder.Scope.{Scope}
 
--- a path behind the record or the arguments
+-- a path after the record or the arguments
 pub record RootCollects (sheet words : List ℕ) (at : ℕ) (h : Holder) (path : Text) (r : Collected) : Type 0 where
   pub leads : (t : Tree.Holder) → HolderAt sheet words h t
       → CollectedIs sheet words r (collectionIn (Reference.root at t) (split path .first) (split path .others))

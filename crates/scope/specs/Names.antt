@@ -1,11 +1,12 @@
 -- The code's names beside those of the definitions.
 use mathlib.Core.Bool.{Bool}
+use mathlib.Core.List.{List, [], _∷_}
 use mathlib.Core.Option.{none, some}
 use mathlib.Core.Path.{_≡_}
 use Rattle.definition.specs.Tree.{Text}
 use Rattle.reference.specs.Setting as Setting
 use Rattle.reference.specs.Table as Table
-use Rattle.reference.specs.Setting.{nameOf}
+use Rattle.reference.specs.Setting.{named, nameOf}
 use Rattle.scope.specs.declared.name.Name.{Name}
 use Rattle.scope.specs.declared.name.Name.the-variants.{Id, Entity, Version, Fields, State, ToState, FromState, Args, OldFields}
 use Rattle.scope.specs.declared.name.Row.{Row}
@@ -44,3 +45,11 @@ mayReadBy r = Table.mayReadBy (rowBy r)
 abbrev pub NamedIs : Text → Named → Type 0
 NamedIs t (Is n) = nameOf t ≡ some (nameIs n)
 NamedIs t Nothing = nameOf t ≡ none
+
+-- the names that are tried after `fields`
+abbrev pub otherNames : List Setting.Name
+otherNames = Setting.id ∷ Setting.entity ∷ Setting.version ∷ Setting.state ∷ Setting.toState ∷ Setting.fromState ∷ Setting.args ∷ Setting.oldFields ∷ []
+
+abbrev pub OtherIs : Text → Named → Type 0
+OtherIs t (Is n) = named otherNames t ≡ some (nameIs n)
+OtherIs t Nothing = named otherNames t ≡ none

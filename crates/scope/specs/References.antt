@@ -18,7 +18,7 @@ use Rattle.scope.specs.Scopes.{SettingAt, ScopeAt}
 use Rattle.scope.specs.declared.name.Name.{Name}
 use Rattle.scope.specs.declared.binder.Scope.{Scope}
 
--- a path behind the record or the arguments
+-- a path after the record or the arguments
 pub record RootWalks (sheet words : List ℕ) (at : ℕ) (h : Holder) (path : Text) (reader : Reader) (service : Bool) (r : Readable) : Type 0 where
   pub leads : (t : Tree.Holder) → HolderAt sheet words h t → ReadableIs r (rootWalk reader service at t (split path .first) (split path .others))
 

@@ -7,11 +7,19 @@ use walk::answer::Reader;
 use walk::path::same_bytes;
 ghost use mathlib.Core.Path.{_≡_};
 ghost use Prim.Native.Nat.{_<_};
-ghost use Rattle.scope.specs.Binders.{capped, elementNumber, binderNumber, binderName, binderElement};
+ghost use Rattle.scope.specs.Binders.{capped, lengthUnit, elementNumber, binderNumber, binderName, binderElement};
 ghost use Rattle.scope.specs.Scopes.{Unbound, Binds, BoundIs};
 
 // Conditions nest 32 deep, and the innermost is no quantifier.
 pub const MAX_BINDERS: usize = 31;
+
+// No sheet has more bytes, and no index more slots.
+const MOST: usize = 65535;
+
+// Of the numbers that a binder is made of, an element is below the first unit, and a length times it below the second.
+const LENGTH_UNIT: u64 = 131072;
+
+const START_UNIT: u64 = LENGTH_UNIT * 65536;
 
 // The element of the collection that a binder goes through.
 pub enum Element {
@@ -37,15 +45,14 @@ pub enum Bound {
     Nothing,
 }
 
-// No sheet has more bytes, and no index more slots.
 fn capped(n: usize) -> u64
     ensures { λ r. ⌜ r ≡ capped n ⌝ }
 {
-    if n < 65535 { n as u64 } else { 65535 }
+    if n < MOST { n as u64 } else { MOST as u64 }
 }
 
 fn element_number(element: Element) -> u64
-    ensures { λ r. ⌜ (r ≡ elementNumber element) × (r < 131072) ⌝ }
+    ensures { λ r. ⌜ (r ≡ elementNumber element) × (r < lengthUnit) ⌝ }
 {
     match element {
         Element::Known(slot) => capped(slot) + 1,
@@ -56,22 +63,22 @@ fn element_number(element: Element) -> u64
 fn binder_number(name: Part, element: Element) -> u64
     ensures { λ r. ⌜ r ≡ binderNumber name element ⌝ }
 {
-    (capped(name.start) * 65536 + capped(name.len)) * 131072 + element_number(element)
+    capped(name.start) * START_UNIT + capped(name.len) * LENGTH_UNIT + element_number(element)
 }
 
 fn name_in(binder: u64) -> Part
     ensures { λ r. ⌜ r ≡ binderName binder ⌝ }
 {
     Part {
-        start: (binder / 8589934592) as usize,
-        len: (binder / 131072 % 65536) as usize,
+        start: (binder / START_UNIT) as usize,
+        len: (binder % START_UNIT / LENGTH_UNIT) as usize,
     }
 }
 
 fn element_in(binder: u64) -> Element
     ensures { λ r. ⌜ r ≡ binderElement binder ⌝ }
 {
-    let number = (binder % 131072) as usize;
+    let number = (binder % LENGTH_UNIT) as usize;
     if number == 0 {
         return Element::Unknown;
     }
@@ -121,6 +128,10 @@ pub fn find_binder(rule: &[u8], scope: Scope, name: &[u8]) -> Bound
     ensures { λ r. ⌜ BoundIs (now (rule .entry)) scope (now (name .entry)) r ⌝ }
 {
     let count = scope.count;
+    // Most scopes have no binders: then none are copied.
+    if count == 0 {
+        return Bound::Nothing;
+    }
     if MAX_BINDERS < count {
         return Bound::Nothing;
     }

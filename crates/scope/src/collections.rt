@@ -19,7 +19,7 @@ ghost use mathlib.Core.Path.{_≡_};
 ghost use Rattle.reference.specs.Reference.{behindFirst, beginsWithDollar};
 ghost use Rattle.scope.specs.Collections.{RootCollects, NameCollects, CollectionIs};
 
-// The text behind the first character, if that is one byte.
+// The text after the first character, if that is one byte.
 fn behind_first(text: &[u8]) -> &[u8]
     ensures { λ r. ⌜ now r ≡ behindFirst (now (text .entry)) ⌝ }
 {
@@ -41,7 +41,7 @@ pub fn begins_with_dollar(text: &[u8]) -> bool
     text[0] == b'$'
 }
 
-// A path behind the record or the arguments. A reference that lacks its member is refused before anyone asks for its element.
+// A path after the record or the arguments. A reference that lacks its member is refused before anyone asks for its element.
 fn collection_root(
     schema: &[u8],
     words: &[u32],

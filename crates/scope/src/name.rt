@@ -3,7 +3,7 @@ use walk::path::same_bytes;
 ghost use mathlib.Core.Path.{_≡_};
 ghost use Rattle.reference.specs.Setting.{oneOf};
 ghost use Rattle.reference.specs.Table.{stockRow};
-ghost use Rattle.scope.specs.Names.{nameIs, rowBy, mayReadBy, NamedIs};
+ghost use Rattle.scope.specs.Names.{nameIs, rowBy, mayReadBy, NamedIs, OtherIs};
 
 pub enum Name {
     Id,
@@ -22,9 +22,9 @@ pub enum Named {
     Nothing,
 }
 
-// The name that is spelled so, behind the `$`.
-pub fn name_of(text: &[u8]) -> Named
-    ensures { λ r. ⌜ NamedIs (now (text .entry)) r ⌝ }
+// One of the names but `fields`.
+fn other_name(text: &[u8]) -> Named
+    ensures { λ r. ⌜ OtherIs (now (text .entry)) r ⌝ }
 {
     if same_bytes(b"id", text) {
         return Named::Is(Name::Id);
@@ -34,9 +34,6 @@ pub fn name_of(text: &[u8]) -> Named
     }
     if same_bytes(b"version", text) {
         return Named::Is(Name::Version);
-    }
-    if same_bytes(b"fields", text) {
-        return Named::Is(Name::Fields);
     }
     if same_bytes(b"state", text) {
         return Named::Is(Name::State);
@@ -54,6 +51,16 @@ pub fn name_of(text: &[u8]) -> Named
         return Named::Is(Name::OldFields);
     }
     Named::Nothing
+}
+
+// The name that is spelled so, after the `$`. Most references begin with `fields`: that name is found without a call.
+pub fn name_of(text: &[u8]) -> Named
+    ensures { λ r. ⌜ NamedIs (now (text .entry)) r ⌝ }
+{
+    if same_bytes(b"fields", text) {
+        return Named::Is(Name::Fields);
+    }
+    other_name(text)
 }
 
 pub fn one_of(kind: usize, kinds: &[usize]) -> bool

@@ -20,7 +20,7 @@ use walk::path::first_end;
 ghost use Rattle.walk.specs.Answers.{readerIs};
 ghost use Rattle.scope.specs.References.{RootWalks, RootReads, NameReads, ReferenceReads};
 
-// A path behind the record or the arguments.
+// A path after the record or the arguments.
 pub fn validate_reference_path(
     schema: &[u8],
     words: &[u32],
@@ -95,7 +95,7 @@ fn validate_name(schema: &[u8], words: &[u32], scope: Scope, text: &[u8], end: u
     Readable::No(ReferenceFault::NoSuchReference, 0)
 }
 
-// Whether the reference of that text, behind its `$`, can be read. A binder wins over all other names, and its walk is always the kernel's.
+// Whether the reference of that text, after its `$`, can be read. A binder wins over all other names, and its walk is always the kernel's.
 pub fn validate_reference(
     schema: &[u8],
     rule: &[u8],

@@ -26,7 +26,7 @@ use Rattle.sheet.specs.declared.entry.Length.the-variants.{Of, Absent}
 use Rattle.sheet.specs.declared.entry.OptionalRead.the-variants as optional
 use Rattle.sheet.specs.declared.part.OptionalPart.the-variants.{Is as Present, Absent as Missing}
 
--- One reader behind another.
+-- One reader after another.
 
 module _ {A B : Type 0} (p : Reader (List ℕ) A) (q : Reader (List ℕ) B) where
   pub then-refused : (s : List ℕ) (at : ℕ) → Refuses p s at → Refuses (p >> q) s at

@@ -51,7 +51,7 @@ nil-nil : Stand [] [] false true false
 unfolding precedes sameBytes
 nil-nil = record { before-is = refl; same-is = refl; behind-is = refl }
 
--- however the bytes from place i on stand to each other, so do the texts
+-- however the bytes from place i on compare, so do the texts
 abbrev pub Goes : List ℕ → List ℕ → ℕ → Type 0
 Goes a b i = (p q r : Bool) → Stand (drop i a) (drop i b) p q r → Stand a b p q r
 
@@ -91,7 +91,7 @@ pub same-more
 same-more a b i h p q at =
     record { in-first = p; in-second = q; same = below-more (λ k. getD a k 0 ≡ getD b k 0) i 8 (h .same) at }
 
--- so do the texts stand behind the bytes that are the same
+-- so do the texts after the bytes that are the same
 pub goes-start : (a b : List ℕ) (n : ℕ) → SameStart a b n → Goes a b n
 goes-start a b n h =
     reached (Goes a b) n (λ p q r s. s)

@@ -302,7 +302,7 @@ text-empty : (l : List ℕ) → text 0 l ≡ some ([], l)
 unfolding text bytes isUtf8 codePoints codePointsIn isSome ensure pure _>>=_ _>>_ andThen
 text-empty l = rw (leb·zero (length l))
 
--- a head behind its letter and first field
+-- a head after its letter and first field
 module _ {B : Type 0} (letter low high : ℕ) (k : ℕ → Reader (List ℕ) B) where
   first-refuses : (s : List ℕ) (at : ℕ) → Refuses (first letter low high) s at → Refuses (byte letter >> (item low high >>= k)) s at
   unfolding first _>>=_ andThen
@@ -312,7 +312,7 @@ module _ {B : Type 0} (letter low high : ℕ) (k : ℕ → Reader (List ℕ) B) 
   unfolding first _>>=_ andThen
   first-behind {s} {at} e = then-bind (byte letter) (item low high) k (drop at s) ∙ rw (e .reads)
 
--- The end of the line is read behind what is made of the fields, or behind the last text: it is the same.
+-- The end of the line is read after what is made of the fields, or after the last text: it is the same.
 
 -- by what a reader finds, and by what a test says
 by-both : {A : Type 0} {C : Type 0} (o : Option A) (b : Bool) → (o ≡ none → b ≡ true → C) → (o ≡ none → b ≡ false → C)

@@ -1,6 +1,6 @@
--- Entries that were read before: where what stands before a text is read again, the text is known to stand behind it.
+-- Entries that were read before: where what comes before a text is read again, the text is known to come after it.
 use Prim.Native.Nat.{ℕ, _+_}
-use mathlib.Core.List.{List, _∷_, _++_}
+use mathlib.Core.List.{List}
 use mathlib.Core.Option.{Option, some}
 use mathlib.Core.Path.{_≡_, sym, ap, _∙_}
 use lib.ListN.{take, drop}
@@ -36,7 +36,7 @@ optional-at (Of n) s at x t e =
     rw (← (q .0), text-at n s at y s₁ e₁ .0)
 optional-at Absent s at x t e = sym (pure-inv _ _ e .0)
 
--- the texts behind their lengths
+-- the texts after their lengths
 abbrev Texts : Type 0
 Texts = List ℕ × Option (List ℕ)
 

@@ -1,4 +1,4 @@
--- How many bytes a reader takes at most: a numeral has no more digits than its bound, so what stands before a name is short.
+-- How many bytes a reader takes at most: a numeral has no more digits than its bound, so what comes before a name is short.
 use Prim.Native.Nat.{ℕ, suc, _+_, _*_, _/_, _≤_, _<_}
 use mathlib.Core.List.{List}
 use mathlib.Core.Option.{Option}
@@ -98,14 +98,14 @@ takes-fieldMarks =
     takes-bind (item 0 maxCount) _ 5 0 (takes-item 0 maxCount 10000 4 digits-4 (omega arith)) λ count.
     takes-pure _
 
--- Where the name stands
+-- Where the name is
 
 ends : {A : Type 0} {p : Reader (List ℕ) A} {s : List ℕ} {at next : ℕ} {a : A} (n : ℕ) → Takes p n → ReadsTo p s at a next → next ≤ at + n
 ends {s = s} {at = at} {next = next} n law e =
     let x = law (drop at s) _ (drop next s) (e .reads) in
     omega (arith, e .within, e .past, length-drop at s, length-drop next s)
 
--- behind the lengths and a comma
+-- after the lengths and a comma
 pub texts-placed : {s : List ℕ} {at a b len : ℕ} {l : Option ℕ} → ReadsTo (item 0 maxText) s at len a → len ≤ maxText → ReadsTo textLength s a l b
     → NamePlaced at 9 (record { start = b + 1; len = len })
 texts-placed n short m =
@@ -113,7 +113,7 @@ texts-placed n short m =
     let y = ends 4 takes-textLength m in
     record { after = omega (arith, n .past, m .past); near = omega arith; short = omega arith }
 
--- behind the marks
+-- after the marks
 pub field-placed : {s : List ℕ} {at a : ℕ} {m : FieldMarks} (name : Part) → ReadsTo fieldMarks s at m a → NamePlaced a 9 name → NamePlaced at maxPrefix name
 field-placed name f placed =
     let x = ends 13 takes-fieldMarks f in

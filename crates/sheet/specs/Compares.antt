@@ -1,4 +1,4 @@
--- How two texts stand to each other, by what their comparison answers.
+-- How two texts compare, by what their comparison answers.
 use Prim.Native.Nat.{ℕ, _+_, _≤_, _<_}
 use mathlib.Core.Bool.{Bool, true, false}
 use mathlib.Core.List.{List}
@@ -8,7 +8,7 @@ use Rattle.sheet.specs.Order.{precedes, sameBytes}
 use Rattle.sheet.specs.declared.order.ByteOrder.{ByteOrder}
 use Rattle.sheet.specs.declared.order.ByteOrder.the-variants.{Less, Same, Greater}
 
--- whether the first stands before the second, is the same, stands behind it
+-- whether the first comes before the second, is the same, comes after it
 pub record Stand (a b : List ℕ) (before same behind : Bool) : Type 0 where
   pub before-is : precedes a b ≡ before
   pub same-is : sameBytes a b ≡ same
@@ -19,7 +19,7 @@ Compares a b Less = Stand a b true false false
 Compares a b Same = Stand a b false true false
 Compares a b Greater = Stand a b false false true
 
--- the same `n` bytes stand from place `i` on
+-- the same `n` bytes are from place `i` on
 abbrev pub SameAt : List ℕ → List ℕ → ℕ → ℕ → Type 0
 SameAt a b i n = (k : ℕ) → k < n → getD a (i + k) 0 ≡ getD b (i + k) 0
 

@@ -1,4 +1,4 @@
--- Opens every definition behind the entries of a sheet: under `unfolding computing` a worked example holds by computation.
+-- Opens every definition under the entries of a sheet: under `unfolding computing` a worked example holds by computation.
 use mathlib.Core.Option.{bind}
 use Rattle.text.specs.Utf8 as Utf8
 use Rattle.number.specs.Grammar as Grammar

@@ -20,7 +20,7 @@ use Rattle.sheet.specs.Entries.{maxText, byte, comma, dash, item, mark, 
 use Rattle.sheet.specs.Write.{writeItem, writeMark, markOf, writeLength, writeText}
 use Rattle.sheet.specs.Within.{OptionWithin}
 
--- A reader of what `w` writes: what it reads is written so and fits, and whatever fits is read back, where `End` holds of what stands behind it.
+-- A reader of what `w` writes: what it reads is written so and fits, and whatever fits is read back, where `End` holds of what follows it.
 pub record Exact {A : Type 0} (p : Reader (List ℕ) A) (w : A → List ℕ) (Fits : A → Type 0) (end : List ℕ → Bool) : Type 0 where
   pub sound : (s : List ℕ) (a : A) (t : List ℕ) → Reads p s a t → (s ≡ w a ++ t) × Fits a
   pub complete : (a : A) (t : List ℕ) → Fits a → end t ≡ true → Reads p (w a ++ t) a t
@@ -185,7 +185,7 @@ unfolding optionalText writeText pure
 optionalText-complete none t h = refl
 optionalText-complete (some x) t h = bind-reads _ _ (text-complete x t (h .utf8)) refl
 
--- What stands behind a numeral is a comma or the end.
+-- What follows a numeral is a comma or the end.
 
 pub item-begins : (n : ℕ) (t : List ℕ) → beginsWithoutDigit (writeItem n ++ t) ≡ true
 unfolding beginsWithoutDigit isDigit writeItem ascii

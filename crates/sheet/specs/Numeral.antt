@@ -9,7 +9,7 @@ use Rattle.sheet.specs.Reader.{Reader, _>>=_, _>>_, ensure, pure}
 unfoldable pub isDigit : ℕ → Bool
 isDigit b = leb 48 b && leb b 57
 
--- the digits that lie ahead, behind those whose value is `value`
+-- the digits that lie ahead, after those whose value is `value`
 unfoldable pub digits : ℕ → List ℕ → ℕ × List ℕ
 digits value [] = (value, [])
 digits value (b ∷ s) = let more = digits (value * 10 + (b - 48)) s in cond (isDigit b) more (value, b ∷ s)
@@ -26,7 +26,7 @@ numeral low high = do
   ensure (leb low n && leb n high)
   pure n
 
--- the numeral of a number, in front of what stands behind it; a number has no more digits than it has units and one
+-- the numeral of a number, in front of what follows it; a number has no more digits than it has units and one
 unfoldable pub decimalIn : (turns n : ℕ) → List ℕ → List ℕ
 decimalIn zero n behind = behind
 decimalIn (suc turns) n behind =

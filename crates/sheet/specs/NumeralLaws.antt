@@ -10,7 +10,7 @@ use borrow.Author.Tests.{ltb-true, ltb-false, leb-true, eqb-true, eqb-false, lt-
 use Rattle.sheet.specs.Numeral.{isDigit, digits, decimal, decimalIn, decimalOf}
 use Rattle.sheet.specs.ReaderLaws.{Reads, by-test}
 
--- what stands behind a numeral that is read to its end
+-- what follows a numeral that is read to its end
 unfoldable pub beginsWithoutDigit : List ℕ → Bool
 beginsWithoutDigit [] = true
 beginsWithoutDigit (b ∷ s) = not (isDigit b)
@@ -46,7 +46,7 @@ decimalIn-append zero n b t = refl
 decimalIn-append (suc turns) n b t =
     by-test (ltb n 10) (λ e. rw e) (λ e. rw e (decimalIn-append turns (n / 10) ((48 + n % 10) ∷ b) t))
 
--- a number's last digit stands last
+-- a number's last digit is last
 pub decimalOf-digit : (v d : ℕ) → 0 < v → d < 10 → decimalOf (v * 10 + d) ≡ decimalOf v ++ (48 + d) ∷ []
 unfolding decimalOf
 decimalOf-digit v d h k =
@@ -75,7 +75,7 @@ isDigit-of : (d : ℕ) → d < 10 → isDigit (48 + d) ≡ true
 unfolding isDigit
 isDigit-of d h = and-eq-true-iff (leb 48 (48 + d)) (leb (48 + d) 57) .1 (le-leb 48 (48 + d) (omega arith), le-leb (48 + d) 57 (omega arith))
 
--- digits that are read behind a number make the numeral of a longer one
+-- digits that are read after a number make the numeral of a longer one
 digits-sound : (v : ℕ) (s : List ℕ) (n : ℕ) (t : List ℕ) → 0 < v → digits v s ≡ (n, t) → decimalOf v ++ s ≡ decimalOf n ++ t
 unfolding digits
 digits-sound v [] n t h e = ap (λ (r : ℕ × List ℕ). decimalOf (r .0) ++ r .1) e

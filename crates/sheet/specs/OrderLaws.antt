@@ -70,6 +70,6 @@ precedes-transitive (a ∷ s) (b ∷ t) (c ∷ u) e f = go (precedes-parts a b s
     go (inr h) (inl k) more = precedes-first a c s u (omega arith)
     go (inr h) (inr k) more = precedes-others a c s u (h .0 ∙ k .0) (more (h .1) (k .1))
 
--- a text that stands before another is not the same
+-- a text that comes before another is not the same
 pub precedes-differs : (a b : List ℕ) → precedes a b ≡ true → sameBytes a b ≡ false
 precedes-differs a b e = by-test (sameBytes a b) (λ q. absurd (false≢true (rw (sameBytes-equal a b q, precedes-irreflexive) at e))) (λ q. q)

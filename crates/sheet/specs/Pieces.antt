@@ -39,7 +39,7 @@ lastText n = do
   lineEnd
   pure t
 
--- a field's entry up to its count, and behind it
+-- a field's entry up to its count, and after it
 unfoldable pub fieldMarks : Reader (List ℕ) FieldMarks
 fieldMarks = do
   kind ← first 70 1 12
@@ -58,7 +58,7 @@ fieldTexts = do
   lineEnd
   pure (name, tag)
 
--- a rule's entry behind its letter
+-- a rule's entry after its letter
 unfoldable pub ruleTexts : Reader (List ℕ) RuleHead
 ruleTexts = do
   a ← textLength
@@ -69,7 +69,7 @@ ruleTexts = do
   lineEnd
   pure (rule name message)
 
--- What stands behind an operator: a row of the code's table.
+-- What follows an operator: a row of the code's table.
 
 unfoldable pub shapeFor : CodeShape → Shape
 shapeFor shape.Literal = literal
@@ -107,7 +107,17 @@ conditionFrom op n bind two = condition.Two op
 conditionFrom op n bind comparison = condition.Comparison n
 conditionFrom op n bind quantifier = condition.Quantifier op bind
 
--- What stands behind a value's type: likewise.
+-- how many values follow a condition after which no conditions do, or 3
+unfoldable pub valuesAfter : Shape → ℕ
+valuesAfter literal = 0
+valuesAfter many = 3
+valuesAfter negation = 3
+valuesAfter one = 1
+valuesAfter two = 2
+valuesAfter comparison = 2
+valuesAfter quantifier = 3
+
+-- What follows a value's type: likewise.
 
 unfoldable pub kindOf : ℕ → ValueKind
 kindOf type =

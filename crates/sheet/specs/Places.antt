@@ -1,5 +1,5 @@
--- What the code's readers answer, by cases: what the definition of Entries reads from place `at` of the bytes on, and the place behind it.
-use Prim.Native.Nat.{ℕ, _+_, _<_, _≤_}
+-- What the code's readers answer, by cases: what the definition of Entries reads from place `at` of the bytes on, and the place after it.
+use Prim.Native.Nat.{ℕ, _+_, _/_, _%_, _<_, _≤_}
 use mathlib.Core.Bool.{Bool, true, false}
 use mathlib.Core.List.{List}
 use mathlib.Core.Option.{Option, none, some}
@@ -9,7 +9,7 @@ use Rattle.sheet.specs.Reader.{Reader}
 use Rattle.sheet.specs.Numeral.{digits, decimal, numeral as numeralOf}
 use Rattle.sheet.specs.Entries as entries
 use Rattle.sheet.specs.Parts.{partOf, optionalOf}
-use Rattle.sheet.specs.Pieces.{dashed, lastText, fieldMarks, fieldTexts, ruleTexts}
+use Rattle.sheet.specs.Pieces.{first, dashed, lastText, fieldMarks, fieldTexts, ruleTexts}
 use Rattle.sheet.specs.declared.numeral.NumeralRead.{NumeralRead}
 use Rattle.sheet.specs.declared.numeral.NumeralRead.the-variants as numeral
 use Rattle.sheet.specs.declared.entry.MarkRead.{MarkRead}
@@ -77,7 +77,7 @@ abbrev pub NumeralIs : Reader (List ℕ) ℕ → ℕ → ℕ → List ℕ → �
 NumeralIs p low high s at (numeral.Is n next) = ReadsTo p s at n next × (low ≤ n) × (n ≤ high)
 NumeralIs p low high s at numeral.Bad = Refuses p s at
 
--- the digits behind those whose value is `value`; `Bad` where their value is above `high`
+-- the digits after those whose value is `value`; `Bad` where their value is above `high`
 abbrev pub DigitsAre : ℕ → ℕ → List ℕ → ℕ → NumeralRead → Type 0
 DigitsAre value high s at (numeral.Is n next) = (digits value (drop at s) ≡ (n, drop next s)) × (at ≤ next) × (next ≤ length s) × (n ≤ high)
 DigitsAre value high s at numeral.Bad = high < digits value (drop at s) .0
@@ -155,7 +155,7 @@ abbrev pub FieldMarksAre : List ℕ → ℕ → FieldMarksRead → Type 0
 FieldMarksAre s at (field-marks.Are m next) = ReadsTo fieldMarks s at m next × (m .kind ≤ 12) × (m .count ≤ entries.maxCount)
 FieldMarksAre s at field-marks.Bad = Refuses fieldMarks s at
 
--- a name of at most 512 bytes that stands at most `reach` bytes after place `at`
+-- a name of at most 512 bytes that is at most `reach` bytes after place `at`
 pub record NamePlaced (at reach : ℕ) (name : Part) : Type 0 where
   pub after : at ≤ name .start
   pub near : name .start ≤ at + reach
@@ -177,7 +177,7 @@ fieldOf s h =
       tag = optionalOf s (h .tag);
     }
 
--- what stands before a name is at longest `F,12,0,1,2048,512,512,`
+-- what comes before a name is at longest `F,12,0,1,2048,512,512,`
 abbrev pub maxPrefix : ℕ
 maxPrefix = 22
 
@@ -232,6 +232,27 @@ abbrev pub ConditionIs : List ℕ → ℕ → ConditionRead → Type 0
 ConditionIs s at (condition.Is h next) = ReadsTo entries.conditionHead s at (conditionOf s h) next × (conditionCount h ≤ entries.maxCount)
 ConditionIs s at condition.Bad = Refuses entries.conditionHead s at
 
+-- how many values are announced
+unfoldable pub operandCount : ConditionHead → ℕ
+operandCount (condition-head.Literal truth) = 0
+operandCount (condition-head.Many op count) = 0
+operandCount condition-head.Negation = 0
+operandCount (condition-head.One op) = 1
+operandCount (condition-head.Two op) = 2
+operandCount (condition-head.Comparison which) = 2
+operandCount (condition-head.Quantifier op bind) = 1
+
+-- a condition that so many values follow, and no conditions, is read from place `at` on, and stops at `next`
+pub record PlainRead (s : List ℕ) (at next values : ℕ) : Type 0 where
+  pub head : ConditionHead
+  pub reads : ReadsTo entries.conditionHead s at (conditionOf s head) next
+  pub operands : operandCount head ≡ values
+  pub alone : conditionCount head ≡ 0
+
+-- four times the place after such a condition, with how many values follow; 0 says nothing
+abbrev pub PlainIs : List ℕ → ℕ → ℕ → Type 0
+PlainIs s at r = 0 < r → PlainRead s at (r / 4) (r % 4)
+
 unfoldable pub valueOf : List ℕ → ValueHead → entries.ValueHead
 valueOf s (value-head.Constant type) = entries.constantHead type
 valueOf s (value-head.Number digits) = entries.numberHead (partOf s digits)
@@ -250,6 +271,20 @@ valueCount (value-head.Object count) = count
 abbrev pub ValueIs : List ℕ → ℕ → ValueRead → Type 0
 ValueIs s at (value.Is h next) = ReadsTo entries.valueHead s at (valueOf s h) next × (valueCount h ≤ entries.maxCount)
 ValueIs s at value.Bad = Refuses entries.valueHead s at
+
+-- a value that holds no others is read from place `at` on, and stops at `next`
+pub record LeafRead (s : List ℕ) (at next : ℕ) : Type 0 where
+  pub head : ValueHead
+  pub reads : ReadsTo entries.valueHead s at (valueOf s head) next
+  pub bare : valueCount head ≡ 0
+
+-- the type's number of such a value, read with the comma after it; 0 says nothing
+abbrev pub LeafTypeIs : List ℕ → ℕ → ℕ → Type 0
+LeafTypeIs s at type = 0 < type → ReadsTo (first 86 1 7) s at type (at + 3) × ReadsTo entries.comma s (at + 3) tt (at + 4) × (type ≤ 5)
+
+-- the place after such a value; 0 says nothing
+abbrev pub LeafEnds : List ℕ → ℕ → ℕ → Type 0
+LeafEnds s at next = 0 < next → LeafRead s at next
 
 abbrev pub KeyIs : List ℕ → ℕ → KeyRead → Type 0
 KeyIs s at (key.Is k next) = ReadsTo entries.keyHead s at (partOf s k) next

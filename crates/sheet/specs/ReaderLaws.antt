@@ -1,4 +1,4 @@
--- What a chain of readers reads is what its parts read, one behind the other.
+-- What a chain of readers reads is what its parts read, one after the other.
 use mathlib.Core.Bool.{Bool, true, false}
 use mathlib.Core.Option.{Option, none, some, Option·none-ne-some, Option·some-injective}
 use mathlib.Core.Logic.{_⊎_, inl, inr}

@@ -376,7 +376,7 @@ valueHead-fields (stringHead string) = refl
 valueHead-fields (arrayHead count) = refl
 valueHead-fields (objectHead count) = refl
 
--- what is read behind a type
+-- what is read after a type
 abbrev BehindType : ℕ → List ℕ → ValueHead → List ℕ → Type 0
 BehindType type s h t = (typeOf h ≡ type) × (s ≡ writeItem (sizeOf h) ++ 44 ∷ (bytesOf h ++ t)) × ValueHeadFits h
 

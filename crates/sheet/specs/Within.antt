@@ -1,4 +1,4 @@
--- Which texts may stand in an entry (docs/FORMAT.md, "Sheets").
+-- Which texts may be in an entry (docs/FORMAT.md, "Sheets").
 use Prim.Native.Nat.{ℕ, _≤_}
 use mathlib.Core.Bool.{true}
 use mathlib.Core.List.{List}

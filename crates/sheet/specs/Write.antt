@@ -55,7 +55,7 @@ writeRuleHead (rule name message) =
     ascii "R" ++ writeLength name ++ writeLength message ++ ascii "," ++ writeText name ++ writeText message ++ writeEnd
 writeRuleHead template = ascii "T" ++ writeEnd
 
--- what follows the number that stands before a text: a comma, the text and the end
+-- what follows the number that comes before a text: a comma, the text and the end
 unfoldable pub writeLast : List ℕ → List ℕ
 writeLast text = ascii "," ++ text ++ writeEnd
 

@@ -1,10 +1,9 @@
-// What entries are made of: single bytes, fields behind a comma, and texts.
+// What entries are made of: single bytes, fields after a comma, and texts.
 use crate::numeral;
 use crate::numeral::NumeralRead;
 use crate::part::OptionalPart;
 use crate::part::Part;
-ghost use mathlib.Core.Path.{_≡_};
-ghost use Prim.Native.Nat.{ℕ, _≤_};
+ghost use Prim.Native.Nat.{_≤_};
 ghost use lib.ListN.{length};
 ghost use Rattle.sheet.specs.Entries.{item};
 ghost use Rattle.sheet.specs.Pieces.{first};
@@ -17,7 +16,7 @@ pub const MAX_TEXT: u32 = 512;
 pub const MAX_COUNT: u32 = 2048;
 
 pub enum MarkRead {
-    // The mark, and the place behind it.
+    // The mark, and the place after it.
     Is(bool, usize),
     Bad,
 }
@@ -29,13 +28,13 @@ pub enum Length {
 }
 
 pub enum LengthRead {
-    // The length, and the place behind it.
+    // The length, and the place after it.
     Is(Length, usize),
     Bad,
 }
 
 pub enum OptionalRead {
-    // The text, and the place behind it.
+    // The text, and the place after it.
     Is(OptionalPart, usize),
     Bad,
 }

@@ -1,12 +1,12 @@
 // Numerals: decimal, without leading zeros.
 ghost use mathlib.Core.Path.{_≡_};
-ghost use Prim.Native.Nat.{ℕ, _≤_};
+ghost use Prim.Native.Nat.{_≤_};
 ghost use lib.ListN.{length};
 ghost use Rattle.sheet.specs.Numeral.{isDigit, numeral};
 ghost use Rattle.sheet.specs.Places.{NumeralIs, DigitsAre, AtMostIs};
 
 pub enum NumeralRead {
-    // The number, and the place behind it.
+    // The number, and the place after it.
     Is(usize, usize),
     Bad,
 }
@@ -17,13 +17,14 @@ pub fn is_digit(b: u8) -> bool
     b'0' <= b && b <= b'9'
 }
 
-fn wide(n: u32) -> usize
+// A number of 32 bits as a place or a count.
+pub fn wide(n: u32) -> usize
     ensures { λ r. ⌜ r ≡ n ⌝ }
 {
     n as usize
 }
 
-// The digits from `at` on, behind those whose value is `first`. A value above `high` only grows, so it is given up before it could wrap.
+// The digits from `at` on, after those whose value is `first`. A value above `high` only grows, so it is given up before it could wrap.
 fn digits(s: &[u8], at: usize, first: usize, high: u32) -> NumeralRead
     requires { ⌜ at ≤ length (now s) ⌝ }
     ensures { λ r. ⌜ DigitsAre first high (now (s .entry)) at r ⌝ }
@@ -62,7 +63,7 @@ fn at_most(s: &[u8], at: usize, high: u32) -> NumeralRead
     NumeralRead::Bad
 }
 
-// A numeral from `low` to `high`, of which the first digit stands at `at`.
+// A numeral from `low` to `high`, of which the first digit is at `at`.
 pub fn numeral(s: &[u8], at: usize, low: u32, high: u32) -> NumeralRead
     ensures { λ r. ⌜ NumeralIs (numeral low high) low high (now (s .entry)) at r ⌝ }
 {

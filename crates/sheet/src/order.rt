@@ -43,11 +43,9 @@ fn same_start(a: &[u8], b: &[u8]) -> usize
 pub fn compare(a: &[u8], b: &[u8]) -> ByteOrder
     ensures { λ r. ⌜ Compares (now (a .entry)) (now (b .entry)) r ⌝ }
 {
+    let n = shorter(a, b);
     let mut i = same_start(a, b);
-    while i < a.len() {
-        if b.len() <= i {
-            return ByteOrder::Greater;
-        }
+    while i < n {
         let x = a[i];
         let y = b[i];
         if x < y {
@@ -58,9 +56,11 @@ pub fn compare(a: &[u8], b: &[u8]) -> ByteOrder
         }
         i += 1;
     }
-    if i < b.len() {
-        ByteOrder::Less
-    } else {
-        ByteOrder::Same
+    if a.len() < b.len() {
+        return ByteOrder::Less;
     }
+    if b.len() < a.len() {
+        return ByteOrder::Greater;
+    }
+    ByteOrder::Same
 }

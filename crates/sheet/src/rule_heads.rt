@@ -4,21 +4,25 @@ use crate::entry::LengthRead;
 use crate::entry::MAX_COUNT;
 use crate::entry::MAX_TEXT;
 use crate::entry::OptionalRead;
+use crate::numeral;
 use crate::numeral::NumeralRead;
 use crate::part;
 use crate::part::OptionalPart;
 use crate::part::Part;
 ghost use mathlib.Core.Bool.{true, cond};
 ghost use mathlib.Core.Path.{_≡_};
+ghost use lib.Dec.{leb};
 ghost use Rattle.number.specs.Grammar.{isNumber};
-ghost use Rattle.sheet.specs.Entries.{shapeOf};
-ghost use Rattle.sheet.specs.Pieces.{shapeFor, conditionRow, conditionFrom, kindOf, valueRow, valueFrom};
-ghost use Rattle.sheet.specs.Places.{RuleTextsAre, RuleIs, ConditionIs, ValueIs, KeyIs};
+ghost use Rattle.sheet.specs.Entries.{maxText, shapeOf};
+ghost use Rattle.sheet.specs.Pieces.{shapeFor, conditionRow, conditionFrom, valuesAfter, kindOf, valueRow, valueFrom};
+ghost use Rattle.sheet.specs.Places.{RuleTextsAre, RuleIs, ConditionIs, PlainIs, ValueIs, LeafTypeIs, LeafEnds, KeyIs};
 
 // Operators that the checks tell apart, by their numbers (docs/FORMAT.md, "The rule sheet").
 pub const LITERAL: usize = 1;
 
 pub const NOT: usize = 4;
+
+pub const EXISTS: usize = 5;
 
 pub const AFTER: usize = 7;
 
@@ -32,6 +36,9 @@ pub const COMPARE: usize = 18;
 
 pub const TRUTHY: usize = 19;
 
+// The furthest place that is handed on four times over: no sheet is as long.
+const FURTHEST: usize = 1000000000;
+
 pub enum RuleHead {
     // The name and the message.
     Rule(OptionalPart, OptionalPart),
@@ -39,7 +46,7 @@ pub enum RuleHead {
 }
 
 pub enum RuleHeadRead {
-    // The head, and the place behind it.
+    // The head, and the place after it.
     Is(RuleHead, usize),
     Bad,
 }
@@ -59,7 +66,7 @@ pub enum ConditionHead {
 }
 
 pub enum ConditionRead {
-    // The head, and the place behind it.
+    // The head, and the place after it.
     Is(ConditionHead, usize),
     Bad,
 }
@@ -76,13 +83,13 @@ pub enum ValueHead {
 }
 
 pub enum ValueRead {
-    // The head, and the place behind it.
+    // The head, and the place after it.
     Is(ValueHead, usize),
     Bad,
 }
 
 pub enum KeyRead {
-    // The key, and the place behind its entry.
+    // The key, and the place after its entry.
     Is(Part, usize),
     Bad,
 }
@@ -98,7 +105,7 @@ enum Shape {
     Quantifier,
 }
 
-// What stands in the entry behind an operator: a number from `least` to `most`, and if `bound` a bind of so many bytes.
+// What is in the entry after an operator: a number from `least` to `most`, and if `bound` a bind of so many bytes.
 struct ConditionRow {
     least: u32,
     most: u32,
@@ -114,14 +121,14 @@ enum ValueKind {
     Object,
 }
 
-// What stands in the entry behind a value's type: a number up to `most`, and if `texted` a text of so many bytes, if `numeric` that of a number.
+// What is in the entry after a value's type: a number up to `most`, and if `texted` a text of so many bytes, if `numeric` that of a number.
 struct ValueRow {
     most: u32,
     texted: bool,
     numeric: bool,
 }
 
-// A rule's entry behind its letter.
+// A rule's entry after its letter.
 fn rule_texts(s: &[u8], at: usize) -> RuleHeadRead
     ensures { λ r. ⌜ RuleTextsAre (now (s .entry)) at r ⌝ }
 {
@@ -230,7 +237,7 @@ fn condition_row(shape: Shape) -> ConditionRow
     }
 }
 
-// The length of the text behind the number `n`, where there is one.
+// The length of the text after the number `n`, where there is one.
 fn text_len(texted: bool, n: usize) -> usize
     ensures { λ r. ⌜ r ≡ cond texted n 0 ⌝ }
 {
@@ -269,6 +276,65 @@ pub fn condition_head(s: &[u8], at: usize) -> ConditionRead
         return ConditionRead::Is(head, start + len + 1);
     }
     ConditionRead::Bad
+}
+
+// How many values follow a condition after which no conditions do, or 3 where some do.
+fn values_after(shape: Shape) -> usize
+    ensures { λ r. ⌜ r ≡ valuesAfter (shapeFor shape) ⌝ }
+{
+    match shape {
+        Shape::Literal => 0,
+        Shape::Many => 3,
+        Shape::Negation => 3,
+        Shape::One => 1,
+        Shape::Two => 2,
+        Shape::Comparison => 2,
+        Shape::Quantifier => 3,
+    }
+}
+
+// Whether the operator begins with 2, 3 or 4, as those do after which conditions follow. It only saves reading these twice, and promises nothing.
+fn seems_to_hold(s: &[u8], at: usize) -> bool {
+    if s.len() <= at {
+        return true;
+    }
+    if s.len() - at < 3 {
+        return true;
+    }
+    let digit = s[at + 2];
+    if digit < b'2' {
+        return false;
+    }
+    digit <= b'4'
+}
+
+// Four times the place after the entry of a condition that values follow, and no conditions, with how many; or 0. Most conditions are such, and a
+// number is handed on sooner than a head.
+pub fn plain_condition(s: &[u8], at: usize) -> usize
+    ensures { λ r. ⌜ PlainIs (now (s .entry)) at r ⌝ }
+{
+    if seems_to_hold(s, at) {
+        return 0;
+    }
+    let NumeralRead::Is(op, behind) = entry::first(s, at, b'C', 1, 21) else {
+        return 0;
+    };
+    let shape = shape_of(op);
+    let values = values_after(shape);
+    if 2 < values {
+        return 0;
+    }
+    let row = condition_row(shape);
+    let NumeralRead::Is(_, end) = entry::item(s, behind, row.least, row.most) else {
+        return 0;
+    };
+    if FURTHEST < end {
+        return 0;
+    }
+    if entry::is_last_text(s, end, 0) {
+        return (end + 2) * 4 + values;
+    }
+    0
 }
 
 // Which kind of value the type's number says.
@@ -366,6 +432,63 @@ pub fn value_head(s: &[u8], at: usize) -> ValueRead
         }
     }
     ValueRead::Bad
+}
+
+// The type's number in the entry of a value that holds no others, or 0. It is one digit, read with no loop.
+fn leaf_type(s: &[u8], at: usize) -> usize
+    ensures { λ r. ⌜ LeafTypeIs (now (s .entry)) at r ⌝ }
+{
+    if s.len() <= at {
+        return 0;
+    }
+    if s.len() - at < 4 {
+        return 0;
+    }
+    if s[at] != b'V' {
+        return 0;
+    }
+    if s[at + 1] != b',' {
+        return 0;
+    }
+    if s[at + 3] != b',' {
+        return 0;
+    }
+    let digit = s[at + 2];
+    if digit < b'1' {
+        return 0;
+    }
+    if b'5' < digit {
+        return 0;
+    }
+    digit as usize - 48
+}
+
+// A constant has no text.
+fn leaf_most(number: usize) -> u32
+    ensures { λ r. ⌜ r ≡ cond (leb number 3) 0 maxText ⌝ }
+{
+    if number <= 3 { 0 } else { MAX_TEXT }
+}
+
+// The place after the entry of a value that holds no others, or 0. Most values are such, and a number is handed on sooner than a head.
+pub fn leaf_end(s: &[u8], at: usize) -> usize
+    ensures { λ r. ⌜ LeafEnds (now (s .entry)) at r ⌝ }
+{
+    let number = leaf_type(s, at);
+    if number == 0 {
+        return 0;
+    }
+    let most = leaf_most(number);
+    let NumeralRead::Is(len, end) = numeral::numeral(s, at + 4, 0, most) else {
+        return 0;
+    };
+    if entry::is_last_text(s, end, len) {
+        let start = end + 1;
+        if is_right(number == 4, part::bytes_of(s, Part { start, len })) {
+            return start + len + 1;
+        }
+    }
+    0
 }
 
 pub fn key_head(s: &[u8], at: usize) -> KeyRead

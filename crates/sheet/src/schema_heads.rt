@@ -32,7 +32,7 @@ pub struct HolderHead {
 }
 
 pub enum HolderRead {
-    // The head, and the place behind it.
+    // The head, and the place after it.
     Is(HolderHead, usize),
     Bad,
 }
@@ -43,7 +43,7 @@ pub enum Arguments {
 }
 
 pub enum ArgumentsRead {
-    // The head, and the place behind it.
+    // The head, and the place after it.
     Is(Arguments, usize),
     Bad,
 }
@@ -54,7 +54,7 @@ pub struct SchemaHead {
 }
 
 pub enum SchemaHeadRead {
-    // The head, and the place behind it.
+    // The head, and the place after it.
     Is(SchemaHead, usize),
     Bad,
 }
@@ -69,7 +69,7 @@ pub struct FieldMarks {
 }
 
 pub enum FieldMarksRead {
-    // The marks, and the place behind them.
+    // The marks, and the place after them.
     Are(FieldMarks, usize),
     Bad,
 }
@@ -80,7 +80,7 @@ pub struct FieldTexts {
 }
 
 pub enum FieldTextsRead {
-    // The texts, and the place behind them.
+    // The texts, and the place after them.
     Are(FieldTexts, usize),
     Bad,
 }
@@ -97,7 +97,7 @@ pub struct FieldHead {
 }
 
 pub enum FieldRead {
-    // The head, and the place behind it.
+    // The head, and the place after it.
     Is(FieldHead, usize),
     Bad,
 }
@@ -179,7 +179,7 @@ fn field_marks(s: &[u8], at: usize) -> FieldMarksRead
     )
 }
 
-// A field's entry behind its count.
+// A field's entry after its count.
 fn field_texts(s: &[u8], at: usize) -> FieldTextsRead
     ensures { λ r. ⌜ FieldTextsAre (now (s .entry)) at r ⌝ }
 {
@@ -204,10 +204,20 @@ fn field_texts(s: &[u8], at: usize) -> FieldTextsRead
     FieldTextsRead::Bad
 }
 
+// A field's entry. The marks are read here and not by `field_marks`: that has one caller then, and both are built into theirs.
 pub fn field_head(s: &[u8], at: usize) -> FieldRead
     ensures { λ r. ⌜ FieldIs (now (s .entry)) at r ⌝ }
 {
-    let FieldMarksRead::Are(marks, behind) = field_marks(s, at) else {
+    let NumeralRead::Is(kind, after) = entry::first(s, at, b'F', 1, 12) else {
+        return FieldRead::Bad;
+    };
+    let MarkRead::Is(opened, b) = entry::mark(s, after) else {
+        return FieldRead::Bad;
+    };
+    let MarkRead::Is(items, c) = entry::mark(s, b) else {
+        return FieldRead::Bad;
+    };
+    let NumeralRead::Is(count, behind) = entry::item(s, c, 0, MAX_COUNT) else {
         return FieldRead::Bad;
     };
     let FieldTextsRead::Are(texts, next) = field_texts(s, behind) else {
@@ -217,10 +227,10 @@ pub fn field_head(s: &[u8], at: usize) -> FieldRead
     let tag = texts.tag;
     FieldRead::Is(
         FieldHead {
-            kind: marks.kind,
-            opened: marks.opened,
-            items: marks.items,
-            count: marks.count,
+            kind,
+            opened,
+            items,
+            count,
             name,
             tag,
         },

@@ -26,8 +26,8 @@ use Rattle.validation.specs.WideningLaws.{passedOf}
 use Rattle.validation.specs.CountLaws.{VerdictIs, every-judged, passes-at-most, checks-at-most, HeldSmall, Small, checks-small}
 use Rattle.validation.specs.Location.{behindLabel}
 use Rattle.validation.specs.Result as Result
-use Rattle.validation.specs.Result.{checked, ownFamily, numbersOf, pathAfter}
-use Rattle.value_checks.specs.Shown.{overOf, Shown, passes, fails, shownOf, familyOf, overPlaceOf, answerShown, answer-shown}
+use Rattle.validation.specs.Result.{checked, ownFamily, numbersOf, pathAfter, overOf, familyIn, overPlaceIn}
+use Rattle.value_checks.specs.Shown.{Shown, passes, fails, shownOf, answerShown, answer-shown}
 use Rattle.value_checks.specs.Verdicts.{numberOf, detailOf, overBy, shownWith, shownBy}
 use Rattle.condition_checks.specs.Rules.{RuleJudged}
 use Rattle.value_checks.specs.declared.verdict.Fault.{Fault}
@@ -67,8 +67,8 @@ unfolding overOf
 held-over n [] h = tt
 held-over n (b ∷ bs) h = h
 
-over-small : (n : ℕ) (o : Option ℕ) (family : ℕ) → OverWithin n o → overPlaceOf o family ≤ n
-unfolding overPlaceOf
+over-small : (n : ℕ) (o : Option ℕ) (family : ℕ) → OverWithin n o → overPlaceIn o family ≤ n
+unfolding overPlaceIn
 over-small n none family h = omega arith
 over-small n (some e) family h = either (eqb family 1)
   where
@@ -136,8 +136,8 @@ module _ (set : Code.Setting) {schema sheet : List ℕ} {s : Schema} {words : Li
         → FindingIs (set .«rule_kind») fault found
         → Narrow entry place
         → PathWritten label sheet words (found .number) place before after written
-        → family ≡ familyOf (overBy over) (found .family)
-        → overPlace ≡ overPlaceOf (overBy over) (found .family)
+        → family ≡ familyIn (overBy over) (found .family)
+        → overPlace ≡ overPlaceIn (overBy over) (found .family)
         → Narrow overPlace overPlace′
         → Narrow written size
         → Answered setting label schema sheet s words before after
@@ -154,7 +154,7 @@ module _ (set : Code.Setting) {schema sheet : List ℕ} {s : Schema} {words : Li
               let passed-is : p ≡ a .passed = n .same (omega arith) in
               let place-is : place ≡ entry = placed .same (omega arith) in
               let own : found .family ≡ ownFamily setting (numberOf fault) = finding .family setting refl in
-              let over-own : overPlace ≡ overPlaceOf (overBy over) (ownFamily setting (numberOf fault)) = rw own at over-is in
+              let over-own : overPlace ≡ overPlaceIn (overBy over) (ownFamily setting (numberOf fault)) = rw own at over-is in
               let low = over-small (ruleEntries x) (overBy over) (ownFamily setting (numberOf fault)) (w .held) in
               let over-same : overPlace′ ≡ overPlace = over-narrow .same (omega arith) in
               let path : PathWritten label sheet words (numberOf fault) entry before after written = rw (place-is, finding .number) at wrote in

@@ -4,8 +4,7 @@ use mathlib.Core.Bool.{Bool}
 use mathlib.Core.Path.{_≡_}
 use borrow.Author.Tests.{eq-eqb, ne-eqb}
 use Rattle.reference.specs.Setting.{Setting}
-use Rattle.validation.specs.Result.{ownFamily}
-use Rattle.value_checks.specs.Shown.{familyOf, overPlaceOf}
+use Rattle.validation.specs.Result.{ownFamily, familyIn, overPlaceIn}
 use Rattle.value_checks.specs.Verdicts.{numberOf, detailOf, overBy}
 use Rattle.value_checks.specs.declared.verdict.Fault.{Fault}
 use Rattle.value_checks.specs.declared.verdict.Over.{Over}
@@ -13,20 +12,20 @@ use Rattle.value_checks.specs.declared.verdict.Over.the-variants.{In}
 use Rattle.single_check.specs.Findings.{FindingIs}
 use Rattle.single_check.specs.declared.finding.Finding.{Finding}
 
-pub family-body : {over : Over} {e family : ℕ} → over ≡ In e → family ≡ 1 → 8 ≡ familyOf (overBy over) family
-unfolding familyOf overBy
+pub family-body : {over : Over} {e family : ℕ} → over ≡ In e → family ≡ 1 → 8 ≡ familyIn (overBy over) family
+unfolding familyIn overBy
 family-body {family = family} h g = rw (h, eq-eqb family 1 g)
 
-pub family-own : {over : Over} {e family : ℕ} → over ≡ In e → (family ≡ 1 → ⊥) → family ≡ familyOf (overBy over) family
-unfolding familyOf overBy
+pub family-own : {over : Over} {e family : ℕ} → over ≡ In e → (family ≡ 1 → ⊥) → family ≡ familyIn (overBy over) family
+unfolding familyIn overBy
 family-own {family = family} h g = rw (h, ne-eqb family 1 g)
 
-pub place-body : {over : Over} {e family : ℕ} → over ≡ In e → family ≡ 1 → e ≡ overPlaceOf (overBy over) family
-unfolding overPlaceOf overBy
+pub place-body : {over : Over} {e family : ℕ} → over ≡ In e → family ≡ 1 → e ≡ overPlaceIn (overBy over) family
+unfolding overPlaceIn overBy
 place-body {family = family} h g = rw (h, eq-eqb family 1 g)
 
-pub place-none : {over : Over} {e family : ℕ} → over ≡ In e → (family ≡ 1 → ⊥) → 0 ≡ overPlaceOf (overBy over) family
-unfolding overPlaceOf overBy
+pub place-none : {over : Over} {e family : ℕ} → over ≡ In e → (family ≡ 1 → ⊥) → 0 ≡ overPlaceIn (overBy over) family
+unfolding overPlaceIn overBy
 place-none {family = family} h g = rw (h, ne-eqb family 1 g)
 
 -- what the match on a fault says is right if it is right for that fault

@@ -6,7 +6,7 @@ use mathlib.Core.Option.{none, some}
 use mathlib.Core.Path.{_≡_, refl, ap, sym, _∙_}
 use lib.ListN.{length}
 use Rattle.definition.specs.Tree.{Rule}
-use Rattle.definition.specs.Decode.{decodeSchema, decodeRule}
+use Rattle.definition.specs.Decode.{decodeRule}
 use Rattle.reference.specs.Setting as Reference
 use Rattle.reference.specs.Table.{tableIn, settingUnder, orStock}
 use Rattle.schema.specs.Read.{SchemaIs, SchemaAnswer}
@@ -17,7 +17,7 @@ use Rattle.validation.specs.Result as Result
 use Rattle.validation.specs.Result.{Call, Heard, refusal, scratchWords, markBytes, Numbers, ofTable, ofSettings, early, firstRefusal, judged, numbersOf, pathAfter, resultOf, callOf}
 use Rattle.validation.specs.RefusalLaws.{refusal-some, early-refused, settings-refused, settings-none, marks-refused, table-decides}
 use Rattle.validation.specs.DemandLaws.{heard, number-accepted}
-use Rattle.validation.specs.Marking.{marksBy, MarksAre, MeetsMarked}
+use Rattle.validation.specs.Marking.{MeetsMarked}
 use Rattle.validation.specs.MarkingLaws.{accepted-rule, accepted-marks, unaccepted-marks}
 use Rattle.buffer.specs.Bytes.{bytesOf}
 use Rattle.constants.specs.Marks.{RuleMarked}
@@ -30,7 +30,6 @@ use Rattle.single_check.specs.declared.settings.Setting.{Setting as Code
 use Rattle.single_check.specs.declared.settings.Settled.the-variants.{Set, Refused}
 use Rattle.single_check.specs.declared.sheets.Takes.{Takes}
 use Rattle.single_check.specs.declared.outcome.Outcome.{Outcome}
-use Rattle.single_check.specs.declared.outcome.Report.{Report}
 
 not-due : {n : ℕ} (takes : Result.Takes) (kind semantics : ℕ) (label sheet : List ℕ) (path scratch : ℕ) → EarlyIs kind semantics label path scratch n → n ≡ 0
     → firstRefusal (ofSettings (askedBy takes kind semantics label sheet) (widthsBy path scratch)) ≡ none
@@ -46,7 +45,7 @@ by-number e = ap (λ (n : Numbers). n .number) e
 refused-some : {n : ℕ} → Heard (Result.refused n) → n ≡ 0 → ⊥
 refused-some (refusal {n} p) z = refusal-some n p z
 
--- a rule that was accepted was read, so its index stands
+-- a rule that was accepted was read, so its index stays
 index-stands : (setting : Reference.Setting) (takes : Result.Takes) (label schema sheet middle after : List ℕ) (q : SchemaRead)
     → SchemaIs schema middle q
     → RuleStands q sheet after

@@ -8,7 +8,7 @@ use walk::answer::ReferenceFault;
 ghost use mathlib.Core.Bool.{cond};
 ghost use mathlib.Core.Path.{_≡_};
 ghost use Rattle.walk.specs.Answers.{referenceDetail, collectionDetail};
-ghost use Rattle.value_checks.specs.Shown.{familyOf, overPlaceOf};
+ghost use Rattle.validation.specs.Result.{familyIn, overPlaceIn};
 ghost use Rattle.value_checks.specs.Verdicts.{overBy, sideDetail, instantDetail};
 ghost use Rattle.single_check.specs.Findings.{FindingIs};
 
@@ -107,7 +107,7 @@ pub fn find(rule_kind: bool, fault: Fault) -> Finding
 
 // Family 1 is 8 inside a quantifier's body.
 pub fn family_in(over: Over, family: u32) -> u32
-    ensures { λ r. ⌜ r ≡ familyOf (overBy over) family ⌝ }
+    ensures { λ r. ⌜ r ≡ familyIn (overBy over) family ⌝ }
 {
     let Over::In(_) = over else {
         return family;
@@ -117,7 +117,7 @@ pub fn family_in(over: Over, family: u32) -> u32
 
 // Where the collection of the innermost quantifier is, for family 8.
 pub fn over_place(over: Over, family: u32) -> usize
-    ensures { λ r. ⌜ r ≡ overPlaceOf (overBy over) family ⌝ }
+    ensures { λ r. ⌜ r ≡ overPlaceIn (overBy over) family ⌝ }
 {
     let Over::In(entry) = over else {
         return 0;

@@ -1,6 +1,6 @@
 // The seven numbers of a result, and the count of marks beside them.
 ghost use mathlib.Core.Path.{_≡_};
-ghost use Rattle.validation.specs.Result.{Answer, numbersOf};
+ghost use Rattle.validation.specs.Result.{numbersOf};
 ghost use Rattle.validation.specs.Result as Result;
 ghost use Rattle.single_check.specs.Outcomes.{numbersBy};
 

@@ -36,7 +36,7 @@ tail-solid b t e =
     let l = leb-true 0x80 b (and-true-0 (leb 0x80 b) _ e) in
     blank-none (b ∷ t) (omega arith) (tail-none b t l (omega arith))
 
--- behind the first of a code point's bytes no text is blank
+-- after the first of a code point's bytes no text is blank
 inside-solid : {u t : List ℕ} {w : ℕ} → Shape u w t → (j : ℕ) → 0 < j → j + length t < length u → isBlank (drop j u) ≡ false
 inside-solid s zero p h = absurd (omega arith)
 inside-solid (one f) (suc j) p h = absurd (omega arith)

@@ -55,7 +55,7 @@ pub passed-ascii
 passed-ascii s from at n p h l = record { forward = omega (arith, p .forward); within = h; kept = ascii-steps s at n h l ∙ p .kept }
 
 module _ (s : List ℕ) (at : ℕ) where
-  -- one part behind the other, and two that may overlap
+  -- one part after the other, and two that may overlap
   pub ascii-more : (m n : ℕ) → AsciiAt s at m → AsciiAt s (at + m) n → AsciiAt s at (m + n)
   ascii-more m n low high =
       below-more (λ k. getD s (at + k) 0 ≤ 0x7F) m n low

@@ -76,8 +76,9 @@ fn is_utf8_4(a: u8, b: u8, c: u8, d: u8) -> bool
     }
 }
 
-fn wide(b: u8) -> u32
-    ensures { λ r. ⌜ r ≡ b ⌝ }
+// A byte as a number of 32 bits.
+pub fn wide(b: u8) -> u32
+    ensures { λ r. ⌜ (r ≡ b) × (r < 256) ⌝ }
 {
     b as u32
 }

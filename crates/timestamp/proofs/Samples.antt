@@ -153,7 +153,7 @@ not-after : isEarlier (at 2 1 0 0) (at 1 31 0 0) ≡ false
 unfolding isEarlier isBelow listOf at
 not-after = refl
 
--- the 61st second lies before the next minute's first, and behind a nanosecond earlier
+-- the 61st second lies before the next minute's first, and after a nanosecond earlier
 second-60 : isEarlier (at 1 1 60 0) (record { year = 2024; month = 1; day = 1; hour = 0; minute = 1; second = 0; nanoseconds = 0 }) ≡ true
 unfolding isEarlier isBelow listOf at
 second-60 = refl

@@ -49,7 +49,7 @@ pub record ConstantEdges : Type 0 where
   pub years : marks (ascii "R,-,-,\nC,6,0,\nV,5,10,0000-01-01\nV,5,10,9999-12-31\n") ≡ (0, 5 ∷ [])
   -- one nanosecond
   pub nanosecond : marks (ascii "R,-,-,\nC,7,0,\nV,5,29,2024-01-01T00:00:00.000000001\nV,5,10,2024-01-01\n") ≡ (0, 5 ∷ [])
-  -- behind a constant condition, one that can't be read: not accepted, no marks
+  -- after a constant condition, one that can't be read: not accepted, no marks
   pub defect-behind : marks (ascii "R,-,-,\nC,2,2,\n" ++ new-year ++ ascii "C,5,0,\nV,5,10,$fields.no\n") ≡ (18, [])
   pub no-instant : marks (ascii "R,-,-,\nC,6,0,\nV,5,10,2023-02-29\nV,5,10,2024-01-01\n") ≡ (20, [])
   -- a template has no conditions

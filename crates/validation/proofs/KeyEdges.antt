@@ -1,7 +1,7 @@
 -- Calls that check one path of `$fields`, from raw sheets to the numbers, by computation.
 use Prim.Native.Nat.{ℕ, _-_}
 use Prim.Native.String.{String}
-use mathlib.Core.List.{List, [], _∷_, _++_}
+use mathlib.Core.List.{List, [], _∷_}
 use mathlib.Core.Path.{_≡_, refl}
 use Rattle.sheet.specs.Ascii.{ascii}
 use Rattle.validation.specs.Result.{scratchWords, Numbers, numbersOf}

@@ -11,7 +11,7 @@ use Rattle.reference.specs.Setting.{oneOf}
 use Rattle.reference.proofs.Tables.{stockText}
 use Rattle.validation.specs.Result.{Call, refused, refusalNumbers, Heard, refusal}
 use Rattle.validation.specs.Marking.{marksBy}
-use Rattle.validation.proofs.Calls.{lending, ask, heard, accepts}
+use Rattle.validation.proofs.Calls.{ask, heard, accepts}
 use Rattle.validation.proofs.Edges.{empty, bars, times}
 use Rattle.validation.proofs.Bounds.{met, lend, label, refuses}
 use Rattle.validation.proofs.TableEdges.{underTable, changed, oldAlone}
@@ -43,7 +43,7 @@ pub record MarkEdges : Type 0 where
   pub bytes-0 : heard (lendMarks 0 (ask 1 2 empty met)) ≡ refuses 35
   -- a template has no marks, and 35 is tried all the same
   pub template : heard (lendMarks 8191 (ask 1 2 empty (ascii "T\nV,1,0,\n"))) ≡ refuses 35
-  -- in its place: behind 1, 2 and 3, before 37, 38, 4 and 5
+  -- in its place: after 1, 2 and 3, before 37, 38, 4 and 5
   pub settings-first : heard (lendMarks 8191 (ask 9 2 empty met)) ≡ refuses 1
   pub label-first : heard (lendMarks 8191 (lend (label 257) 32768 4096)) ≡ refuses 2
   pub path-first : heard (lendMarks 8191 (lend (label 0) 32767 4096)) ≡ refuses 3
@@ -56,7 +56,7 @@ pub record MarkEdges : Type 0 where
   pub refusal-35 : Heard (refused 35)
   pub no-refusal-34 : Heard (refused 34) → ⊥
   pub no-refusal-36 : Heard (refused 36) → ⊥
-  -- the list: entry 2 is true; entries 3 and 6, the second false; nothing of a template, behind a defect, under a refusal
+  -- the list: entry 2 is true; entries 3 and 6, the second false; nothing of a template, after a defect, under a refusal
   pub one-mark : listAfter 8192 two-dates ≡ 5 ∷ 0 ∷ 0 ∷ 0 ∷ replicate 8 9
   pub two-marks : listAfter 8192 (ascii "R,-,-,\nC,2,2,\n" ++ new-year ++ ascii "C,7,0,\nV,5,10,2023-12-31\nV,5,10,2024-01-01\n")
       ≡ 7 ∷ 0 ∷ 0 ∷ 0 ∷ 12 ∷ 0 ∷ 0 ∷ 0 ∷ replicate 4 9

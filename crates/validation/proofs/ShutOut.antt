@@ -40,7 +40,7 @@ breaks p c h =
       broken = λ r same its m. h (sym its ∙ m .result ∙ ap (λ (c : Call). numbersOf (resultOf c)) same);
     }
 
--- two calls: one with a defect, number 18 behind nine checks that pass, and one that is accepted without a check
+-- two calls: one with a defect, number 18 after nine checks that pass, and one that is accepted without a check
 unfoldable pub defective : Call
 defective =
     ask 2 2 (ascii "H,0,1,-,0\nF,6,0,1,0,4,-,bars\nF,2,0,0,0,0,-,\n")
@@ -124,7 +124,7 @@ unfolding answerOf
 answer-not-refused setting label r (allPass k) n e = let z : _≡_ {A = ℕ} 0 1 = cc in omega arith
 answer-not-refused setting label r (failsAt k c d) n e = let z : _≡_ {A = ℕ} 0 1 = cc in omega arith
 
--- where a sheet is well formed, its refusal stands in the list or nowhere
+-- where a sheet is well formed, its refusal is in the list or nowhere
 due-4 : (setting : Setting) (label : Text) (s : Schema) (r : Option Rule) (x : Option ℕ)
     → refusedOr x (judged setting label (some s) r) ≡ refused 4
     → x ≡ some 4

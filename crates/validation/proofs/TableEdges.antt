@@ -63,7 +63,7 @@ pub record TableEdges : Type 0 where
   pub fields-stock : heard (ask 6 2 bars readsBars) ≡ finds 18 1 11 2 0 0 1 (ascii "r")
   pub fields-shown : heard (underTable shownFields 4096 (ask 6 2 bars readsBars)) ≡ accepts 1
   pub fields-walked : heard (underTable shownFields 4096 (ask 6 2 empty readsBars)) ≡ finds 18 1 2 2 0 0 1 (ascii "r")
-  -- the stock table written out, with bytes behind it, and one byte less
+  -- the stock table written out, with bytes after it, and one byte less
   pub bytes-176 : heard (underTable stockText 4096 (ask 2 2 empty readsTarget)) ≡ accepts 1
   pub bytes-177 : heard (underTable (stockText ++ (0 ∷ [])) 4096 (ask 2 2 empty readsTarget)) ≡ accepts 1
   pub bytes-175 : heard (underTable (take 175 stockText) 4096 (ask 2 2 empty readsTarget)) ≡ refuses 37
@@ -73,7 +73,7 @@ pub record TableEdges : Type 0 where
   -- a condition counts in every row
   pub old-alone : heard (underTable oldAlone 4096 (ask 2 2 empty readsTarget)) ≡ refuses 38
   pub without-id : heard (underTable withoutId 4096 (ask 2 2 empty readsTarget)) ≡ refuses 38
-  -- in their place: behind 3, before 4
+  -- in their place: after 3, before 4
   pub width-before-table : heard (underTable (78 ∷ []) 0 (ask 2 2 empty readsTarget)) ≡ refuses 3
   pub form-before-schema : heard (underTable (78 ∷ []) 4096 (ask 2 2 [] readsTarget)) ≡ refuses 37
   pub condition-before-schema : heard (underTable oldAlone 4096 (ask 2 2 [] readsTarget)) ≡ refuses 38

@@ -2,7 +2,7 @@
 -- asks for a collection, it is not refused with a detail that stands for a sentence which never occurs, since the references come before it.
 use Prim.Native.Nat.{ℕ, _≤_}
 use Prim.Native.Char.{code}
-use mathlib.Core.Bool.{Bool, true, false, cond, not, _&&_, _||_}
+use mathlib.Core.Bool.{Bool, true, false, cond, not}
 use mathlib.Core.List.{List, [], _∷_, _++_, map}
 use mathlib.Core.Option.{Option, none, some, IsSome}
 use mathlib.Core.Path.{_≡_, refl}

@@ -91,7 +91,7 @@ pub lean-scratch : (r r′ : Run)
 lean-scratch r r′ s enough enough′ = demand-1-scratch r r′ s (le-leb _ _ enough ∙ sym (le-leb _ _ enough′))
 
 -- The path of every defect has room in a buffer that is not refused, and every check of the list has a way from the root to its place, so that no defect
--- goes by the label alone for want of one: `path-length` and `checks-have-paths` (crate `location`, specs/LengthLaws and specs/PathLaws).
+-- goes by the label alone for want of one: `path-length` and `checks-have-paths` (crate `defect_path`, specs/LengthLaws and specs/PathLaws).
 
 -- Demand 2, its proved half: for two sheets that meet none of the refusals the answer is that of the check list (specs/Check.antt,
 -- specs/Judge.antt), its numbers and its path. That acceptance, family, detail and path are the Rust's is shown by the differential runs.

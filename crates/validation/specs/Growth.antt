@@ -23,7 +23,7 @@ pub record Widens (l : Level) (sheet sheet′ : List ℕ) : Type 0 where
   pub isWider : WiderSchema l first second
 
 -- the run wrote that path to the start of its buffer, kept all other bytes, and says how long the path is; that every path has room
--- in a buffer that is not refused is a law of crate `location`
+-- in a buffer that is not refused is a law of crate `defect_path`
 pub record Writes (path : List ℕ) (r : Run) : Type 0 where
   pub bytes : r .path ≡ sets (r .pathBefore) 0 path
   pub size : r .result .pathLength ≡ length path

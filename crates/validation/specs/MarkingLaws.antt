@@ -23,7 +23,7 @@ use Rattle.validation.specs.ServiceCallLaws.{accepted-unrefused}
 use Rattle.validation.specs.Constant.{marksIn, marksIf, marksHeard}
 use Rattle.validation.specs.Marked.{Rises}
 use Rattle.validation.specs.ConstantLaws.{marks-rise, marks-few, marks-small, marks-same}
-use Rattle.validation.specs.Marking.{marksBy, MarksAre, MarkedRun, MeetsMarked, SameMarks}
+use Rattle.validation.specs.Marking.{marksBy, MarkedRun, MeetsMarked, SameMarks}
 
 -- an accepted rule's marks: they rise, so many are counted, each is read back from its four bytes, and all bytes after them keep their values
 pub record MarksStand (r : Rule) (m : MarkedRun) : Type 0 where

@@ -89,14 +89,19 @@ ownFamily setting n =
     (cond (eqb n 21) 6
     (cond (eqb n 22) 7 1)))))
 
--- family 1 becomes 8 in a body, and the over place is then the innermost quantifier's `in` entry
-unfoldable pub familyIn : List Binder → ℕ → ℕ
-familyIn [] family = family
-familyIn (b ∷ bs) family = cond (eqb family 1) 8 family
+-- the `in` entry of the innermost quantifier whose body holds a check
+unfoldable pub overOf : List Binder → Option ℕ
+overOf [] = none
+overOf (b ∷ bs) = some (entryOf (b .over))
 
-unfoldable pub overPlaceIn : List Binder → ℕ → ℕ
-overPlaceIn [] family = 0
-overPlaceIn (b ∷ bs) family = cond (eqb family 1) (entryOf (b .over)) 0
+-- family 1 becomes 8 in a body, and the over place is then that entry
+unfoldable pub familyIn : (over : Option ℕ) → ℕ → ℕ
+familyIn none family = family
+familyIn (some e) family = cond (eqb family 1) 8 family
+
+unfoldable pub overPlaceIn : (over : Option ℕ) → ℕ → ℕ
+overPlaceIn none family = 0
+overPlaceIn (some e) family = cond (eqb family 1) e 0
 
 unfoldable pub answerOf : Setting → (label : Text) → Rule → Verdict → Answer
 answerOf setting label r (allPass passed) = accepted passed
@@ -104,10 +109,10 @@ answerOf setting label r (failsAt passed c d) =
     defect
     (record {
       number = c .number;
-      family = familyIn (c .binders) (ownFamily setting (c .number));
+      family = familyIn (overOf (c .binders)) (ownFamily setting (c .number));
       detail = d;
       place = c .place;
-      overPlace = overPlaceIn (c .binders) (ownFamily setting (c .number));
+      overPlace = overPlaceIn (overOf (c .binders)) (ownFamily setting (c .number));
       passed = passed;
       path = pathOf label r (c .number) (c .place);
     })

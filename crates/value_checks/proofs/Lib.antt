@@ -1,6 +1,7 @@
 pub mod KindSteps
 pub mod Going
 pub mod NodeSteps
+pub mod EntrySteps
 pub mod Opening
 pub mod LiteralSteps
 pub mod ObservedSteps

@@ -1,4 +1,4 @@
--- Conditions in the index: what an operator says of the tree, a condition's children, and the first of several.
+-- Conditions and values in the index: what an operator says of the tree, a condition's children, and the first of several.
 use Prim.Native.Nat.{ℕ, _+_, _≤_, _<_}
 use native.Mathlib.Omega.{arith}
 use mathlib.Core.List.{List}
@@ -10,12 +10,12 @@ use Rattle.sheet.specs.Reader.{Reader}
 use Rattle.sheet.specs.Entries.{ConditionHead, conditionHead}
 use Rattle.sheet.specs.Places.{ReadsTo}
 use Rattle.sheet.specs.RuleHeadLaws.{ConditionHeadFits, conditionHead-exact}
-use Rattle.definition.specs.Tree.{Value, constant, number, string, array, object, Condition, literal, many, negation, one, two, comparison, quantifier, Conditions, noConditions, condition}
-use Rattle.definition.specs.Within.{conditionEntries, conditionsEntries, valueEntries}
+use Rattle.definition.specs.Tree.{Value, constant, number, string, array, object, Values, noValues, value, Condition, literal, many, negation, one, two, comparison, quantifier, Conditions, noConditions, condition}
+use Rattle.definition.specs.Within.{conditionEntries, conditionsEntries, valueEntries, valuesEntries}
 use Rattle.rule.specs.Index.{startOf, endOf, EntryAt, ConditionAt}
 use Rattle.rule.specs.IndexLaws.{value-next, condition-next}
 use Rattle.value_checks.specs.Kinds.{operatorIn, OperatorAt}
-use Rattle.value_checks.specs.Nodes.{IsCondition, AreConditions, Behind, childrenOf, ChildrenFrom}
+use Rattle.value_checks.specs.Nodes.{IsValue, AreValues, IsCondition, AreConditions, Behind, childrenOf, ChildrenFrom}
 
 pub same-head : {H : Type 0} {reader : Reader (List ℕ) H} {rule words : List ℕ} {i at next size e : ℕ} {h k : H}
     → at ≡ startOf words i
@@ -27,7 +27,7 @@ same-head {H} {reader} {rule} {words} {i} {at} {next} {size} {e} {h} {k} start r
     let q : _≡_ {A = H × List ℕ} (h, drop next rule) (k, a .rest) = cc (a .reads) in
     ap (λ (x : H × List ℕ). x .0) q
 
--- What an operator says of the condition that stands there.
+-- What an operator says of the condition that is there.
 
 abbrev pub HasOperator : ℕ → Condition → Type 0
 HasOperator op (literal e truth) = op ≡ 1
@@ -141,3 +141,36 @@ none-left (condition c others) h w = let p : 1 ≤ conditionEntries c = conditio
 pub none-ends : {rule words : List ℕ} {i end : ℕ} → AreConditions rule words i end noConditions → end ≤ i
 unfolding conditionsEntries
 none-ends w = omega (arith, w .ends)
+
+-- Several values, side by side.
+
+unfoldable pub othersOf : Values → Values
+othersOf noValues = noValues
+othersOf (value v others) = others
+
+module _ {rule words : List ℕ} {i end r : ℕ} (inside : i < end) (b : Behind words i end r) where
+  value-end : {v : Value} {others : Values} → AreValues rule words i end (value v others) → r ≡ i + valueEntries v
+  unfolding valuesEntries
+  value-end {v} {others} w =
+      let n : endOf words i ≡ i + valueEntries v = value-next rule words i v (w .stand .0) in
+      let p : 1 ≤ valueEntries v = value-size v in
+      b .exact (omega arith) (omega (arith, w .ends)) ∙ n
+
+  pub value-stands : {v : Value} {others : Values} → AreValues rule words i end (value v others) → IsValue rule words i r v
+  value-stands w = record { stands = w .stand .0; ends = value-end w }
+
+  pub others-stand : (vs : Values) → AreValues rule words i end vs → AreValues rule words r end (othersOf vs)
+  unfolding othersOf valuesEntries
+  others-stand noValues w = absurd (omega (arith, w .ends, inside))
+  others-stand (value v others) w =
+      let f : r ≡ i + valueEntries v = value-end w in
+      record { stand = rw f (w .stand .1); ends = omega (arith, w .ends) }
+
+pub no-values-left : {rule words : List ℕ} {i end : ℕ} (vs : Values) → end ≤ i → AreValues rule words i end vs → vs ≡ noValues
+unfolding valuesEntries
+no-values-left noValues h w = refl
+no-values-left (value v others) h w = let p : 1 ≤ valueEntries v = value-size v in absurd (omega (arith, w .ends))
+
+pub no-values-end : {rule words : List ℕ} {i end : ℕ} → AreValues rule words i end noValues → end ≤ i
+unfolding valuesEntries
+no-values-end w = omega (arith, w .ends)

@@ -10,12 +10,13 @@ use borrow.Author.Tests.{le-leb, lt-leb}
 use Rattle.definition.specs.Tree.{Schema, Value, constant, number, string, array, object, Values, noValues, value, Pairs, noPairs, pair, Condition, literal, many, negation, one, two, comparison, quantifier, Conditions, noConditions, condition}
 use Rattle.reference.specs.Setting.{Setting}
 use Rattle.definition.specs.Within.{conditionEntries, valueEntries}
-use Rattle.rule.specs.Index.{startOf, ValueAt}
+use Rattle.rule.specs.Index.{startOf, endOf, ValueAt}
+use Rattle.rule.specs.IndexLaws.{value-next}
 use Rattle.validation.specs.Check.{Check, Literal, literalCheck, numbers, numbersOfValues, numbersOfPairs, literals, literalsOfConditions}
 use Rattle.validation.specs.Judge.{outcome}
 use Rattle.value_checks.specs.Leaves.{leaves, leavesOfValues, leavesOfPairs, saidIn, said-append, said-value}
 use Rattle.value_checks.specs.Kinds.{OperatorAt}
-use Rattle.value_checks.specs.Nodes.{IsCondition, AreConditions, Behind, childrenOf, ChildrenFrom}
+use Rattle.value_checks.specs.Nodes.{EntriesIn, IsCondition, AreConditions, Behind, childrenOf, ChildrenFrom}
 use Rattle.value_checks.specs.Verdicts.{GoesOn}
 use Rattle.value_checks.specs.Literals.{literalSays, LiteralsJudged, isObserved, ObservedJudged, ConditionLiterals}
 use Rattle.value_checks.specs.declared.verdict.Fault.{Fault}
@@ -23,20 +24,21 @@ use Rattle.value_checks.specs.declared.verdict.Over.{Over}
 use Rattle.value_checks.specs.declared.verdict.Verdict.the-variants.{Defect}
 use Rattle.value_checks.specs.declared.verdict.Progress.{Progress}
 use Rattle.value_checks.proofs.Going.{goes-nothing, goes-then, goes-stopped}
-use Rattle.value_checks.proofs.NodeSteps.{has-operator, first-stands, none-left, none-ends}
+use Rattle.value_checks.proofs.NodeSteps.{has-operator, value-size, first-stands, none-left, none-ends}
+use Rattle.value_checks.proofs.EntrySteps.{entries-none, entries-both, entries-value}
 use Rattle.value_checks.proofs.Opening.{beside, opened, opened-stand}
 
 module _ {rule words : List ℕ} {op start end : ℕ} {a : Progress} {flag : Bool} (said : flag ≡ isObserved op) where
   pub observed-yes : {r : Progress} → flag ≡ true → LiteralsJudged rule words start (end - start) a r → ObservedJudged rule words op start end a r
   observed-yes t p =
       let q : isObserved op ≡ true = sym said ∙ t in
-      record { atMost = p .atMost; goes = λ setting schema. rw q (p .goes setting schema) }
+      record { atMost = p .atMost; goes = λ setting schema w. rw q (p .goes setting schema w) }
 
   pub observed-no : flag ≡ false → ObservedJudged rule words op start end a a
   unfolding saidIn
   observed-no t =
       let q : isObserved op ≡ false = sym said ∙ t in
-      record { atMost = omega arith; goes = λ setting schema. rw q goes-nothing }
+      record { atMost = omega arith; goes = λ setting schema w. rw q goes-nothing }
 
 -- Operators by what they hold.
 
@@ -103,6 +105,9 @@ module _ (rule words : List ℕ) where
   if-observed true i n ls e = sym e ∙ sym (append-nil (saidIn literalSays rule words n i))
   if-observed false i n ls e = refl
 
+  no-entries : {i n : ℕ} → n ≡ 0 → EntriesIn rule words i n
+  no-entries e = rw e entries-none
+
   module _ {i end at op next : ℕ} (start : at ≡ startOf words i) (kind : OperatorAt rule at op) (k : ChildrenFrom words op i end next) where
     -- a condition's literals are those of its own values, and those of its children
     literals-parts : (c : Condition)
@@ -142,6 +147,45 @@ module _ (rule words : List ℕ) where
         let p = has-operator rule words i start kind (quantifier e own bind over body) (w .stands) in
         rw (observed-late {op = op} (p .1), append-nil)
 
+    -- the words of a condition up to its children are those of its values
+    values-entries : (c : Condition) → IsCondition rule words i end c → EntriesIn rule words (i + 1) (next - (i + 1))
+    unfolding conditionEntries
+    values-entries (literal e truth) w =
+        let p = has-operator rule words i start kind (literal e truth) (w .stands) in
+        let f : next ≡ end = k .literal (omega arith) in
+        no-entries (omega (arith, w .ends))
+    values-entries (many e own children) w =
+        let p = has-operator rule words i start kind (many e own children) (w .stands) in
+        let f : next ≡ i + 1 = k .inner (p .1) (omega (arith, p .2)) in
+        no-entries (omega arith)
+    values-entries (negation e child) w =
+        let p = has-operator rule words i start kind (negation e child) (w .stands) in
+        let f : next ≡ i + 1 = k .inner (omega arith) (omega arith) in
+        no-entries (omega arith)
+    values-entries (one e own v) w =
+        let p = has-operator rule words i start kind (one e own v) (w .stands) in
+        let f : next ≡ end = ⊎-elim (λ q. k .values (omega arith) (omega arith)) (λ q. k .values (omega arith) (omega arith)) (p .1) in
+        let n : next - (i + 1) ≡ valueEntries v = omega (arith, w .ends) in
+        rw n (entries-value (i + 1) v (w .stands .1))
+    values-entries (two e own left right) w =
+        let p = has-operator rule words i start kind (two e own left right) (w .stands) in
+        let f : next ≡ end = k .values (omega (arith, p .1)) (omega (arith, p .2)) in
+        let n : next - (i + 1) ≡ valueEntries left + valueEntries right = omega (arith, w .ends) in
+        rw n (entries-both (entries-value (i + 1) left (w .stands .1)) (entries-value (i + 1 + valueEntries left) right (w .stands .2)))
+    values-entries (comparison e which left right) w =
+        let p = has-operator rule words i start kind (comparison e which left right) (w .stands) in
+        let f : next ≡ end = k .values (omega arith) (omega arith) in
+        let n : next - (i + 1) ≡ valueEntries left + valueEntries right = omega (arith, w .ends) in
+        rw n (entries-both (entries-value (i + 1) left (w .stands .1)) (entries-value (i + 1 + valueEntries left) right (w .stands .2)))
+    values-entries (quantifier e own bind over body) w =
+        let p = has-operator rule words i start kind (quantifier e own bind over body) (w .stands) in
+        let b : Behind words (i + 1) end next = k .body (p .1) in
+        let m : endOf words (i + 1) ≡ i + 1 + valueEntries over = value-next rule words (i + 1) over (w .stands .1) in
+        let z : 1 ≤ valueEntries over = value-size over in
+        let f : next ≡ i + 1 + valueEntries over = b .exact (omega arith) (omega (arith, w .ends)) ∙ m in
+        let n : next - (i + 1) ≡ valueEntries over = omega arith in
+        rw n (entries-value (i + 1) over (w .stands .1))
+
 beside-literals : (cs ds : Conditions) → literalsOfConditions (beside cs ds) ≡ literalsOfConditions cs ++ literalsOfConditions ds
 unfolding beside literalsOfConditions
 beside-literals noConditions ds = refl
@@ -171,7 +215,8 @@ module _ {rule words : List ℕ} {i end own at op next : ℕ} {b d : Progress} (
   opened-goes setting schema (condition c others) w r g =
       let p = literals-parts rule words start kind first c (first-stands inside ends w) in
       let q = rw (beside-literals (childrenOf c) others, map-append literalCheck (literalsOfConditions (childrenOf c)) (literalsOfConditions others)) at g in
-      rw (map-append literalCheck (literals c) (literalsOfConditions others), p, append-assoc) (goes-then (judged .goes setting schema) q)
+      let n = values-entries rule words start kind first c (first-stands inside ends w) in
+      rw (map-append literalCheck (literals c) (literalsOfConditions others), p, append-assoc) (goes-then (judged .goes setting schema n) q)
 
   pub left-next : {from : ℕ} {a : Progress} → from ≤ i → LiteralsLeft rule words from i end a b → LiteralsLeft rule words from next end a d
   left-next {from} {a} low l =

@@ -1,33 +1,33 @@
 -- Operands, step by step.
-use Prim.Native.Nat.{ℕ, _+_, _-_, _≤_, _<_}
+use Prim.Native.Nat.{ℕ, _+_, _*_, _-_, _≤_, _<_}
 use native.Mathlib.Omega.{arith}
+use native.Mathlib.Nat.{eq-zero-or-pos}
 use mathlib.Core.Bool.{Bool, true, false, not, cond, _&&_, false≢true}
-use mathlib.Core.List.{List, [], _∷_, _++_}
+use mathlib.Core.List.{List, [], _∷_, append-nil}
+use mathlib.Core.Logic.{_⊎_, inl, inr, ⊎-elim}
 use mathlib.Core.Option.{Option, none, some, Option·none-ne-some}
 use mathlib.Core.Path.{_≡_, refl, sym, ap, _∙_}
 use lib.ListN.{drop}
-use lib.Dec.{leb, eqb}
+use lib.Dec.{ltb, eqb}
+use borrow.Author.Tests.{eq-eqb, ne-eqb, le-leb, lt-leb, le-ltb, lt-ltb}
 use Rattle.timestamp.specs.Instant.{instant}
 use Rattle.timestamp.specs.InstantLaws.{short-instant}
 use Rattle.timestamp.specs.declared.Fields.{Fields}
-use Rattle.sheet.specs.Entries.{ValueHead, constantHead, numberHead, stringHead, arrayHead, objectHead, valueHead}
-use Rattle.sheet.specs.Places.{ReadsTo}
-use Rattle.sheet.specs.Parts.{partOf}
+use Rattle.sheet.specs.Entries.{ValueHead, valueHead}
 use Rattle.sheet.specs.RuleHeadLaws.{ValueHeadFits, valueHead-exact}
 use Rattle.sheet.specs.declared.part.Part.{Part}
-use Rattle.definition.specs.Tree.{Text, Schema, Value, constant, number, string, array, object}
+use Rattle.definition.specs.Tree.{Text, Schema, Value, constant, number, string, array, object, Values, noValues, value}
 use Rattle.reference.specs.Setting.{Setting}
 use Rattle.reference.specs.Reference.{Environment, beginsWithDollar}
-use Rattle.definition.specs.Within.{valueEntries}
-use Rattle.rule.specs.Index.{startOf, endOf, EntryAt, ValueAt}
-use Rattle.rule.specs.IndexLaws.{value-next}
+use Rattle.rule.specs.Index.{startOf, EntryAt, ValueAt}
 use Rattle.validation.specs.Check.{Binder, Question, settled, Check, check, failsIf, isNone, entryOf, isString, isHolder, referenceText, references, instantText, instantForm, instantOperand, affixOperand, compareSide, operand}
 use Rattle.validation.specs.Constant.{literalText, literalInstant}
 use Rattle.validation.specs.Judge.{CheckOutcome, outcome, environment, answer, answerIn}
-use Rattle.value_checks.specs.Kinds.{typeIn, TypeAt}
-use Rattle.value_checks.specs.Nodes.{Behind}
-use Rattle.value_checks.specs.Verdicts.{numberOf, detailOf, instantDetail, GoesOn, PassedOn, Failed}
-use Rattle.value_checks.specs.Frames.{Frame, Stands, IsReference, ReferencesIn, OperandJudged, PairJudged, FormIs, formOf, literalBy, ReadAs, side}
+use Rattle.scope.specs.declared.binder.Scope.{Scope}
+use Rattle.value_checks.specs.Kinds.{typeIn, TypeAt, TextAt}
+use Rattle.value_checks.specs.Nodes.{AreValues, Behind}
+use Rattle.value_checks.specs.Verdicts.{numberOf, detailOf, sideDetail, instantDetail, failed, GoesOn, PassedOn, Failed, Required}
+use Rattle.value_checks.specs.Frames.{Frame, frame, Stands, IsReference, ReferencesIn, instantCheck, affixCheck, askedBefore, askedAfter, asked, askedOf, ValueJudged, OperandJudged, OperandsJudged, FormIs, formOf, literalBy, ReadAs}
 use Rattle.value_checks.specs.declared.operand.Form.{Form}
 use Rattle.value_checks.specs.declared.operand.Form.the-variants as Form
 use Rattle.value_checks.specs.declared.operand.InstantRead.{InstantRead}
@@ -36,36 +36,22 @@ use Rattle.value_checks.specs.declared.operand.InstantRead.the-variants.
 use Rattle.value_checks.specs.declared.verdict.InstantFault.{InstantFault}
 use Rattle.value_checks.specs.declared.verdict.InstantFault.the-variants.{Escaped, Unreadable}
 use Rattle.value_checks.specs.declared.verdict.Side.{Side}
+use Rattle.value_checks.specs.declared.verdict.Side.the-variants.{Left, Right}
 use Rattle.value_checks.specs.declared.verdict.Fault.{Fault}
 use Rattle.value_checks.specs.declared.verdict.Fault.the-variants.{Operand, Affix, Instant}
 use Rattle.value_checks.specs.declared.verdict.Over.{Over}
 use Rattle.value_checks.specs.declared.verdict.Verdict.the-variants.{Defect}
 use Rattle.value_checks.specs.declared.verdict.Progress.{Progress}
-use Rattle.value_checks.proofs.Going.{goes-then, goes-stopped}
-use Rattle.value_checks.proofs.NodeSteps.{same-head, value-size}
+use Rattle.value_checks.proofs.Going.{goes-nothing, goes-then, goes-stopped}
+use Rattle.value_checks.proofs.NodeSteps.{othersOf, value-stands, others-stand, no-values-left, no-values-end}
+use Rattle.value_checks.proofs.LiteralSteps.{settled-outcome}
 use Rattle.value_checks.proofs.ReferenceSteps.{references-judged}
 
 -- What a value's head says of its form.
 
 module _ (rule words : List ℕ) (i : ℕ) {at : ℕ} (start : at ≡ startOf words i) where
-  value-unread : (v : Value) → ValueAt rule words i v → valueHead (drop at rule) ≡ none → ⊥
-  value-unread v a r = reads-some v a
-    where
-      clash : (h : ValueHead) (rest : List ℕ) → valueHead (drop (startOf words i) rule) ≡ some (h, rest) → ⊥
-      clash h rest q =
-          let p : valueHead (drop (startOf words i) rule) ≡ none = rw (sym start) r in
-          let z : _≡_ {A = ℕ} 0 1 = cc in
-          omega arith
-
-      reads-some : (v : Value) → ValueAt rule words i v → ⊥
-      reads-some (constant e type) a = clash _ _ (a .reads)
-      reads-some (number e digits) a = clash _ _ (a .reads)
-      reads-some (string e t) a = clash _ _ (a .reads)
-      reads-some (array e values) a = clash _ _ (a .0 .reads)
-      reads-some (object e pairs) a = clash _ _ (a .0 .reads)
-
   module _ {digit : ℕ} (kind : TypeAt rule at digit) where
-    -- the digit of the value that stands there
+    -- the digit of the value that is there
     digit-is : {size e : ℕ} {h : ValueHead} → EntryAt valueHead rule words i size e h → (digit ≡ 48 + typeIn h) × ValueHeadFits h
     digit-is {h = h} a =
         let k : TypeAt rule (startOf words i) digit = rw start at kind in
@@ -87,58 +73,39 @@ module _ (rule words : List ℕ) (i : ℕ) {at : ℕ} (start : at ≡ startOf wo
     form-late l (array e values) a = (refl, refl)
     form-late l (object e pairs) a = (refl, refl)
 
-  pub form-bad : valueHead (drop at rule) ≡ none → (v : Value) → ValueAt rule words i v → FormIs rule Form.Other v
-  form-bad r v a = absurd (value-unread v a r)
+    pub string-by : digit ≡ 53 → (v : Value) → ValueAt rule words i v → isString v ≡ true
+    unfolding isString typeIn
+    string-by d (constant e type) a = absurd (omega (arith, digit-is a .0, digit-is a .1 .1))
+    string-by d (number e digits) a = absurd (omega (arith, digit-is a .0))
+    string-by d (string e t) a = refl
+    string-by d (array e values) a = absurd (omega (arith, digit-is (a .0) .0))
+    string-by d (object e pairs) a = absurd (omega (arith, digit-is (a .0) .0))
 
--- by the head: what an operand is asked goes by it
-abbrev FormBy : List ℕ → Form → ValueHead → Type 0
-FormBy rule (Form.Text p) (constantHead type) = ⊥
-FormBy rule (Form.Text p) (numberHead digits) = ⊥
-FormBy rule (Form.Text p) (stringHead t) = t ≡ partOf rule p
-FormBy rule (Form.Text p) (arrayHead n) = ⊥
-FormBy rule (Form.Text p) (objectHead n) = ⊥
-FormBy rule Form.Holder (constantHead type) = ⊥
-FormBy rule Form.Holder (numberHead digits) = ⊥
-FormBy rule Form.Holder (stringHead t) = ⊥
-FormBy rule Form.Holder (arrayHead n) = Unit {0}
-FormBy rule Form.Holder (objectHead n) = Unit {0}
-FormBy rule Form.Other (constantHead type) = Unit {0}
-FormBy rule Form.Other (numberHead digits) = Unit {0}
-FormBy rule Form.Other (stringHead t) = ⊥
-FormBy rule Form.Other (arrayHead n) = ⊥
-FormBy rule Form.Other (objectHead n) = ⊥
+    pub no-string-by : (digit ≡ 53 → ⊥) → (v : Value) → ValueAt rule words i v → isString v ≡ false
+    unfolding isString typeIn
+    no-string-by d (constant e type) a = refl
+    no-string-by d (number e digits) a = refl
+    no-string-by d (string e t) a = absurd (d (digit-is a .0))
+    no-string-by d (array e values) a = refl
+    no-string-by d (object e pairs) a = refl
 
-module _ (rule words : List ℕ) (i : ℕ) {at next : ℕ} {h : ValueHead} (start : at ≡ startOf words i) (reads : ReadsTo valueHead rule at h next) where
-  pub form-text : (p : Part) → FormBy rule (Form.Text p) h → (v : Value) → ValueAt rule words i v → FormIs rule (Form.Text p) v
-  unfolding entryOf
-  form-text p f (constant e type) a = absurd (rw (same-head start reads a) at f)
-  form-text p f (number e digits) a = absurd (rw (same-head start reads a) at f)
-  form-text p f (string e t) a = let g : t ≡ partOf rule p = rw (same-head start reads a) at f in ap (λ (x : Text). string e x) g
-  form-text p f (array e values) a = absurd (rw (same-head start reads (a .0)) at f)
-  form-text p f (object e pairs) a = absurd (rw (same-head start reads (a .0)) at f)
+    pub holder-by : (v : Value) → ValueAt rule words i v → isHolder v ≡ ltb 53 digit
+    unfolding isHolder typeIn
+    holder-by (constant e type) a = sym (le-ltb 53 digit (omega (arith, digit-is a .0, digit-is a .1 .1)))
+    holder-by (number e digits) a = sym (le-ltb 53 digit (omega (arith, digit-is a .0)))
+    holder-by (string e t) a = sym (le-ltb 53 digit (omega (arith, digit-is a .0)))
+    holder-by (array e values) a = sym (lt-ltb 53 digit (omega (arith, digit-is (a .0) .0)))
+    holder-by (object e pairs) a = sym (lt-ltb 53 digit (omega (arith, digit-is (a .0) .0)))
 
-  pub form-holder : FormBy rule Form.Holder h → (v : Value) → ValueAt rule words i v → FormIs rule Form.Holder v
-  unfolding isHolder isString
-  form-holder f (constant e type) a = absurd (rw (same-head start reads a) at f)
-  form-holder f (number e digits) a = absurd (rw (same-head start reads a) at f)
-  form-holder f (string e t) a = absurd (rw (same-head start reads a) at f)
-  form-holder f (array e values) a = (refl, refl)
-  form-holder f (object e pairs) a = (refl, refl)
-
-  pub form-other : FormBy rule Form.Other h → (v : Value) → ValueAt rule words i v → FormIs rule Form.Other v
-  unfolding isHolder isString
-  form-other f (constant e type) a = (refl, refl)
-  form-other f (number e digits) a = (refl, refl)
-  form-other f (string e t) a = absurd (rw (same-head start reads a) at f)
-  form-other f (array e values) a = absurd (rw (same-head start reads (a .0)) at f)
-  form-other f (object e pairs) a = absurd (rw (same-head start reads (a .0)) at f)
-
-pub text-string : {e : ℕ} {t : Text} (v : Value) → v ≡ string e t → (isString v ≡ true) × (isHolder v ≡ false)
-unfolding isString isHolder
-text-string v g = (rw g, rw g)
-
-pub text-side : {e : ℕ} {t : Text} (v : Value) → v ≡ string e t → isHolder v ≡ false
-text-side v g = text-string v g .1
+    pub form-text : {p : Part} → TextAt rule at p → (digit < 53 → ⊥) → (53 < digit → ⊥) → (v : Value) → ValueAt rule words i v → FormIs rule (Form.Text p) v
+    unfolding entryOf typeIn
+    form-text known l m (constant e type) a = absurd (l (omega (arith, digit-is a .0, digit-is a .1 .1)))
+    form-text known l m (number e digits) a = absurd (l (omega (arith, digit-is a .0)))
+    form-text {p} known l m (string e t) a =
+        let k : TextAt rule (startOf words i) p = rw start at known in
+        ap (λ (x : Text). string e x) (sym (k .string t (a .rest) (a .reads)))
+    form-text known l m (array e values) a = absurd (m (omega (arith, digit-is (a .0) .0)))
+    form-text known l m (object e pairs) a = absurd (m (omega (arith, digit-is (a .0) .0)))
 
 -- Instants.
 
@@ -238,147 +205,259 @@ form-fails {f} n {q} {fault} setting tree binders env v s w p m e others =
     (record { numbered = m; placed = w; held = s .held })
     (asked-outcome setting tree binders env n (entryOf v) q (some (detailOf fault)) (s .bound) e)
 
-module _ {f : Frame} {start end : ℕ} {a : Progress} where
-  -- what is asked after the references, where one of these failed
-  pub operand-stopped : {asked : List Binder → Value → List Check} (others : List Binder → Value → List Check) {r : Progress} {fault : Fault} {place : ℕ} {over : Over}
-      → ((binders : List Binder) (v : Value) → asked binders v ≡ references binders v ++ others binders v)
-      → ReferencesIn f start (end - start) a r
-      → r .verdict ≡ Defect fault place over
-      → OperandJudged f asked start end a r
-  operand-stopped others e l t =
-      record {
-        atMost = omega (arith, l .atMost);
-        goes = λ setting tree binders env v s w. rw (e binders v) (goes-then (references-judged l setting tree binders env v s w) (goes-stopped t));
-      }
+-- What the value of a word is asked besides its references.
 
-  pub instant-passes : {x : InstantRead} {b r : Progress}
-      → ReferencesIn f start (end - start) a b
-      → ((v : Value) → ValueAt (f .rule) (f .words) start v → ReadAs (instantForm v) (literalInstant v) x)
+module _ {rule words : List ℕ} {over : Over} {i : ℕ} {a : Progress} where
+  pub nothing-asked : {questions : List Binder → Value → List Check} → ((binders : List Binder) (v : Value) → questions binders v ≡ []) → ValueJudged rule words over questions i a a
+  nothing-asked e = record { atMost = omega arith; goes = λ schema scope setting tree binders env v s w. rw (e binders v) goes-nothing }
+
+  pub instant-passes : {x : InstantRead} {r : Progress}
+      → ((v : Value) → ValueAt rule words i v → ReadAs (instantForm v) (literalInstant v) x)
       → formOf x ≡ settled none
-      → PassedOn b r
-      → OperandJudged f instantOperand start end a r
-  unfolding instantOperand
-  instant-passes l g y p =
+      → PassedOn a r
+      → ValueJudged rule words over instantCheck i a r
+  unfolding instantCheck
+  instant-passes g y p =
       record {
-        atMost = omega (arith, l .atMost, p .atMost);
-        goes =
-            λ setting tree binders env v s w.
-            goes-then (references-judged l setting tree binders env v s w)
-            (form-passes 20 setting tree binders env v s p (g v (w .stands) .form ∙ y));
+        atMost = p .atMost;
+        goes = λ schema scope setting tree binders env v s w. form-passes 20 setting tree binders env v s p (g v w .form ∙ y);
       }
 
-  pub instant-fails : {x : InstantRead} {fault : InstantFault} {b r : Progress}
-      → ReferencesIn f start (end - start) a b
-      → ((v : Value) → ValueAt (f .rule) (f .words) start v → ReadAs (instantForm v) (literalInstant v) x)
+  pub instant-fails : {x : InstantRead} {fault : InstantFault} {r : Progress}
+      → ((v : Value) → ValueAt rule words i v → ReadAs (instantForm v) (literalInstant v) x)
       → x ≡ Bad fault
-      → Failed b (Instant fault) (start + 1) (f .over) r
-      → OperandJudged f instantOperand start end a r
-  unfolding instantOperand formOf numberOf detailOf
-  instant-fails l g y p =
-      record {
-        atMost = omega (arith, l .atMost, p .same);
-        goes =
-            λ setting tree binders env v s w.
-            goes-then (references-judged l setting tree binders env v s w)
-            (form-fails 20 setting tree binders env v s (value-entry (f .rule) (f .words) start v (w .stands)) p refl (rw y at (g v (w .stands) .form)) []);
-      }
-
-  pub affix-passes : {x : Form} {part : Part} {b r : Progress}
-      → ReferencesIn f start (end - start) a b
-      → ((v : Value) → ValueAt (f .rule) (f .words) start v → FormIs (f .rule) x v)
-      → x ≡ Form.Text part
-      → PassedOn b r
-      → OperandJudged f affixOperand start end a r
-  unfolding affixOperand failsIf
-  affix-passes {x} {part} l g y p =
-      record {
-        atMost = omega (arith, l .atMost, p .atMost);
-        goes =
-            λ setting tree binders env v s w.
-            let e : FormIs (f .rule) (Form.Text part) v = rw y at (g v (w .stands)) in
-            goes-then (references-judged l setting tree binders env v s w)
-            (form-passes 19 setting tree binders env v s p (rw (text-string v e .0)));
-      }
-
-  pub affix-fails : {b r : Progress}
-      → ReferencesIn f start (end - start) a b
-      → ((v : Value) → ValueAt (f .rule) (f .words) start v → isString v ≡ false)
-      → Failed b Affix (start + 1) (f .over) r
-      → OperandJudged f affixOperand start end a r
-  unfolding affixOperand failsIf numberOf detailOf
-  affix-fails l g p =
-      record {
-        atMost = omega (arith, l .atMost, p .same);
-        goes =
-            λ setting tree binders env v s w.
-            goes-then (references-judged l setting tree binders env v s w)
-            (form-fails 19 setting tree binders env v s (value-entry (f .rule) (f .words) start v (w .stands)) p refl (rw (g v (w .stands))) []);
-      }
-
-  pub side-passes : (which : Side) {b r : Progress}
-      → ((v : Value) → ValueAt (f .rule) (f .words) start v → isHolder v ≡ false)
-      → PassedOn a b
-      → ReferencesIn f start (end - start) b r
-      → OperandJudged f (side which) start end a r
-  unfolding compareSide failsIf
-  side-passes which g p l =
-      record {
-        atMost = omega (arith, l .atMost, p .atMost);
-        goes =
-            λ setting tree binders env v s w.
-            goes-then (form-passes 17 setting tree binders env v s p (rw (g v (w .stands))))
-            (references-judged l setting tree binders env v s w);
-      }
-
-  pub side-fails : (which : Side) {r : Progress}
-      → ((v : Value) → ValueAt (f .rule) (f .words) start v → isHolder v ≡ true)
-      → Failed a (Operand which) (start + 1) (f .over) r
-      → OperandJudged f (side which) start end a r
-  unfolding compareSide failsIf numberOf detailOf
-  side-fails which g p =
+      → Failed a (Instant fault) (i + 1) over r
+      → ValueJudged rule words over instantCheck i a r
+  unfolding instantCheck formOf numberOf detailOf
+  instant-fails g y p =
       record {
         atMost = omega (arith, p .same);
-        goes = λ setting tree binders env v s w. form-fails 17 setting tree binders env v s (value-entry (f .rule) (f .words) start v (w .stands)) p refl (rw (g v (w .stands))) (references binders v);
-      }
-
-  pub operand-instant : (op : ℕ) {r : Progress} → leb op 7 ≡ true → OperandJudged f instantOperand start end a r → OperandJudged f (operand op) start end a r
-  unfolding operand
-  operand-instant op e p = record { atMost = p .atMost; goes = λ setting tree binders env v s w. rw e (p .goes setting tree binders env v s w) }
-
-  pub operand-affix : (op : ℕ) {r : Progress} → leb op 7 ≡ false → leb 16 op ≡ true → OperandJudged f affixOperand start end a r → OperandJudged f (operand op) start end a r
-  unfolding operand
-  operand-affix op e k p = record { atMost = p .atMost; goes = λ setting tree binders env v s w. rw (e, k) (p .goes setting tree binders env v s w) }
-
-  pub operand-other : (op : ℕ) {r : Progress} → leb op 7 ≡ false → leb 16 op ≡ false → ReferencesIn f start (end - start) a r → OperandJudged f (operand op) start end a r
-  unfolding operand
-  operand-other op e k p =
-      record {
-        atMost = omega (arith, p .atMost);
-        goes = λ setting tree binders env v s w. rw (e, k) (references-judged p setting tree binders env v s w);
-      }
-
-  pub pair-judged : {first second : List Binder → Value → List Check} {mid : ℕ} {b r : Progress}
-      → start ≤ end
-      → Behind (f .words) start end mid
-      → OperandJudged f first start mid a b
-      → OperandJudged f second mid end b r
-      → PairJudged f first second start end a r
-  pair-judged {first} {second} {mid} {b} {r} inside k p q =
-      record {
-        atMost = omega (arith, p .atMost, q .atMost, k .most, k .least inside);
         goes =
-            λ setting tree binders env m left right s w u.
-            let n : endOf (f .words) start ≡ start + valueEntries left = value-next (f .rule) (f .words) start left (w .stands) in
-            let z : 1 ≤ valueEntries left = value-size left in
-            let e : mid ≡ m = k .exact (omega arith) (omega (arith, w .ends, u .ends)) ∙ n ∙ sym (w .ends) in
-            goes-then (p .goes setting tree binders env left s (rw e w)) (q .goes setting tree binders env right s (rw e u));
+            λ schema scope setting tree binders env v s w.
+            form-fails 20 setting tree binders env v s (value-entry rule words i v w) p refl (rw y at (g v w .form)) [];
       }
 
-  pub pair-stopped : {first second : List Binder → Value → List Check} {mid : ℕ} {r : Progress} {fault : Fault} {place : ℕ} {over : Over}
-      → start ≤ end
-      → Behind (f .words) start end mid
-      → OperandJudged f first start mid a r
-      → r .verdict ≡ Defect fault place over
-      → PairJudged f first second start end a r
-  pair-stopped inside k p t =
-      pair-judged inside k p (record { atMost = omega arith; goes = λ setting tree binders env v s w. goes-stopped t })
+  module _ {at digit : ℕ} (start : at ≡ startOf words i) (kind : TypeAt rule at digit) where
+    pub affix-passes : {r : Progress} → digit ≡ 53 → PassedOn a r → ValueJudged rule words over affixCheck i a r
+    unfolding affixCheck failsIf
+    affix-passes d p =
+        record {
+          atMost = p .atMost;
+          goes =
+              λ schema scope setting tree binders env v s w.
+              form-passes 19 setting tree binders env v s p (rw (string-by rule words i start kind d v w));
+        }
+
+    pub affix-fails : {r : Progress} → (digit ≡ 53 → ⊥) → Failed a Affix (i + 1) over r → ValueJudged rule words over affixCheck i a r
+    unfolding affixCheck failsIf numberOf detailOf
+    affix-fails d p =
+        record {
+          atMost = omega (arith, p .same);
+          goes =
+              λ schema scope setting tree binders env v s w.
+              form-fails 19 setting tree binders env v s (value-entry rule words i v w) p refl (rw (no-string-by rule words i start kind d v w)) [];
+        }
+
+    pub side-asked : {op : ℕ} {which : Side} {r : Progress}
+        → op ≡ 18
+        → Required a (ltb 53 digit) (Operand which) (i + 1) over r
+        → ValueJudged rule words over (askedBefore op which) i a r
+    unfolding askedBefore numberOf detailOf check
+    side-asked {op} {which} e p =
+        record {
+          atMost = p .atMost;
+          goes =
+              λ schema scope setting tree binders env v s w.
+              rw (eq-eqb op 18 e)
+              (p .goes (outcome setting tree) _
+              (record { numbered = refl; placed = value-entry rule words i v w; held = s .held })
+              (settled-outcome setting tree binders env 17 (entryOf v) (isHolder v) (sideDetail which) (s .bound)
+              ∙ ap (λ (x : Bool). failed x (sideDetail which)) (holder-by rule words i start kind v w)));
+        }
+
+  pub side-unasked : (op : ℕ) (which : Side) → (op ≡ 18 → ⊥) → ValueJudged rule words over (askedBefore op which) i a a
+  unfolding askedBefore
+  side-unasked op which n = nothing-asked (λ binders v. rw (ne-eqb op 18 n))
+
+  module _ {op : ℕ} where
+    pub after-exists : op ≤ 5 → ValueJudged rule words over (askedAfter op) i a a
+    unfolding askedAfter
+    after-exists h = nothing-asked (λ binders v. rw (le-leb op 5 h))
+
+    pub after-instant : {r : Progress} → 5 < op → op ≤ 7 → ValueJudged rule words over instantCheck i a r → ValueJudged rule words over (askedAfter op) i a r
+    unfolding askedAfter
+    after-instant h k p =
+        record {
+          atMost = p .atMost;
+          goes = λ schema scope setting tree binders env v s w. rw (lt-leb op 5 h, le-leb op 7 k) (p .goes schema scope setting tree binders env v s w);
+        }
+
+    pub after-plain : 7 < op → op < 16 → ValueJudged rule words over (askedAfter op) i a a
+    unfolding askedAfter
+    after-plain h k = nothing-asked (λ binders v. rw (lt-leb op 5 (omega arith), lt-leb op 7 h, lt-leb 16 op k))
+
+    pub after-affix : {r : Progress} → 16 ≤ op → op < 18 → ValueJudged rule words over affixCheck i a r → ValueJudged rule words over (askedAfter op) i a r
+    unfolding askedAfter
+    after-affix h k p =
+        record {
+          atMost = p .atMost;
+          goes =
+              λ schema scope setting tree binders env v s w.
+              rw (lt-leb op 5 (omega arith), lt-leb op 7 (omega arith), le-leb 16 op h, lt-leb 18 op k)
+              (p .goes schema scope setting tree binders env v s w);
+        }
+
+    pub after-late : 18 ≤ op → ValueJudged rule words over (askedAfter op) i a a
+    unfolding askedAfter
+    after-late h = nothing-asked (λ binders v. rw (lt-leb op 5 (omega arith), lt-leb op 7 (omega arith), le-leb 16 op (omega arith), le-leb 18 op h))
+
+-- One operand.
+
+module _ {schema rule words : List ℕ} {scope : Scope} {over : Over} {op : ℕ} {which : Side} {start end : ℕ} (inside : start < end) {a : Progress} where
+  pub operand-judged : {b c r : Progress}
+      → ValueJudged rule words over (askedBefore op which) start a b
+      → ReferencesIn (frame schema rule words scope over) start (end - start) b c
+      → ValueJudged rule words over (askedAfter op) start c r
+      → OperandJudged (frame schema rule words scope over) op which start end a r
+  unfolding asked
+  operand-judged p l q =
+      record {
+        atMost = omega (arith, p .atMost, l .atMost, q .atMost);
+        goes =
+            λ setting tree binders env v s w.
+            goes-then (p .goes schema scope setting tree binders env v s (w .stands))
+            (goes-then (references-judged l setting tree binders env v s w) (q .goes schema scope setting tree binders env v s (w .stands)));
+      }
+
+  -- where the check before the references failed
+  pub operand-refused : {r : Progress} {fault : Fault} {place : ℕ} {o : Over}
+      → ValueJudged rule words over (askedBefore op which) start a r
+      → r .verdict ≡ Defect fault place o
+      → OperandJudged (frame schema rule words scope over) op which start end a r
+  operand-refused p t =
+      operand-judged p
+      (record { atMost = omega arith; goes = λ setting tree binders env s w. goes-stopped t })
+      (record { atMost = omega arith; goes = λ schema scope setting tree binders env v s w. goes-stopped t })
+
+  -- where one of its references failed
+  pub operand-stopped : {b r : Progress} {fault : Fault} {place : ℕ} {o : Over}
+      → ValueJudged rule words over (askedBefore op which) start a b
+      → ReferencesIn (frame schema rule words scope over) start (end - start) b r
+      → r .verdict ≡ Defect fault place o
+      → OperandJudged (frame schema rule words scope over) op which start end a r
+  operand-stopped p l t =
+      operand-judged p l (record { atMost = omega arith; goes = λ schema scope setting tree binders env v s w. goes-stopped t })
+
+-- Several operands: what is asked of those that are left is asked of all.
+
+pub record OperandsLeft (f : Frame) (op : ℕ) (which : Side) (start i end : ℕ) (a b : Progress) : Type 0 where
+  pub atMost : b .passed ≤ a .passed + 3 * (i - start)
+  pub rest : (vs : Values) → AreValues (f .rule) (f .words) start end vs → Values
+  pub stand : (vs : Values) (w : AreValues (f .rule) (f .words) start end vs) → AreValues (f .rule) (f .words) i end (rest vs w)
+  pub onward : (setting : Setting) (tree : Schema) (binders : List Binder) (env : Environment) (vs : Values) (w : AreValues (f .rule) (f .words) start end vs) (r : Progress)
+      → Stands f setting tree binders env
+      → GoesOn (outcome setting tree) b (askedOf op which binders (rest vs w)) r
+      → GoesOn (outcome setting tree) a (askedOf op Left binders vs) r
+
+pub operands-begin : {f : Frame} {op start end : ℕ} {a : Progress} → OperandsLeft f op Left start start end a a
+operands-begin =
+    record {
+      atMost = omega arith;
+      rest = λ vs w. vs;
+      stand = λ vs w. w;
+      onward = λ setting tree binders env vs w r s g. g;
+    }
+
+module _ {f : Frame} {op : ℕ} {which : Side} {i end next : ℕ} {b d : Progress} (inside : i < end) (k : Behind (f .words) i end next) (p : OperandJudged f op which i next b d) where
+  first-asked : (setting : Setting) (tree : Schema) (binders : List Binder) (env : Environment) (vs : Values) (r : Progress)
+      → AreValues (f .rule) (f .words) i end vs
+      → Stands f setting tree binders env
+      → GoesOn (outcome setting tree) d (askedOf op Right binders (othersOf vs)) r
+      → GoesOn (outcome setting tree) b (askedOf op which binders vs) r
+  unfolding othersOf askedOf
+  first-asked setting tree binders env noValues r w s g = absurd (omega (arith, no-values-end w, inside))
+  first-asked setting tree binders env (value v others) r w s g =
+      goes-then (p .goes setting tree binders env v s (value-stands inside k w)) g
+
+  pub operands-next : {start : ℕ} {a : Progress} → start ≤ i → OperandsLeft f op which start i end a b → OperandsLeft f op Right start next end a d
+  operands-next {start} {a} low l =
+      record {
+        atMost = omega (arith, l .atMost, p .atMost, k .past inside);
+        rest = λ vs w. othersOf (l .rest vs w);
+        stand = λ vs w. others-stand inside k (l .rest vs w) (l .stand vs w);
+        onward =
+            λ setting tree binders env vs w r s g.
+            l .onward setting tree binders env vs w r s
+            (first-asked setting tree binders env (l .rest vs w) r (l .stand vs w) s g);
+      }
+
+pub operands-stopped : {f : Frame} {op start i end : ℕ} {which : Side} {a b : Progress} {fault : Fault} {place : ℕ} {o : Over}
+    → b .verdict ≡ Defect fault place o
+    → i - start ≤ end - start
+    → OperandsLeft f op which start i end a b
+    → OperandsJudged f op start end a b
+operands-stopped {b = b} t m l =
+    record {
+      atMost = omega (arith, l .atMost);
+      goes = λ setting tree binders env vs s w. l .onward setting tree binders env vs w b s (goes-stopped t);
+    }
+
+pub operands-all : {f : Frame} {op start i end : ℕ} {which : Side} {a b : Progress}
+    → end ≤ i
+    → i - start ≤ end - start
+    → OperandsLeft f op which start i end a b
+    → OperandsJudged f op start end a b
+unfolding askedOf
+operands-all {b = b} h m l =
+    record {
+      atMost = omega (arith, l .atMost);
+      goes =
+          λ setting tree binders env vs s w.
+          let e : l .rest vs w ≡ noValues = no-values-left (l .rest vs w) h (l .stand vs w) in
+          l .onward setting tree binders env vs w b s (rw e goes-nothing);
+    }
+
+-- What is asked, beside the definitions of the check list.
+
+asked-plain : (op : ℕ) (which : Side) (binders : List Binder) (v : Value) → askedBefore op which binders v ≡ [] → askedAfter op binders v ≡ [] → asked op which binders v ≡ references binders v
+unfolding asked
+asked-plain op which binders v e f = rw (e, f) (append-nil (references binders v))
+
+pub asked-one : (op : ℕ) (which : Side) (binders : List Binder) (v : Value) → (op ≡ 5) ⊎ (op ≡ 19) → asked op which binders v ≡ references binders v
+unfolding askedBefore askedAfter
+asked-one op which binders v (inl e) = asked-plain op which binders v (rw e) (rw e)
+asked-one op which binders v (inr e) = asked-plain op which binders v (rw e) (rw e)
+
+pub asked-side : (which : Side) (binders : List Binder) (v : Value) → asked 18 which binders v ≡ compareSide binders (sideDetail which) v
+unfolding asked askedBefore askedAfter compareSide
+asked-side which binders v = ap (λ (l : List Check). check 17 (entryOf v) binders (failsIf (isHolder v) (sideDetail which)) ∷ l) (append-nil (references binders v))
+
+module _ (op : ℕ) (which : Side) (binders : List Binder) (v : Value) (low : 6 ≤ op) (high : op ≤ 17) where
+  no-side : askedBefore op which binders v ≡ []
+  unfolding askedBefore
+  no-side = rw (ne-eqb op 18 (λ e. omega arith))
+
+  asked-instant : op ≤ 7 → asked op which binders v ≡ operand op binders v
+  unfolding asked askedAfter instantCheck operand instantOperand
+  asked-instant h = rw (no-side, lt-leb op 5 (omega arith), le-leb op 7 h)
+
+  asked-middle : 7 < op → op < 16 → asked op which binders v ≡ operand op binders v
+  unfolding askedAfter operand
+  asked-middle h k =
+      let p : askedAfter op binders v ≡ [] = rw (lt-leb op 5 (omega arith), lt-leb op 7 h, lt-leb 16 op k) in
+      rw (lt-leb op 7 h, lt-leb 16 op k) (asked-plain op which binders v no-side p)
+
+  asked-affix : 7 < op → 16 ≤ op → asked op which binders v ≡ operand op binders v
+  unfolding asked askedAfter affixCheck operand affixOperand
+  asked-affix h k = rw (no-side, lt-leb op 5 (omega arith), lt-leb op 7 h, le-leb 16 op k, lt-leb 18 op (omega arith))
+
+  pub asked-two : asked op which binders v ≡ operand op binders v
+  asked-two =
+      ⊎-elim
+      (λ (h : op - 7 ≡ 0). asked-instant (omega arith))
+      (λ (h : 0 < op - 7).
+      ⊎-elim
+      (λ (k : op - 15 ≡ 0). asked-middle (omega arith) (omega arith))
+      (λ (k : 0 < op - 15). asked-affix (omega arith) (omega arith))
+      (eq-zero-or-pos (op - 15)))
+      (eq-zero-or-pos (op - 7))

@@ -1,15 +1,17 @@
 -- The references of a value, step by step.
 use Prim.Native.Nat.{ℕ, _+_, _-_, _≤_, _<_}
 use native.Mathlib.Omega.{arith}
-use mathlib.Core.Bool.{true, false}
+use mathlib.Core.Bool.{Bool, true, false}
 use mathlib.Core.List.{List, [], _∷_, _++_}
 use mathlib.Core.Option.{Option, none, some}
-use mathlib.Core.Path.{_≡_, refl, sym, ap, ap₂, _∙_}
+use mathlib.Core.Path.{_≡_, refl, sym, ap, ap₂, subst, _∙_}
 use lib.ListN.{length, getD, take, drop, length-drop}
 use lib.Seq.{take-all}
 use borrow.Author.Tests.{eq-eqb, ne-eqb}
 use Rattle.sheet.specs.Entries.{ValueHead, constantHead, numberHead, stringHead, arrayHead, objectHead, valueHead}
-use Rattle.sheet.specs.Places.{ReadsTo}
+use Rattle.sheet.specs.Parts.{partOf}
+use Rattle.sheet.specs.RuleHeadLaws.{valueHead-exact}
+use Rattle.sheet.specs.declared.part.Part.{Part}
 use Rattle.definition.specs.Tree.{Text, Schema, Value, constant, number, string, array, object, Values, noValues, value, Pairs, noPairs, pair}
 use Rattle.reference.specs.Setting.{Setting}
 use Rattle.reference.specs.Walk.{Reached, refused, unknown, known}
@@ -23,8 +25,8 @@ use Rattle.walk.specs.declared.answer.Readable.the-variants.{Yes, No}
 use Rattle.validation.specs.Check.{Binder, readable, check, referenceText, referenceCheck, references, referencesOfValues, referencesOfPairs}
 use Rattle.validation.specs.Judge.{outcome, environment, verdict, answer, answerIn}
 use Rattle.value_checks.specs.Leaves.{leaves, leavesOfValues, leavesOfPairs, saidIn, said-value}
-use Rattle.value_checks.specs.Kinds.{typeIn, TypeAt}
-use Rattle.value_checks.specs.Nodes.{IsValue}
+use Rattle.value_checks.specs.Kinds.{typeIn, HasType, TextAt}
+use Rattle.value_checks.specs.Nodes.{IsValue, EntriesIn}
 use Rattle.value_checks.specs.Verdicts.{numberOf, detailOf, GoesOn, PassedOn, Failed}
 use Rattle.scope.specs.References.{ReferenceReads}
 use Rattle.value_checks.specs.Frames.{Frame, Stands, IsReference, referenceSays, ReferencesIn}
@@ -34,7 +36,8 @@ use Rattle.value_checks.specs.declared.verdict.Over.{Over}
 use Rattle.value_checks.specs.declared.verdict.Verdict.the-variants.{Defect}
 use Rattle.value_checks.specs.declared.verdict.Progress.{Progress}
 use Rattle.value_checks.proofs.Going.{goes-nothing, goes-then, goes-stopped, said-next}
-use Rattle.value_checks.proofs.LiteralSteps.{says-read, says-bad, says-other}
+use Rattle.value_checks.proofs.EntrySteps.{entries-part, entries-value}
+use Rattle.value_checks.proofs.LiteralSteps.{says-other, says-typed}
 
 -- Texts.
 
@@ -84,58 +87,41 @@ reached-verdict (refused d at left) h = absurd h
 reached-verdict unknown h = refl
 reached-verdict (known f) h = refl
 
-said-some : (f : Frame) (i : ℕ) {at next : ℕ} {text t : Text} (binders : List Binder)
-    → at ≡ startOf (f .words) i
-    → ReadsTo valueHead (f .rule) at (stringHead t) next
-    → text ≡ t
-    → IsReference text true
-    → saidIn (referenceSays binders) (f .rule) (f .words) 1 i ≡ check 18 (i + 1) binders (readable (drop 1 text)) ∷ []
-unfolding referenceSays referenceCheck
-said-some f i {at} {next} {text} {t} binders start reads same e =
-    let g : referenceText t ≡ some (drop 1 text) = sym (ap referenceText same) ∙ e in
-    rw (says-read (referenceSays binders) (f .rule) (f .words) i start reads, g)
-
 pub reference-long : (t : Text) → IsReference t true → 1 ≤ length t
 unfolding referenceText
 reference-long [] e = let z : _≡_ {A = Option Text} none (some (drop 1 [])) = e in let y : _≡_ {A = ℕ} 0 1 = cc in omega arith
 reference-long (b ∷ t) e = omega arith
 
-no-string : {digit : ℕ} → (digit ≡ 53 → ⊥) → (binders : List Binder) (e : ℕ) (h : ValueHead) → digit ≡ 48 + typeIn h → referenceSays binders e h ≡ []
+no-string : (binders : List Binder) (e : ℕ) (h : ValueHead) → (53 ≡ 48 + typeIn h → ⊥) → referenceSays binders e h ≡ []
 unfolding referenceSays typeIn
-no-string n binders e (constantHead type) k = refl
-no-string n binders e (numberHead digits) k = refl
-no-string n binders e (stringHead t) k = absurd (n k)
-no-string n binders e (arrayHead count) k = refl
-no-string n binders e (objectHead count) k = refl
+no-string binders e (constantHead type) n = refl
+no-string binders e (numberHead digits) n = refl
+no-string binders e (stringHead t) n = absurd (n refl)
+no-string binders e (arrayHead count) n = refl
+no-string binders e (objectHead count) n = refl
 
-module _ {f : Frame} {i at : ℕ} {a : Progress} (start : at ≡ startOf (f .words) i) where
-  pub reference-other : {digit : ℕ} → TypeAt (f .rule) at digit → (digit ≡ 53 → ⊥) → ReferencesIn f i 1 a a
-  reference-other kind n =
-      record {
-        atMost = omega arith;
-        goes =
-            λ setting tree binders env s.
-            rw (says-other (referenceSays binders) (f .rule) (f .words) i start kind (no-string n binders (i + 1))) goes-nothing;
-      }
+-- a string says what its text is asked
+module _ (rule : List ℕ) (at i : ℕ) {p : Part} (known : TextAt rule at p) {text : Text} (same : text ≡ partOf rule p) (binders : List Binder) where
+  string-says : (h : ValueHead) (rest : List ℕ) → valueHead (drop at rule) ≡ some (h, rest) → 53 ≡ 48 + typeIn h
+      → referenceSays binders (i + 1) h ≡ referenceCheck binders (i + 1) (referenceText text)
+  unfolding referenceSays typeIn
+  string-says (constantHead type) rest e k = absurd (omega (arith, k, valueHead-exact .sound (drop at rule) (constantHead type) rest e .1 .1))
+  string-says (numberHead digits) rest e k = absurd (omega arith)
+  string-says (stringHead t) rest e k = ap (λ (x : Text). referenceCheck binders (i + 1) (referenceText x)) (sym (known .string t rest e) ∙ sym same)
+  string-says (arrayHead count) rest e k = absurd (omega arith)
+  string-says (objectHead count) rest e k = absurd (omega arith)
 
-  pub reference-bad : valueHead (drop at (f .rule)) ≡ none → ReferencesIn f i 1 a a
-  reference-bad r =
-      record { atMost = omega arith; goes = λ setting tree binders env s. rw (says-bad (referenceSays binders) (f .rule) (f .words) i start r) goes-nothing }
+module _ {f : Frame} {i at : ℕ} {a : Progress} {test : Bool} (start : at ≡ startOf (f .words) i) (string : HasType (f .rule) at 53 test) where
+  pub reference-other : test ≡ false → ReferencesIn f i 1 a a
+  reference-other e =
+      let m : HasType (f .rule) at 53 false = subst (λ (x : Bool). HasType (f .rule) at 53 x) e string in
+      record { atMost = omega arith; goes = λ setting tree binders env s w. rw (says-other (referenceSays binders) (f .rule) (f .words) i at 53 start m (no-string binders (i + 1))) goes-nothing }
 
-  pub reference-silent : {h : ValueHead} {next : ℕ}
-      → ReadsTo valueHead (f .rule) at h next
-      → ((binders : List Binder) → referenceSays binders (i + 1) h ≡ [])
-      → ReferencesIn f i 1 a a
-  reference-silent r e =
-      record {
-        atMost = omega arith;
-        goes = λ setting tree binders env s. rw (says-read (referenceSays binders) (f .rule) (f .words) i start r, e binders) goes-nothing;
-      }
-
-  module _ {text t : Text} {next : ℕ} (reads : ReadsTo valueHead (f .rule) at (stringHead t) next) (same : text ≡ t) where
+  module _ {part : Part} {text : Text} (tested : test ≡ true) (known : TextAt (f .rule) at part) (same : text ≡ partOf (f .rule) part) where
     pub reference-none : IsReference text false → ReferencesIn f i 1 a a
-    unfolding referenceSays referenceCheck
-    reference-none e = reference-silent reads (λ binders. let g : referenceText t ≡ none = rw same at e in rw g)
+    unfolding referenceCheck
+    reference-none e =
+        record { atMost = omega arith; goes = λ setting tree binders env s w. rw (says-typed (referenceSays binders) (f .rule) (f .words) i at 53 start (subst (λ (x : Bool). HasType (f .rule) at 53 x) tested string) _ (string-says (f .rule) at i known same binders) w, e) goes-nothing }
 
     pub reference-passes : {x : Readable} {r : Progress}
         → IsReference text true
@@ -143,14 +129,15 @@ module _ {f : Frame} {i at : ℕ} {a : Progress} (start : at ≡ startOf (f .wor
         → x ≡ Yes
         → PassedOn a r
         → ReferencesIn f i 1 a r
+    unfolding referenceCheck
     reference-passes {x} {r} e q y p =
         record {
           atMost = p .atMost;
           goes =
-              λ setting tree binders env s.
+              λ setting tree binders env s w.
               let m : ReadableIs Yes (reference setting tree env (drop 1 text)) =
               rw (behind-dollar text, y) at (q .leads setting tree env (s .scoped)) in
-              rw (said-some f i binders start reads same e)
+              rw (says-typed (referenceSays binders) (f .rule) (f .words) i at 53 start (subst (λ (x : Bool). HasType (f .rule) at 53 x) tested string) _ (string-says (f .rule) at i known same binders) w, e)
               (p .goes (outcome setting tree) _
               (readable-outcome setting tree binders env 18 (i + 1) (drop 1 text) (s .bound) ∙ reached-verdict _ m));
         }
@@ -161,15 +148,15 @@ module _ {f : Frame} {i at : ℕ} {a : Progress} (start : at ≡ startOf (f .wor
         → x ≡ No fault place
         → Failed a (Reference fault place) (i + 1) (f .over) r
         → ReferencesIn f i 1 a r
-    unfolding verdict numberOf detailOf check
+    unfolding referenceCheck verdict numberOf detailOf check
     reference-fails {x} {fault} {place} {r} e q y p =
         record {
           atMost = omega (arith, p .same);
           goes =
-              λ setting tree binders env s.
+              λ setting tree binders env s w.
               let m : ReadableIs (No fault place) (reference setting tree env (drop 1 text)) =
               rw (behind-dollar text, y) at (q .leads setting tree env (s .scoped)) in
-              rw (said-some f i binders start reads same e)
+              rw (says-typed (referenceSays binders) (f .rule) (f .words) i at 53 start (subst (λ (x : Bool). HasType (f .rule) at 53 x) tested string) _ (string-says (f .rule) at i known same binders) w, e)
               (p .goes (outcome setting tree) _ [] (record { numbered = refl; placed = refl; held = s .held })
               (readable-outcome setting tree binders env 18 (i + 1) (drop 1 text) (s .bound) ∙ ap verdict (m .1)));
         }
@@ -187,9 +174,10 @@ module _ {f : Frame} {a : Progress} {start i : ℕ} where
       record {
         atMost = omega (arith, p .atMost, q .atMost);
         goes =
-            λ setting tree binders env s.
+            λ setting tree binders env s w.
             rw (said-next (referenceSays binders) (f .rule) (f .words) n h k)
-            (goes-then (p .goes setting tree binders env s) (q .goes setting tree binders env s));
+            (goes-then (p .goes setting tree binders env s (entries-part (omega arith) (omega arith) w))
+            (q .goes setting tree binders env s (entries-part (omega arith) (omega arith) w)));
       }
 
   pub references-all : {end : ℕ} {r : Progress}
@@ -208,13 +196,13 @@ pub references-stopped : {f : Frame} {start i end : ℕ} {a b r : Progress} {fau
     → ReferencesIn f start (end - start) a r
 references-stopped {i = i} {end = end} h k p q t =
     references-next {i = i + 1} {n = end - (i + 1)} (omega arith) (omega arith) (references-next h refl p q)
-    (record { atMost = omega arith; goes = λ setting tree binders env s. goes-stopped t })
+    (record { atMost = omega arith; goes = λ setting tree binders env s w. goes-stopped t })
 
 pub references-begin : {f : Frame} {a : Progress} {start : ℕ} → ReferencesIn f start (start - start) a a
 unfolding saidIn
 references-begin {f} {a} {start} =
     let e : start - start ≡ 0 = omega arith in
-    record { atMost = omega arith; goes = λ setting tree binders env s. rw e goes-nothing }
+    record { atMost = omega arith; goes = λ setting tree binders env s w. rw e goes-nothing }
 
 -- A whole value.
 
@@ -246,4 +234,5 @@ references-judged {f} {start} {end} p setting tree binders env v s w =
     let n : end - start ≡ valueEntries v = omega (arith, w .ends) in
     let e : saidIn (referenceSays binders) (f .rule) (f .words) (end - start) start ≡ references binders v =
     rw n (said-value (referenceSays binders) (f .rule) (f .words) start v (w .stands) ∙ references-said binders v) in
-    rw e at (p .goes setting tree binders env s)
+    let entries : EntriesIn (f .rule) (f .words) start (end - start) = rw n (entries-value start v (w .stands)) in
+    rw e at (p .goes setting tree binders env s entries)

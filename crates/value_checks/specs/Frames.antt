@@ -1,26 +1,29 @@
--- What a judging function has in hand, and the trees that this stands for.
-use Prim.Native.Nat.{ℕ, _+_, _-_, _≤_}
-use mathlib.Core.Bool.{Bool, true, false}
-use mathlib.Core.List.{List, [], _++_}
+-- What a judging function is given, and the trees that this stands for.
+use Prim.Native.Nat.{ℕ, _+_, _*_, _-_, _≤_}
+use mathlib.Core.Bool.{Bool, true, false, not, cond}
+use mathlib.Core.List.{List, [], _∷_, _++_}
 use mathlib.Core.Option.{Option, none, some}
 use mathlib.Core.Path.{_≡_}
 use lib.ListN.{drop}
+use lib.Dec.{leb, eqb}
 use Rattle.timestamp.specs.declared.Fields.{Fields}
 use Rattle.sheet.specs.Entries.{ValueHead, constantHead, numberHead, stringHead, arrayHead, objectHead}
 use Rattle.sheet.specs.Parts.{partOf}
-use Rattle.definition.specs.Tree.{Text, Schema, Value, string}
+use Rattle.definition.specs.Tree.{Text, Schema, Value, string, Values, noValues, value}
 use Rattle.reference.specs.Setting.{Setting}
 use Rattle.reference.specs.Reference.{Environment}
-use Rattle.validation.specs.Check.{Binder, Question, settled, Check, entryOf, isString, isHolder, referenceText, referenceCheck, compareSide}
+use Rattle.validation.specs.Check.{Binder, Question, settled, Check, check, failsIf, entryOf, isString, isHolder, referenceText, referenceCheck, references, instantForm}
 use Rattle.validation.specs.Judge.{outcome, environment}
+use Rattle.validation.specs.Result.{overOf}
 use Rattle.value_checks.specs.Leaves.{saidIn}
-use Rattle.value_checks.specs.Shown.{overOf}
-use Rattle.value_checks.specs.Nodes.{IsValue}
+use Rattle.rule.specs.Index.{ValueAt}
+use Rattle.value_checks.specs.Nodes.{IsValue, AreValues, EntriesIn}
 use Rattle.value_checks.specs.Verdicts.{GoesOn, overBy, sideDetail, instantDetail}
 use Rattle.scope.specs.Scopes.{ScopeAt}
 use Rattle.scope.specs.declared.binder.Scope.{Scope}
 use Rattle.value_checks.specs.declared.verdict.Over.{Over}
 use Rattle.value_checks.specs.declared.verdict.Side.{Side}
+use Rattle.value_checks.specs.declared.verdict.Side.the-variants.{Left, Right}
 use Rattle.value_checks.specs.declared.verdict.Progress.{Progress}
 use Rattle.value_checks.specs.declared.operand.Form.{Form}
 use Rattle.value_checks.specs.declared.operand.Form.the-variants as Form
@@ -54,29 +57,67 @@ referenceSays binders e (stringHead t) = referenceCheck binders e (referenceText
 referenceSays binders e (arrayHead count) = []
 referenceSays binders e (objectHead count) = []
 
--- the references of `n` words
+-- the references of `n` words, which are those of values and keys
 pub record ReferencesIn (f : Frame) (i n : ℕ) (a r : Progress) : Type 0 where
   pub atMost : r .passed ≤ a .passed + n
   pub goes : (setting : Setting) (tree : Schema) (binders : List Binder) (env : Environment)
       → Stands f setting tree binders env
+      → EntriesIn (f .rule) (f .words) i n
       → GoesOn (outcome setting tree) a (saidIn (referenceSays binders) (f .rule) (f .words) n i) r
 
--- what a value from word `start` up to word `end` is asked
-pub record OperandJudged (f : Frame) (asked : List Binder → Value → List Check) (start end : ℕ) (a r : Progress) : Type 0 where
-  pub atMost : r .passed ≤ a .passed + (end - start) + 1
+-- Operands.
+
+-- what `before` and `after` ask
+unfoldable pub instantCheck : List Binder → Value → List Check
+instantCheck binders v = check 20 (entryOf v) binders (instantForm v) ∷ []
+
+-- what `starts_with` and `ends_with` ask
+unfoldable pub affixCheck : List Binder → Value → List Check
+affixCheck binders v = check 19 (entryOf v) binders (failsIf (not (isString v)) 0) ∷ []
+
+-- what an operand is asked before its references: a side of a comparison, 18, holds nothing
+unfoldable pub askedBefore : (op : ℕ) → Side → List Binder → Value → List Check
+askedBefore op which binders v = cond (eqb op 18) (check 17 (entryOf v) binders (failsIf (isHolder v) (sideDetail which)) ∷ []) []
+
+-- and after them, by the operator: 6 before and 7 after, 16 starts_with and 17 ends_with
+unfoldable pub askedAfter : (op : ℕ) → List Binder → Value → List Check
+askedAfter op binders v =
+    cond (leb op 5) []
+    (cond (leb op 7) (instantCheck binders v)
+    (cond (leb 16 op) (cond (leb 18 op) [] (affixCheck binders v))
+    []))
+
+unfoldable pub asked : (op : ℕ) → Side → List Binder → Value → List Check
+asked op which binders v = askedBefore op which binders v ++ (references binders v ++ askedAfter op binders v)
+
+-- one operand after the other: those after the first are on the right
+unfoldable pub askedOf : (op : ℕ) → Side → List Binder → Values → List Check
+askedOf op which binders noValues = []
+askedOf op which binders (value v others) = asked op which binders v ++ askedOf op Right binders others
+
+-- what the value of word `i` is asked besides its references
+pub record ValueJudged (rule words : List ℕ) (over : Over) (questions : List Binder → Value → List Check) (i : ℕ) (a r : Progress) : Type 0 where
+  pub atMost : r .passed ≤ a .passed + 1
+  pub goes : (schema : List ℕ) (scope : Scope) (setting : Setting) (tree : Schema) (binders : List Binder) (env : Environment) (v : Value)
+      → Stands (frame schema rule words scope over) setting tree binders env
+      → ValueAt rule words i v
+      → GoesOn (outcome setting tree) a (questions binders v) r
+
+-- the operand from word `start` up to word `end` of a condition with operator `op`
+pub record OperandJudged (f : Frame) (op : ℕ) (which : Side) (start end : ℕ) (a r : Progress) : Type 0 where
+  pub atMost : r .passed ≤ a .passed + 3 * (end - start)
   pub goes : (setting : Setting) (tree : Schema) (binders : List Binder) (env : Environment) (v : Value)
       → Stands f setting tree binders env
       → IsValue (f .rule) (f .words) start end v
-      → GoesOn (outcome setting tree) a (asked binders v) r
+      → GoesOn (outcome setting tree) a (asked op which binders v) r
 
--- the same of two values, one behind the other
-pub record PairJudged (f : Frame) (first second : List Binder → Value → List Check) (start end : ℕ) (a r : Progress) : Type 0 where
-  pub atMost : r .passed ≤ a .passed + (end - start) + 2
-  pub goes : (setting : Setting) (tree : Schema) (binders : List Binder) (env : Environment) (mid : ℕ) (left right : Value)
+-- all its operands
+pub record OperandsJudged (f : Frame) (op start end : ℕ) (a r : Progress) : Type 0 where
+  pub atMost : r .passed ≤ a .passed + 3 * (end - start)
+  pub goes : (setting : Setting) (tree : Schema) (binders : List Binder) (env : Environment) (vs : Values)
       → Stands f setting tree binders env
-      → IsValue (f .rule) (f .words) start mid left
-      → IsValue (f .rule) (f .words) mid end right
-      → GoesOn (outcome setting tree) a (first binders left ++ second binders right) r
+      → AreValues (f .rule) (f .words) start end vs
+      → GoesOn (outcome setting tree) a (askedOf op Left binders vs) r
 
 -- a value by what operands are asked
 abbrev pub FormIs : List ℕ → Form → Value → Type 0
@@ -98,6 +139,3 @@ literalBy (InstantRead.Bad fault) = none
 pub record ReadAs (asked : Question) (literal : Option Fields) (r : InstantRead) : Type 0 where
   pub form : asked ≡ formOf r
   pub fields : literal ≡ literalBy r
-
-abbrev pub side : Side → List Binder → Value → List Check
-side which binders v = compareSide binders (sideDetail which) v

@@ -9,7 +9,7 @@ use Rattle.reference.specs.Setting.{Setting}
 use Rattle.validation.specs.Check.{Check, literalCheck, literalsOfConditions}
 use Rattle.validation.specs.Judge.{outcome}
 use Rattle.value_checks.specs.Leaves.{saidIn}
-use Rattle.value_checks.specs.Nodes.{AreConditions}
+use Rattle.value_checks.specs.Nodes.{EntriesIn, AreConditions}
 use Rattle.value_checks.specs.Verdicts.{GoesOn}
 use Rattle.value_checks.specs.declared.verdict.Progress.{Progress}
 
@@ -20,10 +20,10 @@ literalSays e (stringHead t) = []
 literalSays e (arrayHead count) = []
 literalSays e (objectHead count) = []
 
--- the `n` words from `i` on are judged, whatever the schema: a literal is finite by itself
+-- the `n` words from `i` on, those of values and keys, are judged, whatever the schema: a literal is finite by itself
 pub record LiteralsJudged (rule words : List ℕ) (i n : ℕ) (a r : Progress) : Type 0 where
   pub atMost : r .passed ≤ a .passed + n
-  pub goes : (setting : Setting) (schema : Schema) → GoesOn (outcome setting schema) a (saidIn literalSays rule words n i) r
+  pub goes : (setting : Setting) (schema : Schema) → EntriesIn rule words i n → GoesOn (outcome setting schema) a (saidIn literalSays rule words n i) r
 
 -- the literal pass looks into the values of conditions with these operators: 8 to 15, 18 and 19
 unfoldable pub isObserved : ℕ → Bool
@@ -33,9 +33,10 @@ isObserved op = cond (leb 18 op) (leb op 19) (leb 8 op && leb op 15)
 pub record ObservedJudged (rule words : List ℕ) (op start end : ℕ) (a r : Progress) : Type 0 where
   pub atMost : r .passed ≤ a .passed + (end - start)
   pub goes : (setting : Setting) (schema : Schema)
+      → EntriesIn rule words start (end - start)
       → GoesOn (outcome setting schema) a (saidIn literalSays rule words (cond (isObserved op) (end - start) 0) start) r
 
--- the literals of the conditions that stand there
+-- the literals of the conditions that are there
 pub record ConditionLiterals (rule words : List ℕ) (start end : ℕ) (a r : Progress) : Type 0 where
   pub atMost : r .passed ≤ a .passed + (end - start)
   pub goes : (setting : Setting) (schema : Schema) (cs : Conditions)

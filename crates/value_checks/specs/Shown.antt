@@ -1,21 +1,14 @@
 -- What a verdict shows of the check that fails: all that an answer is made of.
 use Prim.Native.Nat.{ℕ, _+_}
-use mathlib.Core.Bool.{cond}
 use mathlib.Core.List.{List, [], _∷_, _++_}
 use mathlib.Core.Option.{Option, none, some}
 use mathlib.Core.Path.{_≡_, refl}
-use lib.Dec.{eqb}
 use Rattle.definition.specs.Tree.{Text, Rule}
 use Rattle.reference.specs.Setting.{Setting}
-use Rattle.validation.specs.Check.{Binder, Check, entryOf}
+use Rattle.validation.specs.Check.{Check}
 use Rattle.validation.specs.Judge.{CheckOutcome, Verdict, allPass, failsAt, decide, judgeFrom}
 use Rattle.validation.specs.Location.{pathOf}
-use Rattle.validation.specs.Result.{Answer, accepted, defect, ownFamily, familyIn, overPlaceIn, answerOf}
-
--- the `in` entry of the innermost quantifier whose body holds a check
-unfoldable pub overOf : List Binder → Option ℕ
-overOf [] = none
-overOf (b ∷ bs) = some (entryOf (b .over))
+use Rattle.validation.specs.Result.{Answer, accepted, defect, ownFamily, overOf, familyIn, overPlaceIn, answerOf}
 
 pub data Shown : Type 0 where
   passes : (passed : ℕ) → Shown
@@ -25,42 +18,24 @@ unfoldable pub shownOf : Verdict → Shown
 shownOf (allPass n) = passes n
 shownOf (failsAt n c d) = fails n (c .number) (c .place) (overOf (c .binders)) d
 
-unfoldable pub familyOf : Option ℕ → ℕ → ℕ
-familyOf none family = family
-familyOf (some e) family = cond (eqb family 1) 8 family
-
-unfoldable pub overPlaceOf : Option ℕ → ℕ → ℕ
-overPlaceOf none family = 0
-overPlaceOf (some e) family = cond (eqb family 1) e 0
-
 unfoldable pub answerShown : Setting → (label : Text) → Rule → Shown → Answer
 answerShown setting label r (passes n) = accepted n
 answerShown setting label r (fails n number place over d) =
     defect
     (record {
       number = number;
-      family = familyOf over (ownFamily setting number);
+      family = familyIn over (ownFamily setting number);
       detail = d;
       place = place;
-      overPlace = overPlaceOf over (ownFamily setting number);
+      overPlace = overPlaceIn over (ownFamily setting number);
       passed = n;
       path = pathOf label r number place;
     })
 
-family-shown : (bs : List Binder) (f : ℕ) → familyIn bs f ≡ familyOf (overOf bs) f
-unfolding familyIn familyOf overOf
-family-shown [] f = refl
-family-shown (b ∷ bs) f = refl
-
-over-shown : (bs : List Binder) (f : ℕ) → overPlaceIn bs f ≡ overPlaceOf (overOf bs) f
-unfolding overPlaceIn overPlaceOf overOf
-over-shown [] f = refl
-over-shown (b ∷ bs) f = refl
-
 pub answer-shown : (setting : Setting) (label : Text) (r : Rule) (v : Verdict) → answerOf setting label r v ≡ answerShown setting label r (shownOf v)
 unfolding answerOf answerShown shownOf
 answer-shown setting label r (allPass n) = refl
-answer-shown setting label r (failsAt n c d) = rw (family-shown (c .binders) _, over-shown (c .binders) _)
+answer-shown setting label r (failsAt n c d) = refl
 
 -- One list after another: the second is judged only if the first passes.
 

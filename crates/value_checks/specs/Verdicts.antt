@@ -7,7 +7,8 @@ use mathlib.Core.Path.{_≡_}
 use Rattle.walk.specs.Answers.{referenceDetail, collectionDetail}
 use Rattle.validation.specs.Check.{Check}
 use Rattle.validation.specs.Judge.{CheckOutcome, judgeFrom}
-use Rattle.value_checks.specs.Shown.{overOf, Shown, passes, fails, shownOf, goOn}
+use Rattle.validation.specs.Result.{overOf}
+use Rattle.value_checks.specs.Shown.{Shown, passes, fails, shownOf, goOn}
 use Rattle.value_checks.specs.declared.verdict.Side.{Side}
 use Rattle.value_checks.specs.declared.verdict.Side.the-variants.{Left, Right}
 use Rattle.value_checks.specs.declared.verdict.InstantFault.{InstantFault}
@@ -92,7 +93,7 @@ pub record PassedOn (a r : Progress) : Type 0 where
   pub atMost : r .passed ≤ a .passed + 1
   pub goes : (ask : Check → CheckOutcome) (c : Check) → ask c ≡ none → GoesOn ask a (c ∷ []) r
 
--- one check more, which fails: nothing is asked behind it
+-- one check more, which fails: nothing is asked after it
 pub record Failed (a : Progress) (fault : Fault) (place : ℕ) (over : Over) (r : Progress) : Type 0 where
   pub same : r .passed ≡ a .passed
   pub goes : (ask : Check → CheckOutcome) (c : Check) (checks : List Check)

@@ -1,11 +1,12 @@
-// The kind of an entry, read off its first bytes: the rest has been read when the index was made.
+// What an entry is, and where its text is, read off its first bytes: the rest has been read when the index was made.
+use sheet::entry::MAX_TEXT;
+use sheet::entry::item;
+use sheet::numeral::NumeralRead;
+use sheet::part::Part;
 ghost use mathlib.Core.Path.{_≡_};
 ghost use Prim.Native.Nat.{_+_};
 ghost use lib.ListN.{getD};
-ghost use Rattle.value_checks.specs.Kinds.{OperatorAt, TypeAt};
-
-// An operator's number, beside those of sheet::rule_heads.
-pub const EXISTS: usize = 5;
+ghost use Rattle.value_checks.specs.Kinds.{OperatorAt, TypeAt, HasType, TextAt};
 
 // The type's digits that the checks tell apart (docs/FORMAT.md, "The rule sheet").
 pub const NUMBER: u8 = b'4';
@@ -42,4 +43,30 @@ pub fn type_at(rule: &[u8], at: usize) -> u8
     ensures { λ r. ⌜ TypeAt (now (rule .entry)) at r ⌝ }
 {
     byte_after(rule, at, 2)
+}
+
+// Whether the entry that begins at `at`, of a value or of a key, is that of a value with that type's digit.
+pub fn has_type(rule: &[u8], at: usize, digit: u8) -> bool
+    ensures { λ r. ⌜ HasType (now (rule .entry)) at digit r ⌝ }
+{
+    if byte_after(rule, at, 0) == b'V' {
+        return byte_after(rule, at, 2) == digit;
+    }
+    false
+}
+
+// Where the text of the string or the number is whose entry begins at `at`. Of another entry's bytes any place.
+pub fn text_at(rule: &[u8], at: usize) -> Part
+    ensures { λ r. ⌜ TextAt (now (rule .entry)) at r ⌝ }
+{
+    if rule.len() <= at {
+        return Part { start: 0, len: 0 };
+    }
+    let NumeralRead::Is(len, end) = item(rule, at + 3, 0, MAX_TEXT) else {
+        return Part { start: 0, len: 0 };
+    };
+    Part {
+        start: end + 1,
+        len,
+    }
 }

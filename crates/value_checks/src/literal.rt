@@ -1,7 +1,8 @@
 // The literal pass: whether the numbers that a condition compares are finite.
 use crate::kind::NUMBER;
+use crate::kind::has_type;
 use crate::kind::operator_at;
-use crate::kind::type_at;
+use crate::kind::text_at;
 use crate::node::behind;
 use crate::node::children_from;
 use crate::verdict::Fault;
@@ -16,9 +17,6 @@ use sheet::rule_heads::COMPARE;
 use sheet::rule_heads::CONTAINS;
 use sheet::rule_heads::EQ;
 use sheet::rule_heads::TRUTHY;
-use sheet::rule_heads::ValueHead;
-use sheet::rule_heads::ValueRead;
-use sheet::rule_heads::value_head;
 ghost use mathlib.Core.Path.{_≡_};
 ghost use Prim.Native.Nat.{_-_, _<_, _≤_};
 ghost use Rattle.value_checks.specs.Verdicts.{going, HasRoom};
@@ -30,22 +28,11 @@ fn validate_literal(passed: usize, rule: &[u8], words: &[u32], i: usize) -> Prog
     ensures { λ r. ⌜ LiteralsJudged (now (rule .entry)) (now (words .entry)) i 1 (going passed) r ⌝ }
 {
     let at = start_of(words, i);
-    if type_at(rule, at) != NUMBER {
-        return going(passed);
+    if has_type(rule, at, NUMBER) {
+        let finite = number::is_finite(bytes_of(rule, text_at(rule, at)));
+        return require(passed, !finite, Fault::Literal, i + 1, Over::Outside);
     }
-    let ValueRead::Is(head, _) = value_head(rule, at) else {
-        return going(passed);
-    };
-    match head {
-        ValueHead::Constant(_) => going(passed),
-        ValueHead::Number(digits) => {
-            let finite = number::is_finite(bytes_of(rule, digits));
-            require(passed, !finite, Fault::Literal, i + 1, Over::Outside)
-        }
-        ValueHead::Text(_) => going(passed),
-        ValueHead::Array(_) => going(passed),
-        ValueHead::Object(_) => going(passed),
-    }
+    going(passed)
 }
 
 // The numbers from word `start` up to word `end`.

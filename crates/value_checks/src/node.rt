@@ -6,7 +6,7 @@ use sheet::rule_heads::TRUTHY;
 ghost use Prim.Native.Nat.{_<_, _≤_};
 ghost use Rattle.value_checks.specs.Nodes.{Behind, ChildrenFrom};
 
-// The word behind the subtree of word `i`, `end` at most.
+// The word after the subtree of word `i`, `end` at most.
 pub fn behind(words: &[u32], i: usize, end: usize) -> usize
     ensures { λ r. ⌜ Behind (now (words .entry)) i end r ⌝ }
 {

@@ -1,5 +1,6 @@
 // Operands: what a value is asked besides its references.
 use crate::kind::STRING;
+use crate::kind::text_at;
 use crate::kind::type_at;
 use crate::node::behind;
 use crate::references::is_reference;
@@ -11,27 +12,27 @@ use crate::verdict::Progress;
 use crate::verdict::Side;
 use crate::verdict::Verdict;
 use crate::verdict::fail;
+use crate::verdict::going;
 use crate::verdict::pass;
+use crate::verdict::require;
 use rule::index::start_of;
 use scope::binder::Scope;
 use scope::collections::begins_with_dollar;
 use sheet::part::Part;
 use sheet::part::bytes_of;
 use sheet::rule_heads::AFTER;
+use sheet::rule_heads::COMPARE;
+use sheet::rule_heads::EXISTS;
 use sheet::rule_heads::STARTS_WITH;
-use sheet::rule_heads::ValueHead;
-use sheet::rule_heads::ValueRead;
-use sheet::rule_heads::value_head;
 use timestamp::Fields;
 use timestamp::Parsed;
-ghost use mathlib.Core.Path.{_≡_};
-ghost use Prim.Native.Nat.{_+_, _-_, _<_, _≤_};
+ghost use Prim.Native.Nat.{_*_, _-_, _<_, _≤_};
 ghost use Rattle.definition.specs.Tree.{Value};
 ghost use Rattle.rule.specs.Index.{ValueAt};
-ghost use Rattle.validation.specs.Check.{instantText, instantForm, instantOperand, affixOperand, operand};
+ghost use Rattle.validation.specs.Check.{instantText, instantForm};
 ghost use Rattle.validation.specs.Constant.{literalText, literalInstant};
 ghost use Rattle.value_checks.specs.Verdicts.{going, HasRoom};
-ghost use Rattle.value_checks.specs.Frames.{frame, FormIs, ReadAs, OperandJudged, PairJudged, side};
+ghost use Rattle.value_checks.specs.Frames.{frame, FormIs, ReadAs, ValueJudged, instantCheck, affixCheck, askedBefore, askedAfter, OperandJudged, OperandsJudged};
 
 pub enum Form {
     Text(Part),
@@ -47,7 +48,7 @@ pub enum InstantRead {
     Bad(InstantFault),
 }
 
-// The value of word `i`: only a text is read.
+// The value of word `i`, by its type.
 pub fn form_of(rule: &[u8], words: &[u32], i: usize) -> Form
     ensures { λ r. ⌜ ((v : Value) → ValueAt (now (rule .entry)) (now (words .entry)) i v → FormIs (now (rule .entry)) r v) ⌝ }
 {
@@ -59,16 +60,7 @@ pub fn form_of(rule: &[u8], words: &[u32], i: usize) -> Form
     if STRING < digit {
         return Form::Holder;
     }
-    let ValueRead::Is(head, _) = value_head(rule, at) else {
-        return Form::Other;
-    };
-    match head {
-        ValueHead::Constant(_) => Form::Other,
-        ValueHead::Number(_) => Form::Other,
-        ValueHead::Text(part) => Form::Text(part),
-        ValueHead::Array(_) => Form::Holder,
-        ValueHead::Object(_) => Form::Holder,
-    }
+    Form::Text(text_at(rule, at))
 }
 
 // A reference may be an instant; text that begins with `$$` is none.
@@ -98,83 +90,78 @@ pub fn instant_form(rule: &[u8], words: &[u32], i: usize) -> InstantRead
     }
 }
 
-fn validate_instant(
-    passed: usize,
-    schema: &[u8],
-    rule: &[u8],
-    words: &[u32],
-    scope: Scope,
-    over: Over,
-    start: usize,
-    end: usize,
-) -> Progress
-    requires { ⌜ HasRoom (going passed) (end - start + 1) × (start < 4096) × (end ≤ 4096) ⌝ }
-    ensures { λ r. ⌜ OperandJudged (frame (now (schema .entry)) (now (rule .entry)) (now (words .entry)) scope over) instantOperand start end (going passed) r ⌝ }
+// The value of word `i` as an operand of `before` or `after`.
+fn validate_instant(passed: usize, rule: &[u8], words: &[u32], over: Over, i: usize) -> Progress
+    requires { ⌜ HasRoom (going passed) 1 × (i < 4096) ⌝ }
+    ensures { λ r. ⌜ ValueJudged (now (rule .entry)) (now (words .entry)) over instantCheck i (going passed) r ⌝ }
 {
-    let r = validate_references(passed, schema, rule, words, scope, over, start, end);
-    let verdict = r.verdict;
-    let Verdict::Pass = verdict else {
-        return r;
-    };
-    match instant_form(rule, words, start) {
-        InstantRead::Reference => pass(r.passed),
-        InstantRead::Literal(_) => pass(r.passed),
-        InstantRead::Bad(fault) => fail(r.passed, Fault::Instant(fault), start + 1, over),
+    match instant_form(rule, words, i) {
+        InstantRead::Reference => pass(passed),
+        InstantRead::Literal(_) => pass(passed),
+        InstantRead::Bad(fault) => fail(passed, Fault::Instant(fault), i + 1, over),
     }
 }
 
-fn validate_affix(
-    passed: usize,
-    schema: &[u8],
-    rule: &[u8],
-    words: &[u32],
-    scope: Scope,
-    over: Over,
-    start: usize,
-    end: usize,
-) -> Progress
-    requires { ⌜ HasRoom (going passed) (end - start + 1) × (start < 4096) × (end ≤ 4096) ⌝ }
-    ensures { λ r. ⌜ OperandJudged (frame (now (schema .entry)) (now (rule .entry)) (now (words .entry)) scope over) affixOperand start end (going passed) r ⌝ }
+// The value of word `i` as an operand of `starts_with` or `ends_with`.
+fn validate_affix(passed: usize, rule: &[u8], words: &[u32], over: Over, i: usize) -> Progress
+    requires { ⌜ HasRoom (going passed) 1 × (i < 4096) ⌝ }
+    ensures { λ r. ⌜ ValueJudged (now (rule .entry)) (now (words .entry)) over affixCheck i (going passed) r ⌝ }
 {
-    let r = validate_references(passed, schema, rule, words, scope, over, start, end);
-    let verdict = r.verdict;
-    let Verdict::Pass = verdict else {
-        return r;
-    };
-    match form_of(rule, words, start) {
-        Form::Text(_) => pass(r.passed),
-        Form::Holder => fail(r.passed, Fault::Affix, start + 1, over),
-        Form::Other => fail(r.passed, Fault::Affix, start + 1, over),
+    if type_at(rule, start_of(words, i)) == STRING {
+        return pass(passed);
     }
+    fail(passed, Fault::Affix, i + 1, over)
 }
 
-// A side of a comparison: no array and no object, and this before its references.
+// What an operand is asked before its references: a side of a comparison is no array and no object.
 fn validate_side(
     passed: usize,
-    schema: &[u8],
     rule: &[u8],
     words: &[u32],
-    scope: Scope,
     over: Over,
+    op: usize,
     which: Side,
-    start: usize,
-    end: usize,
+    i: usize,
 ) -> Progress
-    requires { ⌜ HasRoom (going passed) (end - start + 1) × (start < 4096) × (end ≤ 4096) ⌝ }
-    ensures { λ r. ⌜ OperandJudged (frame (now (schema .entry)) (now (rule .entry)) (now (words .entry)) scope over) (side which) start end (going passed) r ⌝ }
+    requires { ⌜ HasRoom (going passed) 1 × (i < 4096) ⌝ }
+    ensures { λ r. ⌜ ValueJudged (now (rule .entry)) (now (words .entry)) over (askedBefore op which) i (going passed) r ⌝ }
 {
-    match form_of(rule, words, start) {
-        Form::Text(_) => {
-            validate_references(passed + 1, schema, rule, words, scope, over, start, end)
-        }
-        Form::Holder => fail(passed, Fault::Operand(which), start + 1, over),
-        Form::Other => {
-            validate_references(passed + 1, schema, rule, words, scope, over, start, end)
-        }
+    if op == COMPARE {
+        let holds = STRING < type_at(rule, start_of(words, i));
+        return require(passed, holds, Fault::Operand(which), i + 1, over);
     }
+    going(passed)
 }
 
-// An operand of a pair, by the operator's number: 6 before and 7 after, 16 starts_with and 17 ends_with, the others.
+// What an operand is asked after its references, by the operator: 6 before and 7 after, 16 starts_with and 17 ends_with.
+fn validate_form(
+    passed: usize,
+    rule: &[u8],
+    words: &[u32],
+    over: Over,
+    op: usize,
+    i: usize,
+) -> Progress
+    requires { ⌜ HasRoom (going passed) 1 × (i < 4096) ⌝ }
+    ensures { λ r. ⌜ ValueJudged (now (rule .entry)) (now (words .entry)) over (askedAfter op) i (going passed) r ⌝ }
+{
+    if op <= EXISTS {
+        return going(passed);
+    }
+    if op <= AFTER {
+        return validate_instant(passed, rule, words, over, i);
+    }
+    if op < STARTS_WITH {
+        return going(passed);
+    }
+    if op < COMPARE {
+        return validate_affix(passed, rule, words, over, i);
+    }
+    going(passed)
+}
+
+// The operand from word `start` up to word `end`. Its one caller is a loop, so that the compiler builds all of this into one function, which copies
+// the scope once for each condition.
 fn validate_operand(
     passed: usize,
     schema: &[u8],
@@ -183,23 +170,28 @@ fn validate_operand(
     scope: Scope,
     over: Over,
     op: usize,
+    which: Side,
     start: usize,
     end: usize,
 ) -> Progress
-    requires { ⌜ HasRoom (going passed) (end - start + 1) × (start < 4096) × (end ≤ 4096) ⌝ }
-    ensures { λ r. ⌜ OperandJudged (frame (now (schema .entry)) (now (rule .entry)) (now (words .entry)) scope over) (operand op) start end (going passed) r ⌝ }
+    requires { ⌜ HasRoom (going passed) (3 * (end - start)) × (start < end) × (end ≤ 4096) ⌝ }
+    ensures { λ r. ⌜ OperandJudged (frame (now (schema .entry)) (now (rule .entry)) (now (words .entry)) scope over) op which start end (going passed) r ⌝ }
 {
-    if op <= AFTER {
-        return validate_instant(passed, schema, rule, words, scope, over, start, end);
-    }
-    if STARTS_WITH <= op {
-        return validate_affix(passed, schema, rule, words, scope, over, start, end);
-    }
-    validate_references(passed, schema, rule, words, scope, over, start, end)
+    let a = validate_side(passed, rule, words, over, op, which, start);
+    let before = a.verdict;
+    let Verdict::Pass = before else {
+        return a;
+    };
+    let r = validate_references(a.passed, schema, rule, words, scope, over, start, end);
+    let verdict = r.verdict;
+    let Verdict::Pass = verdict else {
+        return r;
+    };
+    validate_form(r.passed, rule, words, over, op, start)
 }
 
-// Both operands of a pair.
-pub fn validate_pair(
+// The operands of a condition from word `start` up to word `end`, by its operator.
+pub fn validate_operands(
     passed: usize,
     schema: &[u8],
     rule: &[u8],
@@ -210,39 +202,22 @@ pub fn validate_pair(
     start: usize,
     end: usize,
 ) -> Progress
-    requires { ⌜ HasRoom (going passed) (end - start + 2) × (start ≤ end) × (end < 4096) ⌝ }
-    ensures { λ r. ⌜ PairJudged (frame (now (schema .entry)) (now (rule .entry)) (now (words .entry)) scope over) (operand op) (operand op) start end (going passed) r ⌝ }
+    requires { ⌜ HasRoom (going passed) (3 * (end - start)) × (end ≤ 4096) ⌝ }
+    ensures { λ r. ⌜ OperandsJudged (frame (now (schema .entry)) (now (rule .entry)) (now (words .entry)) scope over) op start end (going passed) r ⌝ }
 {
-    let mid = behind(words, start, end);
-    let r = validate_operand(passed, schema, rule, words, scope, over, op, start, mid);
-    let verdict = r.verdict;
-    let Verdict::Pass = verdict else {
-        return r;
-    };
-    validate_operand(r.passed, schema, rule, words, scope, over, op, mid, end)
-}
-
-// Both sides of a comparison.
-pub fn validate_comparison(
-    passed: usize,
-    schema: &[u8],
-    rule: &[u8],
-    words: &[u32],
-    scope: Scope,
-    over: Over,
-    start: usize,
-    end: usize,
-) -> Progress
-    requires { ⌜ HasRoom (going passed) (end - start + 2) × (start ≤ end) × (end < 4096) ⌝ }
-    ensures { λ r. ⌜ PairJudged (frame (now (schema .entry)) (now (rule .entry)) (now (words .entry)) scope over) (side Side.Left) (side Side.Right) start end (going passed) r ⌝ }
-{
-    let mid = behind(words, start, end);
-    let left = Side::Left;
-    let r = validate_side(passed, schema, rule, words, scope, over, left, start, mid);
-    let verdict = r.verdict;
-    let Verdict::Pass = verdict else {
-        return r;
-    };
-    let right = Side::Right;
-    validate_side(r.passed, schema, rule, words, scope, over, right, mid, end)
+    let mut so_far = passed;
+    let mut i = start;
+    let mut which = Side::Left;
+    while i < end {
+        let next = behind(words, i, end);
+        let r = validate_operand(so_far, schema, rule, words, scope, over, op, which, i, next);
+        let verdict = r.verdict;
+        let Verdict::Pass = verdict else {
+            return r;
+        };
+        so_far = r.passed;
+        i = next;
+        which = Side::Right;
+    }
+    going(so_far)
 }

@@ -1,6 +1,7 @@
 // The references of a value: its strings that begin with `$`, but not with `$$`.
 use crate::kind::STRING;
-use crate::kind::type_at;
+use crate::kind::has_type;
+use crate::kind::text_at;
 use crate::verdict::Fault;
 use crate::verdict::Over;
 use crate::verdict::Progress;
@@ -12,9 +13,6 @@ use rule::index::start_of;
 use scope::binder::Scope;
 use scope::references::validate_reference;
 use sheet::part::bytes_of;
-use sheet::rule_heads::ValueHead;
-use sheet::rule_heads::ValueRead;
-use sheet::rule_heads::value_head;
 use walk::answer::Readable;
 ghost use Prim.Native.Nat.{_-_, _<_, _≤_};
 ghost use Rattle.value_checks.specs.Verdicts.{going, HasRoom};
@@ -52,29 +50,18 @@ fn validate_value_reference(
     ensures { λ r. ⌜ ReferencesIn (frame (now (schema .entry)) (now (rule .entry)) (now (words .entry)) scope over) i 1 (going passed) r ⌝ }
 {
     let at = start_of(words, i);
-    if type_at(rule, at) != STRING {
-        return going(passed);
-    }
-    let ValueRead::Is(head, _) = value_head(rule, at) else {
-        return going(passed);
-    };
-    match head {
-        ValueHead::Constant(_) => going(passed),
-        ValueHead::Number(_) => going(passed),
-        ValueHead::Text(part) => {
-            let text = bytes_of(rule, part);
-            if is_reference(text) {
-                let found = validate_reference(schema, rule, words, scope, &text[1..]);
-                let Readable::No(fault, at) = found else {
-                    return pass(passed);
-                };
-                return fail(passed, Fault::Reference(fault, at), i + 1, over);
-            }
-            going(passed)
+    if has_type(rule, at, STRING) {
+        let text = bytes_of(rule, text_at(rule, at));
+        if is_reference(text) {
+            let found = validate_reference(schema, rule, words, scope, &text[1..]);
+            let Readable::No(fault, at) = found else {
+                return pass(passed);
+            };
+            return fail(passed, Fault::Reference(fault, at), i + 1, over);
         }
-        ValueHead::Array(_) => going(passed),
-        ValueHead::Object(_) => going(passed),
+        return going(passed);
     }
+    going(passed)
 }
 
 // The references from word `start` up to word `end`, in the order of the sheet.

@@ -8,7 +8,7 @@ use lib.ListN.{length, take}
 use Rattle.printed_answer.specs.Printed.{maxOutput, Printed}
 use Rattle.printed_answer.specs.PrintedLaws.{printed-whole}
 
--- as the part `&line[0..n]` stands in the code's facts
+-- as the part `&line[0..n]` is in the code's facts
 pub compared : {output before after expected : List ℕ} {n : ℕ} {r : Bool} → Printed output before after n → maxOutput ≤ length before
     → (r ≡ true → take (n - 0) after ≡ expected) × (take (n - 0) after ≡ expected → r ≡ true)
     → (r ≡ true → output ≡ expected) × (output ≡ expected → r ≡ true)

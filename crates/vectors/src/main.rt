@@ -83,12 +83,6 @@ fn head(s: &[u8]) -> usize
     at
 }
 
-fn wide(b: u8) -> usize
-    ensures { λ r. ⌜ r ≡ b ⌝ }
-{
-    b as usize
-}
-
 // A number with one more digit; `TOO_LARGE` where the byte is not a digit.
 fn grown(value: usize, b: u8) -> usize
     requires { ⌜ value ≤ 1000000 ⌝ }
@@ -97,7 +91,7 @@ fn grown(value: usize, b: u8) -> usize
     if b < b'0' {
         return TOO_LARGE;
     }
-    let digit = wide(b - b'0');
+    let digit = (b - b'0') as usize;
     if 9 < digit {
         return TOO_LARGE;
     }

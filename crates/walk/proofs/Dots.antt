@@ -6,14 +6,13 @@ use native.Mathlib.Numerals.{add-one}
 use mathlib.Core.List.{List, [], _∷_, _++_, append-nil, append-assoc}
 use mathlib.Core.Path.{_≡_, refl, ap, sym, _∙_}
 use lib.ListN.{length, take, drop, getD, drop-of-length-le}
-use lib.Seq.{drop-cons, take-suc, take-all, take-length}
+use lib.Seq.{drop-cons, take-suc, take-all}
 use lib.Dec.{eqb}
 use mathlib.Core.Bool.{Bool, true, not, _&&_, and-eq-true-iff}
 use borrow.Author.Tests.{eq-eqb, ne-eqb, eqb-false, not-true}
 use Rattle.reference.specs.Path.{Segments, split, cut, extend}
 use Rattle.text.proofs.Below.{below-more, reached}
 use Rattle.walk.specs.Dots.{Cuts, Ends, DotlessAt, DotlessStart}
-use Rattle.walk.specs.declared.path.Dot.{Dot}
 use Rattle.walk.specs.declared.path.Dot.the-variants.{At, Nowhere}
 
 -- a segment's beginning, in front of what is left to split
@@ -65,13 +64,32 @@ pub dotless-none : (path : List ℕ) → DotlessStart path 0
 dotless-none path = record { within = omega arith; dotless = λ k h. absurd (omega arith) }
 
 pub dotless-more
-    : (path : List ℕ) (i : ℕ)
+    : (path : List ℕ) (i n : ℕ)
     → DotlessStart path i
-    → i + 8 ≤ length path
-    → DotlessAt path i 8
-    → DotlessStart path (i + 8)
-dotless-more path i h p at =
-    record { within = p; dotless = below-more (λ k. getD path k 0 ≡ code "." → ⊥) i 8 (h .dotless) at }
+    → i + n ≤ length path
+    → DotlessAt path i n
+    → DotlessStart path (i + n)
+dotless-more path i n h p at =
+    record { within = p; dotless = below-more (λ k. getD path k 0 ≡ code "." → ⊥) i n (h .dotless) at }
+
+dotless-both : (path : List ℕ) (i m n : ℕ) → DotlessAt path i m → DotlessAt path (i + m) n → DotlessAt path i (m + n)
+dotless-both path i m n low high =
+    below-more (λ k. getD path (i + k) 0 ≡ code "." → ⊥) m n low
+    (λ k h. let e : i + m + k ≡ i + (m + k) = omega arith in rw e at (high k h))
+
+pub dotless-four
+    : (path : List ℕ) (i : ℕ) {a b c d : Bool}
+    → (a ≡ true → DotlessAt path i 8)
+    → (b ≡ true → DotlessAt path (i + 8) 8)
+    → (c ≡ true → DotlessAt path (i + 16) 8)
+    → (d ≡ true → DotlessAt path (i + 24) 8)
+    → (((a && b) && c) && d) ≡ true
+    → DotlessAt path i 32
+dotless-four path i {a} {b} {c} {d} one two three four e =
+    let (abc, last) = and-eq-true-iff ((a && b) && c) d .0 e in
+    let (ab, third) = and-eq-true-iff (a && b) c .0 abc in
+    let (first, second) = and-eq-true-iff a b .0 ab in
+    dotless-both path i 24 8 (dotless-both path i 16 8 (dotless-both path i 8 8 (one first) (two second)) (three third)) (four last)
 
 pub passed-start : (path : List ℕ) (n : ℕ) → DotlessStart path n → Passed path n
 passed-start path n h =
@@ -79,22 +97,33 @@ passed-start path n h =
 
 -- Where the first segment ends
 
-pub ends-at : (path : List ℕ) (dot : Dot) (d : ℕ) → Cuts path dot → dot ≡ At d → Ends path d
-ends-at path dot d cuts e =
-    let q : Cuts path (At d) = rw e at cuts in
-    record {
-      within = omega (arith, q .0);
-      first = ap (λ (p : Segments). p .first) (q .1);
-      last = λ end. absurd (omega (arith, q .0));
-      more = λ less. ap (λ (p : Segments). p .others) (q .1);
-    }
-
-pub ends-nowhere : (path : List ℕ) (dot : Dot) → Cuts path dot → dot ≡ Nowhere → Ends path (length path)
-ends-nowhere path dot cuts e =
-    let q : split path ≡ record { first = path; others = [] } = rw e at cuts in
+pub ends-dot : (path : List ℕ) (i : ℕ) → Passed path i → i < length path → getD path i 0 ≡ 46 → Ends path i
+ends-dot path i h less dot =
+    let q = passed-dot path i h less dot in
     record {
       within = omega arith;
-      first = ap (λ (p : Segments). p .first) q ∙ sym (take-length path);
-      last = λ end. ap (λ (p : Segments). p .others) q;
+      first = ap (λ (p : Segments). p .first) q;
+      last = λ end. absurd (omega arith);
+      more = λ less. ap (λ (p : Segments). p .others) q;
+    }
+
+pub ends-all : (path : List ℕ) (i : ℕ) → Passed path i → i ≤ length path → length path ≤ i → Ends path i
+ends-all path i h within end =
+    let q = passed-all path i h end in
+    record {
+      within = within;
+      first = ap (λ (p : Segments). p .first) q ∙ sym (take-all i path end);
+      last = λ e. ap (λ (p : Segments). p .others) q;
       more = λ less. absurd (omega arith);
     }
+
+pub segments-are : (p : Segments) {x : List ℕ} {y : List (List ℕ)} → p .first ≡ x → p .others ≡ y → p ≡ record { first = x; others = y }
+segments-are p e f = rw (← e, ← f)
+
+pub cuts-at : (path : List ℕ) (n : ℕ) → Ends path n → n < length path → Cuts path (At n)
+cuts-at path n ends less = (less, segments-are (split path) (ends .first) (ends .more less))
+
+pub cuts-nowhere : (path : List ℕ) (n : ℕ) → Ends path n → length path ≤ n → Cuts path Nowhere
+cuts-nowhere path n ends end =
+    let e : n ≡ length path = omega (arith, ends .within) in
+    segments-are (split path) (ends .first ∙ take-all n path end) (ends .last e)

@@ -2,8 +2,7 @@
 use crate::answer::Collected;
 use crate::answer::CollectionFault;
 use crate::answer::FieldStep;
-use crate::path::Dot;
-use crate::path::first_dot;
+use crate::path::first_end;
 use crate::path::is_ordinal;
 use schema::index::ElementSlot;
 use schema::index::IndexedField;
@@ -66,13 +65,15 @@ pub fn field_at(schema: &[u8], words: &[u32], slot: usize, path: &[u8]) -> Colle
 {
     let field = indexed_field(schema, words, slot);
     let entry = field.entry;
-    let Dot::At(dot) = first_dot(path) else {
-        return last_field(entry, field_step(schema, words, field, path));
-    };
-    match field_step(schema, words, field, &path[..dot]) {
+    let end = first_end(path);
+    let step = field_step(schema, words, field, &path[..end]);
+    if end == path.len() {
+        return last_field(entry, step);
+    }
+    match step {
         FieldStep::Refuse(fault) => Collected::No(fault, entry),
         FieldStep::Free => Collected::Unknown,
-        FieldStep::Into(next) => field_at(schema, words, next, &path[dot + 1..]),
+        FieldStep::Into(next) => field_at(schema, words, next, &path[end + 1..]),
     }
 }
 

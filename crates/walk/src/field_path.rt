@@ -2,8 +2,7 @@
 use crate::answer::Readable;
 use crate::answer::Reader;
 use crate::answer::WalkStep;
-use crate::path::Dot;
-use crate::path::first_dot;
+use crate::path::first_end;
 use crate::step::walk_step;
 use schema::index::indexed_field;
 ghost use Rattle.walk.specs.Answers.{readerIs};
@@ -21,7 +20,8 @@ fn last_step(entry: usize, step: WalkStep) -> Readable
     }
 }
 
-// Whether a path leads somewhere from the field of `slot`. Each step hands on the part of the path after its dot.
+// Whether a path leads somewhere from the field of `slot`. Each step hands on the part of the path after its dot. Only parts of `path` are handed
+// on: were it handed on itself, it would be copied whole before it is read.
 pub fn walk_field_path(
     schema: &[u8],
     words: &[u32],
@@ -34,18 +34,17 @@ pub fn walk_field_path(
 {
     let field = indexed_field(schema, words, slot);
     let entry = field.entry;
-    let Dot::At(dot) = first_dot(path) else {
-        return last_step(
-            entry,
-            walk_step(schema, words, field, path, service, reader),
-        );
-    };
-    match walk_step(schema, words, field, &path[..dot], service, reader) {
+    let end = first_end(path);
+    let step = walk_step(schema, words, field, &path[..end], service, reader);
+    if end == path.len() {
+        return last_step(entry, step);
+    }
+    match step {
         WalkStep::Refuse(fault) => Readable::No(fault, entry),
         WalkStep::Leaf(fault) => Readable::No(fault, entry),
         WalkStep::Free => Readable::Yes,
         WalkStep::Into(next) => {
-            walk_field_path(schema, words, next, &path[dot + 1..], service, reader)
+            walk_field_path(schema, words, next, &path[end + 1..], service, reader)
         }
     }
 }

@@ -126,7 +126,7 @@ told-line serial a before after o t fits =
 
 module _ {setting : Setting} {label schema : List ℕ} {read : SchemaRead} {book : List ℕ} {at to : ℕ} {path words pages : List ℕ} (serial : ℕ)
     (ready : Ready label schema read (drop at book) path words) where
-  -- behind the last sheet
+  -- after the last sheet
   pub row-blank : {after : List ℕ} {next : ℕ} → Refuses sheetIn book at → Wrote pages after to blankLine next
       → RowPut setting label schema read book at serial to path path words words pages after (record { sheet = at; line = next; accepted = 0 })
   unfolding rowOf answersIn countOf
@@ -221,7 +221,7 @@ page-rows before answers =
     let total : countOf 0 (take perPage answers) ≡ 0 + countOf 0 (take perPage answers) = omega arith in
     rw total (ap (λ (l : List (List ℕ)). heading (before + 1) ∷ l) (sym (rows-page perPage (perPage * before + 1) 0 answers)))
 
--- The rows of a page behind its heading, one behind the other.
+-- The rows of a page after its heading, one after the other.
 
 pub record Paging (setting : Setting) (label schema : List ℕ) (read : SchemaRead) (book : List ℕ) (from before line₀ : ℕ) (path₀ words₀ pages₀ path words pages : List ℕ) (sheet line accepted row : ℕ) : Type 0 where
   pub advanced : Advanced label schema read book path₀ path words₀ words from row sheet
@@ -293,7 +293,7 @@ module _ {setting : Setting} {label schema : List ℕ} {read : SchemaRead} {book
             rw (page-rows before (answersIn setting label schema sheets)) (wrote-then h rows);
       }
 
--- The pages, one behind the other.
+-- The pages, one after the other.
 
 pub given-ready : {label schema book path words middle : List ℕ} {read : SchemaRead} → Given label book path words → SchemaAnswer schema words middle read
     → Ready label schema read book path middle

@@ -85,7 +85,7 @@ pagesFrom before (suc count) answers = page before (take perPage answers) ++ pag
 
 -- how many pages so many sheets fill, the last of them perhaps in part
 unfoldable pub pageCount : (sheets : ℕ) → ℕ
-pageCount sheets = (sheets + 57) / 58
+pageCount sheets = (sheets + (perPage - 1)) / perPage
 
 unfoldable pub linesOf : List Answer → List (List ℕ)
 linesOf answers = pagesFrom 0 (pageCount (length answers)) answers

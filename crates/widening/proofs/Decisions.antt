@@ -27,7 +27,7 @@ opened : answer mill (ascii "H,1,3,1,0\nF,6,0,1,0,4,-,bars\nF,1,0,0,0,0,-,\nF,7,
 unfolding answer mill
 opened = refl
 
--- fields before, between and behind the others
+-- fields before, between and after the others
 grown : answer (ascii "H,0,1,-,0\nF,2,0,0,0,1,-,m\n") (ascii "H,0,3,-,0\nF,2,0,0,0,1,-,a\nF,2,0,0,0,1,-,m\nF,2,0,0,0,1,-,z\n") ≡ decision (widening anything)
 unfolding answer
 grown = refl
@@ -90,7 +90,7 @@ unfolding answer mill
 arguments-go = refl
 
 -- Of several breaches the first one counts: what the head says before the fields, what an entry says before what lies below it, and in an entry
--- kind, open mark, items mark, tag; an added field where its name stands.
+-- kind, open mark, items mark, tag; an added field where its name is.
 
 head-first : answer (ascii "H,0,1,0,0\nF,1,0,0,0,1,-,a\n") (ascii "H,0,1,-,0\nF,2,0,0,0,1,-,a\n") ≡ decision (refuted argumentsGo 1 0)
 unfolding answer

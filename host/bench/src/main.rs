@@ -1,7 +1,7 @@
 //! Measures the library beside the Rust on the same sheets and writes the figures, and a plot, into a document: `bench DOCUMENT`.
 //! `bench once GROUP SIDE SIZE` makes a single call for valgrind to count, `bench time GROUP SIDE SIZE` prints how many nanoseconds it takes;
 //! `bench plain` prints the figures only, without counting; `bench marks` prints what it costs to mark constant conditions; `bench books DOCUMENT` writes the
-//! figures of rule books alone.
+//! figures of rule books alone; `bench files FOLDER` writes a file for `rulecheck` for each group, which sketches are measured on.
 
 mod books;
 mod library;
@@ -27,10 +27,11 @@ use model::trees;
 use model::{decode_rule, decode_schema};
 use report::{Acceptance, Figures, Row};
 use sheets::{Group, Sample, GROUPS, NUMBERS};
+use std::path::Path;
 use std::process::ExitCode;
 
 const USAGE: &str =
-    "usage: bench DOCUMENT | bench plain | bench marks | bench books DOCUMENT | bench once GROUP SIDE SIZE | bench time GROUP SIDE SIZE";
+    "usage: bench DOCUMENT | bench plain | bench marks | bench books DOCUMENT | bench files FOLDER | bench once GROUP SIDE SIZE | bench time GROUP SIDE SIZE";
 
 /// Who answers.
 #[derive(Clone, Copy)]
@@ -63,6 +64,7 @@ fn main() -> ExitCode {
         ["once", group, side, size] => on_sample(group, side, size, |call| measure::counted_call(call)),
         ["time", group, side, size] => on_sample(group, side, size, |call| println!("{:.0}", measure::time(call))),
         ["marks"] => marks(),
+        ["files", folder] => files(Path::new(folder)).map_err(|problem| problem.to_string()),
         ["plain"] => all(false).map(|figures| println!("{}", figures.tables())),
         [document] => all(true).and_then(|figures| figures.write(document)),
         _ => Err(USAGE.to_owned()),
@@ -117,6 +119,18 @@ fn marks() -> Result<(), String> {
         let (without, with) = (count("library")?, count("marking")?);
         let more = 100.0 * (with as f64 - without as f64) / without as f64;
         println!("| {} | {without} | {with} | {more:+.2}% |", group.name);
+    }
+    Ok(())
+}
+
+/// Writes a file for `rulecheck` for each group, of the size that the table has.
+fn files(folder: &Path) -> std::io::Result<()> {
+    for group in GROUPS.iter().chain(&NUMBERS) {
+        let Sample { kind, semantics, schema, rule, .. } = (group.make)(group.listed);
+        let numbers = format!("{kind},{semantics},4,{},{},post\n", schema.len(), rule.len());
+        let place = folder.join(group.name);
+        std::fs::create_dir_all(&place)?;
+        std::fs::write(place.join("check.in"), [numbers.into_bytes(), schema, rule].concat())?;
     }
     Ok(())
 }

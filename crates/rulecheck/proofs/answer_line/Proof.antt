@@ -1,6 +1,5 @@
 -- `rulecheck::answer_line` meets its contract: there is room for the whole output.
 use native.Mathlib.Omega.{arith}
-use lib.Seq.{length-sets}
 use borrow.Author.Needs.{needs}
 use Rattle.printed_answer.specs.PrintedLaws.{printed-whole}
 use Rattle.rulecheck.proofs.answer_line.Statement.{statement}

@@ -2,8 +2,6 @@ use borrow.Author.Needs.{needs}
 use Rattle.sheet_acceptance.proofs.acceptance_rule.Statement.{statement}
 use Rattle.sheet_acceptance.proofs.acceptance_rule.Tie as tie
 use Rattle.sheet_acceptance.proofs.acceptance_rule.Reads as reads
-use Rattle.sheet_acceptance.proofs.acceptance_rule.Lts as lts
-use Rattle.rule.proofs.read_rule.Reads as read-rule-reads
 
 -- src/lib.rt:28:34
 slice-aggregate-read-rule : tie.Need-slice-aggregate-read-rule

@@ -2,8 +2,6 @@ use borrow.Author.Needs.{needs}
 use Rattle.sheet_acceptance.proofs.acceptance_schema.Statement.{statement}
 use Rattle.sheet_acceptance.proofs.acceptance_schema.Tie as tie
 use Rattle.sheet_acceptance.proofs.acceptance_schema.Reads as reads
-use Rattle.sheet_acceptance.proofs.acceptance_schema.Lts as lts
-use Rattle.schema.proofs.read.read_schema.Reads as read-schema-reads
 
 -- src/lib.rt:16:44
 slice-aggregate-read-schema : tie.Need-slice-aggregate-read-schema

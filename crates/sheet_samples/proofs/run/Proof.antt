@@ -5,13 +5,6 @@ use native.Mathlib.Omega.{arith}
 use borrow.Author.Needs.{needs}
 use Rattle.sheet_samples.proofs.run.Statement.{statement}
 use Rattle.sheet_samples.proofs.run.Tie as tie
-use Rattle.sheet_samples.proofs.run.Reads as reads
-use Rattle.sheet_samples.proofs.run.Lts as lts
-use Rattle.io.proofs.print_decimal.Reads as print-decimal-reads
-use Rattle.io.proofs.write_all.Reads as write-all-reads
-use Rattle.sheet_samples.proofs.accepts.Reads as accepts-reads
-use Rattle.sheet_samples.proofs.three.Reads as three-reads
-use Rattle.sheet_samples.proofs.write_verdict.Reads as write-verdict-reads
 
 abbrev Inv-loop : tie.InvT-loop
 Inv-loop s at₀ count₀ good₀ t8 t9 t10 at count good = (at ≤ length s) × (count ≤ at) × (good ≤ at)

@@ -1,6 +1,5 @@
 -- `text::behind_point` meets its contract, by the bytes that are there.
 use native.Mathlib.Omega.{arith}
-use borrow.Author.Needs.{needs}
 use mathlib.Core.Path.{refl}
 use Rattle.text.proofs.Decode.{none-short-1, two-bytes, none-short-2, three-bytes, none-short-3, four-bytes, none-at-all}
 use Rattle.text.proofs.Passes.{none-behind, point-behind}

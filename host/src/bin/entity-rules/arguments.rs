@@ -1,6 +1,6 @@
 //! The command line.
 
-use crate::explain;
+use crate::meaning;
 use entity_rules::{Kind, Reader, Semantics};
 use std::ffi::OsString;
 use std::path::PathBuf;
@@ -118,7 +118,7 @@ pub enum Command {
     /// Prints sheets as trees.
     Show(Vec<PathBuf>),
     /// Says what a number means.
-    Explain(explain::Asked),
+    Explain(meaning::Asked),
     /// Prints the stock table.
     Table,
 }
@@ -250,7 +250,7 @@ pub fn parse(words: impl IntoIterator<Item = OsString>) -> Result<Command, Strin
         }
         Some(command) if command == "explain" => {
             let words: Vec<OsString> = words.collect();
-            explain::parse(&words).map(Command::Explain)
+            meaning::parse(&words).map(Command::Explain)
         }
         Some(command) if command == "table" => match words.next() {
             None => Ok(Command::Table),

@@ -3,7 +3,7 @@
 
 use crate::near::nearest;
 use crate::outline::Binder;
-use crate::report::visible;
+use crate::printed::visible;
 use crate::widened::{Holder, Tree};
 use entity_rules::{FieldKind, Kind, Name, ReferenceFault, Semantics, Table};
 use std::ops::Range;

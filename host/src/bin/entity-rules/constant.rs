@@ -1,9 +1,9 @@
 //! Constant conditions of a rule, with what a person wants to know about them.
 
 use crate::files::Rule;
-use crate::json::Object;
+use crate::object::Object;
 use crate::outline::reached;
-use crate::report::visible;
+use crate::printed::visible;
 use entity_rules::Constant;
 use entity_rules::entries::{Content, Entry, read_rule};
 

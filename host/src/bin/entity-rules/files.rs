@@ -1,8 +1,8 @@
 //! The files that the command line names, and where they are not what they should be.
 
-use crate::checked::Subject;
 use crate::folders::RuleFile;
 use crate::region::{Position, Region};
+use crate::subject::Subject;
 use entity_rules::entries::{Entry, Malformed, read_rule};
 use entity_rules::limits::{MAX_SHEET_BYTES, MAX_TEXT_BYTES};
 use entity_rules::{Book, BookError, BookSheet, Refusal};

@@ -1,6 +1,6 @@
 //! Folders of rules, and the list in a folder that gives the kind and the label of its files.
 
-use crate::report::name;
+use crate::printed::name;
 use entity_rules::Kind;
 use std::collections::{BTreeMap, btree_map};
 use std::ffi::{OsStr, OsString};

@@ -22,13 +22,17 @@ mod files;
 mod folders;
 mod hint;
 mod json;
+mod meaning;
 mod near;
+mod object;
 mod outline;
+mod printed;
 mod progress;
 mod region;
 mod report;
 mod sarif;
 mod show;
+mod subject;
 mod tallied;
 mod terminal;
 mod upgraded;
@@ -36,7 +40,7 @@ mod version;
 mod widened;
 
 use arguments::{Arguments, Asked, BookRun, Command, Instants, Output, Pair, Upgrade};
-use checked::{Checked, Shared, Subject};
+use checked::{Checked, Shared};
 use entity_rules::{Book, Table};
 use files::{Rules, Sheet, read_sheet};
 use folders::{NotSettled, Settings, expand, settle};
@@ -48,6 +52,7 @@ use std::io::{self, ErrorKind, IsTerminal, Write};
 use std::path::{Path, PathBuf};
 use std::process::ExitCode;
 use std::slice;
+use subject::Subject;
 use tallied::{Tallied, Walled};
 use upgraded::{Fates, Upgraded};
 use widened::{Compared, Comparison};
@@ -95,7 +100,7 @@ fn run(command: &Command) -> io::Result<u8> {
         Command::Upgrade(asked) => return upgrade(asked, &mut out),
         Command::Instants(asked) => return instants(asked, &mut out),
         Command::Show(files) => return show_sheets(files, &mut out),
-        Command::Explain(asked) => out.write_all(asked.text().as_bytes())?,
+        Command::Explain(asked) => out.write_all(explain::text(*asked).as_bytes())?,
         Command::Table => match Table::stock().sheet() {
             Ok(sheet) => out.write_all(&sheet)?,
             Err(error) => return Ok(complain(&error.to_string())),
@@ -272,7 +277,7 @@ fn book(files: &[PathBuf], out: &mut impl Write) -> io::Result<u8> {
             Ok(rule) => {
                 book.extend([rule.bytes]);
                 if let Some(fault) = rule.fault() {
-                    let place = report::name(fault.file.as_os_str());
+                    let place = printed::name(fault.file.as_os_str());
                     let note = format!(
                         "{place}:{}: written, though it is not a rule sheet",
                         fault.at.line

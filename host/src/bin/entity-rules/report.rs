@@ -1,13 +1,14 @@
 //! Outcomes in words.
 
 use crate::blame::Blame;
-use crate::checked::{Checked, Outcome, Spot, Subject};
+use crate::checked::{Checked, Outcome, Spot};
 use crate::constant::Always;
 use crate::files::{Fault, Sheet, Unreadable};
 use crate::hint::INSTANT;
+use crate::printed::{name, visible};
+use crate::subject::Subject;
 use crate::terminal::{columns, is_dumb, is_plain};
 use entity_rules::{Defect, DefectNumber, Instant, PathVerdict, Refusal};
-use std::ffi::OsStr;
 
 /// The colours, or none.
 pub struct Palette {
@@ -143,18 +144,6 @@ fn placed(subject: Subject<'_>, line: Option<usize>) -> String {
     }
 }
 
-/// A file's name, a path or a text, as it is printed.
-pub fn name(given: &OsStr) -> String {
-    let mut shown = String::new();
-    for chunk in given.as_encoded_bytes().utf8_chunks() {
-        shown.push_str(&visible(chunk.valid()));
-        for byte in chunk.invalid() {
-            shown.push_str(&format!("\\x{byte:02x}"));
-        }
-    }
-    shown
-}
-
 /// The fields of an instant by their names.
 pub fn instant_fields(instant: &Instant) -> [(&'static str, u32); 7] {
     [
@@ -274,18 +263,6 @@ pub fn not_read(unreadable: &Unreadable) -> String {
     };
     let reason = &unreadable.reason;
     format!("expected a file that holds a {sheet}: {reason}")
-}
-
-/// A text in which nothing can steer a terminal.
-pub fn visible(text: &str) -> String {
-    let mut shown = String::with_capacity(text.len());
-    for character in text.chars() {
-        match character {
-            '"' | '\'' | '\\' => shown.push(character),
-            other => shown.extend(other.escape_debug()),
-        }
-    }
-    shown
 }
 
 /// How many rules, paths or texts there were of each outcome.

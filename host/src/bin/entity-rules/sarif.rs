@@ -1,9 +1,10 @@
 //! Outcomes as a SARIF 2.1.0 log, which editors and code hosts read: a result for each rule that has a defect, is refused or cannot be read.
 
-use crate::checked::{Checked, Outcome, Subject};
-use crate::json::Object;
+use crate::checked::{Checked, Outcome};
+use crate::object::Object;
 use crate::region::Region;
 use crate::report::{explained, not_read, refused};
+use crate::subject::Subject;
 use entity_rules::{Defect, DefectNumber, Detail, PathVerdict};
 use std::collections::BTreeMap;
 use std::ffi::OsStr;

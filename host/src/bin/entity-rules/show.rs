@@ -1,9 +1,9 @@
 //! Sheets as trees, an entry on each line with its number.
 
-use crate::checked::Subject;
 use crate::files::{NoSheet, Rule, SheetReader};
 use crate::outline::{Standing, standings};
-use crate::report::visible;
+use crate::printed::visible;
+use crate::subject::Subject;
 use entity_rules::entries::{Content, Entry, read_rule, read_schema, read_table};
 use entity_rules::{Name, Operator, Refusal};
 

@@ -1,12 +1,14 @@
 //! A rule book, tallied or printed for the wall.
 
 use crate::arguments::BookRun;
-use crate::checked::{Checked, Outcome, Shared, Subject};
+use crate::checked::{Checked, Outcome, Shared};
 use crate::files::{Fault, NoSheet, Rules, Sheet, fault, read_sheet};
 use crate::folders::{RuleFile, Settings};
-use crate::json::{Object, fault_members, outcome_members, subject_member};
+use crate::json::{fault_members, outcome_members, subject_member};
+use crate::object::Object;
 use crate::progress::Progress;
 use crate::report::{self, Colour, Palette, refused_text};
+use crate::subject::Subject;
 use entity_rules::entries::read_schema;
 use entity_rules::{Book, BookSheet, Check, DefectNumber, Kind, Refusal, Tally};
 use std::io::Write;

@@ -1,9 +1,12 @@
 //! Rules, when a new schema takes the place of the one that they were checked against.
 
 use crate::arguments::Arguments;
-use crate::checked::{Checked, Outcome, Question, Shared, Subject};
-use crate::json::{Object, outcome_members, subject_member};
-use crate::report::{self, Colour, Palette, accepted, name};
+use crate::checked::{Checked, Outcome, Question, Shared};
+use crate::json::{outcome_members, subject_member};
+use crate::object::Object;
+use crate::printed::name;
+use crate::report::{self, Colour, Palette, accepted};
+use crate::subject::Subject;
 use std::path::Path;
 
 /// A rule and how it fares.

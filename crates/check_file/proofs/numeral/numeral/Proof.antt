@@ -37,7 +37,7 @@ digits-requires c κs = (omega arith, omega (arith, isDigit-range _ (sym (c .bef
 returns-3 : tie.Need-returns-3
 returns-3 c =
     decimal-some (c .before .before .before .before .before .before .before .before .args .s .now) (c .before .before .before .before .before .before .before .before .args .at) (c .before .before .before .before .before .before .if1 .left) (c .before .before .before .before .if2 .left) (sym (c .before .before .before .is-digit .ensures) ∙ c .before .before .if3 .taken) (c .digits .result)
-    (rw (c .before .wide .ensures) at (c .digits .ensures))
+    (rw (c .before .wide .ensures .0) at (c .digits .ensures))
 
 returns-4 : tie.Need-returns-4
 returns-4 c = decimal-none (c .before .before .before .before .before .before .args .s .now) (c .before .before .before .before .before .before .args .at) (c .before .before .before .before .if1 .left) (c .before .before .if2 .left) (sym (c .before .is-digit .ensures) ∙ c .if3 .left)

@@ -33,12 +33,12 @@ enum-known-head-2 c = search needs
 enum-told-2 : tie.Need-enum-told-2
 enum-told-2 c = search needs
 
-validate-references-requires : tie.Need-validate-references-requires
-validate-references-requires c κs = (record { fits = omega (arith, c .before .before .before .before .before .before .before .end-of .ensures) }, omega (arith, c .before .before .before .before .before .before .before .end-of .ensures))
+validate-operands-requires : tie.Need-validate-operands-requires
+validate-operands-requires c κs = (record { fits = omega (arith, c .before .before .before .before .before .before .before .end-of .ensures) }, omega (arith, c .before .before .before .before .before .before .before .end-of .ensures))
 
 returns-2 : tie.Need-returns-2
 unfolding ruleOf
-returns-2 c = judge-template (c .before .before .before .before .before .before .before .start-of .ensures) (c .before .before .before .before .before .before .before .before .end-of .ensures) (rw (c .before .before .before .before .head .given .1, c .before .enum-told2 .given .1) at (c .before .before .before .before .before .before .rule-head .ensures)) (c .validate-references .ensures)
+returns-2 c = judge-template (c .before .before .before .before .before .before .before .start-of .ensures) (c .before .before .before .before .before .before .before .before .end-of .ensures) (rw (c .before .before .before .before .head .given .1, c .before .enum-told2 .given .1) at (c .before .before .before .before .before .before .rule-head .ensures)) (c .validate-operands .ensures)
 
 validate-rule-definition-requires : tie.Need-validate-rule-definition-requires
 validate-rule-definition-requires c κs = omega (arith, c .before .before .before .before .before .before .before .before .end-of .ensures)
@@ -48,4 +48,4 @@ unfolding ruleOf
 returns-3 c = judge-rule (c .before .before .before .before .before .before .before .before .start-of .ensures) (c .before .before .before .before .before .before .before .before .before .end-of .ensures) (rw (c .before .before .before .before .before .head .given .1, c .before .before .head2 .given .1) at (c .before .before .before .before .before .before .before .rule-head .ensures)) (c .validate-rule-definition .ensures)
 
 pub judge-spec : {M : Type 1} → statement M
-judge-spec = tie.close (tie.spec end-of-requires start-of-requires rule-head-requires enum-known-head enum-told going-requires returns enum-known-head-2 enum-told-2 validate-references-requires returns-2 validate-rule-definition-requires returns-3)
+judge-spec = tie.close (tie.spec end-of-requires start-of-requires rule-head-requires enum-known-head enum-told going-requires returns enum-known-head-2 enum-told-2 validate-operands-requires returns-2 validate-rule-definition-requires returns-3)

@@ -1,14 +1,14 @@
 -- `entity_rules::book::rulecheck_tally` meets its contract: the tally, with the lent part of the path buffer back in its place.
 use mathlib.Core.Path.{refl}
-use Rattle.entity_rules.proofs.CountSteps.{lent-within}
+use Rattle.entity_rules.proofs.Entries.{lent-within}
 use Rattle.entity_rules.proofs.BookEntries.{tally-answered, first-fits}
 use native.Mathlib.Omega.{arith}
 use borrow.Author.Needs.{needs}
 use Rattle.entity_rules.proofs.book.rulecheck_tally.Statement.{statement}
 use Rattle.entity_rules.proofs.book.rulecheck_tally.Tie as tie
 
-lent-for-requires : tie.Need-lent-for-requires
-lent-for-requires c κs = search needs
+path-lent-requires : tie.Need-path-lent-requires
+path-lent-requires c κs = search needs
 
 setting-requires : tie.Need-setting-requires
 setting-requires c κs = search needs
@@ -23,7 +23,7 @@ part-tally-start : tie.Need-part-tally-start
 part-tally-start c = search needs
 
 part-tally-end : tie.Need-part-tally-end
-part-tally-end c = rw (c .before .before .lent-for .ensures) (lent-within _ _ _)
+part-tally-end c = rw (c .before .before .path-lent .ensures) (lent-within _ _ _)
 
 slice-aggregate-tally : tie.Need-slice-aggregate-tally
 slice-aggregate-tally c = search needs
@@ -56,14 +56,14 @@ returns c =
     let last = called .tally .last .1 .1 .1 .1 .1 .1 in
     tally-answered (a .kind) (a .semantics) (a .label .now) (a .table .now) (a .schema .now) (a .book .now) (a .path .now) (a .result .now)
     (called .tally .result) (last .0) (last .1 .0)
-    (c .before .before .before .before .before .before .before .before .before .before .before .before .setting .ensures) (c .before .before .before .before .before .before .before .before .before .before .before .setting2 .ensures) (c .before .before .before .before .before .before .before .before .before .before .before .before .before .lent-for .ensures) (called .tally .ensures)
+    (c .before .before .before .before .before .before .before .before .before .before .before .before .setting .ensures) (c .before .before .before .before .before .before .before .before .before .before .before .setting2 .ensures) (c .before .before .before .before .before .before .before .before .before .before .before .before .before .path-lent .ensures) (called .tally .ensures)
     (omega (arith, c .before .before .before .before .before .before .before .before .before .before .before .before .before .before .before .before .before .before .before .before .good .1 .1 .1 .1 .1 .0)) (c .before .before .write-counts .ensures) refl
 
 pub rulecheck-tally-spec : {M : Type 1} → statement M
 rulecheck-tally-spec =
     tie.close
     (tie.spec
-    lent-for-requires
+    path-lent-requires
     setting-requires
     setting-requires-2
     sub-tally

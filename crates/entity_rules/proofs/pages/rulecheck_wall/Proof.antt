@@ -1,14 +1,14 @@
 -- `entity_rules::pages::rulecheck_wall` meets its contract: the pages, with the lent part of the path buffer back in its place.
 use mathlib.Core.Path.{refl}
-use Rattle.entity_rules.proofs.CountSteps.{lent-within}
+use Rattle.entity_rules.proofs.Entries.{lent-within}
 use Rattle.entity_rules.proofs.WallEntries.{wall-answered, first-fits}
 use native.Mathlib.Omega.{arith}
 use borrow.Author.Needs.{needs}
 use Rattle.entity_rules.proofs.pages.rulecheck_wall.Statement.{statement}
 use Rattle.entity_rules.proofs.pages.rulecheck_wall.Tie as tie
 
-lent-for-requires : tie.Need-lent-for-requires
-lent-for-requires c κs = search needs
+path-lent-requires : tie.Need-path-lent-requires
+path-lent-requires c κs = search needs
 
 setting-requires : tie.Need-setting-requires
 setting-requires c κs = search needs
@@ -23,7 +23,7 @@ part-wall-start : tie.Need-part-wall-start
 part-wall-start c = search needs
 
 part-wall-end : tie.Need-part-wall-end
-part-wall-end c = rw (c .before .before .lent-for .ensures) (lent-within _ _ _)
+part-wall-end c = rw (c .before .before .path-lent .ensures) (lent-within _ _ _)
 
 slice-aggregate-wall : tie.Need-slice-aggregate-wall
 slice-aggregate-wall c = search needs
@@ -59,14 +59,14 @@ returns c =
     let last = called .wall .last .1 .1 .1 .1 .1 .1 in
     wall-answered (a .kind) (a .semantics) (a .label .now) (a .table .now) (a .schema .now) (a .book .now) (a .path .now) (a .pages .now) (a .result .now)
     (called .wall .result) (last .0) (last .1 .0) (last .1 .1 .0)
-    (c .before .before .before .before .before .before .before .before .before .before .before .before .before .before .before .setting .ensures) (c .before .before .before .before .before .before .before .before .before .before .before .before .before .before .setting2 .ensures) (c .before .before .before .before .before .before .before .before .before .before .before .before .before .before .before .before .lent-for .ensures) (called .wall .ensures)
+    (c .before .before .before .before .before .before .before .before .before .before .before .before .before .before .before .setting .ensures) (c .before .before .before .before .before .before .before .before .before .before .before .before .before .before .setting2 .ensures) (c .before .before .before .before .before .before .before .before .before .before .before .before .before .before .before .before .path-lent .ensures) (called .wall .ensures)
     (omega (arith, c .before .before .before .before .before .before .before .before .before .before .before .before .before .before .before .before .before .before .before .before .before .before .before .before .good .1 .1 .1 .1 .1 .0)) (c .before .before .write-counts .ensures) refl
 
 pub rulecheck-wall-spec : {M : Type 1} → statement M
 rulecheck-wall-spec =
     tie.close
     (tie.spec
-    lent-for-requires
+    path-lent-requires
     setting-requires
     setting-requires-2
     sub-wall

@@ -1,5 +1,4 @@
 -- `rule::keys::is_further` meets its contract, by its two tests.
-use native.Mathlib.Omega.{arith}
 use borrow.Author.Needs.{needs}
 use Rattle.rule.proofs.keys.is_further.Statement.{statement}
 use Rattle.rule.proofs.keys.is_further.Tie as tie

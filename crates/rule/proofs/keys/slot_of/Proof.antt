@@ -6,7 +6,7 @@ use Rattle.rule.proofs.keys.slot_of.Tie as tie
 use Prim.Native.Nat.{ℕ, _-_, _/_, _<_}
 use mathlib.Core.Path.{_≡_, refl, sym, ap, _∙_}
 use denote.Ref.{now}
-use lib.ListN.{length, drop, getD}
+use lib.ListN.{length, drop}
 use Rattle.rule.specs.Table.{stirred, slotOf}
 use Rattle.rule.proofs.TableLaws.{stirred-next, stirred-end}
 
@@ -44,7 +44,7 @@ returns : tie.Need-returns Inv-loop μ-loop
 unfolding slotOf
 returns c =
     let end : stirred 0 (now (c .before .before .args .key)) ≡ c .before .loop .mixed = c .before .loop .inv .0 ∙ stirred-end (now (c .before .before .args .key)) (c .before .loop .mixed) (c .before .loop .i) (omega (arith, c .loop-test .left)) in
-    (ap (λ (h : ℕ). h / 16777216) (sym end), omega (arith, c .before .loop .inv .1))
+    (ap (λ (h : ℕ). h / 8388608) (sym end), omega (arith, c .before .loop .inv .1))
 
 pub slot-of-spec : {M : Type 1} → statement M
 slot-of-spec =

@@ -8,15 +8,17 @@ use borrow.Author.Needs.{needs}
 use borrow.Fn.Kinds.{In}
 use borrow.Fn.PlainCycle.{Measures, is, falls, and}
 use Rattle.sheet.specs.Places.{fieldOf}
+use Rattle.sheet.specs.Parts.{partOf}
+use Rattle.sheet.specs.declared.part.Part.{Part}
 use Rattle.sheet.proofs.part.bytes_of.Reads as bytes-of-reads
 use Rattle.sheet.proofs.schema_heads.field_head.Reads as field-head-reads
-use Rattle.definition.specs.Decode.{toCount}
-use Rattle.schema.specs.Fields.{ahead}
+use Rattle.definition.specs.Decode.{toCount, fieldIn}
+use Rattle.schema.specs.Fields.{ahead, cursorOf}
 use Rattle.schema.specs.Index.{maxSlots}
 use Rattle.schema.specs.declared.field.Cursor.{Cursor}
 use Rattle.schema.proofs.Slots.{kept-all, kept-more}
 use Rattle.schema.proofs.FieldSteps.{toCount-none, field-too-deep, field-headless, field-crowded, field-elementless, field-memberless, field-good, toCount-small, inner-ready, behind-ready}
-use Rattle.schema.proofs.MemberSteps.{Sofar, element-absent, element-none, element-named, element-good, sofar-none, sofar-all, sofar-bad, sofar-fallen, sofar-more}
+use Rattle.schema.proofs.MemberSteps.{Sofar, element-absent, element-none, one-none, one-good, element-named, element-good, sofar-none, sofar-all, sofar-bad, sofar-fallen, sofar-more}
 use Rattle.schema.proofs.field.+read_element+read_field+read_members.{statement}
 use Rattle.schema.proofs.field.+read_element+read_field+read_members.Tie.{close}
 use Rattle.schema.proofs.field.read_element.Reads as read-element
@@ -28,18 +30,19 @@ use Rattle.schema.proofs.field.+read_element+read_field+read_members.Lt
 use Rattle.schema.proofs.field.read_members.Reads as read-members
 use Rattle.schema.proofs.field.read_members.Kinds as read-members-kinds
 use Rattle.schema.proofs.field.+read_element+read_field+read_members.Lts-read_members as read-members-lts
+use Rattle.schema.proofs.index.name_of_slot.Reads as name-of-slot-reads
 use Rattle.schema.proofs.index.put_slot.Reads as put-slot-reads
 use Rattle.schema.proofs.field.rises.Reads as rises-reads
 use Rattle.schema.proofs.index.to_count.Reads as to-count-reads
 
 abbrev μ-read-element : Measures 2 read-element-kinds.ps ℕ
-μ-read-element κs a = 2 * a .1 .1 .0 + 1
+μ-read-element κs a = 3 * a .1 .1 .0 + 2
 
 abbrev μ-read-field : Measures 2 read-field-kinds.ps ℕ
-μ-read-field κs a = 2 * a .1 .1 .0
+μ-read-field κs a = 3 * a .1 .1 .0
 
 abbrev μ-read-members : Measures 2 read-members-kinds.ps ℕ
-μ-read-members κs a = 2 * a .1 .1 .0 + 1
+μ-read-members κs a = 3 * a .1 .1 .0 + 1
 
 abbrev read-element-at : ℕ → In 2 read-element-kinds.ps
 read-element-at t =
@@ -75,8 +78,10 @@ read-members-below t =
 
 abbrev cs-read-element : ℕ → read-element-lts.Claims
 cs-read-element t = (
-  read-field-below t,
-  read-field.Post,
+  read-members-below t,
+  read-members.Post,
+  name-of-slot-reads.Asked,
+  name-of-slot-reads.Learnt,
   bytes-of-reads.Asked,
   bytes-of-reads.Learnt,
 )
@@ -98,15 +103,15 @@ cs-read-field t = (
 abbrev cs-read-members : ℕ → read-members-lts.Claims
 cs-read-members t = (read-field-below t, read-field.Post, rises-reads.Asked, rises-reads.Learnt)
 
-read-element-read-field-requires : (t : ℕ) → read-element-lts.Need-read-field-requires (cs-read-element t) (read-element-at t) read-element.Post
+read-element-read-members-requires : (t : ℕ) → read-element-lts.Need-read-members-requires (cs-read-element t) (read-element-at t) read-element.Post
 unfolding toCount
-read-element-read-field-requires t c κs =
+read-element-read-members-requires t c κs =
     let c1 = c .before in
     let c4 = c1 .before .before .before in
     (omega arith, rw (c1 .if1 .taken) at (c4 .pre .1))
 
-read-element-enum-known-name : (t : ℕ) → read-element-lts.Need-enum-known-name (cs-read-element t) (read-element-at t) read-element.Post
-read-element-enum-known-name t c = search needs
+read-element-enum-known-to : (t : ℕ) → read-element-lts.Need-enum-known-to (cs-read-element t) (read-element-at t) read-element.Post
+read-element-enum-known-to t c = search needs
 
 read-element-enum-told : (t : ℕ) → read-element-lts.Need-enum-told (cs-read-element t) (read-element-at t) read-element.Post
 read-element-enum-told t c = search needs
@@ -119,7 +124,10 @@ read-element-returns t c =
     let c4 = c .before .before .before .before in
     let c6 = c4 .before .before in
     let c9 = c6 .before .before .before in
-    record { kept = c4 .read-field .ensures .kept; answer = element-none (c9 .args .sheet .now) (c9 .args .depth) (c9 .args .has) (c6 .if1 .taken) (c9 .args .from) (rw (c .enum-told .given .1) at (c4 .read-field .ensures .answer)) }
+    record { kept = c4 .read-members .ensures .kept; answer = element-none (c9 .args .sheet .now) (c9 .args .depth) (c9 .args .has) (c6 .if1 .taken) (c9 .args .from) (one-none (fieldIn (c9 .args .depth)) (ahead (c9 .args .sheet .now) (c9 .args .from)) (rw (c .enum-told .given .1) at (c4 .read-members .ensures .answer))) }
+
+read-element-name-of-slot-requires : (t : ℕ) → read-element-lts.Need-name-of-slot-requires (cs-read-element t) (read-element-at t) read-element.Post
+read-element-name-of-slot-requires t c κs = search needs
 
 read-element-bytes-of-requires : (t : ℕ) → read-element-lts.Need-bytes-of-requires (cs-read-element t) (read-element-at t) read-element.Post
 read-element-bytes-of-requires t c κs = search needs
@@ -130,11 +138,15 @@ read-element-same-length-2 t c = search needs
 read-element-returns-2 : (t : ℕ) → read-element-lts.Need-returns-2 (cs-read-element t) (read-element-at t) read-element.Post
 read-element-returns-2 t c =
     let c1 = c .before in
-    let c3 = c1 .before .before in
-    let c7 = c3 .before .before .before .before in
-    let c9 = c7 .before .before in
-    let c12 = c9 .before .before .before in
-    record { kept = c7 .read-field .ensures .kept; answer = element-good (c12 .args .sheet .now) (c12 .args .words .now) _ (c12 .args .depth) (c12 .args .has) (c9 .if1 .taken) (c12 .args .slot) (c12 .args .from) _ _ (rw (c3 .name .given .1) at (c7 .read-field .ensures .answer)) (ap length (sym (c1 .bytes-of .ensures)) ∙ c .if2 .taken) }
+    let c2 = c1 .before in
+    let c5 = c2 .before .before .before in
+    let c9 = c5 .before .before .before .before in
+    let c11 = c9 .before .before in
+    let c14 = c11 .before .before .before in
+    let s = c14 .args .sheet .now in
+    let good = one-good s (c14 .args .words .now) _ (c14 .args .depth) (c14 .args .slot) (c14 .args .from) _ (rw (c5 .to .given .1) at (c9 .read-members .ensures .answer)) in
+    let name = ap (λ (p : Part). length (partOf s p)) (c2 .name-of-slot .ensures) in
+    record { kept = c9 .read-members .ensures .kept; answer = element-good s (c14 .args .words .now) _ (c14 .args .depth) (c14 .args .has) (c11 .if1 .taken) (c14 .args .slot) (c14 .args .from) _ _ good (sym (ap length (c1 .bytes-of .ensures) ∙ name) ∙ c .if2 .taken) }
 
 read-element-same-length-3 : (t : ℕ) → read-element-lts.Need-same-length-3 (cs-read-element t) (read-element-at t) read-element.Post
 read-element-same-length-3 t c = search needs
@@ -142,11 +154,15 @@ read-element-same-length-3 t c = search needs
 read-element-returns-3 : (t : ℕ) → read-element-lts.Need-returns-3 (cs-read-element t) (read-element-at t) read-element.Post
 read-element-returns-3 t c =
     let c1 = c .before in
-    let c3 = c1 .before .before in
-    let c7 = c3 .before .before .before .before in
-    let c9 = c7 .before .before in
-    let c12 = c9 .before .before .before in
-    record { kept = c7 .read-field .ensures .kept; answer = element-named (c12 .args .sheet .now) (c12 .args .words .now) _ (c12 .args .depth) (c12 .args .has) (c9 .if1 .taken) (c12 .args .slot) (c12 .args .from) _ _ (rw (c3 .name .given .1) at (c7 .read-field .ensures .answer)) (λ e. c .if2 .left (ap length (c1 .bytes-of .ensures) ∙ e)) }
+    let c2 = c1 .before in
+    let c5 = c2 .before .before .before in
+    let c9 = c5 .before .before .before .before in
+    let c11 = c9 .before .before in
+    let c14 = c11 .before .before .before in
+    let s = c14 .args .sheet .now in
+    let good = one-good s (c14 .args .words .now) _ (c14 .args .depth) (c14 .args .slot) (c14 .args .from) _ (rw (c5 .to .given .1) at (c9 .read-members .ensures .answer)) in
+    let name = ap (λ (p : Part). length (partOf s p)) (c2 .name-of-slot .ensures) in
+    record { kept = c9 .read-members .ensures .kept; answer = element-named s (c14 .args .words .now) _ (c14 .args .depth) (c14 .args .has) (c11 .if1 .taken) (c14 .args .slot) (c14 .args .from) _ _ good (λ e. c .if2 .left (ap length (c1 .bytes-of .ensures) ∙ name ∙ e)) }
 
 read-element-returns-4 : (t : ℕ) → read-element-lts.Need-returns-4 (cs-read-element t) (read-element-at t) read-element.Post
 read-element-returns-4 t c =
@@ -340,13 +356,13 @@ read-field-returns-7 t c =
     record { kept = kept-more (c18 .put-slot .ensures .kept) (kept-more (c12 .read-element .ensures .kept) (c5 .read-members .ensures .kept)); answer = field-good (c31 .args .sheet .now) (c31 .args .from) (fieldOf (c31 .args .sheet .now) (c25 .head .given .0 .0)) (c25 .head .given .0 .1 .0) (c23 .to-count .result) (e .0 .reads) (c23 .to-count .ensures) (c31 .args .depth) (c31 .args .depth - 1) deeper (c21 .if2 .left) (c31 .args .slot) (c31 .args .words .now) _ _ _ (c31 .pre .1) (c25 .head .given .0 .0 .name) refl (c18 .put-slot .ensures) _ _ one many }
 
 abbrev read-members-Inv-loop : read-members-lts.InvT-loop
-read-members-Inv-loop sheet words₀ depth first count to₀ before₀ i₀ words to before i = Sofar sheet words₀ words depth first count to₀ to before i
+read-members-Inv-loop sheet words₀ depth first count next used at to₀ before₀ i₀ words to before i = Sofar sheet words₀ words depth first count (cursorOf next used at) to before i
 
 abbrev read-members-μ-loop : read-members-lts.MeasureT-loop
-read-members-μ-loop sheet words₀ depth first count to₀ before₀ i₀ words to before i = count - i
+read-members-μ-loop sheet words₀ depth first count next used at to₀ before₀ i₀ words to before i = count - i
 
 read-members-loop-holds : (t : ℕ) → read-members-lts.Need-loop-holds (cs-read-members t) (read-members-at t) read-members.Post read-members-Inv-loop read-members-μ-loop
-read-members-loop-holds t c = sofar-none (c .before .before .args .sheet .now) (c .before .before .args .words .now) (c .before .before .args .depth) (c .before .before .args .first) (c .before .before .args .count) (c .before .before .args .from) _ (c .before .before .pre .1 .at) (c .before .before .pre .1 .used)
+read-members-loop-holds t c = sofar-none (c .before .before .args .sheet .now) (c .before .before .args .words .now) (c .before .before .args .depth) (c .before .before .args .first) (c .before .before .args .count) (cursorOf (c .before .before .args .next) (c .before .before .args .used) (c .before .before .args .at)) _ (c .before .before .pre .1 .at) (c .before .before .pre .1 .used)
 
 read-members-add-read-field : (t : ℕ) → read-members-lts.Need-add-read-field (cs-read-members t) (read-members-at t) read-members.Post read-members-Inv-loop read-members-μ-loop
 read-members-add-read-field t c = search needs
@@ -369,7 +385,7 @@ read-members-returns t c =
     let c6 = c4 .before .before in
     let c7 = c6 .before in
     let c10 = c7 .before .before .before in
-    record { kept = kept-more (c7 .loop .inv .kept) (c4 .read-field .ensures .kept); answer = sofar-bad (c10 .args .sheet .now) (c10 .args .words .now) (c7 .loop .words) (c10 .args .depth) (c10 .args .first) (c10 .args .count) (c10 .args .from) (c7 .loop .to) (c7 .loop .before) (c7 .loop .i) (c7 .loop .inv) (c6 .loop-test .taken) (rw (c .enum-told .given .1) at (c4 .read-field .ensures .answer)) }
+    record { kept = kept-more (c7 .loop .inv .kept) (c4 .read-field .ensures .kept); answer = sofar-bad (c10 .args .sheet .now) (c10 .args .words .now) (c7 .loop .words) (c10 .args .depth) (c10 .args .first) (c10 .args .count) (cursorOf (c10 .args .next) (c10 .args .used) (c10 .args .at)) (c7 .loop .to) (c7 .loop .before) (c7 .loop .i) (c7 .loop .inv) (c6 .loop-test .taken) (rw (c .enum-told .given .1) at (c4 .read-field .ensures .answer)) }
 
 read-members-rises-requires : (t : ℕ) → read-members-lts.Need-rises-requires (cs-read-members t) (read-members-at t) read-members.Post read-members-Inv-loop read-members-μ-loop
 read-members-rises-requires t c κs = search needs
@@ -388,7 +404,7 @@ read-members-loop-again t c =
     let c9 = c7 .before .before in
     let c10 = c9 .before in
     let c13 = c10 .before .before .before in
-    sofar-more (c13 .args .sheet .now) (c13 .args .words .now) (c10 .loop .words) (c13 .args .depth) (c13 .args .first) (c13 .args .count) (c13 .args .from) (c10 .loop .to) (c10 .loop .before) (c10 .loop .i) (c10 .loop .inv) (c9 .loop-test .taken) _ _ _ (rw (c3 .name .given .1) at (c7 .read-field .ensures .answer)) (c13 .pre .1 .slots) (c7 .read-field .ensures .kept) (sym (c1 .rises .ensures) ∙ c .if1 .taken)
+    sofar-more (c13 .args .sheet .now) (c13 .args .words .now) (c10 .loop .words) (c13 .args .depth) (c13 .args .first) (c13 .args .count) (cursorOf (c13 .args .next) (c13 .args .used) (c13 .args .at)) (c10 .loop .to) (c10 .loop .before) (c10 .loop .i) (c10 .loop .inv) (c9 .loop-test .taken) _ _ _ (rw (c3 .name .given .1) at (c7 .read-field .ensures .answer)) (c13 .pre .1 .slots) (c7 .read-field .ensures .kept) (sym (c1 .rises .ensures) ∙ c .if1 .taken)
 
 read-members-same-length-2 : (t : ℕ) → read-members-lts.Need-same-length-2 (cs-read-members t) (read-members-at t) read-members.Post read-members-Inv-loop read-members-μ-loop
 read-members-same-length-2 t c = search needs
@@ -401,7 +417,7 @@ read-members-returns-2 t c =
     let c9 = c7 .before .before in
     let c10 = c9 .before in
     let c13 = c10 .before .before .before in
-    record { kept = kept-more (c10 .loop .inv .kept) (c7 .read-field .ensures .kept); answer = sofar-fallen (c13 .args .sheet .now) (c13 .args .words .now) (c10 .loop .words) (c13 .args .depth) (c13 .args .first) (c13 .args .count) (c13 .args .from) (c10 .loop .to) (c10 .loop .before) (c10 .loop .i) (c10 .loop .inv) (c9 .loop-test .taken) _ _ _ (rw (c3 .name .given .1) at (c7 .read-field .ensures .answer)) (sym (c1 .rises .ensures) ∙ c .if1 .left) }
+    record { kept = kept-more (c10 .loop .inv .kept) (c7 .read-field .ensures .kept); answer = sofar-fallen (c13 .args .sheet .now) (c13 .args .words .now) (c10 .loop .words) (c13 .args .depth) (c13 .args .first) (c13 .args .count) (cursorOf (c13 .args .next) (c13 .args .used) (c13 .args .at)) (c10 .loop .to) (c10 .loop .before) (c10 .loop .i) (c10 .loop .inv) (c9 .loop-test .taken) _ _ _ (rw (c3 .name .given .1) at (c7 .read-field .ensures .answer)) (sym (c1 .rises .ensures) ∙ c .if1 .left) }
 
 read-members-same-length-3 : (t : ℕ) → read-members-lts.Need-same-length-3 (cs-read-members t) (read-members-at t) read-members.Post read-members-Inv-loop read-members-μ-loop
 read-members-same-length-3 t c = search needs
@@ -410,18 +426,19 @@ read-members-returns-3 : (t : ℕ) → read-members-lts.Need-returns-3 (cs-read-
 read-members-returns-3 t c =
     let c1 = c .before in
     let c4 = c1 .before .before .before in
-    record { kept = c1 .loop .inv .kept; answer = sofar-all (c4 .args .sheet .now) (c4 .args .words .now) (c1 .loop .words) (c4 .args .depth) (c4 .args .first) (c4 .args .count) (c4 .args .from) (c1 .loop .to) (c1 .loop .before) (c1 .loop .i) (c1 .loop .inv) (c .loop-test .left) }
+    record { kept = c1 .loop .inv .kept; answer = sofar-all (c4 .args .sheet .now) (c4 .args .words .now) (c1 .loop .words) (c4 .args .depth) (c4 .args .first) (c4 .args .count) (cursorOf (c4 .args .next) (c4 .args .used) (c4 .args .at)) (c1 .loop .to) (c1 .loop .before) (c1 .loop .i) (c1 .loop .inv) (c .loop-test .left) }
 
 pub +read-element+read-field+read-members-spec : {M : Type 1} → statement M
 +read-element+read-field+read-members-spec =
     close μ-read-element μ-read-field μ-read-members (λ t. read-element-lts.spec (cs-read-element t)
     (read-element-at t)
     read-element.Post
-    (read-element-read-field-requires t)
-    (read-element-enum-known-name t)
+    (read-element-read-members-requires t)
+    (read-element-enum-known-to t)
     (read-element-enum-told t)
     (read-element-same-length t)
     (read-element-returns t)
+    (read-element-name-of-slot-requires t)
     (read-element-bytes-of-requires t)
     (read-element-same-length-2 t)
     (read-element-returns-2 t)

@@ -1,4 +1,4 @@
--- `schema::field::rises` meets its contract, by how the two names stand to each other.
+-- `schema::field::rises` meets its contract, by how the two names compare.
 use mathlib.Core.Bool.{true, false}
 use borrow.Author.Needs.{needs}
 use Rattle.sheet.specs.Parts.{partOf}

@@ -1,4 +1,4 @@
--- `schema::index::name_of_slot` meets its contract: two words say where the name stands.
+-- `schema::index::name_of_slot` meets its contract: two words say where the name is.
 use native.Mathlib.Omega.{arith}
 use borrow.Author.Needs.{needs}
 use Rattle.schema.proofs.Slots.{part-is}

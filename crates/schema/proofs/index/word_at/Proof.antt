@@ -1,4 +1,4 @@
--- `schema::index::word_at` meets its contract: what stands past the end is 0.
+-- `schema::index::word_at` meets its contract: what is past the end is 0.
 use mathlib.Core.Path.{sym}
 use lib.ListN.{List·getD-eq-default}
 use borrow.Author.Needs.{needs}

@@ -15,8 +15,8 @@ returns c =
     let c3 = c .before .before .before in
     record { kept = kept-all (c3 .args .words .now); answer = holder-crowded (c3 .args .sheet .now) (c3 .args .from) (holderOf (c3 .args .head)) (c .if1 .taken) }
 
-add-t9 : tie.Need-add-t9
-add-t9 c = search needs
+add-read-members : tie.Need-add-read-members
+add-read-members c = search needs
 
 read-members-requires : tie.Need-read-members-requires
 read-members-requires c κs = search needs
@@ -56,7 +56,7 @@ read-holder-spec =
     (tie.spec
     sub-if1
     returns
-    add-t9
+    add-read-members
     read-members-requires
     enum-known-to
     enum-told

@@ -13,11 +13,11 @@ mul-result c = search needs
 capped-requires-2 : tie.Need-capped-requires-2
 capped-requires-2 c κs = search needs
 
-add-result : tie.Need-add-result
-add-result c = search needs
-
 mul-result-2 : tie.Need-mul-result-2
 mul-result-2 c = search needs
+
+add-result : tie.Need-add-result
+add-result c = search needs
 
 element-number-requires : tie.Need-element-number-requires
 element-number-requires c κs = search needs
@@ -31,4 +31,4 @@ returns c = search needs
 
 pub binder-number-spec : {M : Type 1} → statement M
 binder-number-spec =
-    tie.close (tie.spec capped-requires mul-result capped-requires-2 add-result mul-result-2 element-number-requires add-result-2 returns)
+    tie.close (tie.spec capped-requires mul-result capped-requires-2 mul-result-2 add-result element-number-requires add-result-2 returns)

@@ -1,7 +1,6 @@
 -- `scope::binder::find_binder` meets its contract.
-use Rattle.scope.proofs.BinderLaws.{bound-crowded, searched-all, searched-found}
 use Prim.Native.Nat.{_≤_}
-use Rattle.scope.proofs.BinderLaws.{Searched, searched-none, searched-more, searched-found, searched-all, bound-crowded}
+use Rattle.scope.proofs.BinderLaws.{Searched, searched-none, searched-more, searched-found, searched-all, bound-bare, bound-crowded}
 use native.Mathlib.Omega.{arith}
 use borrow.Author.Needs.{needs}
 use Rattle.scope.proofs.binder.find_binder.Statement.{statement}
@@ -14,7 +13,10 @@ abbrev μ-loop : tie.MeasureT-loop
 μ-loop rule name count binders left₀ left = left
 
 returns : tie.Need-returns Inv-loop μ-loop
-returns c = search (bound-crowded, needs)
+returns c = search (bound-bare, needs)
+
+returns-2 : tie.Need-returns-2 Inv-loop μ-loop
+returns-2 c = search (bound-crowded, needs)
 
 loop-holds : tie.Need-loop-holds Inv-loop μ-loop
 loop-holds c = (omega arith, omega arith, searched-none _ _ _ _)
@@ -40,8 +42,8 @@ same-bytes-requires c κs = search needs
 element-in-requires : tie.Need-element-in-requires Inv-loop μ-loop
 element-in-requires c κs = search needs
 
-returns-2 : tie.Need-returns-2 Inv-loop μ-loop
-returns-2 c = search (searched-found, needs)
+returns-3 : tie.Need-returns-3 Inv-loop μ-loop
+returns-3 c = search (searched-found, needs)
 
 sub-left : tie.Need-sub-left Inv-loop μ-loop
 sub-left c = search needs
@@ -52,8 +54,8 @@ loop-less c = search needs
 loop-again : tie.Need-loop-again Inv-loop μ-loop
 loop-again c = (omega arith, omega arith, search (searched-more, needs))
 
-returns-3 : tie.Need-returns-3 Inv-loop μ-loop
-returns-3 c = search (searched-all, needs)
+returns-4 : tie.Need-returns-4 Inv-loop μ-loop
+returns-4 c = search (searched-all, needs)
 
 pub find-binder-spec : {M : Type 1} → statement M
 find-binder-spec =
@@ -62,6 +64,7 @@ find-binder-spec =
     Inv-loop
     μ-loop
     returns
+    returns-2
     loop-holds
     sub-binder
     mul-binder
@@ -70,8 +73,8 @@ find-binder-spec =
     bytes-of-requires
     same-bytes-requires
     element-in-requires
-    returns-2
+    returns-3
     sub-left
     loop-less
     loop-again
-    returns-3)
+    returns-4)

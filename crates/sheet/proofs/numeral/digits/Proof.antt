@@ -1,6 +1,6 @@
--- `sheet::numeral::digits` meets its contract. The digits from `i` on, behind `value`, are those from `at` on, behind `first`.
+-- `sheet::numeral::digits` meets its contract. The digits from `i` on, after `value`, are those from `at` on, after `first`.
 -- The measure is what is left of the bytes.
-use Prim.Native.Nat.{_≤_, _-_, _+_, _*_}
+use Prim.Native.Nat.{_≤_, _-_}
 use mathlib.Core.Path.{_≡_, refl, sym, _∙_}
 use native.Mathlib.Omega.{arith}
 use borrow.Author.Needs.{needs}

@@ -1,47 +1,43 @@
--- `sheet::order::compare` meets its contract. However the bytes from `i` on stand to each other, so do the texts.
--- The measure is what is left of the first text.
+-- `sheet::order::compare` meets its contract. However the bytes from `i` on compare, so do the texts.
+-- The measure is what is left of the shorter text.
 use Prim.Native.Nat.{_≤_, _-_}
 use native.Mathlib.Omega.{arith}
 use borrow.Author.Needs.{needs}
-use lib.ListN.{length}
 use Rattle.sheet.proofs.Comparing.{Goes, both-end, first-ends, second-ends, is-less, is-greater, goes-on, goes-start}
 use Rattle.sheet.proofs.order.compare.Statement.{statement}
 use Rattle.sheet.proofs.order.compare.Tie as tie
 
 abbrev Inv-loop : tie.InvT-loop
-Inv-loop a b i₀ i = (i ≤ length a) × Goes a b i
+Inv-loop a b n i₀ i = (i ≤ n) × Goes a b i
 
 abbrev μ-loop : tie.MeasureT-loop
-μ-loop a b i₀ i = length a - i
+μ-loop a b n i₀ i = n - i
+
+shorter-requires : tie.Need-shorter-requires Inv-loop μ-loop
+shorter-requires c κs = search needs
 
 same-start-requires : tie.Need-same-start-requires Inv-loop μ-loop
 same-start-requires c κs = search needs
 
 loop-holds : tie.Need-loop-holds Inv-loop μ-loop
 loop-holds c = (
-  omega arith,
-  goes-start (c .before .before .before .args .a .now) (c .before .before .before .args .b .now) (c .same-start .result) (c .same-start .ensures),
+  omega (arith, c .before .shorter .ensures, c .same-start .ensures .in-first, c .same-start .ensures .in-second),
+  goes-start (c .before .before .before .before .args .a .now) (c .before .before .before .before .args .b .now) (c .same-start .result) (c .same-start .ensures),
 )
+
+shared-slice-read-x : tie.Need-shared-slice-read-x Inv-loop μ-loop
+shared-slice-read-x c = omega (arith, c .before .before .before .before .shorter .ensures)
+
+shared-slice-read-y : tie.Need-shared-slice-read-y Inv-loop μ-loop
+shared-slice-read-y c = omega (arith, c .before .before .before .before .before .shorter .ensures)
 
 returns : tie.Need-returns Inv-loop μ-loop
 returns c =
-    second-ends (c .before .before .before .before .before .before .args .a .now) (c .before .before .before .before .before .before .args .b .now) (c .before .before .loop .i) (c .before .before .loop .inv .1) (c .before .loop-test .taken) (c .if1 .taken)
-
-shared-slice-read-x : tie.Need-shared-slice-read-x Inv-loop μ-loop
-shared-slice-read-x c = search needs
-
-shared-slice-read-y : tie.Need-shared-slice-read-y Inv-loop μ-loop
-shared-slice-read-y c = search needs
+    is-less (c .before .before .before .before .before .before .before .before .before .args .a .now) (c .before .before .before .before .before .before .before .before .before .args .b .now) (c .before .before .before .before .loop .i) (c .before .before .before .before .loop .inv .1) (omega (arith, c .before .before .before .before .before .before .shorter .ensures, c .before .before .before .before .loop .inv .0)) (omega (arith, c .before .before .before .before .before .before .shorter .ensures, c .before .before .before .before .loop .inv .0)) (c .if1 .taken)
 
 returns-2 : tie.Need-returns-2 Inv-loop μ-loop
 returns-2 c =
-    is-less (c .before .before .before .before .before .before .before .before .before .args .a .now) (c .before .before .before .before .before .before .before .before .before .args .b .now) (c .before .before .before .before .before .loop .i) (c .before .before .before .before .before .loop .inv .1) (c .before .before .before .before .loop-test .taken) (c .before .before .before .if1 .left)
-    (c .if2 .taken)
-
-returns-3 : tie.Need-returns-3 Inv-loop μ-loop
-returns-3 c =
-    is-greater (c .before .before .before .before .before .before .before .before .before .before .args .a .now) (c .before .before .before .before .before .before .before .before .before .before .args .b .now) (c .before .before .before .before .before .before .loop .i) (c .before .before .before .before .before .before .loop .inv .1) (c .before .before .before .before .before .loop-test .taken) (c .before .before .before .before .if1 .left)
-    (c .if3 .taken)
+    is-greater (c .before .before .before .before .before .before .before .before .before .before .args .a .now) (c .before .before .before .before .before .before .before .before .before .before .args .b .now) (c .before .before .before .before .before .loop .i) (c .before .before .before .before .before .loop .inv .1) (omega (arith, c .before .before .before .before .before .before .before .shorter .ensures, c .before .before .before .before .before .loop .inv .0)) (omega (arith, c .before .before .before .before .before .before .before .shorter .ensures, c .before .before .before .before .before .loop .inv .0)) (c .if2 .taken)
 
 add-i : tie.Need-add-i Inv-loop μ-loop
 add-i c = search needs
@@ -52,17 +48,20 @@ loop-less c = search needs
 loop-again : tie.Need-loop-again Inv-loop μ-loop
 loop-again c = (
   omega arith,
-  goes-on (c .before .before .before .before .before .before .before .before .before .before .args .a .now) (c .before .before .before .before .before .before .before .before .before .before .args .b .now) (c .before .before .before .before .before .before .loop .i) (c .before .before .before .before .before .before .loop .inv .1) (c .before .before .before .before .before .loop-test .taken) (c .before .before .before .before .if1 .left)
-      (omega arith),
+  goes-on (c .before .before .before .before .before .before .before .before .before .before .args .a .now) (c .before .before .before .before .before .before .before .before .before .before .args .b .now) (c .before .before .before .before .before .loop .i) (c .before .before .before .before .before .loop .inv .1) (omega (arith, c .before .before .before .before .before .before .before .shorter .ensures, c .before .before .before .before .before .loop .inv .0)) (omega (arith, c .before .before .before .before .before .before .before .shorter .ensures, c .before .before .before .before .before .loop .inv .0)) (omega arith),
 )
+
+returns-3 : tie.Need-returns-3 Inv-loop μ-loop
+returns-3 c =
+    first-ends (c .before .before .before .before .before .before .before .args .a .now) (c .before .before .before .before .before .before .before .args .b .now) (c .before .before .loop .i) (c .before .before .loop .inv .1) (omega (arith, c .before .before .before .before .shorter .ensures, c .before .before .loop .inv .0)) (omega (arith, c .before .before .before .before .shorter .ensures, c .before .before .loop .inv .0))
 
 returns-4 : tie.Need-returns-4 Inv-loop μ-loop
 returns-4 c =
-    first-ends (c .before .before .before .before .before .before .args .a .now) (c .before .before .before .before .before .before .args .b .now) (c .before .before .loop .i) (c .before .before .loop .inv .1) (c .before .loop-test .left) (c .if4 .taken)
+    second-ends (c .before .before .before .before .before .before .before .before .args .a .now) (c .before .before .before .before .before .before .before .before .args .b .now) (c .before .before .before .loop .i) (c .before .before .before .loop .inv .1) (omega (arith, c .before .before .before .before .before .shorter .ensures, c .before .before .before .loop .inv .0)) (omega (arith, c .before .before .before .before .before .shorter .ensures, c .before .before .before .loop .inv .0))
 
 returns-5 : tie.Need-returns-5 Inv-loop μ-loop
 returns-5 c =
-    both-end (c .before .before .before .before .before .before .args .a .now) (c .before .before .before .before .before .before .args .b .now) (c .before .before .loop .i) (c .before .before .loop .inv .1) (c .before .loop-test .left) (c .if4 .left)
+    both-end (c .before .before .before .before .before .before .before .before .args .a .now) (c .before .before .before .before .before .before .before .before .args .b .now) (c .before .before .before .loop .i) (c .before .before .before .loop .inv .1) (omega (arith, c .before .before .before .before .before .shorter .ensures, c .before .before .before .loop .inv .0)) (omega (arith, c .before .before .before .before .before .shorter .ensures, c .before .before .before .loop .inv .0))
 
 pub compare-spec : {M : Type 1} → statement M
 compare-spec =
@@ -70,15 +69,16 @@ compare-spec =
     (tie.spec
     Inv-loop
     μ-loop
+    shorter-requires
     same-start-requires
     loop-holds
-    returns
     shared-slice-read-x
     shared-slice-read-y
+    returns
     returns-2
-    returns-3
     add-i
     loop-less
     loop-again
+    returns-3
     returns-4
     returns-5)

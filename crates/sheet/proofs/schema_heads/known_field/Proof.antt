@@ -1,4 +1,4 @@
--- `sheet::schema_heads::known_field` meets its contract: what stands before the texts says where they are.
+-- `sheet::schema_heads::known_field` meets its contract: what comes before the texts says where they are.
 use native.Mathlib.Omega.{arith}
 use borrow.Author.Needs.{needs}
 use Rattle.sheet.proofs.Heads.{texts-no-length, texts-no-tag-length, field-no-marks, field-no-texts}

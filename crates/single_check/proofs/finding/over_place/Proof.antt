@@ -1,6 +1,6 @@
 use borrow.Author.Needs.{needs}
 use Rattle.single_check.proofs.FindingSteps.{place-body, place-none}
-use Rattle.value_checks.specs.Shown.{overPlaceOf}
+use Rattle.validation.specs.Result.{overPlaceIn}
 use Rattle.value_checks.specs.Verdicts.{overBy}
 use Rattle.single_check.proofs.finding.over_place.Statement.{statement}
 use Rattle.single_check.proofs.finding.over_place.Tie as tie
@@ -12,15 +12,15 @@ enum-told : tie.Need-enum-told
 enum-told c = search needs
 
 returns : tie.Need-returns
-unfolding overPlaceOf overBy
+unfolding overPlaceIn overBy
 returns c = search needs
 
 returns-2 : tie.Need-returns-2
-unfolding overPlaceOf overBy
+unfolding overPlaceIn overBy
 returns-2 c = place-body (c .before .before .over .given .1) (c .if1 .taken)
 
 returns-3 : tie.Need-returns-3
-unfolding overPlaceOf overBy
+unfolding overPlaceIn overBy
 returns-3 c = place-none (c .before .before .over .given .1) (c .if1 .left)
 
 pub over-place-spec : {M : Type 1} → statement M

@@ -1,4 +1,4 @@
--- `value_checks::literal::unobservable_condition_literals` meets its contract: at each turn the conditions that are left stand at the next word.
+-- `value_checks::literal::unobservable_condition_literals` meets its contract: at each turn the conditions that are left are at the next word.
 use borrow.Author.Needs.{needs}
 use native.Mathlib.Omega.{arith}
 use Prim.Native.Nat.{_-_, _≤_}

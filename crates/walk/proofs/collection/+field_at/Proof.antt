@@ -1,7 +1,6 @@
 -- `walk::collection::field_at` meets its contract.
 use lib.ListN.{length}
-use Rattle.walk.proofs.PathLaws.{cut-within, cut-length, field-free, field-into, field-last, field-refused}
-use native.Mathlib.Omega.{arith}
+use Rattle.walk.proofs.PathLaws.{end-length, field-free, field-into, field-last, field-refused}
 use borrow.Author.Needs.{needs}
 use Prim.Native.Nat.{ℕ, _<_}
 use borrow.Fn.Kinds.{In}
@@ -9,10 +8,10 @@ use borrow.Fn.PlainCycle.{Measures, is, falls, and}
 use Rattle.walk.proofs.collection.field_at.Reads as field-at
 use Rattle.walk.proofs.collection.field_at.Kinds as field-at-kinds
 use Rattle.walk.proofs.collection.+field_at.Lts-field_at as field-at-lts
+use Rattle.schema.proofs.index.indexed_field.Reads as indexed-field-reads
 use Rattle.walk.proofs.collection.field_step.Reads as field-step-reads
 use Rattle.walk.proofs.collection.last_field.Reads as last-field-reads
-use Rattle.walk.proofs.path.first_dot.Reads as first-dot-reads
-use Rattle.schema.proofs.index.indexed_field.Reads as indexed-field-reads
+use Rattle.walk.proofs.path.first_end.Reads as first-end-reads
 use Rattle.walk.proofs.collection.+field_at.{statement}
 use Rattle.walk.proofs.collection.+field_at.Tie.{close}
 
@@ -27,19 +26,16 @@ field-at-below t =
     and 3 field-at-kinds.ps (falls 3 field-at-kinds.ps _<_ μ-field-at t) field-at.Pre
 
 abbrev cs-field-at : ℕ → field-at-lts.Claims
-cs-field-at t = (indexed-field-reads.Asked, indexed-field-reads.Learnt, first-dot-reads.Asked, first-dot-reads.Learnt, field-step-reads.Asked, field-step-reads.Learnt, last-field-reads.Asked, last-field-reads.Learnt, field-at-below t, field-at.Post)
+cs-field-at t = (indexed-field-reads.Asked, indexed-field-reads.Learnt, first-end-reads.Asked, first-end-reads.Learnt, field-step-reads.Asked, field-step-reads.Learnt, last-field-reads.Asked, last-field-reads.Learnt, field-at-below t, field-at.Post)
 
 field-at-indexed-field-requires : (t : ℕ) → field-at-lts.Need-indexed-field-requires (cs-field-at t) (field-at-at t) field-at.Post
 field-at-indexed-field-requires t c κs = search needs
 
-field-at-first-dot-requires : (t : ℕ) → field-at-lts.Need-first-dot-requires (cs-field-at t) (field-at-at t) field-at.Post
-field-at-first-dot-requires t c κs = search needs
+field-at-first-end-requires : (t : ℕ) → field-at-lts.Need-first-end-requires (cs-field-at t) (field-at-at t) field-at.Post
+field-at-first-end-requires t c κs = search needs
 
-field-at-enum-known-dot : (t : ℕ) → field-at-lts.Need-enum-known-dot (cs-field-at t) (field-at-at t) field-at.Post
-field-at-enum-known-dot t c = search needs
-
-field-at-enum-told : (t : ℕ) → field-at-lts.Need-enum-told (cs-field-at t) (field-at-at t) field-at.Post
-field-at-enum-told t c = search needs
+field-at-slice-aggregate-field-step : (t : ℕ) → field-at-lts.Need-slice-aggregate-field-step (cs-field-at t) (field-at-at t) field-at.Post
+field-at-slice-aggregate-field-step t c = search (end-length, needs)
 
 field-at-field-step-requires : (t : ℕ) → field-at-lts.Need-field-step-requires (cs-field-at t) (field-at-at t) field-at.Post
 field-at-field-step-requires t c κs = search needs
@@ -50,35 +46,29 @@ field-at-last-field-requires t c κs = search needs
 field-at-returns : (t : ℕ) → field-at-lts.Need-returns (cs-field-at t) (field-at-at t) field-at.Post
 field-at-returns t c = search (field-last, needs)
 
-field-at-slice-aggregate-field-step : (t : ℕ) → field-at-lts.Need-slice-aggregate-field-step (cs-field-at t) (field-at-at t) field-at.Post
-field-at-slice-aggregate-field-step t c = cut-length _ _ _ (c .before .before .before .before .first-dot .ensures) (c .before .before .dot .given .1)
+field-at-enum-known-step : (t : ℕ) → field-at-lts.Need-enum-known-step (cs-field-at t) (field-at-at t) field-at.Post
+field-at-enum-known-step t c = search needs
 
-field-at-field-step-requires-2 : (t : ℕ) → field-at-lts.Need-field-step-requires-2 (cs-field-at t) (field-at-at t) field-at.Post
-field-at-field-step-requires-2 t c κs = search needs
+field-at-enum-told : (t : ℕ) → field-at-lts.Need-enum-told (cs-field-at t) (field-at-at t) field-at.Post
+field-at-enum-told t c = search needs
 
-field-at-enum-known-fault : (t : ℕ) → field-at-lts.Need-enum-known-fault (cs-field-at t) (field-at-at t) field-at.Post
-field-at-enum-known-fault t c = search needs
-
-field-at-enum-told-2 : (t : ℕ) → field-at-lts.Need-enum-told-2 (cs-field-at t) (field-at-at t) field-at.Post
-field-at-enum-told-2 t c = search needs
-
-field-at-enum-known-next : (t : ℕ) → field-at-lts.Need-enum-known-next (cs-field-at t) (field-at-at t) field-at.Post
-field-at-enum-known-next t c = search needs
+field-at-enum-known-step-2 : (t : ℕ) → field-at-lts.Need-enum-known-step-2 (cs-field-at t) (field-at-at t) field-at.Post
+field-at-enum-known-step-2 t c = search needs
 
 field-at-add-field-at : (t : ℕ) → field-at-lts.Need-add-field-at (cs-field-at t) (field-at-at t) field-at.Post
-field-at-add-field-at t c = let less = cut-within _ _ _ (c .before .before .before .before .before .before .before .before .first-dot .ensures) (c .before .before .before .before .before .before .dot .given .1) in omega arith
+field-at-add-field-at t c = search needs
 
 field-at-sub-field-at : (t : ℕ) → field-at-lts.Need-sub-field-at (cs-field-at t) (field-at-at t) field-at.Post
-field-at-sub-field-at t c = let less = cut-within _ _ _ (c .before .before .before .before .before .before .before .before .first-dot .ensures) (c .before .before .before .before .before .before .dot .given .1) in omega arith
+field-at-sub-field-at t c = search needs
 
 field-at-part-field-at-start : (t : ℕ) → field-at-lts.Need-part-field-at-start (cs-field-at t) (field-at-at t) field-at.Post
-field-at-part-field-at-start t c = let less = cut-within _ _ _ (c .before .before .before .before .before .before .before .before .first-dot .ensures) (c .before .before .before .before .before .before .dot .given .1) in omega arith
+field-at-part-field-at-start t c = search needs
 
 field-at-part-field-at-end : (t : ℕ) → field-at-lts.Need-part-field-at-end (cs-field-at t) (field-at-at t) field-at.Post
 field-at-part-field-at-end t c = search needs
 
 field-at-field-at-requires : (t : ℕ) → field-at-lts.Need-field-at-requires (cs-field-at t) (field-at-at t) field-at.Post
-field-at-field-at-requires t c κs = let less = cut-within _ _ _ (c .before .before .before .before .before .before .before .before .before .first-dot .ensures) (c .before .before .before .before .before .before .before .dot .given .1) in (omega arith, search needs)
+field-at-field-at-requires t c κs = search needs
 
 field-at-returns-2 : (t : ℕ) → field-at-lts.Need-returns-2 (cs-field-at t) (field-at-at t) field-at.Post
 field-at-returns-2 t c = search (field-refused, needs)
@@ -94,17 +84,14 @@ pub +field-at-spec : {M : Type 1} → statement M
     (field-at-at t)
     field-at.Post
     (field-at-indexed-field-requires t)
-    (field-at-first-dot-requires t)
-    (field-at-enum-known-dot t)
-    (field-at-enum-told t)
+    (field-at-first-end-requires t)
+    (field-at-slice-aggregate-field-step t)
     (field-at-field-step-requires t)
     (field-at-last-field-requires t)
     (field-at-returns t)
-    (field-at-slice-aggregate-field-step t)
-    (field-at-field-step-requires-2 t)
-    (field-at-enum-known-fault t)
-    (field-at-enum-told-2 t)
-    (field-at-enum-known-next t)
+    (field-at-enum-known-step t)
+    (field-at-enum-told t)
+    (field-at-enum-known-step-2 t)
     (field-at-add-field-at t)
     (field-at-sub-field-at t)
     (field-at-part-field-at-start t)

@@ -1,7 +1,6 @@
 -- `walk::field_path::walk_field_path` meets its contract.
 use lib.ListN.{length}
-use Rattle.walk.proofs.PathLaws.{cut-within, cut-length, walk-free, walk-into, walk-last, walk-leaf, walk-refused}
-use native.Mathlib.Omega.{arith}
+use Rattle.walk.proofs.PathLaws.{end-length, walk-free, walk-into, walk-last, walk-leaf, walk-refused}
 use borrow.Author.Needs.{needs}
 use Prim.Native.Nat.{ℕ, _<_}
 use borrow.Fn.Kinds.{In}
@@ -9,10 +8,10 @@ use borrow.Fn.PlainCycle.{Measures, is, falls, and}
 use Rattle.walk.proofs.field_path.walk_field_path.Reads as walk-field-path
 use Rattle.walk.proofs.field_path.walk_field_path.Kinds as walk-field-path-kinds
 use Rattle.walk.proofs.field_path.+walk_field_path.Lts-walk_field_path as walk-field-path-lts
-use Rattle.walk.proofs.field_path.last_step.Reads as last-step-reads
-use Rattle.walk.proofs.path.first_dot.Reads as first-dot-reads
-use Rattle.walk.proofs.step.walk_step.Reads as walk-step-reads
 use Rattle.schema.proofs.index.indexed_field.Reads as indexed-field-reads
+use Rattle.walk.proofs.field_path.last_step.Reads as last-step-reads
+use Rattle.walk.proofs.path.first_end.Reads as first-end-reads
+use Rattle.walk.proofs.step.walk_step.Reads as walk-step-reads
 use Rattle.walk.proofs.field_path.+walk_field_path.{statement}
 use Rattle.walk.proofs.field_path.+walk_field_path.Tie.{close}
 
@@ -36,19 +35,17 @@ walk-field-path-below t =
     walk-field-path.Pre
 
 abbrev cs-walk-field-path : ℕ → walk-field-path-lts.Claims
-cs-walk-field-path t = (indexed-field-reads.Asked, indexed-field-reads.Learnt, first-dot-reads.Asked, first-dot-reads.Learnt, walk-step-reads.Asked, walk-step-reads.Learnt, last-step-reads.Asked, last-step-reads.Learnt, walk-field-path-below t, walk-field-path.Post)
+cs-walk-field-path t = (indexed-field-reads.Asked, indexed-field-reads.Learnt, first-end-reads.Asked, first-end-reads.Learnt, walk-step-reads.Asked, walk-step-reads.Learnt, last-step-reads.Asked, last-step-reads.Learnt, walk-field-path-below t, walk-field-path.Post)
 
 walk-field-path-indexed-field-requires : (t : ℕ) → walk-field-path-lts.Need-indexed-field-requires (cs-walk-field-path t) (walk-field-path-at t) walk-field-path.Post
 walk-field-path-indexed-field-requires t c κs = search needs
 
-walk-field-path-first-dot-requires : (t : ℕ) → walk-field-path-lts.Need-first-dot-requires (cs-walk-field-path t) (walk-field-path-at t) walk-field-path.Post
-walk-field-path-first-dot-requires t c κs = search needs
+walk-field-path-first-end-requires : (t : ℕ) → walk-field-path-lts.Need-first-end-requires (cs-walk-field-path t) (walk-field-path-at t) walk-field-path.Post
+walk-field-path-first-end-requires t c κs = search needs
 
-walk-field-path-enum-known-dot : (t : ℕ) → walk-field-path-lts.Need-enum-known-dot (cs-walk-field-path t) (walk-field-path-at t) walk-field-path.Post
-walk-field-path-enum-known-dot t c = search needs
-
-walk-field-path-enum-told : (t : ℕ) → walk-field-path-lts.Need-enum-told (cs-walk-field-path t) (walk-field-path-at t) walk-field-path.Post
-walk-field-path-enum-told t c = search needs
+walk-field-path-slice-aggregate-walk-step :
+    (t : ℕ) → walk-field-path-lts.Need-slice-aggregate-walk-step (cs-walk-field-path t) (walk-field-path-at t) walk-field-path.Post
+walk-field-path-slice-aggregate-walk-step t c = search (end-length, needs)
 
 walk-field-path-walk-step-requires : (t : ℕ) → walk-field-path-lts.Need-walk-step-requires (cs-walk-field-path t) (walk-field-path-at t) walk-field-path.Post
 walk-field-path-walk-step-requires t c κs = search needs
@@ -59,34 +56,27 @@ walk-field-path-last-step-requires t c κs = search needs
 walk-field-path-returns : (t : ℕ) → walk-field-path-lts.Need-returns (cs-walk-field-path t) (walk-field-path-at t) walk-field-path.Post
 walk-field-path-returns t c = search (walk-last, needs)
 
-walk-field-path-slice-aggregate-walk-step :
-    (t : ℕ) → walk-field-path-lts.Need-slice-aggregate-walk-step (cs-walk-field-path t) (walk-field-path-at t) walk-field-path.Post
-walk-field-path-slice-aggregate-walk-step t c = cut-length _ _ _ (c .before .before .before .before .first-dot .ensures) (c .before .before .dot .given .1)
+walk-field-path-enum-known-step : (t : ℕ) → walk-field-path-lts.Need-enum-known-step (cs-walk-field-path t) (walk-field-path-at t) walk-field-path.Post
+walk-field-path-enum-known-step t c = search needs
 
-walk-field-path-walk-step-requires-2 : (t : ℕ) → walk-field-path-lts.Need-walk-step-requires-2 (cs-walk-field-path t) (walk-field-path-at t) walk-field-path.Post
-walk-field-path-walk-step-requires-2 t c κs = search needs
+walk-field-path-enum-known-step-2 : (t : ℕ) → walk-field-path-lts.Need-enum-known-step-2 (cs-walk-field-path t) (walk-field-path-at t) walk-field-path.Post
+walk-field-path-enum-known-step-2 t c = search needs
 
-walk-field-path-enum-known-fault : (t : ℕ) → walk-field-path-lts.Need-enum-known-fault (cs-walk-field-path t) (walk-field-path-at t) walk-field-path.Post
-walk-field-path-enum-known-fault t c = search needs
+walk-field-path-enum-told : (t : ℕ) → walk-field-path-lts.Need-enum-told (cs-walk-field-path t) (walk-field-path-at t) walk-field-path.Post
+walk-field-path-enum-told t c = search needs
 
-walk-field-path-enum-known-fault-2 : (t : ℕ) → walk-field-path-lts.Need-enum-known-fault-2 (cs-walk-field-path t) (walk-field-path-at t) walk-field-path.Post
-walk-field-path-enum-known-fault-2 t c = search needs
-
-walk-field-path-enum-told-2 : (t : ℕ) → walk-field-path-lts.Need-enum-told-2 (cs-walk-field-path t) (walk-field-path-at t) walk-field-path.Post
-walk-field-path-enum-told-2 t c = search needs
-
-walk-field-path-enum-known-next : (t : ℕ) → walk-field-path-lts.Need-enum-known-next (cs-walk-field-path t) (walk-field-path-at t) walk-field-path.Post
-walk-field-path-enum-known-next t c = search needs
+walk-field-path-enum-known-step-3 : (t : ℕ) → walk-field-path-lts.Need-enum-known-step-3 (cs-walk-field-path t) (walk-field-path-at t) walk-field-path.Post
+walk-field-path-enum-known-step-3 t c = search needs
 
 walk-field-path-add-walk-field-path : (t : ℕ) → walk-field-path-lts.Need-add-walk-field-path (cs-walk-field-path t) (walk-field-path-at t) walk-field-path.Post
-walk-field-path-add-walk-field-path t c = let less = cut-within _ _ _ (c .before .before .before .before .before .before .before .before .first-dot .ensures) (c .before .before .before .before .before .before .dot .given .1) in omega arith
+walk-field-path-add-walk-field-path t c = search needs
 
 walk-field-path-sub-walk-field-path : (t : ℕ) → walk-field-path-lts.Need-sub-walk-field-path (cs-walk-field-path t) (walk-field-path-at t) walk-field-path.Post
-walk-field-path-sub-walk-field-path t c = let less = cut-within _ _ _ (c .before .before .before .before .before .before .before .before .first-dot .ensures) (c .before .before .before .before .before .before .dot .given .1) in omega arith
+walk-field-path-sub-walk-field-path t c = search needs
 
 walk-field-path-part-walk-field-path-start :
     (t : ℕ) → walk-field-path-lts.Need-part-walk-field-path-start (cs-walk-field-path t) (walk-field-path-at t) walk-field-path.Post
-walk-field-path-part-walk-field-path-start t c = let less = cut-within _ _ _ (c .before .before .before .before .before .before .before .before .first-dot .ensures) (c .before .before .before .before .before .before .dot .given .1) in omega arith
+walk-field-path-part-walk-field-path-start t c = search needs
 
 walk-field-path-part-walk-field-path-end :
     (t : ℕ) → walk-field-path-lts.Need-part-walk-field-path-end (cs-walk-field-path t) (walk-field-path-at t) walk-field-path.Post
@@ -94,7 +84,7 @@ walk-field-path-part-walk-field-path-end t c = search needs
 
 walk-field-path-walk-field-path-requires :
     (t : ℕ) → walk-field-path-lts.Need-walk-field-path-requires (cs-walk-field-path t) (walk-field-path-at t) walk-field-path.Post
-walk-field-path-walk-field-path-requires t c κs = let less = cut-within _ _ _ (c .before .before .before .before .before .before .before .before .before .first-dot .ensures) (c .before .before .before .before .before .before .before .dot .given .1) in (omega arith, search needs)
+walk-field-path-walk-field-path-requires t c κs = search needs
 
 walk-field-path-returns-2 : (t : ℕ) → walk-field-path-lts.Need-returns-2 (cs-walk-field-path t) (walk-field-path-at t) walk-field-path.Post
 walk-field-path-returns-2 t c = search (walk-refused, needs)
@@ -113,18 +103,15 @@ pub +walk-field-path-spec : {M : Type 1} → statement M
     (walk-field-path-at t)
     walk-field-path.Post
     (walk-field-path-indexed-field-requires t)
-    (walk-field-path-first-dot-requires t)
-    (walk-field-path-enum-known-dot t)
-    (walk-field-path-enum-told t)
+    (walk-field-path-first-end-requires t)
+    (walk-field-path-slice-aggregate-walk-step t)
     (walk-field-path-walk-step-requires t)
     (walk-field-path-last-step-requires t)
     (walk-field-path-returns t)
-    (walk-field-path-slice-aggregate-walk-step t)
-    (walk-field-path-walk-step-requires-2 t)
-    (walk-field-path-enum-known-fault t)
-    (walk-field-path-enum-known-fault-2 t)
-    (walk-field-path-enum-told-2 t)
-    (walk-field-path-enum-known-next t)
+    (walk-field-path-enum-known-step t)
+    (walk-field-path-enum-known-step-2 t)
+    (walk-field-path-enum-told t)
+    (walk-field-path-enum-known-step-3 t)
     (walk-field-path-add-walk-field-path t)
     (walk-field-path-sub-walk-field-path t)
     (walk-field-path-part-walk-field-path-start t)

@@ -1,52 +1,21 @@
 -- `walk::path::first_dot` meets its contract.
-use Prim.Native.Nat.{_≤_, _-_}
-use lib.ListN.{length}
-use Rattle.walk.proofs.Dots.{Passed, passed-start, passed-more, passed-dot, passed-all}
 use borrow.Author.Needs.{needs}
+use mathlib.Core.Logic.{⊎-elim}
+use Rattle.walk.proofs.Dots.{dotless-none, cuts-at, cuts-nowhere}
 use Rattle.walk.proofs.path.first_dot.Statement.{statement}
 use Rattle.walk.proofs.path.first_dot.Tie as tie
 
-abbrev Inv-loop : tie.InvT-loop
-Inv-loop path i₀ i = (i ≤ length path) × Passed path i
+dotless-start-32-requires : tie.Need-dotless-start-32-requires
+dotless-start-32-requires c κs = search needs
 
-abbrev μ-loop : tie.MeasureT-loop
-μ-loop path i₀ i = length path - i
+end-after-requires : tie.Need-end-after-requires
+end-after-requires c κs = ⊎-elim (λ w. rw (w .2) (w .1 .ensures)) (λ w. rw (w .1) (dotless-none _)) (c .if1 .came)
 
-dotless-start-requires : tie.Need-dotless-start-requires Inv-loop μ-loop
-dotless-start-requires c κs = search needs
+returns : tie.Need-returns
+returns c = search (cuts-at, needs)
 
-loop-holds : tie.Need-loop-holds Inv-loop μ-loop
-loop-holds c = (c .dotless-start .ensures .within, passed-start _ (c .dotless-start .result) (c .dotless-start .ensures))
-
-shared-slice-read-if1 : tie.Need-shared-slice-read-if1 Inv-loop μ-loop
-shared-slice-read-if1 c = search needs
-
-returns : tie.Need-returns Inv-loop μ-loop
-returns c = search (passed-dot, needs)
-
-add-i : tie.Need-add-i Inv-loop μ-loop
-add-i c = search needs
-
-loop-less : tie.Need-loop-less Inv-loop μ-loop
-loop-less c = search needs
-
-loop-again : tie.Need-loop-again Inv-loop μ-loop
-loop-again c = search (passed-more, needs)
-
-returns-2 : tie.Need-returns-2 Inv-loop μ-loop
-returns-2 c = search (passed-all, needs)
+returns-2 : tie.Need-returns-2
+returns-2 c = search (cuts-nowhere, needs)
 
 pub first-dot-spec : {M : Type 1} → statement M
-first-dot-spec =
-    tie.close
-    (tie.spec
-    Inv-loop
-    μ-loop
-    dotless-start-requires
-    loop-holds
-    shared-slice-read-if1
-    returns
-    add-i
-    loop-less
-    loop-again
-    returns-2)
+first-dot-spec = tie.close (tie.spec dotless-start-32-requires end-after-requires returns returns-2)

@@ -1,23 +1,18 @@
 -- `walk::path::first_end` meets its contract.
-use Rattle.walk.proofs.Dots.{ends-at, ends-nowhere}
 use borrow.Author.Needs.{needs}
+use mathlib.Core.Logic.{⊎-elim}
+use Rattle.walk.proofs.Dots.{dotless-none}
 use Rattle.walk.proofs.path.first_end.Statement.{statement}
 use Rattle.walk.proofs.path.first_end.Tie as tie
 
-first-dot-requires : tie.Need-first-dot-requires
-first-dot-requires c κs = search needs
+dotless-start-32-requires : tie.Need-dotless-start-32-requires
+dotless-start-32-requires c κs = search needs
 
-enum-known-dot : tie.Need-enum-known-dot
-enum-known-dot c = search needs
-
-enum-told : tie.Need-enum-told
-enum-told c = search needs
+end-after-requires : tie.Need-end-after-requires
+end-after-requires c κs = ⊎-elim (λ w. rw (w .2) (w .1 .ensures)) (λ w. rw (w .1) (dotless-none _)) (c .if1 .came)
 
 returns : tie.Need-returns
-returns c = search (ends-at, needs)
-
-returns-2 : tie.Need-returns-2
-returns-2 c = search (ends-nowhere, needs)
+returns c = search needs
 
 pub first-end-spec : {M : Type 1} → statement M
-first-end-spec = tie.close (tie.spec first-dot-requires enum-known-dot enum-told returns returns-2)
+first-end-spec = tie.close (tie.spec dotless-start-32-requires end-after-requires returns)

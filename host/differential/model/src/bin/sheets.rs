@@ -1,4 +1,4 @@
-//! Writes the sheets that the program `sheets` is run on, and what it must write, by the model: `sheets FOLDER`.
+//! Writes the sheets that the program `sheet_samples` is run on, and what it must write, by the model: `sheets FOLDER`.
 //!
 //! Good sheets, every limit one below, at and one above it, objects whose keys rise, fall or occur twice, numerals past 32 and 64 bits, and small
 //! sheets with each byte replaced, left out or doubled, and cut at each length.
@@ -290,7 +290,7 @@ fn is_accepted(letter: u8, sheet: &[u8]) -> bool {
 fn main() {
     let arguments: Vec<String> = env::args().skip(1).collect();
     let [folder] = arguments.as_slice() else {
-        eprintln!("usage: sheets FOLDER (the folder of the program `sheets`)");
+        eprintln!("usage: sheets FOLDER (the folder of the program `sheet_samples`)");
         exit(2);
     };
     let cases = all_cases().0;

@@ -1,7 +1,8 @@
 //! Two schemas in words.
 
 use super::{Compared, Comparison, Growth, Member};
-use crate::report::{Colour, Palette, name, not_read, refused_text, visible};
+use crate::printed::{name, visible};
+use crate::report::{Colour, Palette, not_read, refused_text};
 use std::path::Path;
 
 /// What is printed for two schemas.

@@ -1,0 +1,3 @@
+pub mod CountSteps
+pub mod NumberTests
+pub mod Instants

@@ -1,0 +1,5 @@
+pub mod Counts
+pub mod CountLaws
+pub mod NumberTest
+pub mod Version
+pub mod InstantEntry
