@@ -37,11 +37,12 @@ pub fn counted_call(call: &mut dyn FnMut() -> bool) {
     assert!(black_box(call()), "a measured sheet is answered as it was made to be");
 }
 
-/// The instructions of the one call that this program makes when it is started with `words`, or none without valgrind.
+/// The instructions of the one call that this program makes when it is started with `words`, or none without valgrind. Memory that is cleared
+/// does not count: valgrind has one instruction for each byte, where the processor clears many at once.
 pub fn instructions(words: &[&str]) -> Option<u64> {
     let program = std::env::current_exe().ok()?;
     let output = Command::new("valgrind")
-        .args(["--tool=callgrind", "--toggle-collect=counted_call", "--callgrind-out-file=/dev/null"])
+        .args(["--tool=callgrind", "--toggle-collect=counted_call", "--toggle-collect=*memset*", "--callgrind-out-file=/dev/null"])
         .arg(program)
         .args(words)
         .output()

@@ -38,7 +38,7 @@ pub struct Group {
     pub make: fn(usize) -> Sample,
 }
 
-pub const GROUPS: [Group; 11] = [
+pub const GROUPS: [Group; 12] = [
     Group { name: "small", unit: "fields and conditions", sizes: &[1, 2, 4, 6, 8, 12, 16], listed: 4, make: small },
     Group { name: "typical", unit: "schema entries", sizes: &[51, 101, 201, 301, 401, 511, 611], listed: 611, make: typical },
     Group { name: "wide", unit: "siblings", sizes: &[100, 200, 350, 500, 650, 800, 1_000], listed: 1_000, make: wide },
@@ -64,6 +64,13 @@ pub const GROUPS: [Group; 11] = [
         sizes: &[100, 200, 400, 800, 1_200, 1_600, 2_048],
         listed: 2_048,
         make: large_rules,
+    },
+    Group {
+        name: "full sheets",
+        unit: "schema entries, twice as many of the rule",
+        sizes: &[128, 256, 384, 512, 640, 832, 1_024],
+        listed: 1_024,
+        make: full_sheets,
     },
     Group { name: "templates", unit: "members", sizes: &[25, 50, 100, 200, 300, 400, 500], listed: 500, make: templates },
     Group {
@@ -261,6 +268,23 @@ fn all_forms(entries: usize, first: &str) -> Sample {
     let count = usize::from(!first.is_empty()) + 6 * blocks + rest;
     let fields = [plain(1, "made"), plain(3, "mass"), plain(1, "name")].concat();
     Sample::new(format!("H,0,3,-,0\n{fields}"), format!("R,-,-,\nC,2,{count},\n{conditions}"))
+}
+
+/// Both sheets as long as they may be, at the largest size: objects of seven fields with long names, and bounds and comparisons on fields of all objects.
+fn full_sheets(entries: usize) -> Sample {
+    let objects = (entries - 1) / 8;
+    let rest = (entries - 1) % 8;
+    let inner = each(7, |i| plain(2, &format!("reading_bar_{i}")));
+    let fields = each(objects, |i| format!("{}{inner}", object(&format!("position_{i:03}"), 7)));
+    let last = each(rest, |i| plain(1, &format!("remark_{i}")));
+    let conditions = (2 * entries - 2) / 3;
+    let spare = (2 * entries - 2) % 3;
+    let tests = each(conditions, |i| {
+        let value = if i % 2 == 0 { text(&format!("$fields.position_{:03}.reading_bar_{}", i % objects, i % 7)) } else { number("7") };
+        format!("C,{},0,\n{value}{}", 10 + i % 4, number("12"))
+    });
+    let schema = format!("H,0,{},-,0\n{fields}{last}", objects + rest);
+    Sample::new(schema, format!("R,-,-,\nC,2,{},\n{tests}{}", conditions + spare, "C,1,1,\n".repeat(spare)))
 }
 
 /// An operation's template: an object whose members are references, numbers, texts and arrays of two references, in turn.
