@@ -96,6 +96,11 @@ fn given(folder: PathBuf) -> (PathBuf, Option<Identity>) {
 fn of_the_repository() -> PathBuf {
     let root = Path::new(env!("CARGO_MANIFEST_DIR")).join("..");
     let root = root.canonicalize().unwrap_or(root);
+    if !root.join("crates.txt").is_file() {
+        stop(&format!(
+            "this crate is not in its repository, where the library would be. Set {VARIABLE} to the folder of a {ARCHIVE} that `host/pack` has packed."
+        ));
+    }
     let folder = root.join("target/staticlib");
     match fs::metadata(folder.join(ARCHIVE)).and_then(|archive| archive.modified()) {
         Err(_) => build(&root, &folder),
