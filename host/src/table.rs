@@ -239,6 +239,7 @@ impl Default for Table {
 /// assert_eq!(error.number(), 38);
 /// ```
 #[derive(Clone, Debug, PartialEq, Eq)]
+#[non_exhaustive]
 pub enum TableError {
     /// 37: the bytes stop being a table.
     Malformed(Malformed),

@@ -16,6 +16,7 @@ numbered! {
     /// assert_eq!(BreachReason::from_number(5), Some(BreachReason::MarkCloses));
     /// assert_eq!(BreachReason::FieldMissing.to_string(), "a field is missing");
     /// ```
+    #[non_exhaustive]
     BreachReason {
         /// The old schema has it, the new one has not.
         FieldMissing = 1, "a field is missing";

@@ -57,6 +57,7 @@ impl fmt::Display for Nesting {
 /// assert_eq!(error.to_string(), "two sibling fields are named \"bars\"; expected each name once");
 /// ```
 #[derive(Clone, Debug, PartialEq, Eq, Hash)]
+#[non_exhaustive]
 pub enum BuildError {
     /// A text is over 512 bytes long.
     TextTooLong {
