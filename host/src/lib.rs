@@ -23,6 +23,7 @@ mod finite;
 mod identity;
 mod instant;
 pub mod limits;
+mod number;
 mod numbered;
 #[allow(unsafe_code)]
 pub mod raw;
@@ -31,16 +32,14 @@ mod sheets;
 mod table;
 mod tally;
 mod verdict;
+mod vocabulary;
 mod wall;
 mod widening;
 
 pub use book::{Book, BookError, BookSheet};
-pub use build::{
-    BuildError, CompareOp, Condition, Field, FieldKind, Nesting, Rule, Schema, Template, Value,
-};
+pub use build::{BuildError, Condition, Field, Rule, Schema, Template, Value};
 pub use checks::{Check, Checked};
 pub use constants::Constant;
-pub use entries::Operator;
 pub use finite::{Finite, finite};
 pub use identity::{Identity, Packed, identity};
 pub use instant::{Instant, instant};
@@ -52,6 +51,7 @@ pub use verdict::{
     CollectionFault, Defect, DefectNumber, Detail, Family, InstantFault, PathVerdict,
     ReferenceFault, Refusal, Side, Verdict,
 };
+pub use vocabulary::{CompareOp, FieldKind, Nesting, Operator};
 pub use widening::{Breach, BreachReason, Widening, widens};
 
 use limits::{PATH_BYTES, RESULT_BYTES};
@@ -177,7 +177,7 @@ pub fn check_path<'a>(
     let mut result = [0; RESULT_BYTES];
     let (semantics, reader) = (semantics.number().into(), reader.number().into());
     raw::path(semantics, reader, path.as_ref(), schema, &mut result);
-    verdict::path_answer(numbers(&result))
+    verdict::path_answer(raw::numbers(&result))
 }
 
 /// Checks every sheet of a rule book against a schema that is read once, and tallies how they fare.
@@ -261,10 +261,5 @@ fn call(
     let mut result = [0; RESULT_BYTES];
     let (kind, semantics) = (kind.number().into(), semantics.number().into());
     entry(kind, semantics, label, schema, rule, &mut path, &mut result);
-    verdict::answer(numbers(&result), &path)
-}
-
-/// The seven numbers of a result, or fields of an instant.
-fn numbers(result: &[u8]) -> [u32; 7] {
-    [0, 1, 2, 3, 4, 5, 6].map(|index| raw::field(result, index))
+    verdict::answer(raw::numbers(&result), &path)
 }

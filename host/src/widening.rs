@@ -2,9 +2,9 @@
 
 use crate::limits::RESULT_BYTES;
 use crate::numbered::numbered;
+use crate::raw;
 use crate::sheets::SchemaBytes;
 use crate::verdict::Refusal;
-use crate::{numbers, raw};
 use std::fmt;
 
 numbered! {
@@ -182,7 +182,7 @@ pub fn widens<'a>(
     let (old, new) = (old.into().0, new.into().0);
     let mut result = [0; RESULT_BYTES];
     raw::widens(old, new, &mut result);
-    answer(numbers(&result))
+    answer(raw::numbers(&result))
 }
 
 /// The answer or refusal that the numbers of a call stand for.

@@ -10,6 +10,7 @@ mod pairs;
 mod plot;
 mod reader;
 mod report;
+mod row;
 mod rust;
 mod sheets;
 mod stack;
@@ -25,7 +26,8 @@ mod functions;
 use library::Buffers;
 use model::trees;
 use model::{decode_rule, decode_schema};
-use report::{Acceptance, Figures, Row};
+use report::{Acceptance, Figures};
+use row::{Point, Row};
 use sheets::{Group, Sample, GROUPS, NUMBERS};
 use std::path::Path;
 use std::process::ExitCode;
@@ -167,11 +169,11 @@ fn row(group: &'static Group, counting: bool) -> Result<Row, String> {
 }
 
 /// The bytes of a sample and the times of the three sides, after a look whether they are measured on the same thing.
-fn point(group: &str, sample: &Sample) -> Result<report::Point, String> {
+fn point(group: &str, sample: &Sample) -> Result<Point, String> {
     if rust::build(sample).as_ref() != modelled(sample).as_ref() {
         return Err(format!("{group}: what is built differs from what the model reads"));
     }
-    Ok(report::Point { bytes: sample.bytes(), times: Side::ALL.map(|(_, side)| time(sample, side)) })
+    Ok(Point { bytes: sample.bytes(), times: Side::ALL.map(|(_, side)| time(sample, side)) })
 }
 
 /// What the model reads, in the Rust's types.

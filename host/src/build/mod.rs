@@ -9,7 +9,7 @@ mod rule;
 mod schema;
 mod value;
 
-pub use error::{BuildError, Nesting};
-pub use rule::{CompareOp, Condition, Rule, Template};
-pub use schema::{Field, FieldKind, Schema};
+pub use error::BuildError;
+pub use rule::{Condition, Rule, Template};
+pub use schema::{Field, Schema};
 pub use value::Value;

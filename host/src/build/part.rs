@@ -1,7 +1,8 @@
 //! Entries of a sheet to be.
 
-use super::error::{BuildError, Nesting, start};
+use super::error::{BuildError, start};
 use crate::limits::{MAX_RULE_ENTRIES, MAX_SCHEMA_ENTRIES, MAX_SHEET_BYTES, MAX_TEXT_BYTES};
+use crate::vocabulary::Nesting;
 
 /// Entries that belong together, and how deep they nest. It never passes the limits of its sheet.
 #[derive(Clone, Debug, PartialEq, Eq)]

@@ -1,7 +1,8 @@
 //! Name tables.
 
-use super::reader::{Read, Reader, read};
-use super::{Content, Entry, Malformed};
+use super::content::{Content, Entry, Malformed};
+use super::reader::{Read, Reader};
+use super::whole::read;
 use crate::settings::{Kind, Name};
 
 /// The entries of a name table. Whether its marks keep the two conditions is [`Table::read`](crate::Table::read)'s to say.
