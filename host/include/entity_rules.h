@@ -95,7 +95,7 @@ enum entity_rules_side {
   ENTITY_RULES_SIDE_RIGHT = 2
 };
 
-/* The detail of a defect 18: why a reference cannot be read. The last one occurs for key paths only. */
+/* The detail of a defect 18: why a reference cannot be read. Only a key path can have the last one: a projection cannot read the length of a text. */
 enum entity_rules_reference_fault {
   ENTITY_RULES_REFERENCE_EMPTY_PATH = 1,
   ENTITY_RULES_REFERENCE_UNKNOWN_ROOT = 2,
@@ -138,9 +138,6 @@ enum entity_rules_field {
   ENTITY_RULES_PATH_LENGTH = 6,
   ENTITY_RULES_MARK_COUNT = 7
 };
-
-/* The detail of a defect 18 that only a key path can have: a projection cannot read the length of a text. */
-#define ENTITY_RULES_TEXT_COUNT 13
 
 /* The numbers of a result of rulecheck_widens, by their index; the first is ENTITY_RULES_NUMBER. */
 enum entity_rules_widens_field {

@@ -32,7 +32,7 @@ fn sums_are_those_of_the_standard() {
 }
 
 const ARCHIVE: &[u8] = b"abc";
-const IDENTITY: &str = "commit 02e91c9\ntoolchain kit logic 0\nverdict rt: ok, 23 crates proved\n\
+const IDENTITY: &str = "commit 02e91c9\ntoolchain kit logic 0\nverdict rt: ok, 26 crates proved\n\
     sha256 ba7816bf8f01cfea414140de5dae2223b00361a396177a9cb410ff61f20015ad\n";
 
 #[test]
@@ -41,7 +41,7 @@ fn only_the_archive_that_was_packed_is_linked() {
     assert_eq!(known, identity::Identity::read(IDENTITY));
     assert_eq!(
         known.expect("an identity").verdict,
-        "rt: ok, 23 crates proved"
+        "rt: ok, 26 crates proved"
     );
 
     let refused = |archive, file| identity::of(archive, file, false).expect_err("not linked");
