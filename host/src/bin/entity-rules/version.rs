@@ -1,14 +1,16 @@
 //! `--version`: what the tool is, and which library it is linked with.
 
 use crate::explain::replayed;
-use entity_rules::identity;
+use entity_rules::{identity, raw};
 
-/// What is printed, and whether the library answers as it must.
+/// The version of the tool and of its crate.
+const OWN: &str = env!("CARGO_PKG_VERSION");
+
+/// What is printed, and whether the library is of the same version and answers as it must.
 pub fn text() -> (String, bool) {
     let linked = identity();
-    let mut lines = vec![format!("entity-rules {}", env!("CARGO_PKG_VERSION"))];
-    let [_, major, minor, patch] = entity_rules::raw::version().to_be_bytes();
-    lines.push(format!("  functions {major}.{minor}.{patch}"));
+    let (functions, is_same) = functions(raw::version());
+    let mut lines = vec![format!("entity-rules {OWN}"), functions];
     lines.push(format!("  library   SHA-256 {}", linked.sha256));
     match linked.packed {
         Some(packed) => {
@@ -29,5 +31,33 @@ pub fn text() -> (String, bool) {
             differing.join(", ")
         ),
     });
-    (lines.join("\n") + "\n", differing.is_empty())
+    (lines.join("\n") + "\n", is_same && differing.is_empty())
+}
+
+/// The line of the library's version, and whether it is that of the crate.
+fn functions(number: u32) -> (String, bool) {
+    let [_, major, minor, patch] = number.to_be_bytes();
+    let version = format!("{major}.{minor}.{patch}");
+    match version == OWN {
+        true => (format!("  functions {version}"), true),
+        false => (
+            format!(
+                "  functions {version}, not {OWN}: the library that is linked is of another version"
+            ),
+            false,
+        ),
+    }
+}
+
+#[cfg(test)]
+mod tests {
+    use super::*;
+
+    #[test]
+    fn a_library_of_another_version_is_named() {
+        let line = format!(
+            "  functions 255.2.3, not {OWN}: the library that is linked is of another version"
+        );
+        assert_eq!(functions(0x00ff_0203), (line, false));
+    }
 }
