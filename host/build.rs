@@ -1,6 +1,6 @@
-//! Finds the static library `libentity_rules.a`, sees that it is the proved one, and links it.
+//! Finds the static library `libentity_rules.a`, checks a packed one against `IDENTITY`, and links it.
 //!
-//! It is taken from the folder that `ENTITY_RULES_LIB_DIR` names by an absolute path, where `IDENTITY` must tell that archive apart. Without that
+//! It is taken from the folder that `ENTITY_RULES_LIB_DIR` names by an absolute path, where `IDENTITY` must have that archive's SHA-256. Without that
 //! variable it is the one below the repository's `target/`, which `rt staticlib entity_rules` proves and writes where it is missing.
 
 #[path = "build/identity.rs"]
@@ -66,7 +66,7 @@ fn tell(archive: &[u8], identity: Option<Identity>) {
     }
 }
 
-/// The folder of the variable; it must hold the archive, and what tells that it is proved.
+/// The folder of the variable; it must hold the archive, and the `IDENTITY` of it.
 fn given(folder: PathBuf) -> (PathBuf, Option<Identity>) {
     let hint = match folder.is_relative() {
         true => format!(
@@ -79,7 +79,7 @@ fn given(folder: PathBuf) -> (PathBuf, Option<Identity>) {
     let shown = folder.display();
     if !folder.join(ARCHIVE).is_file() {
         stop(&format!(
-            "{VARIABLE} names {shown}, where no {ARCHIVE} is{hint}"
+            "{VARIABLE} names {shown}, which has no {ARCHIVE}{hint}"
         ));
     }
     let file = folder.join("IDENTITY");

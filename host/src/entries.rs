@@ -1,6 +1,6 @@
-//! The entries of a sheet, read for people: what is at a place, or where a sheet stops being one.
+//! The entries of a sheet, read for display: what is at a place, or where a sheet stops being one.
 //!
-//! Whether a sheet is accepted is the library's to say. This reading serves to show what an answer speaks of.
+//! Whether a sheet is accepted, the library decides. This reading serves to show what an answer is about.
 //!
 //! ```
 //! use entity_rules::entries::{read_rule, Content};

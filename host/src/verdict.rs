@@ -498,7 +498,7 @@ pub enum Refusal {
     SchemaSheet,
     /// 4 of a call for two schemas, where the new one's sheet is not well formed; [`SchemaSheet`](Refusal::SchemaSheet) is then the old one's.
     NewSchemaSheet,
-    /// 5: the rule sheet is not well formed, or is not of the sort that the function takes.
+    /// 5: the rule sheet is not well formed, or is a template where a rule was asked for, or the reverse.
     RuleSheet,
     /// 33 of a call for a wall sheet: the buffer for the pages is too short.
     Output,
@@ -506,7 +506,7 @@ pub enum Refusal {
     BookForm,
     /// 35: the list of marks is too short.
     Marks,
-    /// 37: the name table is not of its form. [`Table::read`](crate::Table::read) says where.
+    /// 37: the name table is malformed. [`Table::read`](crate::Table::read) says where.
     TableForm,
     /// 38: a mark of the name table breaks one of its two conditions. [`Table::read`](crate::Table::read) says which.
     TableMark,
@@ -615,12 +615,12 @@ impl fmt::Display for Refusal {
             Self::SchemaSheet => f.pad("the schema sheet is not well formed"),
             Self::NewSchemaSheet => f.pad("the new schema's sheet is not well formed"),
             Self::RuleSheet => {
-                f.pad("the rule sheet is not well formed, or not of the sort asked for")
+                f.pad("the rule sheet is not well formed, or is a template where a rule was asked for, or the reverse")
             }
             Self::Output => f.pad("the buffer for the pages is too short"),
             Self::BookForm => f.pad("the file is not a rule book"),
             Self::Marks => f.pad("the list of marks is under 8,192 bytes"),
-            Self::TableForm => f.pad("the name table is not of its form"),
+            Self::TableForm => f.pad("the name table is malformed"),
             Self::TableMark => f.pad(
                 "a mark of the name table hides a name that every kind reads, or shows $old_fields where $fields is hidden",
             ),

@@ -28,7 +28,7 @@ numbered! {
         TagDiffers = 4, "the tag of a field differs";
         /// Of the record, the arguments or a field.
         MarkCloses = 5, "an open mark has gone from 1 to 0";
-        /// A path that was free would now be held against it.
+        /// A path that was not checked before would now be checked against it.
         FieldAdded = 6, "a field is added where the old schema is open";
         /// Even if they have no fields.
         ArgumentsGo = 7, "the arguments are taken away";

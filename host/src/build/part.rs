@@ -1,4 +1,4 @@
-//! Entries of a sheet to be.
+//! Entries of a sheet that is being written.
 
 use super::error::{BuildError, start};
 use crate::limits::{MAX_RULE_ENTRIES, MAX_SCHEMA_ENTRIES, MAX_SHEET_BYTES, MAX_TEXT_BYTES};
@@ -43,7 +43,7 @@ impl Part {
         self.append(other.entries, &other.bytes)
     }
 
-    /// Adds entries that nest for themselves, as the values of a condition do.
+    /// Adds entries whose nesting is counted separately, as the values of a condition do.
     pub fn add_apart(&mut self, other: &Part) -> Result<(), BuildError> {
         self.append(other.entries, &other.bytes)
     }

@@ -53,7 +53,7 @@ impl Given {
         match texts {
             1 => format!("{length}, the length of {what} up to the end of its line, not {total}"),
             _ => format!(
-                "lengths that add up to {length}, what the texts have up to the end of their line, not to {total}"
+                "lengths that add up to {length} (the bytes up to the end of the line), not {total}"
             ),
         }
     }

@@ -6,7 +6,7 @@ use entity_rules::{identity, raw};
 /// The version of the tool and of its crate.
 const OWN: &str = env!("CARGO_PKG_VERSION");
 
-/// What is printed, and whether the library is of the same version and answers as it must.
+/// What is printed, and whether the library is the same version and gives the expected answers.
 pub fn text() -> (String, bool) {
     let linked = identity();
     let (functions, is_same) = functions(raw::version());
@@ -20,13 +20,13 @@ pub fn text() -> (String, bool) {
                 packed.toolchain, packed.verdict
             ));
         }
-        None => lines.push("  commit    not told: the library was not packed".to_owned()),
+        None => lines.push("  commit    unknown: the library was not packed".to_owned()),
     }
     let (all, differing) = replayed();
     lines.push(match differing.is_empty() {
-        true => format!("  examples  all {all} are answered as they must be"),
+        true => format!("  examples  all {all} give the expected answer"),
         false => format!(
-            "  examples  {} of {all} are answered otherwise than they must be: {}. This is not the proved library, or one of another version.",
+            "  examples  {} of {all} give a wrong answer: {}. This is not the proved library, or it is another version.",
             differing.len(),
             differing.join(", ")
         ),
@@ -41,9 +41,7 @@ fn functions(number: u32) -> (String, bool) {
     match version == OWN {
         true => (format!("  functions {version}"), true),
         false => (
-            format!(
-                "  functions {version}, not {OWN}: the library that is linked is of another version"
-            ),
+            format!("  functions {version}, not {OWN}: the linked library is another version"),
             false,
         ),
     }
@@ -55,9 +53,7 @@ mod tests {
 
     #[test]
     fn a_library_of_another_version_is_named() {
-        let line = format!(
-            "  functions 255.2.3, not {OWN}: the library that is linked is of another version"
-        );
+        let line = format!("  functions 255.2.3, not {OWN}: the linked library is another version");
         assert_eq!(functions(0x00ff_0203), (line, false));
     }
 }

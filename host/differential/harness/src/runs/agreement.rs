@@ -1,4 +1,4 @@
-//! Holds one case against all three: the model answers, the library must answer the same, and the Rust must say the same of what it sees.
+//! Asks all three about one case: the model answers, the library must answer the same, and the Rust must say the same of what it sees.
 
 use crate::library;
 use crate::library::entry::Entry;
@@ -30,7 +30,7 @@ pub enum Held {
 /// The longest path that a call can write.
 const MAX_PATH_BYTES: usize = 31_122;
 
-/// The model's answer, held against the library's and the Rust's. An error tells in what they differ.
+/// The model's answer, compared with the library's and the Rust's. An error says how they differ.
 pub fn hold(case: &Case) -> Result<Held, String> {
     hold_with(case, Extent::Some)
 }

@@ -15,7 +15,7 @@ use cases::keys::{candidates, KeyCase};
 use model::{check_key, decode_schema, write_schema, Answer};
 use std::panic::catch_unwind;
 
-/// The model's answer, held against the library's and the Rust's. An error tells in what they differ.
+/// The model's answer, compared with the library's and the Rust's. An error says how they differ.
 pub fn hold(case: &KeyCase, extent: Extent) -> Result<Answer, String> {
     let answer = catch_unwind(|| check_key(&case.call())).map_err(|_| "the model panics".to_owned())?;
     if !case.expect.allows(answer.number, answer.detail) {

@@ -11,7 +11,7 @@ use cases::walls::{Printed, WallCase};
 use model::{tally, wall, BookCall, TallyNumbers, PAGE_BYTES, PAGE_SHEETS, TALLY_BYTES};
 use std::panic::catch_unwind;
 
-/// What the model prints, held against the library. An error tells in what they differ.
+/// What the model prints, compared with the library. An error says how they differ.
 pub fn hold(case: &WallCase, extent: Extent) -> Result<Printed, String> {
     let printed = catch_unwind(|| wall(&case.call())).map_err(|_| "the model panics".to_owned())?;
     let (numbers, pages) = &printed;
