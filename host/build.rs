@@ -36,7 +36,7 @@ fn main() {
     println!("cargo:rustc-link-search=native={}", folder.display());
     println!("cargo:rustc-link-lib=static=entity_rules");
     println!("cargo:rustc-env={VARIABLE}={}", folder.display());
-    tell(&archive(&folder), identity);
+    hand_on(&archive(&folder), identity);
 }
 
 fn stop(message: &str) -> ! {
@@ -51,7 +51,7 @@ fn archive(folder: &Path) -> Vec<u8> {
 }
 
 /// Hands on to the crate what is linked.
-fn tell(archive: &[u8], identity: Option<Identity>) {
+fn hand_on(archive: &[u8], identity: Option<Identity>) {
     println!(
         "cargo:rustc-env=ENTITY_RULES_SHA256={}",
         sha256::sum(archive)

@@ -58,7 +58,7 @@ use limits::{PATH_BYTES, RESULT_BYTES};
 
 /// Checks a rule or a template, as the first letter of its sheet says, against a schema.
 ///
-/// The label begins the path of a defect. It is text of at most 256 bytes. Which names may be read goes by the stock table; a [`Check`] can
+/// The label begins the path of a defect. It is text of at most 256 bytes. Which names may be read is decided by the stock table; a [`Check`] can
 /// be lent another.
 ///
 /// ```
@@ -183,7 +183,7 @@ pub fn check_path<'a>(
 /// Checks every sheet of a rule book against a schema that is read once, and tallies how they fare.
 ///
 /// What counts is what [`check`] answers for each sheet alone. The label is refused as there and otherwise without influence, since a tally has no paths.
-/// Which names may be read goes by the stock table; a [`Check`] can be lent another.
+/// Which names may be read is decided by the stock table; a [`Check`] can be lent another.
 ///
 /// ```
 /// use entity_rules::{tally, Book, Condition, DefectNumber, Field, FieldKind, Kind, Rule, Schema, Semantics};

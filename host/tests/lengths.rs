@@ -1,4 +1,4 @@
-//! Sheets with a length that does not fit its text, and files that are not sheets: where the fault is told, and how.
+//! Sheets with a length that does not fit its text, and files that are not sheets: where the fault is reported, and how.
 
 use entity_rules::entries::{Malformed, read_rule, read_schema, read_table};
 

@@ -21,7 +21,7 @@ case "$1" in
 esac
 "#;
 
-/// Runs a command in a folder. Whatever git is told by the environment is about another repository.
+/// Runs a command in a folder. What the environment has for git is about another repository.
 fn run(program: impl AsRef<OsStr>, arguments: &[&str], folder: &Path) -> Output {
     let mut command = Command::new(program);
     for (name, _) in std::env::vars_os() {

@@ -655,7 +655,7 @@ fn a_refused_table_is_told_by_row_and_mark() {
             "{table}"
         );
     }
-    // It is told once for all rules, and in JSON for each.
+    // It is reported once for all rules, and in JSON for each.
     let (_, out, _) = run_check(&folder, "s r r --table old");
     assert!(out.ends_with("2 rules: 0 accepted, 0 with a defect, 0 refused, 2 not checked\n"));
     assert_eq!(out.lines().count(), 2);

@@ -82,14 +82,14 @@ fn main() -> ExitCode {
 
 /// Hands on the call of one side for a book of that size.
 fn on_book(side: &str, size: &str, measured: impl FnOnce(&mut dyn FnMut() -> bool)) -> Result<(), String> {
-    books::on_book(side, size.parse().map_err(|_| "the size is no number")?, measured)
+    books::on_book(side, size.parse().map_err(|_| "the size is not a number")?, measured)
 }
 
 /// Hands on the call of one side for the sample of that group and size.
 fn on_sample(group: &str, side: &str, size: &str, measured: impl FnOnce(&mut dyn FnMut() -> bool)) -> Result<(), String> {
     let group = GROUPS.iter().chain(&NUMBERS).find(|known| known.name == group).ok_or("no such group")?;
     let side = Side::named(side).ok_or("no such side")?;
-    let size = size.parse().map_err(|_| "the size is no number")?;
+    let size = size.parse().map_err(|_| "the size is not a number")?;
     let sample = (group.make)(size);
     with_call(&sample, side, measured);
     Ok(())

@@ -200,7 +200,7 @@ fn options<'a>(arguments: &'a [String], known: &[&str]) -> Result<BTreeMap<&'a s
     let mut options = BTreeMap::new();
     for pair in arguments.chunks(2) {
         let name = pair[0].strip_prefix("--").filter(|name| known.contains(name));
-        let name = name.ok_or_else(|| Trouble::Usage(format!("{} is no option of this command", pair[0])))?;
+        let name = name.ok_or_else(|| Trouble::Usage(format!("{} is not an option of this command", pair[0])))?;
         let value = pair.get(1).ok_or_else(|| Trouble::Usage(format!("--{name} has no value")))?;
         if options.insert(name, value.as_str()).is_some() {
             return Err(Trouble::Usage(format!("--{name} is given twice")));

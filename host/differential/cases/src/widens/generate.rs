@@ -71,7 +71,7 @@ fn widening(random: &mut Random) -> WidensCase {
     pair(&first, &second).expecting(expect)
 }
 
-/// One change somewhere in the first schema, which tells the answer.
+/// One change somewhere in the first schema, which determines the answer.
 fn one_apart(random: &mut Random) -> WidensCase {
     loop {
         let first = some_schema(random);
@@ -221,7 +221,7 @@ fn arguments_go(_: &mut Random, schema: &mut Schema) -> Option<Expect> {
     schema.arguments.take().map(|_| breach(7, 1, 0))
 }
 
-/// A field gets another name; under an open holder whichever name is smaller tells the breach.
+/// A field gets another name; under an open holder whichever name is smaller determines the breach.
 fn rename(random: &mut Random, schema: &mut Schema) -> Option<Expect> {
     at_a_holder(random, schema, |random, (_, open, fields)| {
         let at = if fields.is_empty() { return None } else { random.below(fields.len()) };

@@ -63,7 +63,7 @@ pub fn hold_with(case: &Case, extent: Extent) -> Result<Held, String> {
     if oracle::is_kept_out(&sheet) {
         return Ok(Held::KeptOut);
     }
-    let label = std::str::from_utf8(&case.label).map_err(|_| "a label that is no UTF-8 was let in".to_owned())?;
+    let label = std::str::from_utf8(&case.label).map_err(|_| "a label that is not UTF-8 was accepted".to_owned())?;
     let frame = Frame { kind: case.kind, semantics: case.semantics, label, table: &case.table };
     let verdict = oracle::ask(frame, &Schemas::new(&schema), &sheet)?;
     same(&answer, &verdict, &sheet)?;
