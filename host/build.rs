@@ -1,6 +1,6 @@
-//! Finds the static library `libentity_rules.a`, sees that it is the proved one, and links it.
+//! Finds the static library `libentity_rules.a`, checks a packed one against `IDENTITY`, and links it.
 //!
-//! It is taken from the folder that `ENTITY_RULES_LIB_DIR` names by an absolute path, where `IDENTITY` must tell that archive apart. Without that
+//! It is taken from the folder that `ENTITY_RULES_LIB_DIR` names by an absolute path, where `IDENTITY` must have that archive's SHA-256. Without that
 //! variable it is the one below the repository's `target/`, which `rt staticlib entity_rules` proves and writes where it is missing.
 
 #[path = "build/identity.rs"]
@@ -36,7 +36,7 @@ fn main() {
     println!("cargo:rustc-link-search=native={}", folder.display());
     println!("cargo:rustc-link-lib=static=entity_rules");
     println!("cargo:rustc-env={VARIABLE}={}", folder.display());
-    tell(&archive(&folder), identity);
+    hand_on(&archive(&folder), identity);
 }
 
 fn stop(message: &str) -> ! {
@@ -51,7 +51,7 @@ fn archive(folder: &Path) -> Vec<u8> {
 }
 
 /// Hands on to the crate what is linked.
-fn tell(archive: &[u8], identity: Option<Identity>) {
+fn hand_on(archive: &[u8], identity: Option<Identity>) {
     println!(
         "cargo:rustc-env=ENTITY_RULES_SHA256={}",
         sha256::sum(archive)
@@ -66,7 +66,7 @@ fn tell(archive: &[u8], identity: Option<Identity>) {
     }
 }
 
-/// The folder of the variable; it must hold the archive, and what tells that it is proved.
+/// The folder of the variable; it must hold the archive, and the `IDENTITY` of it.
 fn given(folder: PathBuf) -> (PathBuf, Option<Identity>) {
     let hint = match folder.is_relative() {
         true => format!(
@@ -79,7 +79,7 @@ fn given(folder: PathBuf) -> (PathBuf, Option<Identity>) {
     let shown = folder.display();
     if !folder.join(ARCHIVE).is_file() {
         stop(&format!(
-            "{VARIABLE} names {shown}, where no {ARCHIVE} is{hint}"
+            "{VARIABLE} names {shown}, which has no {ARCHIVE}{hint}"
         ));
     }
     let file = folder.join("IDENTITY");
@@ -96,6 +96,11 @@ fn given(folder: PathBuf) -> (PathBuf, Option<Identity>) {
 fn of_the_repository() -> PathBuf {
     let root = Path::new(env!("CARGO_MANIFEST_DIR")).join("..");
     let root = root.canonicalize().unwrap_or(root);
+    if !root.join("crates.txt").is_file() {
+        stop(&format!(
+            "this crate is not in its repository, where the library would be. Set {VARIABLE} to the folder of a {ARCHIVE} that `host/pack` has packed."
+        ));
+    }
     let folder = root.join("target/staticlib");
     match fs::metadata(folder.join(ARCHIVE)).and_then(|archive| archive.modified()) {
         Err(_) => build(&root, &folder),

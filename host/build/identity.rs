@@ -2,7 +2,7 @@
 
 use crate::sha256;
 
-/// The variable that has an archive linked of which it is not known that it is proved.
+/// The variable that allows an archive to be linked that is not known to be proved.
 pub const ALLOWANCE: &str = "ENTITY_RULES_LINK_UNPROVED_LIBRARY";
 
 /// The lines of the file.
@@ -36,7 +36,7 @@ impl Identity {
     }
 }
 
-/// The identity of an archive from another place, by the text of its file; none only where that is allowed. An error tells why it is not linked.
+/// The identity of an archive from another place, by the text of its file; none only where that is allowed. An error says why it is not linked.
 pub fn of(
     archive: &[u8],
     file: Option<&str>,
@@ -47,19 +47,19 @@ pub fn of(
     let trouble = match (&identity, file) {
         (Some(identity), _) if identity.sha256 == sum => return Ok(Some(identity.clone())),
         (Some(identity), _) => format!(
-            "its SHA-256 is {sum}, but IDENTITY beside it is that of {}",
+            "its SHA-256 is {sum}, but the IDENTITY beside it names {}",
             identity.sha256
         ),
         (None, Some(_)) => {
-            "IDENTITY beside it does not have the lines commit, toolchain, verdict and sha256"
+            "the IDENTITY beside it does not have the lines commit, toolchain, verdict and sha256"
                 .to_owned()
         }
-        (None, None) => "no IDENTITY is beside it, which host/pack writes".to_owned(),
+        (None, None) => "there is no IDENTITY beside it (host/pack writes one)".to_owned(),
     };
     match is_allowed {
         true => Ok(None),
         false => Err(format!(
-            "{trouble}. So it is not known to be proved; {ALLOWANCE}=1 links it all the same"
+            "{trouble}. So it is not known to be proved; {ALLOWANCE}=1 links it anyway"
         )),
     }
 }

@@ -4,8 +4,8 @@
  * docs/FORMAT.md says what the sheets hold and what each number means. Lengths are in bytes. A pointer must lead to as many bytes
  * as the length after it says, and must not be null, even where that is 0. path, marks, result, pages, buffer and fields must not overlap each other
  * or anything else. No function keeps a pointer, allocates or waits, so any number of threads may call them at once. A call
- * takes up to about 280 KB of stack: 16 KB for its scratch, the rest by how deep the sheets nest, most of it with 31 quantifiers in one
- * another. A path under 32,768 bytes or a result under 28 is refusal 3, and is not written; rulecheck_check needs a result of 32,
+ * takes up to about 330 KB of stack: 16 KB for its scratch, the rest by how deep the sheets nest, most for a rule with 64 levels of values in
+ * 256 of conditions. A path under 32,768 bytes or a result under 28 is refusal 3, and is not written; rulecheck_check needs a result of 32,
  * rulecheck_tally of 144, rulecheck_wall of 16.
  */
 #ifndef ENTITY_RULES_H
@@ -95,7 +95,7 @@ enum entity_rules_side {
   ENTITY_RULES_SIDE_RIGHT = 2
 };
 
-/* The detail of a defect 18: why a reference cannot be read. The last one occurs for key paths only. */
+/* The detail of a defect 18: why a reference cannot be read. Only a key path can have the last one: a projection cannot read the length of a text. */
 enum entity_rules_reference_fault {
   ENTITY_RULES_REFERENCE_EMPTY_PATH = 1,
   ENTITY_RULES_REFERENCE_UNKNOWN_ROOT = 2,
@@ -138,9 +138,6 @@ enum entity_rules_field {
   ENTITY_RULES_PATH_LENGTH = 6,
   ENTITY_RULES_MARK_COUNT = 7
 };
-
-/* The detail of a defect 18 that only a key path can have: a projection cannot read the length of a text. */
-#define ENTITY_RULES_TEXT_COUNT 13
 
 /* The numbers of a result of rulecheck_widens, by their index; the first is ENTITY_RULES_NUMBER. */
 enum entity_rules_widens_field {

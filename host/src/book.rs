@@ -60,7 +60,7 @@ impl Book {
 
     /// The sheets of a file that is a book.
     ///
-    /// Whether it is one is the library's to say. This reading serves to show the sheets, or where a file stops being a book.
+    /// Whether it is one, the library decides. This reading serves to show the sheets, or where a file stops being a book.
     ///
     /// ```
     /// use entity_rules::Book;

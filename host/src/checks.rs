@@ -6,7 +6,7 @@ use crate::settings::{Kind, Semantics};
 use crate::sheets::{RuleBytes, SchemaBytes};
 use crate::tally::{self, Tally};
 use crate::verdict::{self, Refusal, Verdict};
-use crate::{numbers, raw, wall};
+use crate::{raw, wall};
 
 /// A check of a rule or template, as the first letter of its sheet says, with everything that it can be lent.
 ///
@@ -98,7 +98,7 @@ impl<'a> Check<'a> {
             &mut marks,
             &mut result,
         );
-        let numbers = numbers(&result);
+        let numbers = raw::numbers(&result);
         let verdict = verdict::answer(numbers, &path)?;
         let constants = constants(&marks, raw::field(&result, 7));
         Ok(Checked {

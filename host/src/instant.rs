@@ -1,7 +1,7 @@
 //! The fields of an instant.
 
 use crate::limits::RESULT_BYTES;
-use crate::{numbers, raw};
+use crate::raw;
 use std::fmt;
 
 /// What the text of an instant says; what it leaves out is 0.
@@ -78,7 +78,7 @@ pub fn instant(text: impl AsRef<[u8]>) -> Option<Instant> {
     if raw::instant(text.as_ref(), &mut fields) != 0 {
         return None;
     }
-    let [year, month, day, hour, minute, second, nanoseconds] = numbers(&fields);
+    let [year, month, day, hour, minute, second, nanoseconds] = raw::numbers(&fields);
     Some(Instant {
         year,
         month,

@@ -23,6 +23,7 @@ mod finite;
 mod identity;
 mod instant;
 pub mod limits;
+mod number;
 mod numbered;
 #[allow(unsafe_code)]
 pub mod raw;
@@ -31,16 +32,14 @@ mod sheets;
 mod table;
 mod tally;
 mod verdict;
+mod vocabulary;
 mod wall;
 mod widening;
 
 pub use book::{Book, BookError, BookSheet};
-pub use build::{
-    BuildError, CompareOp, Condition, Field, FieldKind, Nesting, Rule, Schema, Template, Value,
-};
+pub use build::{BuildError, Condition, Field, Rule, Schema, Template, Value};
 pub use checks::{Check, Checked};
 pub use constants::Constant;
-pub use entries::Operator;
 pub use finite::{Finite, finite};
 pub use identity::{Identity, Packed, identity};
 pub use instant::{Instant, instant};
@@ -52,13 +51,14 @@ pub use verdict::{
     CollectionFault, Defect, DefectNumber, Detail, Family, InstantFault, PathVerdict,
     ReferenceFault, Refusal, Side, Verdict,
 };
+pub use vocabulary::{CompareOp, FieldKind, Nesting, Operator};
 pub use widening::{Breach, BreachReason, Widening, widens};
 
 use limits::{PATH_BYTES, RESULT_BYTES};
 
 /// Checks a rule or a template, as the first letter of its sheet says, against a schema.
 ///
-/// The label begins the path of a defect. It is text of at most 256 bytes. Which names may be read goes by the stock table; a [`Check`] can
+/// The label begins the path of a defect. It is text of at most 256 bytes. Which names may be read is decided by the stock table; a [`Check`] can
 /// be lent another.
 ///
 /// ```
@@ -177,13 +177,13 @@ pub fn check_path<'a>(
     let mut result = [0; RESULT_BYTES];
     let (semantics, reader) = (semantics.number().into(), reader.number().into());
     raw::path(semantics, reader, path.as_ref(), schema, &mut result);
-    verdict::path_answer(numbers(&result))
+    verdict::path_answer(raw::numbers(&result))
 }
 
 /// Checks every sheet of a rule book against a schema that is read once, and tallies how they fare.
 ///
 /// What counts is what [`check`] answers for each sheet alone. The label is refused as there and otherwise without influence, since a tally has no paths.
-/// Which names may be read goes by the stock table; a [`Check`] can be lent another.
+/// Which names may be read is decided by the stock table; a [`Check`] can be lent another.
 ///
 /// ```
 /// use entity_rules::{tally, Book, Condition, DefectNumber, Field, FieldKind, Kind, Rule, Schema, Semantics};
@@ -261,10 +261,5 @@ fn call(
     let mut result = [0; RESULT_BYTES];
     let (kind, semantics) = (kind.number().into(), semantics.number().into());
     entry(kind, semantics, label, schema, rule, &mut path, &mut result);
-    verdict::answer(numbers(&result), &path)
-}
-
-/// The seven numbers of a result, or fields of an instant.
-fn numbers(result: &[u8]) -> [u32; 7] {
-    [0, 1, 2, 3, 4, 5, 6].map(|index| raw::field(result, index))
+    verdict::answer(raw::numbers(&result), &path)
 }

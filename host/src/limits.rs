@@ -24,7 +24,7 @@ pub const MAX_TEXT_BYTES: usize = 512;
 /// How deep fields nest, elements and properties alike.
 pub const MAX_FIELD_NESTING: usize = 64;
 
-/// How deep conditions nest in a sheet. Over 32 is a defect all the same.
+/// How deep conditions nest in a sheet. Over 32 is still a defect.
 pub const MAX_CONDITION_NESTING: usize = 256;
 
 /// How deep values nest.
@@ -39,22 +39,22 @@ pub const MAX_KEY_BYTES: usize = 512;
 /// Bytes of a name table.
 pub const TABLE_BYTES: usize = 176;
 
-/// Bytes that a call wants for the path.
+/// Bytes that a call needs for the path.
 pub const PATH_BYTES: usize = 32_768;
 
-/// Bytes that a check wants for the list of marks: 2,048 numbers of four bytes.
+/// Bytes that a check needs for the list of marks: 2,048 numbers of four bytes.
 pub const MARKS_BYTES: usize = 8_192;
 
-/// Bytes that a call wants for the result, or for the fields of an instant: seven numbers of four bytes.
+/// Bytes that a call needs for the result, or for the fields of an instant: seven numbers of four bytes.
 pub const RESULT_BYTES: usize = 28;
 
-/// Bytes that the check with a list of marks wants for the result: the seven numbers, and how many marks there are.
+/// Bytes that the check with a list of marks needs for the result: the seven numbers, and how many marks there are.
 pub const CHECK_RESULT_BYTES: usize = 32;
 
-/// Bytes that a tally wants for its result: eighteen numbers of eight bytes.
+/// Bytes that a tally needs for its result: eighteen numbers of eight bytes.
 pub const TALLY_BYTES: usize = 144;
 
-/// Bytes that a wall sheet wants for its result: two numbers of eight bytes.
+/// Bytes that a wall sheet needs for its result: two numbers of eight bytes.
 pub const WALL_BYTES: usize = 16;
 
 /// Sheets that a page of a wall sheet has a line for.

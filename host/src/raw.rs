@@ -407,6 +407,11 @@ pub fn field(result: &[u8], index: u32) -> u32 {
     unsafe { rulecheck_field(result.as_ptr(), result.len(), index) }
 }
 
+/// The seven numbers of a result, or fields of an instant.
+pub(crate) fn numbers(result: &[u8]) -> [u32; 7] {
+    [0, 1, 2, 3, 4, 5, 6].map(|index| field(result, index))
+}
+
 /// The version of the library that is linked: major, minor and patch, eight bits for each of the last two.
 ///
 /// ```

@@ -8,9 +8,9 @@ use crate::verdict::Refusal;
 use std::collections::BTreeSet;
 use std::fmt;
 
-/// Which names each kind may read, where a mill has it otherwise than the stock table. A [`Check`](crate::Check) is lent its sheet.
+/// Which names each kind may read, where a mill wants another table than the stock one. A [`Check`](crate::Check) is lent its sheet.
 ///
-/// Every kind reads `$id`, `$entity` and `$version`, and `$old_fields` only where it reads `$fields`. A table that has it otherwise has no sheet.
+/// Every kind reads `$id`, `$entity` and `$version`, and `$old_fields` only where it reads `$fields`. A table that breaks one of these has no sheet.
 ///
 /// ```
 /// use entity_rules::{Check, Condition, Kind, Name, Rule, Schema, Semantics, Table};
@@ -31,7 +31,7 @@ pub struct Table {
 }
 
 impl Table {
-    /// The table that a check goes by where it is lent none.
+    /// The table that a check uses where it is lent none.
     ///
     /// ```
     /// use entity_rules::{Kind, Name, Table};
@@ -239,6 +239,7 @@ impl Default for Table {
 /// assert_eq!(error.number(), 38);
 /// ```
 #[derive(Clone, Debug, PartialEq, Eq)]
+#[non_exhaustive]
 pub enum TableError {
     /// 37: the bytes stop being a table.
     Malformed(Malformed),

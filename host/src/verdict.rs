@@ -118,14 +118,14 @@ numbered! {
     /// ```
     /// use entity_rules::ReferenceFault;
     ///
-    /// assert_eq!(ReferenceFault::NoCount.to_string(), "`count` of a field that has none");
+    /// assert_eq!(ReferenceFault::NoCount.to_string(), "the field has no `count`");
     /// ```
     #[non_exhaustive]
     ReferenceFault {
         /// As in `$fields.` or `$fields.a..b`.
         EmptyPath = 1, "the path, or the next segment of it, is empty";
         /// A field of the record or an argument.
-        UnknownRoot = 2, "the record or the arguments have no field of that name and are closed";
+        UnknownRoot = 2, "the record or the arguments are closed and have no field of that name";
         /// A property of a closed object.
         UnknownProperty = 3, "the closed object has no property of that name";
         /// Neither an ordinal nor `count`.
@@ -139,13 +139,13 @@ numbered! {
         /// Neither the tag nor the content.
         UnionMember = 8, "a union has no such member";
         /// Only arrays, maps and strings can be counted.
-        NoCount = 9, "`count` of a field that has none";
+        NoCount = 9, "the field has no `count`";
         /// A path that goes on after a plain value.
         NoMember = 10, "the field has no members";
         /// A root that the kind may not read, or arguments that the schema does not have.
         RootNotAvailable = 11, "this root may not be read here, or the schema has no arguments";
         /// An unknown name, or one that the kind may not read.
-        NoSuchReference = 12, "no such reference, or this kind may not read it";
+        NoSuchReference = 12, "there is no such reference, or this kind may not read it";
         /// Only the kernel reads how long a text is; only a key path can meet this.
         TextCount = 13, "a projection cannot read the length of a text";
     }
@@ -178,12 +178,12 @@ numbered! {
         NotAString = 1, "`in` is not a string";
         /// A property of a closed object.
         UnknownProperty = 2, "the closed object has no property of that name";
-        /// A path that goes on where nothing is.
+        /// A path that goes on after the last member.
         NoMember = 3, "the field has no such member";
         /// A field of another kind.
         NotACollection = 4, "the field is neither an array nor a map";
         /// A text of another form.
-        NoName = 5, "it names no collection";
+        NoName = 5, "the text does not name a collection";
     }
 }
 
@@ -289,7 +289,7 @@ impl fmt::Display for Detail {
 /// assert_eq!(defect.place, 3);
 /// assert_eq!(
 ///     defect.to_string(),
-///     "threaded.assert.exists: a reference cannot be read: the record or the arguments have no field of that name and are closed (entry 3)"
+///     "threaded.assert.exists: a reference cannot be read: the record or the arguments are closed and have no field of that name (entry 3)"
 /// );
 /// # Ok::<(), Box<dyn std::error::Error>>(())
 /// ```
@@ -320,7 +320,7 @@ impl Defect {
     /// let verdict = check_template(Kind::Invariant, Semantics::Kernel1, "t", b"H,0,0,-,0\n", template)?;
     /// assert_eq!(
     ///     verdict.defect().map(|defect| defect.explanation()),
-    ///     Some("a reference cannot be read: no such reference, or this kind may not read it".to_owned())
+    ///     Some("a reference cannot be read: there is no such reference, or this kind may not read it".to_owned())
     /// );
     /// # Ok::<(), entity_rules::Refusal>(())
     /// ```
@@ -425,7 +425,7 @@ impl fmt::Display for Verdict {
 /// assert_eq!(verdict, PathVerdict::Defect(ReferenceFault::UnknownRoot));
 /// assert_eq!(
 ///     verdict.to_string(),
-///     "a reference cannot be read: the record or the arguments have no field of that name and are closed"
+///     "a reference cannot be read: the record or the arguments are closed and have no field of that name"
 /// );
 /// # Ok::<(), Box<dyn std::error::Error>>(())
 /// ```
@@ -498,7 +498,7 @@ pub enum Refusal {
     SchemaSheet,
     /// 4 of a call for two schemas, where the new one's sheet is not well formed; [`SchemaSheet`](Refusal::SchemaSheet) is then the old one's.
     NewSchemaSheet,
-    /// 5: the rule sheet is not well formed, or is not of the sort that the function takes.
+    /// 5: the rule sheet is not well formed, or is a template where a rule was asked for, or the reverse.
     RuleSheet,
     /// 33 of a call for a wall sheet: the buffer for the pages is too short.
     Output,
@@ -506,7 +506,7 @@ pub enum Refusal {
     BookForm,
     /// 35: the list of marks is too short.
     Marks,
-    /// 37: the name table is not of its form. [`Table::read`](crate::Table::read) says where.
+    /// 37: the name table is malformed. [`Table::read`](crate::Table::read) says where.
     TableForm,
     /// 38: a mark of the name table breaks one of its two conditions. [`Table::read`](crate::Table::read) says which.
     TableMark,
@@ -615,12 +615,12 @@ impl fmt::Display for Refusal {
             Self::SchemaSheet => f.pad("the schema sheet is not well formed"),
             Self::NewSchemaSheet => f.pad("the new schema's sheet is not well formed"),
             Self::RuleSheet => {
-                f.pad("the rule sheet is not well formed, or not of the sort asked for")
+                f.pad("the rule sheet is not well formed, or is a template where a rule was asked for, or the reverse")
             }
             Self::Output => f.pad("the buffer for the pages is too short"),
             Self::BookForm => f.pad("the file is not a rule book"),
             Self::Marks => f.pad("the list of marks is under 8,192 bytes"),
-            Self::TableForm => f.pad("the name table is not of its form"),
+            Self::TableForm => f.pad("the name table is malformed"),
             Self::TableMark => f.pad(
                 "a mark of the name table hides a name that every kind reads, or shows $old_fields where $fields is hidden",
             ),

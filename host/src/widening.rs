@@ -2,9 +2,9 @@
 
 use crate::limits::RESULT_BYTES;
 use crate::numbered::numbered;
+use crate::raw;
 use crate::sheets::SchemaBytes;
 use crate::verdict::Refusal;
-use crate::{numbers, raw};
 use std::fmt;
 
 numbered! {
@@ -16,6 +16,7 @@ numbered! {
     /// assert_eq!(BreachReason::from_number(5), Some(BreachReason::MarkCloses));
     /// assert_eq!(BreachReason::FieldMissing.to_string(), "a field is missing");
     /// ```
+    #[non_exhaustive]
     BreachReason {
         /// The old schema has it, the new one has not.
         FieldMissing = 1, "a field is missing";
@@ -27,7 +28,7 @@ numbered! {
         TagDiffers = 4, "the tag of a field differs";
         /// Of the record, the arguments or a field.
         MarkCloses = 5, "an open mark has gone from 1 to 0";
-        /// A path that was free would now be held against it.
+        /// A path that was not checked before would now be checked against it.
         FieldAdded = 6, "a field is added where the old schema is open";
         /// Even if they have no fields.
         ArgumentsGo = 7, "the arguments are taken away";
@@ -181,7 +182,7 @@ pub fn widens<'a>(
     let (old, new) = (old.into().0, new.into().0);
     let mut result = [0; RESULT_BYTES];
     raw::widens(old, new, &mut result);
-    answer(numbers(&result))
+    answer(raw::numbers(&result))
 }
 
 /// The answer or refusal that the numbers of a call stand for.

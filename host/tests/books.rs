@@ -39,7 +39,7 @@ fn added_up(check: &Check, schema: &[u8], sheets: &[&[u8]]) -> Tally {
         match check.run(schema, *sheet).map(|checked| checked.verdict) {
             Err(Refusal::SchemaSheet) => sum.schema_refused += 1,
             Err(Refusal::RuleSheet) => sum.rule_refused += 1,
-            Err(refusal) => panic!("{refusal} is no answer to a sheet of a book"),
+            Err(refusal) => panic!("{refusal} is not an answer to a sheet of a book"),
             Ok(verdict) => {
                 sum.passed += u64::from(verdict.passed());
                 match verdict.defect() {

@@ -197,7 +197,6 @@ fn the_header_has_the_numbers_of_the_crate() {
         );
     }
     for (name, number) in [
-        ("TEXT_COUNT", ReferenceFault::TextCount as usize),
         ("KEY_BYTES", MAX_KEY_BYTES),
         ("TABLE_BYTES", TABLE_BYTES),
         ("PATH_BYTES", PATH_BYTES),
@@ -212,6 +211,26 @@ fn the_header_has_the_numbers_of_the_crate() {
         let line = format!("\n#define ENTITY_RULES_{name} {number}\n");
         assert!(HEADER.contains(&line), "{line}");
     }
+}
+
+/// The functions that a text declares, each by a line that has this before its name.
+fn declared(text: &str, before: &str) -> Vec<String> {
+    let names = text.lines().filter_map(|line| line.split_once(before));
+    let names = names.filter_map(|(_, rest)| rest.split_once('('));
+    let mut names: Vec<_> = names.map(|(name, _)| name.to_owned()).collect();
+    names.sort();
+    names
+}
+
+#[test]
+fn the_header_declares_what_the_crate_calls() {
+    let mut functions = declared(HEADER, "uint32_t rulecheck_");
+    functions.extend(declared(HEADER, "uint64_t rulecheck_"));
+    functions.sort();
+    let called = include_str!("../src/raw/functions.rs");
+    assert_eq!(functions, declared(called, "pub fn rulecheck_"));
+    assert_eq!(functions.len(), 13);
+    assert!(include_str!("../README.md").contains("declares the thirteen functions"));
 }
 
 #[test]

@@ -1,4 +1,4 @@
-//! How an archive from another place is known, and what the crate says of the one that is linked.
+//! How an archive from another place is identified, and what the crate says about the one that is linked.
 
 #[path = "../build/identity.rs"]
 mod identity;
@@ -32,7 +32,7 @@ fn sums_are_those_of_the_standard() {
 }
 
 const ARCHIVE: &[u8] = b"abc";
-const IDENTITY: &str = "commit 02e91c9\ntoolchain kit logic 0\nverdict rt: ok, 23 crates proved\n\
+const IDENTITY: &str = "commit 02e91c9\ntoolchain kit logic 0\nverdict rt: ok, 26 crates proved\n\
     sha256 ba7816bf8f01cfea414140de5dae2223b00361a396177a9cb410ff61f20015ad\n";
 
 #[test]
@@ -41,15 +41,17 @@ fn only_the_archive_that_was_packed_is_linked() {
     assert_eq!(known, identity::Identity::read(IDENTITY));
     assert_eq!(
         known.expect("an identity").verdict,
-        "rt: ok, 23 crates proved"
+        "rt: ok, 26 crates proved"
     );
 
     let refused = |archive, file| identity::of(archive, file, false).expect_err("not linked");
     assert!(
-        refused(b"another", Some(IDENTITY)).contains("but IDENTITY beside it is that of ba7816bf")
+        refused(b"another", Some(IDENTITY)).contains("but the IDENTITY beside it names ba7816bf")
     );
-    assert!(refused(ARCHIVE, None).starts_with("no IDENTITY is beside it"));
-    assert!(refused(ARCHIVE, Some("commit 1\n")).starts_with("IDENTITY beside it does not have"));
+    assert!(refused(ARCHIVE, None).starts_with("there is no IDENTITY beside it"));
+    assert!(
+        refused(ARCHIVE, Some("commit 1\n")).starts_with("the IDENTITY beside it does not have")
+    );
     assert!(refused(ARCHIVE, None).contains("ENTITY_RULES_LINK_UNPROVED_LIBRARY=1 links it"));
 
     for file in [Some(IDENTITY), None, Some("")] {
@@ -63,7 +65,7 @@ fn only_the_archive_that_was_packed_is_linked() {
 }
 
 #[test]
-fn the_linked_archive_is_told() {
+fn the_linked_archive_is_named() {
     let archive = Path::new(env!("ENTITY_RULES_LIB_DIR")).join("libentity_rules.a");
     let sum = sha256::sum(&std::fs::read(archive).expect("the archive"));
     assert_eq!(entity_rules::identity().sha256, sum);
@@ -80,6 +82,6 @@ fn the_linked_archive_is_told() {
         text.contains(&format!("\n  library   SHA-256 {sum}\n")),
         "{text}"
     );
-    assert!(text.ends_with(" are answered as they must be\n"), "{text}");
+    assert!(text.ends_with(" give the expected answer\n"), "{text}");
     assert!(output.status.success());
 }

@@ -1,4 +1,4 @@
-//! Sheets with a length that does not fit its text, and files that are not sheets: where the fault is told, and how.
+//! Sheets with a length that does not fit its text, and files that are not sheets: where the fault is reported, and how.
 
 use entity_rules::entries::{Malformed, read_rule, read_schema, read_table};
 
@@ -44,7 +44,7 @@ fn each_sort_of_text_has_its_word() {
         ),
         (
             "R,4,3,name, message\nC,1,1,\n",
-            "entry 1, byte 4: expected lengths that add up to 13, what the texts have up to the end of their line, not to 7",
+            "entry 1, byte 4: expected lengths that add up to 13 (the bytes up to the end of the line), not 7",
         ),
     ] {
         assert_eq!(told(read_rule(sheet.as_bytes())), expected, "{sheet}");
@@ -60,7 +60,7 @@ fn each_sort_of_text_has_its_word() {
         ),
         (
             "H,0,1,-,0\nF,11,0,0,0,4,5,yarnkind\n",
-            "entry 2, byte 23: expected lengths that add up to 8, what the texts have up to the end of their line, not to 9",
+            "entry 2, byte 23: expected lengths that add up to 8 (the bytes up to the end of the line), not 9",
         ),
     ] {
         assert_eq!(told(read_schema(sheet.as_bytes())), expected, "{sheet}");

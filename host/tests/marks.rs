@@ -172,7 +172,7 @@ fn a_list_has_room_for_every_rule() {
     assert!(checked.constants.into_iter().eq(expected));
 }
 
-/// A literal instant by chance, or a reference.
+/// A random literal instant, or a reference.
 fn operand(random: &mut Random) -> String {
     let day = random.pick(&["2024-01-01", "2024-01-02"]);
     let time = random.pick(&["", " 00:00:00", "T00:00:00.0Z", "t00:00:01z"]);

@@ -38,7 +38,7 @@ impl Case<'_> {
                 let fault = ReferenceFault::from_number(self.detail);
                 Ok(PathVerdict::Defect(fault.expect("a detail of 18")))
             }
-            other => panic!("{other} is no answer to a key"),
+            other => panic!("{other} is not an answer to a key"),
         }
     }
 }

@@ -1,4 +1,4 @@
-//! The SARIF log, held against what the schema of SARIF 2.1.0 requires of each of its objects.
+//! The SARIF log, compared with what the schema of SARIF 2.1.0 requires of each of its objects.
 
 use std::collections::BTreeMap;
 use std::fs;
@@ -31,7 +31,7 @@ impl Json {
                 let members = Self::members(rest, ['{', '}'], pair);
                 let count = members.len();
                 let object: BTreeMap<String, Json> = members.into_iter().collect();
-                assert_eq!(object.len(), count, "no key stands twice");
+                assert_eq!(object.len(), count, "no key occurs twice");
                 Self::Object(object)
             }
             _ => {
@@ -91,26 +91,26 @@ impl Json {
             Self::Object(members) => members
                 .get(key)
                 .unwrap_or_else(|| panic!("{key} in {self:?}")),
-            _ => panic!("{self:?} is no object"),
+            _ => panic!("{self:?} is not an object"),
         }
     }
 
     fn list(&self, key: &str) -> &[Self] {
         match self.at(key) {
             Self::List(members) => members,
-            other => panic!("{other:?} is no list"),
+            other => panic!("{other:?} is not a list"),
         }
     }
 
     fn is_text(&self, key: &str) -> String {
         match self.at(key) {
             Self::Text(text) => text.clone(),
-            other => panic!("{other:?} is no text"),
+            other => panic!("{other:?} is not a text"),
         }
     }
 }
 
-/// Holds a log against the schema: required members, names that there are, and the least values of a region. Answers its results.
+/// Compares a log with the schema: required members, names that there are, and the least values of a region. Answers its results.
 fn hold(log: &Json) -> Vec<&Json> {
     assert_eq!(log.is_text("version"), "2.1.0");
     assert!(log.is_text("$schema").ends_with("/sarif-schema-2.1.0.json"));
@@ -137,7 +137,7 @@ fn hold(log: &Json) -> Vec<&Json> {
         assert_eq!(
             ids.len(),
             driver.list("rules").len(),
-            "no identifier stands twice"
+            "no identifier occurs twice"
         );
     }
     results
@@ -148,7 +148,7 @@ fn hold_location(location: &Json) {
     let uri = physical.at("artifactLocation").is_text("uri");
     assert!(uri.is_ascii() && !uri.contains([' ', '\\', '"']), "{uri}");
     let Json::Object(members) = physical else {
-        panic!("{physical:?} is no object");
+        panic!("{physical:?} is not an object");
     };
     if let Some(region) = members.get("region") {
         for key in ["startLine", "startColumn", "endLine", "endColumn"] {

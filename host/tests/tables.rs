@@ -305,7 +305,7 @@ fn broken_conditions_are_named() {
     }
 }
 
-/// A fault is told by its row and its byte, where the mark or what stands in its place is.
+/// A fault is reported by its row and its byte, where the mark is or something in its place.
 #[test]
 fn faults_are_told_by_row_and_mark() {
     let stock = Table::stock().sheet().expect("the stock table is sound");

@@ -1,8 +1,8 @@
-//! Any number of threads may check at once.
+//! Any number of threads may check at once, each with enough stack.
 
 use entity_rules::{
-    Check, Checked, Condition, Defect, Field, FieldKind, Kind, Refusal, Rule, RuleSheet, Schema,
-    SchemaSheet, Semantics, Table, check_rule,
+    Check, Checked, Condition, Defect, DefectNumber, Field, FieldKind, Kind, Refusal, Rule,
+    RuleSheet, Schema, SchemaSheet, Semantics, Table, Value, check_rule,
 };
 use std::thread;
 
@@ -43,4 +43,29 @@ fn threads_get_their_own_answers() {
             });
         }
     });
+}
+
+/// The stack that a call takes at most, as header and README say it, and what the thread of a test takes itself.
+const CALL_STACK: usize = 330_000;
+const OWN_STACK: usize = 16 * 1024;
+
+#[test]
+fn a_thread_needs_no_more_stack_than_is_said() {
+    let said = format!("up to about {} KB of stack", CALL_STACK / 1_000);
+    assert!(include_str!("../include/entity_rules.h").contains(&said));
+    assert!(include_str!("../README.md").contains(&said));
+
+    // The sheet that takes most: values as deep as may be, in conditions as deep as may be.
+    let arrays = || (1..64).fold(Value::from("$a"), |inner, _| Value::array([inner]));
+    let pair = Condition::eq(arrays(), arrays());
+    let condition = (1..256).fold(pair, |inner, _| Condition::not(inner));
+    let rule = Rule::new(condition).sheet().expect("a rule");
+    let schema = Schema::new().sheet().expect("a schema");
+    let thread = thread::Builder::new().stack_size(CALL_STACK + OWN_STACK);
+    let checked = thread
+        .spawn(move || check_rule(Kind::Invariant, Semantics::Service1, "r", &schema, &rule))
+        .expect("a thread");
+    let verdict = checked.join().expect("an answer").expect("no refusal");
+    let number = verdict.defect().map(|defect| defect.number);
+    assert_eq!(number, Some(DefectNumber::Deep));
 }

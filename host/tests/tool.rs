@@ -655,7 +655,7 @@ fn a_refused_table_is_told_by_row_and_mark() {
             "{table}"
         );
     }
-    // It is told once for all rules, and in JSON for each.
+    // It is reported once for all rules, and in JSON for each.
     let (_, out, _) = run_check(&folder, "s r r --table old");
     assert!(out.ends_with("2 rules: 0 accepted, 0 with a defect, 0 refused, 2 not checked\n"));
     assert_eq!(out.lines().count(), 2);
@@ -772,7 +772,7 @@ fn breaches_are_told_with_their_lines_and_paths() {
         ),
         (
             "H,1,1,0,0\nF,6,0,0,0,1,-,a\n",
-            "reason 6: a field is added where the old schema is open\n  old     none\n  new     new:2: entry 2, $fields.a: array\n  hint    paths of that name were free, and would now be held against the field\n",
+            "reason 6: a field is added where the old schema is open\n  old     none\n  new     new:2: entry 2, $fields.a: array\n  hint    paths of that name were not checked before, and would now be checked against the field\n",
         ),
         (
             "H,1,1,0,0\nF,8,0,0,0,3,-,a\nb\n",
@@ -780,7 +780,7 @@ fn breaches_are_told_with_their_lines_and_paths() {
         ),
         (
             "H,1,1,0,0\nF,6,0,1,0,3,-,a\nb\nF,1,0,0,0,0,-,\n",
-            "reason 3: a field has an element in only one of the two\n  old     old:2: entry 2, $fields.\"a\\nb\": array\n  new     new:2: entry 2, $fields.\"a\\nb\": array, with an element\n  hint    paths through the elements were free, and would now be held against the element\n",
+            "reason 3: a field has an element in only one of the two\n  old     old:2: entry 2, $fields.\"a\\nb\": array\n  new     new:2: entry 2, $fields.\"a\\nb\": array, with an element\n  hint    paths through the elements were not checked before, and would now be checked against the element\n",
         ),
         (
             "H,1,2,0,0\nF,6,0,0,0,3,-,a\nb\nF,6,1,1,0,1,-,c\nF,11,0,0,0,0,-,\n",

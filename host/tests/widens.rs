@@ -28,7 +28,7 @@ impl Case<'_> {
             }
             [4, 1, 0, 0, 0] => Err(Refusal::SchemaSheet),
             [4, 2, 0, 0, 0] => Err(Refusal::NewSchemaSheet),
-            other => panic!("{other:?} is no answer to two schemas"),
+            other => panic!("{other:?} is not an answer to two schemas"),
         }
     }
 }

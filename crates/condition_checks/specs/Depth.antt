@@ -1,4 +1,4 @@
--- How deep conditions nest, as far as is looked.
+-- How deep conditions nest, up to the depth that is looked at.
 use Prim.Native.Nat.{ℕ, _≤_, min}
 use mathlib.Core.List.{List}
 use mathlib.Core.Path.{_≡_}

@@ -61,7 +61,7 @@ fn validate_nonempty(passed: usize, over: Over, op: usize, i: usize, end: usize)
     going(passed)
 }
 
-// What a condition that ends at `end` is asked by its own entry. Operators from 18 on are there under service alone.
+// The checks of the own entry of a condition that ends at `end`. Operators from 18 on exist only under service.
 fn validate_entry(
     passed: usize,
     scope: Scope,

@@ -1,4 +1,4 @@
--- What every reader of a tree does with what lies ahead, and how such readers are put together.
+-- What every reader of a tree does with the input that remains, and how such readers are put together.
 use Prim.Native.Nat.{ℕ, _+_, _-_, _≤_}
 use mathlib.Core.List.{List, [], _++_, append-assoc}
 use mathlib.Core.Option.{Option, none, some, Option·none-ne-some, Option·some-injective}

@@ -1,4 +1,4 @@
--- The path buffer of a book's call comes home, and its counts are numbers of eight bytes.
+-- The path buffer of a book's call is given back, and its counts are numbers of eight bytes.
 use Prim.Native.Nat.{ℕ, _+_, _^_, _-_, _<_}
 use native.Mathlib.Omega.{arith}
 use mathlib.Core.List.{List, [], _∷_, _++_, append-nil}
@@ -14,7 +14,7 @@ use Rattle.host_numbers.specs.Counts.{InEightBytes, no-more, one-more}
 use Rattle.entity_rules.specs.Entry.{pathLent}
 use Rattle.entity_rules.proofs.Entries.{lent-nothing, lent-all}
 
--- the part of the path buffer that is lent comes home
+-- the part of the path buffer that is lent is given back
 pub path-home : (free need : ℕ) (path result : List ℕ) (lent : ℕ) (last : List ℕ)
     → lent ≡ pathLent need (length path) (length result)
     → (length result < need → free ≡ 0)

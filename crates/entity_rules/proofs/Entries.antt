@@ -60,7 +60,7 @@ module _ (takes : Takes) (kind semantics : ℕ) (label table schema rule : List 
       in
       rw (length-replicate {A = ℕ} scratchWords 0, part, ek, es, el) cut-down
 
-  -- the part of the path buffer that was lent comes home
+  -- the part of the path buffer that was lent is given back
   path-home : (lent : ℕ) (last : List ℕ)
       → lent ≡ pathLent need (length path) (length result)
       → last ≡ pathAfter answer (take (lent - 0) path)

@@ -7,7 +7,7 @@ ghost use mathlib.Core.Path.{_≡_};
 ghost use lib.ListN.{length};
 ghost use Rattle.validation.specs.Loading.{loadNumber, loadAfter};
 
-// 37 where the table is not of its form or the buffer is too short, 38 where a mark breaks a condition; else 0, and the table lies at the
+// 37 where the table is malformed or the buffer is too short, 38 where a mark breaks a condition; else 0, and the table lies at the
 // buffer's start.
 pub fn load(table: &[u8], buffer: &mut [u8]) -> u32
     ensures { λ r. ⌜ (r ≡ loadNumber (now (table .entry)) (length (now (buffer .entry)))) × (now (buffer .exit) ≡ loadAfter (now (table .entry)) (now (buffer .entry))) ⌝ }

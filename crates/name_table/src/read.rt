@@ -24,7 +24,7 @@ pub enum RowRead {
 pub enum TableRead {
     // The row of the kind that is asked for, and whether both conditions hold of every row.
     Is(Row, bool),
-    // It is not of its form.
+    // It is malformed.
     Bad,
 }
 

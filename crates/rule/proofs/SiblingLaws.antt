@@ -120,7 +120,7 @@ module _ {K E T : Type 0} {S : Siblings K E T} {s before words : List ℕ} {firs
         budget = omega arith;
       }
 
-  -- all have been read, and what is carried after the last is what is at hand
+  -- all have been read, and what is carried after the last is the current state
   pub siblings-ended : n ≡ 0 → paid ≡ 0
       → (i : Indexed (S .all count) (S .AllAt) (S .allSize) s before words cost c here) × (S .ending first (i .tree) ≡ k)
   unfolding andThen pure

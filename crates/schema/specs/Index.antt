@@ -20,7 +20,7 @@ firstWord = 2048
 abbrev pub maxSlots : ℕ
 maxSlots = maxSchemaEntries - 1
 
--- the words from this one on are no words of the index
+-- the words from this one on are not words of the index
 abbrev pub indexEnd : ℕ
 indexEnd = firstWord + 2 * maxSlots
 

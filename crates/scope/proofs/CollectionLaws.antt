@@ -126,7 +126,7 @@ module _ (sheet words path : List ℕ) (at : ℕ) (h : Holder) (n : ℕ) (ends :
     less : (n ≡ length path → ⊥) → n < length path
     less other = let within = ends .within in omega arith
 
--- A reference whose name is no binder's
+-- A reference whose name is not a binder's
 
 module _ (t : Tree.Schema) (path : List Text) where
   name-alone : (x : Option Setting.Name) → path ≡ [] → collectionNamed t x path ≡ refused 5 0 []

@@ -174,7 +174,7 @@ module _ (sheet words path : List ℕ) (scope : Scope) (name : Name) (root : Roo
           (split path .first ∷ split path .others, unread-root setting (nameIs name) (split path .first) (split path .others) at (q .0) (rootOf t (nameIs name)) (q .1) (may v (nameIs name) ∙ sym allowed ∙ cannot));
     }
 
--- A reference whose name is no binder's
+-- A reference whose name is not a binder's
 
 module _ (setting : Setting) (t : Tree.Schema) (path : List Text) where
   no-name : (x : Option Setting.Name) → x ≡ none → fromName setting t x path ≡ refused 12 0 path

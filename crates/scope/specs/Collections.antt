@@ -21,7 +21,7 @@ pub record RootCollects (sheet words : List ℕ) (at : ℕ) (h : Holder) (path :
   pub leads : (t : Tree.Holder) → HolderAt sheet words h t
       → CollectedIs sheet words r (collectionIn (Reference.root at t) (split path .first) (split path .others))
 
--- a reference whose name, of `end` bytes, is no binder's
+-- a reference whose name, of `end` bytes, is not a binder's
 pub record NameCollects (sheet words : List ℕ) (scope : Scope) (text : Text) (end : ℕ) (r : Collected) : Type 0 where
   pub leads : (t : Tree.Schema) → SchemaAt sheet words (scope .schema) t → Ends text end
       → CollectedIs sheet words r (collectionNamed t (nameOf (split text .first)) (split text .others))

@@ -27,7 +27,7 @@ pub record RootReads (sheet words : List ℕ) (scope : Scope) (name : Name) (pat
   pub leads : (setting : Setting) (t : Tree.Schema) → SettingAt scope setting → SchemaAt sheet words (scope .schema) t
       → ReadableIs r (fromRoot setting (nameIs name) (rootOf t (nameIs name)) (split path .first) (split path .others))
 
--- a reference whose name, of `end` bytes, is no binder's
+-- a reference whose name, of `end` bytes, is not a binder's
 pub record NameReads (sheet words : List ℕ) (scope : Scope) (text : Text) (end : ℕ) (r : Readable) : Type 0 where
   pub leads : (setting : Setting) (t : Tree.Schema) → SettingAt scope setting → SchemaAt sheet words (scope .schema) t → Ends text end
       → ReadableIs r (fromName setting t (nameOf (split text .first)) (split text .others))

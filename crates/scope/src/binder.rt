@@ -10,7 +10,7 @@ ghost use Prim.Native.Nat.{_<_};
 ghost use Rattle.scope.specs.Binders.{capped, lengthUnit, elementNumber, binderNumber, binderName, binderElement};
 ghost use Rattle.scope.specs.Scopes.{Unbound, Binds, BoundIs};
 
-// Conditions nest 32 deep, and the innermost is no quantifier.
+// Conditions nest 32 deep, and the innermost is not a quantifier.
 pub const MAX_BINDERS: usize = 31;
 
 // No sheet has more bytes, and no index more slots.

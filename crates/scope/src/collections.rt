@@ -68,7 +68,7 @@ fn collection_root(
     )
 }
 
-// A reference whose name, of `end` bytes, is no binder's.
+// A reference whose name, of `end` bytes, is not a binder's.
 fn collection_name(schema: &[u8], words: &[u32], scope: Scope, text: &[u8], end: usize) -> Collected
     ensures { λ r. ⌜ NameCollects (now (schema .entry)) (now (words .entry)) scope (now (text .entry)) end r ⌝ }
 {

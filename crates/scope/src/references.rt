@@ -75,7 +75,7 @@ fn validate_root(schema: &[u8], words: &[u32], scope: Scope, name: Name, path: &
     }
 }
 
-// A reference whose name, of `end` bytes, is no binder's.
+// A reference whose name, of `end` bytes, is not a binder's.
 fn validate_name(schema: &[u8], words: &[u32], scope: Scope, text: &[u8], end: usize) -> Readable
     ensures { λ r. ⌜ NameReads (now (schema .entry)) (now (words .entry)) scope (now (text .entry)) end r ⌝ }
 {

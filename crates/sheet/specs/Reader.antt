@@ -1,4 +1,4 @@
--- Reading from left to right. A reader takes what lies ahead and answers what it read with what lies ahead then, or none.
+-- Reading from left to right. A reader takes the input that remains and answers what it read with the input that then remains, or none.
 use mathlib.Core.Bool.{Bool, true, false}
 use mathlib.Core.Option.{Option, none, some}
 

@@ -104,7 +104,7 @@ pub enum FieldRead {
 
 pub enum KnownField {
     Is(FieldHead),
-    // The entry is no field's.
+    // The entry is not a field's.
     Bad,
 }
 

@@ -125,7 +125,7 @@ sheets-decide c h =
     rw (sheets-first c h)
     (by-sheets (c .asked .takes) (settingFor c) (c .asked .label) (decodeSchema (c .schema)) (decodeRule (c .asked .rule)))
 
--- so the check of a sheet tells what a call with that sheet alone answers
+-- so the check of a sheet determines what a call with that sheet alone answers
 pub single-told : {takes : Takes} {pathBefore path before after : List ℕ} {read : SchemaRead} {r : Outcome} (c : Call)
     → firstRefusal (early c) ≡ none
     → c .asked .takes ≡ takesOf takes

@@ -82,7 +82,7 @@ pub enum Settled {
     Refused(u32),
 }
 
-// What the name table sets a check to: 37 if it is not of its form, 38 if a mark breaks one of its two conditions.
+// What the name table sets a check to: 37 if it is malformed, 38 if a mark breaks one of its two conditions.
 pub fn settle(kind: u32, semantics: u32, table: &[u8]) -> Settled
     ensures { λ r. ⌜ SettledIs kind semantics (now (table .entry)) r ⌝ }
 {

@@ -219,7 +219,7 @@ pub answers-by-checks : (c : Call) (s : Schema) (r : Rule)
 unfolding resultOf refusedOr judged
 answers-by-checks c s r e e′ n = rw (n, e, e′)
 
--- What the seven numbers tell of an answer
+-- What the seven numbers say about an answer
 
 pub number-accepted : {a : Answer} → Heard a → numbersOf a .number ≡ 0 → (n : ℕ) × (a ≡ accepted n)
 unfolding numbersOf

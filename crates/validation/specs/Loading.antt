@@ -9,7 +9,7 @@ use Rattle.reference.specs.Table.{tableBytes, decodeTable, isSoundTable}
 use Rattle.validation.specs.Check.{isNone}
 use Rattle.validation.specs.Result.{Refusal, firstRefusal, numberIn}
 
--- 37 for a table that is not of its form or a buffer without room for it, then 38 for a mark that breaks one of the two conditions
+-- 37 for a table that is malformed or a buffer without room for it, then 38 for a mark that breaks one of the two conditions
 unfoldable pub loadRefusals : (table : List ℕ) (size : ℕ) → List Refusal
 loadRefusals table size =
     record { number = 37; isDue = isNone (decodeTable table) || not (leb tableBytes size) }

@@ -14,7 +14,7 @@ use Rattle.definition.specs.Tree.{Text, Value, constant, number, string, array,
 use Rattle.definition.specs.Within.{pairsEntries, valueEntries, valuesEntries}
 use Rattle.rule.specs.Index.{startOf, countOfValues, countOfPairs, EntryAt, ValueAt, ValuesAt, PairsAt}
 
--- a key's entry is no value
+-- a key's entry is not a value
 begins-otherwise : (b : ℕ) (t : List ℕ) (isValue : Bool) → eqb b 86 ≡ isValue → (key : Text) (rest : List ℕ) → keyHead (b ∷ t) ≡ some (key, rest) → valueHead (b ∷ t) ≡ none
 unfolding keyHead valueHead _>>=_ _>>_ andThen byte
 begins-otherwise b t true e key rest r =
@@ -46,7 +46,7 @@ module _ {A : Type 0} (says : ℕ → ValueHead → List A) where
     leavesOfPairs noPairs = []
     leavesOfPairs (pair key v others) = leaves v ++ leavesOfPairs others
 
-  -- by the index: an entry that is no value says nothing
+  -- by the index: an entry that is not a value says nothing
   unfoldable pub saysIf : ℕ → Option (ValueHead × List ℕ) → List A
   saysIf e none = []
   saysIf e (some h) = says e (h .0)

@@ -113,7 +113,7 @@ fn validate_affix(passed: usize, rule: &[u8], words: &[u32], over: Over, i: usiz
     fail(passed, Fault::Affix, i + 1, over)
 }
 
-// What an operand is asked before its references: a side of a comparison is no array and no object.
+// The checks of an operand before its references: a side of a comparison is neither an array nor an object.
 fn validate_side(
     passed: usize,
     rule: &[u8],

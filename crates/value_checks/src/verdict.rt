@@ -1,4 +1,4 @@
-// What judging answers, and how it goes on check by check.
+// The result of the checks so far, and how the next check extends it.
 use walk::answer::CollectionFault;
 use walk::answer::ReferenceFault;
 ghost use mathlib.Core.Path.{_≡_};
@@ -10,7 +10,7 @@ pub enum Side {
     Right,
 }
 
-// Why an operand of `before` or `after` is no instant.
+// Why an operand of `before` or `after` is not an instant.
 pub enum InstantFault {
     // Text that begins with `$$`.
     Escaped,

@@ -10,6 +10,7 @@ mod pairs;
 mod plot;
 mod reader;
 mod report;
+mod row;
 mod rust;
 mod sheets;
 mod stack;
@@ -25,7 +26,8 @@ mod functions;
 use library::Buffers;
 use model::trees;
 use model::{decode_rule, decode_schema};
-use report::{Acceptance, Figures, Row};
+use report::{Acceptance, Figures};
+use row::{Point, Row};
 use sheets::{Group, Sample, GROUPS, NUMBERS};
 use std::path::Path;
 use std::process::ExitCode;
@@ -80,14 +82,14 @@ fn main() -> ExitCode {
 
 /// Hands on the call of one side for a book of that size.
 fn on_book(side: &str, size: &str, measured: impl FnOnce(&mut dyn FnMut() -> bool)) -> Result<(), String> {
-    books::on_book(side, size.parse().map_err(|_| "the size is no number")?, measured)
+    books::on_book(side, size.parse().map_err(|_| "the size is not a number")?, measured)
 }
 
 /// Hands on the call of one side for the sample of that group and size.
 fn on_sample(group: &str, side: &str, size: &str, measured: impl FnOnce(&mut dyn FnMut() -> bool)) -> Result<(), String> {
     let group = GROUPS.iter().chain(&NUMBERS).find(|known| known.name == group).ok_or("no such group")?;
     let side = Side::named(side).ok_or("no such side")?;
-    let size = size.parse().map_err(|_| "the size is no number")?;
+    let size = size.parse().map_err(|_| "the size is not a number")?;
     let sample = (group.make)(size);
     with_call(&sample, side, measured);
     Ok(())
@@ -167,11 +169,11 @@ fn row(group: &'static Group, counting: bool) -> Result<Row, String> {
 }
 
 /// The bytes of a sample and the times of the three sides, after a look whether they are measured on the same thing.
-fn point(group: &str, sample: &Sample) -> Result<report::Point, String> {
+fn point(group: &str, sample: &Sample) -> Result<Point, String> {
     if rust::build(sample).as_ref() != modelled(sample).as_ref() {
         return Err(format!("{group}: what is built differs from what the model reads"));
     }
-    Ok(report::Point { bytes: sample.bytes(), times: Side::ALL.map(|(_, side)| time(sample, side)) })
+    Ok(Point { bytes: sample.bytes(), times: Side::ALL.map(|(_, side)| time(sample, side)) })
 }
 
 /// What the model reads, in the Rust's types.

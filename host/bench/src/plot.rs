@@ -1,6 +1,6 @@
 //! Time against size, one panel for each group.
 
-use crate::report::Row;
+use crate::row::Row;
 use std::fmt::Write;
 
 const PANEL: (f64, f64) = (360.0, 230.0);

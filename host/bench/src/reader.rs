@@ -256,7 +256,7 @@ impl Reader<'_> {
         Some(values)
     }
 
-    /// The members of an object in the order given. That a key comes again is told by the map.
+    /// The members of an object in the order given. The map says whether a key comes again.
     fn members(&mut self, count: usize, nesting: usize) -> Option<Map<String, Value>> {
         let mut members = Map::with_capacity(count);
         for _ in 0..count {

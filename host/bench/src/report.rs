@@ -1,38 +1,10 @@
 //! The figures as tables, and the document that they go into.
 
 use crate::pairs::Compared;
-use crate::sheets::Group;
+use crate::row::Row;
 use crate::{books, plot};
 use std::fs;
 use std::path::Path;
-
-/// One size of a group: the library, the Rust validating, the Rust building and validating, in nanoseconds.
-pub struct Point {
-    pub bytes: usize,
-    pub times: [f64; 3],
-}
-
-pub struct Row {
-    pub group: &'static Group,
-    /// Of the size in the table.
-    pub bytes: usize,
-    pub instructions: Option<[Option<u64>; 3]>,
-    /// Bytes and the library's instructions at the middle size and at the largest.
-    pub ends: Option<[(usize, Option<u64>); 2]>,
-    pub points: Vec<Point>,
-}
-
-impl Row {
-    fn listed(&self) -> &Point {
-        self.points.iter().find(|point| point.bytes == self.bytes).expect("the size in the table is one of the plot's")
-    }
-
-    /// How the library's instructions grow from the middle size to the largest: 1 is with the bytes, 2 with their square.
-    fn growth(&self) -> f64 {
-        let Some([(few, Some(low)), (many, Some(high))]) = self.ends else { return f64::NAN };
-        (high as f64 / low as f64).ln() / (many as f64 / few as f64).ln()
-    }
-}
 
 pub struct Acceptance {
     pub name: &'static str,

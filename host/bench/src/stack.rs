@@ -1,4 +1,4 @@
-//! How far a call goes into the stack: it runs on a painted stack of its own, and the lowest byte that changed tells.
+//! How far a call goes into the stack: it runs on a painted stack of its own, and the lowest byte that changed shows it.
 
 use crate::library::{check, Buffers};
 use crate::sheets::Sample;

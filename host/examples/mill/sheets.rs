@@ -79,7 +79,7 @@ pub fn book() -> Result<Book, Box<dyn Error>> {
         Rule::new(bars(Condition::lte("$bar.tension", 9.5))).name("not too tight"),
         // There is no 31st of April.
         Rule::new(Condition::after("$fields.drawn", "2024-04-31")).name("new drawings only"),
-        // A name is no collection.
+        // A name is not a collection.
         Rule::new(Condition::for_any(
             "mark",
             "$fields.name",

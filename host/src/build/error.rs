@@ -1,50 +1,8 @@
 //! What a sheet cannot hold.
 
-use crate::limits::{
-    MAX_CONDITION_NESTING, MAX_FIELD_NESTING, MAX_SHEET_BYTES, MAX_TEXT_BYTES, MAX_VALUE_NESTING,
-};
+use crate::limits::{MAX_SHEET_BYTES, MAX_TEXT_BYTES};
+use crate::vocabulary::Nesting;
 use std::fmt;
-
-/// What is nested in itself.
-///
-/// ```
-/// assert_eq!(entity_rules::Nesting::Conditions.limit(), 256);
-/// ```
-#[derive(Clone, Copy, Debug, PartialEq, Eq, Hash)]
-pub enum Nesting {
-    /// Fields of a schema, by properties and elements.
-    Fields,
-    /// Conditions of a rule.
-    Conditions,
-    /// Arrays and objects.
-    Values,
-}
-
-impl Nesting {
-    /// How deep it may go.
-    ///
-    /// ```
-    /// assert_eq!(entity_rules::Nesting::Values.limit(), 64);
-    /// ```
-    #[must_use]
-    pub const fn limit(self) -> usize {
-        match self {
-            Self::Fields => MAX_FIELD_NESTING,
-            Self::Conditions => MAX_CONDITION_NESTING,
-            Self::Values => MAX_VALUE_NESTING,
-        }
-    }
-}
-
-impl fmt::Display for Nesting {
-    fn fmt(&self, f: &mut fmt::Formatter<'_>) -> fmt::Result {
-        f.pad(match self {
-            Self::Fields => "fields",
-            Self::Conditions => "conditions",
-            Self::Values => "values",
-        })
-    }
-}
 
 /// Why something cannot be written as a sheet. Of a long text only the start is kept.
 ///
@@ -57,6 +15,7 @@ impl fmt::Display for Nesting {
 /// assert_eq!(error.to_string(), "two sibling fields are named \"bars\"; expected each name once");
 /// ```
 #[derive(Clone, Debug, PartialEq, Eq, Hash)]
+#[non_exhaustive]
 pub enum BuildError {
     /// A text is over 512 bytes long.
     TextTooLong {

@@ -1,7 +1,8 @@
-//! Entries of a sheet to be.
+//! Entries of a sheet that is being written.
 
-use super::error::{BuildError, Nesting, start};
+use super::error::{BuildError, start};
 use crate::limits::{MAX_RULE_ENTRIES, MAX_SCHEMA_ENTRIES, MAX_SHEET_BYTES, MAX_TEXT_BYTES};
+use crate::vocabulary::Nesting;
 
 /// Entries that belong together, and how deep they nest. It never passes the limits of its sheet.
 #[derive(Clone, Debug, PartialEq, Eq)]
@@ -42,7 +43,7 @@ impl Part {
         self.append(other.entries, &other.bytes)
     }
 
-    /// Adds entries that nest for themselves, as the values of a condition do.
+    /// Adds entries whose nesting is counted separately, as the values of a condition do.
     pub fn add_apart(&mut self, other: &Part) -> Result<(), BuildError> {
         self.append(other.entries, &other.bytes)
     }

@@ -1,33 +1,10 @@
 //! Conditions, rules, templates.
 
-use super::error::{BuildError, Nesting};
+use super::error::BuildError;
 use super::part::{Built, Part, length_or_dash, lent, text};
 use super::value::Value;
-use crate::entries::Operator;
-use crate::numbered::numbered;
 use crate::sheets::RuleSheet;
-
-numbered! {
-    /// What [`Condition::compare`] asks.
-    ///
-    /// ```
-    /// assert_eq!(entity_rules::CompareOp::Lte.to_string(), "lte");
-    /// ```
-    CompareOp {
-        /// Equal.
-        Eq = 1, "eq";
-        /// Not equal.
-        Ne = 2, "ne";
-        /// Less.
-        Lt = 3, "lt";
-        /// Less or equal.
-        Lte = 4, "lte";
-        /// Greater.
-        Gt = 5, "gt";
-        /// Greater or equal.
-        Gte = 6, "gte";
-    }
-}
+use crate::vocabulary::{CompareOp, Nesting, Operator};
 
 /// A condition over a record, its arguments and what binders name.
 ///

@@ -1,44 +1,10 @@
 //! Schemas.
 
-use super::error::{BuildError, Nesting};
+use super::error::BuildError;
 use super::part::{Built, Part, length_or_dash, lent, text};
-use crate::numbered::numbered;
 use crate::sheets::SchemaSheet;
+use crate::vocabulary::{FieldKind, Nesting};
 use std::collections::btree_map::{BTreeMap, Entry};
-
-numbered! {
-    /// The kind of a field.
-    ///
-    /// ```
-    /// assert_eq!(entity_rules::FieldKind::Binary64.number(), 12);
-    /// ```
-    FieldKind {
-        /// Text; it has a `count`.
-        String = 1, "string";
-        /// A whole number.
-        Integer = 2, "integer";
-        /// Any number.
-        Number = 3, "number";
-        /// `true` or `false`.
-        Boolean = 4, "boolean";
-        /// One of several texts.
-        Enum = 5, "enum";
-        /// A list of elements; it has a `count`, and elements by their ordinal.
-        Array = 6, "array";
-        /// Properties with names.
-        Object = 7, "object";
-        /// Any value; every path into it can be read.
-        Json = 8, "json";
-        /// The identity of another record.
-        Ref = 9, "ref";
-        /// Elements under keys; it has a `count`.
-        Map = 10, "map";
-        /// A tag, and content that depends on it.
-        Union = 11, "union";
-        /// A floating-point number.
-        Binary64 = 12, "binary64";
-    }
-}
 
 /// Fields beside each other, by their names, or why there can be none.
 #[derive(Clone, Debug, PartialEq, Eq)]

@@ -1,8 +1,9 @@
 //! Values: what conditions compare, and what templates are.
 
-use super::error::{BuildError, Nesting, start};
+use super::error::{BuildError, start};
 use super::part::{Built, Part, lent, text};
-use crate::entries::is_number;
+use crate::number::is_number;
+use crate::vocabulary::Nesting;
 use std::collections::HashSet;
 
 /// A value of a condition or template. Strings that begin with `$`, but not with `$$`, are references.

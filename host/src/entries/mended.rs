@@ -1,24 +1,8 @@
 //! Faults that are found late: a length that does not fit its text shows only where the next entry should begin. Here such a sheet is read once
 //! more with the length that fits; if it reads on then, the length is what is wrong.
 
-use super::Malformed;
-use super::reader::{Entries, Reader};
-
-/// The length that an entry gives for its text, or for both of its texts.
-#[derive(Clone, Copy)]
-pub struct Given {
-    pub entry: usize,
-    /// What the last text is.
-    pub what: &'static str,
-    /// The place of the numeral of the last length.
-    pub byte: usize,
-    pub last: usize,
-    /// How many texts have a length, and all of these lengths.
-    pub texts: usize,
-    pub total: usize,
-    /// Where the texts begin.
-    pub start: usize,
-}
+use super::content::Malformed;
+use super::reader::{Entries, Given, Reader};
 
 /// How many lengths are tried, the latest first.
 const TRIED: usize = 4;
@@ -69,7 +53,7 @@ impl Given {
         match texts {
             1 => format!("{length}, the length of {what} up to the end of its line, not {total}"),
             _ => format!(
-                "lengths that add up to {length}, what the texts have up to the end of their line, not to {total}"
+                "lengths that add up to {length} (the bytes up to the end of the line), not {total}"
             ),
         }
     }

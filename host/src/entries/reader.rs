@@ -1,9 +1,8 @@
 //! The parts that entries are made of, read one after the other.
 
-use super::mended::{Given, explained};
-use super::{Content, Entry, Malformed};
-use crate::build::Nesting;
-use crate::limits::{MAX_SHEET_BYTES, MAX_TEXT_BYTES};
+use super::content::{Content, Entry, Malformed};
+use crate::limits::MAX_TEXT_BYTES;
+use crate::vocabulary::Nesting;
 use std::collections::HashSet;
 
 pub type Read<T> = Result<T, Malformed>;
@@ -11,48 +10,20 @@ pub type Read<T> = Result<T, Malformed>;
 /// Reads all entries of a sheet.
 pub type Entries = for<'a> fn(&mut Reader<'a>) -> Read<()>;
 
-/// Reads a sheet of so many entries at most. One that is too long is at fault where it passes the limit, unless it stops being a sheet before
-/// that.
-pub fn read(sheet: &[u8], limit: usize, entries: Entries) -> Read<Vec<Entry<'_>>> {
-    let mut reader = Reader::new(sheet, limit);
-    let whole = entries(&mut reader);
-    let start = match sheet.split_at_checked(MAX_SHEET_BYTES) {
-        Some((start, [_, ..])) => {
-            let mut reader = Reader::new(start, limit);
-            entries(&mut reader).map(|()| reader.entries)
-        }
-        _ => {
-            return match whole {
-                Ok(()) => Ok(reader.entries),
-                Err(fault) => Err(not_a_sheet(sheet, explained(&reader, fault, entries))),
-            };
-        }
-    };
-    match (start, whole) {
-        (Err(first), Err(same)) if first == same => Err(first),
-        (start, _) => Err(Malformed {
-            entry: start.map_or_else(
-                |fault| fault.entry,
-                |entries| entries.len().saturating_add(1),
-            ),
-            byte: MAX_SHEET_BYTES,
-            expected: "at most 30,000 bytes in the sheet".to_owned(),
-        }),
-    }
-}
-
-/// The fault, with a word on bytes that are something else than a sheet from their beginning.
-fn not_a_sheet(sheet: &[u8], fault: Malformed) -> Malformed {
-    let other = match sheet.trim_ascii_start() {
-        _ if fault.byte > 0 => return fault,
-        [b'{' | b'[', ..] => "this looks like JSON; sheets are what the builders write",
-        [0xEF, 0xBB, 0xBF, ..] => "a sheet has no byte order mark",
-        _ => return fault,
-    };
-    Malformed {
-        expected: format!("{}; {other} (docs/FORMAT.md, \"Sheets\")", fault.expected),
-        ..fault
-    }
+/// The length that an entry gives for its text, or for both of its texts.
+#[derive(Clone, Copy)]
+pub struct Given {
+    pub entry: usize,
+    /// What the last text is.
+    pub what: &'static str,
+    /// The place of the numeral of the last length.
+    pub byte: usize,
+    pub last: usize,
+    /// How many texts have a length, and all of these lengths.
+    pub texts: usize,
+    pub total: usize,
+    /// Where the texts begin.
+    pub start: usize,
 }
 
 /// What is left of a sheet, and the entries before it.
@@ -82,6 +53,11 @@ impl<'a> Reader<'a> {
             given: None,
             suspects: Vec::new(),
         }
+    }
+
+    /// The entries that were read.
+    pub fn entries(self) -> Vec<Entry<'a>> {
+        self.entries
     }
 
     /// The whole sheet, and how many entries it may have.

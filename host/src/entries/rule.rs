@@ -1,10 +1,11 @@
 //! Rule sheets: rules and templates.
 
-use super::number::is_number;
-use super::reader::{Read, Reader, read};
-use super::{Content, Entry, Malformed, Operator};
-use crate::build::{CompareOp, Nesting};
+use super::content::{Content, Entry, Malformed};
+use super::reader::{Read, Reader};
+use super::whole::read;
 use crate::limits::MAX_RULE_ENTRIES;
+use crate::number::is_number;
+use crate::vocabulary::{CompareOp, Nesting, Operator};
 use std::collections::HashSet;
 
 /// The entries of a rule sheet, of a rule or a template.

@@ -1,9 +1,10 @@
 //! Schema sheets.
 
-use super::reader::{Read, Reader, read};
-use super::{Content, Entry, Malformed};
-use crate::build::{FieldKind, Nesting};
+use super::content::{Content, Entry, Malformed};
+use super::reader::{Read, Reader};
+use super::whole::read;
 use crate::limits::MAX_SCHEMA_ENTRIES;
+use crate::vocabulary::{FieldKind, Nesting};
 
 /// The entries of a schema sheet.
 ///

@@ -1,10 +1,11 @@
 //! Name tables.
 
-use super::reader::{Read, Reader, read};
-use super::{Content, Entry, Malformed};
+use super::content::{Content, Entry, Malformed};
+use super::reader::{Read, Reader};
+use super::whole::read;
 use crate::settings::{Kind, Name};
 
-/// The entries of a name table. Whether its marks keep the two conditions is [`Table::read`](crate::Table::read)'s to say.
+/// The entries of a name table. Whether its marks keep the two conditions, [`Table::read`](crate::Table::read) says.
 ///
 /// ```
 /// use entity_rules::entries::read_table;

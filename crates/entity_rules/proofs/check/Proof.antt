@@ -1,4 +1,4 @@
--- `entity_rules::check` meets its contract: the validator's answer, with the lent part of the path buffer back in its place.
+-- `entity_rules::check` meets its contract: the answer of `single_check`, with the lent part of the path buffer back in its place.
 use Rattle.entity_rules.proofs.Entries.{lent-within, answered}
 use borrow.Author.Needs.{needs}
 use Rattle.entity_rules.proofs.check.Statement.{statement}

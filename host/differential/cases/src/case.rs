@@ -17,7 +17,7 @@ pub struct Case {
     pub expect: Expect,
 }
 
-/// What the way a case was made tells of its answer.
+/// What follows for the answer from the way a case was made.
 #[derive(Clone, Copy, Debug, PartialEq, Eq)]
 pub enum Expect {
     Anything,

@@ -1,4 +1,4 @@
-//! What the library, the model and the Rust are asked: cases whose answers are known, cases by chance, and smaller ones where a case shows a difference.
+//! What the library, the model and the Rust are asked: cases whose answers are known, random cases, and smaller ones where a case shows a difference.
 
 pub mod books;
 pub mod bound;

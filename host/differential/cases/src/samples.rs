@@ -1,4 +1,4 @@
-//! The samples that the programs `text_samples` and `number_samples` run, held against Rust's own `str` and `f64` and serde_json's number grammar.
+//! The samples that the programs `text_samples` and `number_samples` run, compared with Rust's own `str` and `f64` and serde_json's number grammar.
 
 const TEXTS: &str = include_str!("../../../../crates/text_samples/stdin");
 const NUMBERS: &[u8] = include_bytes!("../../../../crates/number_samples/stdin");

@@ -1,4 +1,4 @@
-//! The model answers every case as the way it was made tells: known edges, and some cases by chance. The library and the Rust are not asked here.
+//! The model answers every case as it must by the way the case was made: known edges, and some random cases. The library and the Rust are not asked here.
 
 use cases::case::Case;
 use cases::generate::{names::STOCK, profiles};

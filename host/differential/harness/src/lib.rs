@@ -1,4 +1,4 @@
-//! Holds the library, a plain model of docs/FORMAT.md and the Rust that it describes against each other.
+//! Compares the library, a plain model of docs/FORMAT.md and the Rust that it describes with each other.
 
 pub mod library;
 pub mod oracle;

@@ -1,7 +1,7 @@
 //! The commands of the comparison. See README.md beside the script `run`.
 
 use harness::runs::{
-    books, compare, exhaustive, fuzzed, instants, keys, leaves, marks, memory, moved, published, tables, vectors, walls, widened, widens,
+    books, compare, exhaustive, fuzzed, instants, keys, marks, memory, moved, published, tables, text_samples, vectors, walls, widened, widens,
 };
 use std::collections::BTreeMap;
 use std::process::ExitCode;
@@ -40,10 +40,10 @@ const USAGE: &str = "usage: differential COMMAND [OPTION..]
   marks-vectors --out FILE [--seed S]
                                    writes the fixed list of rules and their marks
   widens [--cases N] [--seed S]    known pairs of schemas, then N generated ones: is the second a widening, by library and model; and N
-                                   with a rule, held against the Rust
+                                   with a rule, compared with the Rust
   widens-vectors --out FILE [--seed S]
                                    writes the fixed list of pairs of schemas and their answers
-  leaves                           text and numbers of the model against Rust's own
+  text_samples                     text and numbers of the model against Rust's own
   samples [--program FILE]         known edges, slips and published samples: library, model and Rust, and the program rulecheck
   vectors --out FILE [--printed FILE] [--seed S]
                                    writes the fixed list of answers, and the line that the program vectors prints for it
@@ -187,9 +187,9 @@ fn run(arguments: &[String]) -> Result<(), Trouble> {
             let (list, folder) = list.zip(folder).ok_or_else(|| Trouble::Usage("corpus needs --list FILE and --out FOLDER".to_owned()))?;
             fuzzed::corpus(list, folder).map_err(Trouble::Failed)
         }
-        "leaves" => {
+        "text_samples" => {
             options(rest, &[])?;
-            leaves::leaves().map_err(Trouble::Failed)
+            text_samples::text_samples().map_err(Trouble::Failed)
         }
         other => Err(Trouble::Usage(format!("there is no command {other}"))),
     }
@@ -200,7 +200,7 @@ fn options<'a>(arguments: &'a [String], known: &[&str]) -> Result<BTreeMap<&'a s
     let mut options = BTreeMap::new();
     for pair in arguments.chunks(2) {
         let name = pair[0].strip_prefix("--").filter(|name| known.contains(name));
-        let name = name.ok_or_else(|| Trouble::Usage(format!("{} is no option of this command", pair[0])))?;
+        let name = name.ok_or_else(|| Trouble::Usage(format!("{} is not an option of this command", pair[0])))?;
         let value = pair.get(1).ok_or_else(|| Trouble::Usage(format!("--{name} has no value")))?;
         if options.insert(name, value.as_str()).is_some() {
             return Err(Trouble::Usage(format!("--{name} is given twice")));

@@ -1,5 +1,5 @@
 //! A plain model of docs/FORMAT.md: trees and recursion, the check list as a list, obvious before fast. It is written from the
-//! format alone, so that the checker and the Rust can both be held against it.
+//! format alone, so that the checker and the Rust can both be compared with it.
 
 pub mod book;
 mod call;

@@ -91,7 +91,7 @@ impl<'a> Reader<'a> {
         Some(self.numeral(1)? == 1)
     }
 
-    /// A text of `length` bytes, UTF-8 for itself.
+    /// A text of `length` bytes that is UTF-8 by itself.
     fn text(&mut self, length: usize) -> Option<String> {
         let bytes = self.rest.get(..length)?;
         if length > MAX_TEXT_BYTES || !is_utf8(bytes) {

@@ -23,7 +23,7 @@ pub type Row = [bool; 9];
 pub struct Table(pub [Row; 8]);
 
 impl Table {
-    /// What a check goes by that is lent no table.
+    /// What a check uses that is lent no table.
     pub fn stock() -> Self {
         Self([1, 2, 3, 4, 5, 6, 7, 8].map(stock_row))
     }

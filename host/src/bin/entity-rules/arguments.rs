@@ -172,7 +172,7 @@ pub struct Output {
     pub json: bool,
     pub quiet: bool,
     pub sarif: bool,
-    /// Whether constant conditions are told.
+    /// Whether constant conditions are printed.
     pub constants: bool,
 }
 

@@ -1,5 +1,5 @@
-//! Which part of a reference is at fault, and what was likely meant. That there is a fault, and which, is the library's to say; this goes the same
-//! way over the schema for people.
+//! Which part of a reference is at fault, and what was likely meant. Whether there is a fault, and which, the library decides; this follows the same path
+//! through the schema to explain it.
 
 use crate::near::nearest;
 use crate::outline::Binder;
@@ -123,7 +123,7 @@ impl Readable<'_> {
         let blame = |range, what: String, help| Blame::new(text, range, what, help);
         match name.parse::<Name>() {
             _ if name.is_empty() => blame(end..end, "a name is missing after `$`".to_owned(), None),
-            Err(_) => blame(0..end, format!("there is no name {shown}"), help()),
+            Err(_) => blame(0..end, format!("unknown name {shown}"), help()),
             Ok(name) if !is_readable(name) => {
                 let what = format!("the kind {} may not read {shown}", self.kind);
                 blame(0..end, what, None)

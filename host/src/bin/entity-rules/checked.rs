@@ -134,7 +134,7 @@ impl Outcome {
         )
     }
 
-    /// Whether it is accepted and there is no more to tell.
+    /// Whether it is accepted and there is nothing more to say.
     pub fn is_plain(&self) -> bool {
         match self {
             Self::Marked { constants, .. } => constants.is_empty(),

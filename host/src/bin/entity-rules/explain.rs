@@ -239,7 +239,7 @@ fn told(example: &Example) -> String {
     }
 }
 
-/// How many examples there are, and the numbers of those that the library answers otherwise than it must.
+/// How many examples there are, and the numbers of those to which the library gives a wrong answer.
 pub fn replayed() -> (usize, Vec<String>) {
     let differ = |(number, detail, example): &&(u32, u32, Example)| {
         answered(example) != Some((*number, *detail))

@@ -131,7 +131,7 @@ impl<'a> Rule<'a> {
 /// A sheet of a rule or template, or the file that has none, and why.
 pub type RuleOrNone<'a> = Result<Rule<'a>, (&'a Path, &'a NoSheet)>;
 
-/// What a file holds: a sheet, or a book that is of its form.
+/// What a file holds: a sheet, or a book that is well formed.
 type Held = Result<Vec<u8>, NoSheet>;
 
 /// Files of rules with their settings.
@@ -186,7 +186,7 @@ fn is_book(file: &[u8]) -> bool {
     file.first().is_some_and(u8::is_ascii_digit)
 }
 
-/// The bytes of a sheet, or of a book that is of its form.
+/// The bytes of a sheet, or of a book that is well formed.
 fn rules_of(file: &Path, read: Result<Vec<u8>, Unreadable>) -> Held {
     let bytes = read?;
     match Book::read(&bytes) {

@@ -297,7 +297,7 @@ fn book(files: &[PathBuf], out: &mut impl Write) -> io::Result<u8> {
     Ok(0)
 }
 
-/// Holds two schemas against each other, and prints what comes of it.
+/// Compares two schemas, and prints what comes of it.
 fn widens(pair: &Pair, out: &mut impl Write) -> io::Result<u8> {
     let compared = Compared::new(&pair.old, &pair.new);
     show_compared(&compared, pair.output, out)?;
@@ -316,7 +316,7 @@ fn show_compared(compared: &Compared, output: Output, out: &mut impl Write) -> i
     out.write_all(text.as_bytes())
 }
 
-/// Holds two schemas against each other, then checks every rule as far as that does not tell how it fares.
+/// Compares two schemas, then checks every rule for which the comparison does not already give the answer.
 fn upgrade(asked: &Upgrade, out: &mut impl Write) -> io::Result<u8> {
     let (arguments, files) = (&asked.check, [&*asked.check.schema, &*asked.new]);
     let [old_file, new_file] = files;

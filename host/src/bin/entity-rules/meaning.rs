@@ -88,7 +88,7 @@ pub fn mend(number: u32) -> &'static str {
         1 => "Kinds go from 1 to 8, semantics from 1 to 4, readers are 1 and 2.",
         2 => "A label has at most 256 bytes, a key path 512; both are UTF-8.",
         3 => {
-            "A call is lent a path buffer of 32,768 bytes and a result of 28, for a check with marks 32, for a tally 144, for a wall sheet 16; only a program can meet this."
+            "A call is lent a path buffer of 32,768 bytes and a result of 28, for a check with marks 32, for a tally 144, for a wall sheet 16; only a program that calls the library can get this."
         }
         4 => "The tool names the line, the entry and the byte, and what was expected there.",
         5 => {
@@ -116,11 +116,15 @@ pub fn mend(number: u32) -> &'static str {
         22 => {
             "Name an array or a map of `$fields`, `$old_fields` or `$args`, or something below a bind."
         }
-        33 => "A wall sheet is lent 4,860 bytes for each page; only a program can meet this.",
+        33 => {
+            "A wall sheet is lent 4,860 bytes for each page; only a program that calls the library can get this."
+        }
         34 => {
             "A book has sheets and nothing between them, each with its length in bytes and a comma before it; `entity-rules book` writes one."
         }
-        35 => "A check is lent a list of 8,192 bytes for its marks; only a program can meet this.",
+        35 => {
+            "A check is lent a list of 8,192 bytes for its marks; only a program that calls the library can get this."
+        }
         37 => {
             "A name table is eight rows of 22 bytes; `entity-rules table` prints the stock table."
         }

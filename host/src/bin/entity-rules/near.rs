@@ -18,7 +18,7 @@ pub fn nearest<'a>(given: &str, names: impl IntoIterator<Item = &'a str>) -> Opt
     best.map(|(_, name)| name)
 }
 
-/// How many letters are left out, added, changed or exchanged with their neighbour; more than the most where that is told by the lengths.
+/// How many letters are left out, added, changed or exchanged with their neighbour; `most` + 1 where the lengths already differ by more than that.
 fn distance(given: &[char], name: &str, most: usize) -> usize {
     let name: Vec<char> = name.chars().collect();
     if given.len().abs_diff(name.len()) > most {

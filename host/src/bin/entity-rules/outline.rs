@@ -1,4 +1,4 @@
-//! A sheet as a tree, read for people: the place of an entry, how it is reached, and which binds can be read there.
+//! A sheet as a tree, read for display: the place of an entry, how it is reached, and which binds can be read there.
 
 use entity_rules::Operator;
 use entity_rules::entries::{Content, Entry};
@@ -6,7 +6,7 @@ use entity_rules::entries::{Content, Entry};
 /// How an entry is reached.
 #[derive(Debug, PartialEq, Eq)]
 pub struct Reached<'a> {
-    /// Behind the label, as `.assert.all[1]`.
+    /// After the label, as `.assert.all[1]`.
     pub path: String,
     /// The quantifiers in whose bodies it lies, the outermost first.
     pub binders: Vec<Binder<'a>>,

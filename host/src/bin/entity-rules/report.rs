@@ -157,7 +157,7 @@ pub fn instant_fields(instant: &Instant) -> [(&'static str, u32); 7] {
     ]
 }
 
-/// That so many checks, which are all, passed.
+/// Says that all of the checks passed, and how many.
 pub fn accepted(passed: u32) -> String {
     match passed {
         0 => "there was nothing to check".to_owned(),

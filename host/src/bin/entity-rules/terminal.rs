@@ -1,4 +1,4 @@
-//! What the terminal, if there is one, is written to with.
+//! What the terminal can show: colours, a bar, and the width of texts.
 
 use std::env;
 

@@ -1,4 +1,4 @@
--- `entity_rules::report::rulecheck_check` meets its contract: the validator's report, with the lent part of the path buffer back in its place.
+-- `entity_rules::report::rulecheck_check` meets its contract: the report of `single_check`, with the lent part of the path buffer back in its place.
 use borrow.Author.Needs.{needs}
 use Rattle.entity_rules.proofs.Entries.{lent-within, check-answered}
 use Rattle.entity_rules.proofs.report.rulecheck_check.Statement.{statement}

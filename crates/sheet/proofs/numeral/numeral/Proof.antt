@@ -1,4 +1,4 @@
--- `sheet::numeral::numeral` meets its contract: what it reads, held against the least number.
+-- `sheet::numeral::numeral` meets its contract: what it reads, compared with the least number.
 use native.Mathlib.Omega.{arith}
 use borrow.Author.Needs.{needs}
 use Rattle.sheet.proofs.Numerals.{numeral-within, numeral-below}

@@ -1,4 +1,4 @@
-//! Rule books by chance: sheets for one schema and sheets of any sort, files that are nearly books, schemas that are none, refusals.
+//! Random rule books: sheets for one schema and sheets of any sort, files that are nearly books, schemas that are not well formed, refusals.
 
 use crate::books::{BookCase, Expect};
 use crate::case::Case;
@@ -118,7 +118,7 @@ fn damaged(random: &mut Random) -> BookCase {
     BookCase { book, expect, ..case }
 }
 
-/// The length of a sheet as it should not be written, or is by chance; and what is known of the book then.
+/// The length of a sheet, most often not as it should be written; and what is known of the book then.
 fn head(random: &mut Random, length: usize) -> (String, Expect) {
     let refused = Expect::Refused(34);
     let zeros = "0".repeat(random.between(1, 30));

@@ -22,7 +22,7 @@ pub struct BookCase {
     pub expect: Expect,
 }
 
-/// What the way a book was made tells.
+/// What follows from the way a book was made.
 #[derive(Clone, Copy, Debug, PartialEq, Eq)]
 pub enum Expect {
     Anything,

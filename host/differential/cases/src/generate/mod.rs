@@ -1,4 +1,4 @@
-//! Cases by chance: each profile makes another kind of trouble.
+//! Random cases: each profile makes another kind of trouble.
 
 pub mod build;
 pub mod damage;

@@ -87,7 +87,7 @@ fn drop_unread(schema: &mut Schema, sheet: &Sheet) {
     }
 }
 
-/// A setting under which the defect can occur. Most details of a reference and all of a collection want a root that can be read.
+/// A setting under which the defect can occur. Most details of a reference and all of a collection need a root that can be read.
 fn setting<'n>(random: &mut Random, names: &'n Names, (number, detail): (u32, u32)) -> Setting<'n> {
     let mut setting = Setting::new(random, names);
     let rooted = names.rooted();

@@ -1,4 +1,4 @@
-//! Cases of every kind by chance.
+//! Random cases of every kind.
 
 use super::names::Names;
 use super::setting::{right, slips};

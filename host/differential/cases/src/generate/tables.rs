@@ -1,4 +1,4 @@
-//! Name tables by chance: sound ones, ones that break a condition, and bytes that are not a table.
+//! Random name tables: sound ones, ones that break a condition, and bytes that are not a table.
 
 use crate::generate::names::Names;
 use crate::limits::TABLE_BYTES;
@@ -23,7 +23,7 @@ pub fn names(random: &mut Random) -> Names {
     Names::of(&table, lent)
 }
 
-/// A sound table, in which some kind reads the record or the arguments: the stock one, with a few marks turned in it, or marks by chance.
+/// A sound table, in which some kind reads the record or the arguments: the stock one, with a few marks turned in it, or random marks.
 pub fn sound(random: &mut Random) -> Table {
     let mut table = Table::stock();
     let turned = random.between(1, 4);

@@ -1,4 +1,4 @@
-//! Cases of keys by chance: each profile makes another kind of trouble.
+//! Random cases of keys: each profile makes another kind of trouble.
 
 use crate::case::Expect;
 use crate::generate::build::{element, field, holder, schema, sorted, ARRAY, INTEGER, JSON, MAP, OBJECT, STRING, UNION};

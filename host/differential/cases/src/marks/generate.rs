@@ -16,7 +16,7 @@ type Fields = [u32; 7];
 /// The largest value of each field whatever the others are, and the smallest.
 const BOUNDS: [(u32, u32); 7] = [(0, 9999), (1, 12), (1, 28), (0, 23), (0, 59), (0, 60), (0, 999_999_999)];
 
-/// A case by chance, and what it is one of.
+/// A random case, and which sort it is.
 pub fn case(random: &mut Random) -> (&'static str, Case) {
     match random.below(20) {
         0 => {

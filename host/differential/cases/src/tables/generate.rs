@@ -1,4 +1,4 @@
-//! Cases with a name table by chance, and tables to load.
+//! Random cases with a name table, and tables to load.
 
 use crate::case::{Case, Expect};
 use crate::generate::names::STOCK;

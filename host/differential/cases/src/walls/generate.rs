@@ -1,4 +1,4 @@
-//! Wall sheets by chance: books of every sort, labels that bring paths to the end of the line or have bytes that are not printed, and buffers that are too short.
+//! Random wall sheets: books of every sort, labels that bring paths to the end of the line or have bytes that are not printed, and buffers that are too short.
 
 use crate::books::generate::case as book;
 use crate::books::Expect;

@@ -28,7 +28,7 @@ impl WallCase {
         WallCall { book: self.book.call(), pages_len: self.pages_len }
     }
 
-    /// What the way the book was made tells of the numbers.
+    /// What follows for the numbers from the way the book was made.
     pub fn allows(&self, numbers: [u64; 2]) -> bool {
         match self.book.expect {
             Expect::Anything => true,

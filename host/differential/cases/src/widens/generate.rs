@@ -1,4 +1,4 @@
-//! Pairs of schemas by chance: widenings of every kind, slips of every kind, one change apart or many, deep, wide, at the limits and past them.
+//! Random pairs of schemas: widenings of every kind, slips of every kind, one change apart or many, deep, wide, at the limits and past them.
 
 use crate::generate::build::{element, field, holder, schema, sorted, ARRAY, JSON, MAP, OBJECT, STRING, UNION};
 use crate::generate::limits::{broken, long, SHAPES};
@@ -71,7 +71,7 @@ fn widening(random: &mut Random) -> WidensCase {
     pair(&first, &second).expecting(expect)
 }
 
-/// One change somewhere in the first schema, which tells the answer.
+/// One change somewhere in the first schema, which determines the answer.
 fn one_apart(random: &mut Random) -> WidensCase {
     loop {
         let first = some_schema(random);
@@ -112,7 +112,7 @@ const TRIES: usize = 8;
 /// A holder's entry, 1 for record and arguments, its mark and its fields.
 type Held<'s> = (u32, &'s mut bool, &'s mut Vec<Field>);
 
-/// Makes a change at a holder by chance, at some more where it cannot be made there.
+/// Makes a change at a random holder, and tries some more where it cannot be made there.
 fn at_a_holder<T>(random: &mut Random, schema: &mut Schema, mut change: impl FnMut(&mut Random, Held) -> Option<T>) -> Option<T> {
     (0..TRIES).find_map(|_| {
         let count = 1 + usize::from(schema.arguments.is_some()) + all_fields(schema);
@@ -124,7 +124,7 @@ fn at_a_holder<T>(random: &mut Random, schema: &mut Schema, mut change: impl FnM
     })
 }
 
-/// Makes a change at a field or element by chance.
+/// Makes a change at a random field or element.
 fn at_a_field<T>(random: &mut Random, schema: &mut Schema, change: impl FnOnce(&mut Random, &mut Field) -> Option<T>) -> Option<T> {
     let count = all_fields(schema);
     let mut left = if count == 0 { return None } else { random.below(count) };
@@ -221,7 +221,7 @@ fn arguments_go(_: &mut Random, schema: &mut Schema) -> Option<Expect> {
     schema.arguments.take().map(|_| breach(7, 1, 0))
 }
 
-/// A field gets another name; under an open holder whichever name is smaller tells the breach.
+/// A field gets another name; under an open holder whichever name is smaller determines the breach.
 fn rename(random: &mut Random, schema: &mut Schema) -> Option<Expect> {
     at_a_holder(random, schema, |random, (_, open, fields)| {
         let at = if fields.is_empty() { return None } else { random.below(fields.len()) };

@@ -16,7 +16,7 @@ pub struct WidensCase {
     pub expect: Expect,
 }
 
-/// What the way a pair was made tells.
+/// What follows from the way a pair was made.
 #[derive(Clone, Copy, Debug, PartialEq, Eq)]
 pub enum Expect {
     Anything,

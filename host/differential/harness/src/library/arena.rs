@@ -43,7 +43,7 @@ impl Arena {
         Self { paths: patterns.clone(), patterns, marks, results }
     }
 
-    /// Makes the call. An error tells what differs, and leaves the buffers as the library left them.
+    /// Makes the call. An error says what differs, and leaves the buffers as the library left them.
     pub fn call(&mut self, case: &Case, lent: &Lent, expected: &Answer, marks: &[u32]) -> Result<(), String> {
         let around = &self.patterns[lent.pattern][..AROUND];
         let (path, result, list) = (&mut self.paths[lent.pattern], &mut self.results[lent.pattern], &mut self.marks[lent.pattern]);

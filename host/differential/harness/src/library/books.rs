@@ -1,4 +1,4 @@
-//! `rulecheck_tally`, held against what the model answers: every byte of the result, of the path buffer past what is free, and around both, and every number.
+//! `rulecheck_tally`, compared with what the model answers: every byte of the result, of the path buffer past what is free, and around both, and every number.
 
 use crate::library::arena::{in_arena, mixed};
 use crate::library::lent::{Extent, Slot, TallyLent};
@@ -6,7 +6,7 @@ use cases::books::BookCase;
 use cases::limits::MIN_PATH_BYTES;
 use model::{TallyNumbers, TALLY_BYTES};
 
-/// Holds the library against the model's numbers. An error tells in what they differ.
+/// Compares the library with the model's numbers. An error says how they differ.
 pub fn hold(case: &BookCase, numbers: &TallyNumbers, extent: Extent) -> Result<(), String> {
     calls(case, extent).iter().try_for_each(|lent| {
         let expected = expected(case, numbers, lent);
@@ -24,7 +24,7 @@ fn expected(case: &BookCase, numbers: &TallyNumbers, lent: &TallyLent) -> TallyN
     }
 }
 
-/// The call of the case itself, with longer buffers than needed in part of the cases; and, by chance or all of them, one with a short path buffer, one with a short result,
+/// The call of the case itself, with longer buffers than needed in part of the cases; and, at random or all of them, one with a short path buffer, one with a short result,
 /// and one without a byte to spare.
 fn calls(case: &BookCase, extent: Extent) -> Vec<TallyLent> {
     let chance = mixed([case.kind, case.semantics], &case.inputs());

@@ -1,4 +1,4 @@
-//! `rulecheck_rule`, `rulecheck_template` and `rulecheck_check`, held against what the model answers: every byte of the buffers and around them, and every number.
+//! `rulecheck_rule`, `rulecheck_template` and `rulecheck_check`, compared with what the model answers: every byte of the buffers and around them, and every number.
 
 use super::arena::{in_arena, mixed};
 use super::entry::Entry;
@@ -8,7 +8,7 @@ use cases::case::Case;
 use cases::limits::{MIN_PATH_BYTES, MIN_SCRATCH_WORDS, RESULT_BYTES};
 use model::{Answer, MARKS_BYTES};
 
-/// Holds the library against the model's answer to the case. An error tells in what they differ.
+/// Compares the library with the model's answer to the case. An error says how they differ.
 pub fn hold(case: &Case, answer: &Answer, extent: Extent) -> Result<(), String> {
     calls(case, extent).iter().try_for_each(|lent| one(case, answer, lent))
 }

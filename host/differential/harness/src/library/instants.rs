@@ -1,4 +1,4 @@
-//! `rulecheck_instant`, held against what the model answers: the number, every byte of the fields and around them, and every byte of the text.
+//! `rulecheck_instant`, compared with what the model answers: the number, every byte of the fields and around them, and every byte of the text.
 
 use crate::library::arena::{in_arena, mixed};
 use crate::library::lent::Slot;
@@ -6,7 +6,7 @@ use crate::library::raw;
 use crate::readings::instants::{answer, Fields};
 use cases::limits::RESULT_BYTES;
 
-/// Holds the library against the fields that the model reads, or none. An error tells in what they differ.
+/// Compares the library with the fields that the model reads, or none. An error says how they differ.
 pub fn hold(text: &[u8], fields: Option<Fields>) -> Result<(), String> {
     let chance = mixed([text.len() as u64, 0], &[text]);
     let spare = [0, 0, 1, 3, 4, 36][chance as usize % 6];

@@ -1,4 +1,4 @@
-//! `rulecheck_path`, held against what the model answers: every byte of the result and around it, and every number.
+//! `rulecheck_path`, compared with what the model answers: every byte of the result and around it, and every number.
 
 use crate::library::arena::{in_arena, mixed};
 use crate::library::lent::{Extent, Slot};
@@ -7,7 +7,7 @@ use cases::keys::KeyCase;
 use cases::limits::RESULT_BYTES;
 use model::Answer;
 
-/// Holds the library against the model's answer to the case. An error tells in what they differ.
+/// Compares the library with the model's answer to the case. An error says how they differ.
 pub fn hold(case: &KeyCase, answer: &Answer, extent: Extent) -> Result<(), String> {
     slots(case, extent).iter().try_for_each(|slot| {
         let expected = expected(case, answer, slot);
@@ -15,7 +15,7 @@ pub fn hold(case: &KeyCase, answer: &Answer, extent: Extent) -> Result<(), Strin
     })
 }
 
-/// The result of the case itself, longer than it must be in part of the cases; and a short one or one without a byte to spare, by chance or both.
+/// The result of the case itself, longer than it must be in part of the cases; and a short one or one without a byte to spare, at random or both.
 fn slots(case: &KeyCase, extent: Extent) -> Vec<Slot> {
     let chance = mixed([case.semantics, case.reader], &[&case.path, &case.schema]);
     let spare = if case.result_len < RESULT_BYTES { 0 } else { [0, 0, 1, 3, 4, 36][chance as usize % 6] };

@@ -32,9 +32,9 @@ impl Lent {
 /// How many of the calls that a case allows are made.
 #[derive(Clone, Copy, Debug, PartialEq, Eq)]
 pub enum Extent {
-    /// The entry of the sheet, and by chance one of the other calls.
+    /// The entry of the sheet, and at random one of the other calls.
     Some,
-    /// The entry with a list of marks, and by chance a short list as well.
+    /// The entry with a list of marks, and at random a short list as well.
     Marks,
     /// Each of them, so that a case that is made smaller goes on to show what it shows.
     All,

@@ -1,4 +1,4 @@
-//! The library under its C functions, held against what the model answers.
+//! The library under its C functions, compared with what the model answers.
 
 mod arena;
 pub mod books;

@@ -1,4 +1,4 @@
-//! `rulecheck_wall`, held against what the model prints: every byte of the pages' buffer, of the result, of the path buffer past what is free, and around all three.
+//! `rulecheck_wall`, compared with what the model prints: every byte of the pages' buffer, of the result, of the path buffer past what is free, and around all three.
 
 use crate::library::arena::{in_arena, mixed};
 use crate::library::lent::{Extent, Slot, TallyLent, WallLent};
@@ -6,7 +6,7 @@ use cases::limits::MIN_PATH_BYTES;
 use cases::walls::{Printed, WallCase};
 use model::{sheets, PAGE_BYTES, PAGE_SHEETS, WALL_BYTES};
 
-/// Holds the library against the model. An error tells in what they differ.
+/// Compares the library with the model. An error says how they differ.
 pub fn hold(case: &WallCase, printed: &Printed, extent: Extent) -> Result<(), String> {
     calls(case, printed, extent).iter().try_for_each(|lent| {
         let expected = expected(case, printed, lent);
@@ -27,7 +27,7 @@ fn expected(case: &WallCase, printed: &Printed, lent: &WallLent) -> Printed {
     }
 }
 
-/// The call of the case itself, and by chance, or all of them: a short path buffer, a short result, a buffer for the pages that is too short by a byte or by all, and one that is longer.
+/// The call of the case itself, and at random, or all of them: a short path buffer, a short result, a buffer for the pages that is too short by a byte or by all, and one that is longer.
 fn calls(case: &WallCase, printed: &Printed, extent: Extent) -> Vec<WallLent> {
     let book = &case.book;
     let chance = mixed([book.kind, book.semantics], &book.inputs());

@@ -1,11 +1,11 @@
-//! `rulecheck_widens`, held against what the model answers: every byte of the result and around it, and every number.
+//! `rulecheck_widens`, compared with what the model answers: every byte of the result and around it, and every number.
 
 use crate::library::arena::{in_arena, mixed};
 use crate::library::lent::{Extent, Slot};
 use cases::limits::RESULT_BYTES;
 use cases::widens::WidensCase;
 
-/// Holds the library against the model's numbers. An error tells in what they differ.
+/// Compares the library with the model's numbers. An error says how they differ.
 pub fn hold(case: &WidensCase, numbers: &[u32; 7], extent: Extent) -> Result<(), String> {
     slots(case, extent).iter().try_for_each(|slot| {
         let expected = if slot.length < RESULT_BYTES { [3, 0, 0, 0, 0, 0, 0] } else { *numbers };
@@ -13,7 +13,7 @@ pub fn hold(case: &WidensCase, numbers: &[u32; 7], extent: Extent) -> Result<(),
     })
 }
 
-/// The result of the case itself, longer than it must be in part of the cases; and a short one or one without a byte to spare, by chance or both.
+/// The result of the case itself, longer than it must be in part of the cases; and a short one or one without a byte to spare, at random or both.
 fn slots(case: &WidensCase, extent: Extent) -> Vec<Slot> {
     let chance = mixed([0, 0], &[&case.first, &case.second]);
     let spare = if case.result_len < RESULT_BYTES { 0 } else { [0, 0, 1, 3, 4, 36][chance as usize % 6] };

@@ -13,9 +13,9 @@ pub struct Defect {
     pub family: u32,
     pub detail: u32,
     pub path: String,
-    /// What the Rust quotes of the entry at fault, to be held against the entry at the place.
+    /// What the Rust quotes of the entry at fault, to be compared with the entry at the place.
     pub quoted: Quoted,
-    /// Family 8: the text of the quantifier's `in`, to be held against the entry at the over place.
+    /// Family 8: the text of the quantifier's `in`, to be compared with the entry at the over place.
     pub over: Option<String>,
 }
 

@@ -41,7 +41,7 @@ fn entries(sheet: &[u8]) -> Vec<Entry<'_>> {
     while let [letter @ (b'R' | b'C' | b'V' | b'K'), tail @ ..] = rest {
         let (mut tail, mut fields) = (&tail[1..], [0; 2]);
         for field in &mut fields[..if *letter == b'K' { 1 } else { 2 }] {
-            let end = tail.iter().position(|byte| *byte == b',').expect("a comma behind a numeral");
+            let end = tail.iter().position(|byte| *byte == b',').expect("a comma after a numeral");
             *field = std::str::from_utf8(&tail[..end]).ok().and_then(|numeral| numeral.parse().ok()).unwrap_or(0);
             tail = &tail[end + 1..];
         }

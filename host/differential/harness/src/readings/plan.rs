@@ -1,5 +1,5 @@
 //! A second reading of the check list: only numbers and places, in their order. The Rust does not count checks, so the model's passed count is
-//! held against this.
+//! compared with this.
 
 use model::trees::{Condition, Data, Operator, Sheet, Value};
 

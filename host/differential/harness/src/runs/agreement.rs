@@ -1,4 +1,4 @@
-//! Holds one case against all three: the model answers, the library must answer the same, and the Rust must say the same of what it sees.
+//! Asks all three about one case: the model answers, the library must answer the same, and the Rust must say the same of what it sees.
 
 use crate::library;
 use crate::library::entry::Entry;
@@ -30,7 +30,7 @@ pub enum Held {
 /// The longest path that a call can write.
 const MAX_PATH_BYTES: usize = 31_122;
 
-/// The model's answer, held against the library's and the Rust's. An error tells in what they differ.
+/// The model's answer, compared with the library's and the Rust's. An error says how they differ.
 pub fn hold(case: &Case) -> Result<Held, String> {
     hold_with(case, Extent::Some)
 }
@@ -63,7 +63,7 @@ pub fn hold_with(case: &Case, extent: Extent) -> Result<Held, String> {
     if oracle::is_kept_out(&sheet) {
         return Ok(Held::KeptOut);
     }
-    let label = std::str::from_utf8(&case.label).map_err(|_| "a label that is no UTF-8 was let in".to_owned())?;
+    let label = std::str::from_utf8(&case.label).map_err(|_| "a label that is not UTF-8 was accepted".to_owned())?;
     let frame = Frame { kind: case.kind, semantics: case.semantics, label, table: &case.table };
     let verdict = oracle::ask(frame, &Schemas::new(&schema), &sheet)?;
     same(&answer, &verdict, &sheet)?;

@@ -1,4 +1,4 @@
-//! `compare`: generated cases, library, model and Rust held against each other.
+//! `compare`: generated cases, library, model and Rust compared with each other.
 
 use crate::library::lent::Extent;
 use crate::runs::agreement::{hold, hold_with, Held};

@@ -50,7 +50,7 @@ impl World {
         Self { sheet: write_schema(&schema), rust: Schemas::new(&schema), has_arguments: schema.arguments.is_some() }
     }
 
-    /// Holds one rule against all three, under each of the settings.
+    /// Asks all three about one rule, under each of the settings.
     fn hold(&self, settings: &[(u64, u64)], sheet: &Sheet, tally: &mut Tally) -> Result<(), String> {
         let rule = write_rule(sheet);
         let read = decode_rule(&rule).ok_or("a generated rule sheet is not read")?;

@@ -15,7 +15,7 @@ use model::trees::{Data, Sheet};
 use model::{decode_rule, Answer};
 
 /// Runs so many rules and templates that kernel/1 accepts, each answer one that library, model and Rust agree on, under the stock table or each under
-/// one of its own; an error is told to the reader already.
+/// one of its own; an error has already been printed.
 pub fn moved(rules: u64, seed: u64, with_tables: bool) -> Result<(), String> {
     let (mut counted, mut infinite, mut numbers, mut aside) = (0, 0_u64, 0_u64, 0_u64);
     for number in 0.. {
@@ -53,7 +53,7 @@ pub fn moved(rules: u64, seed: u64, with_tables: bool) -> Result<(), String> {
     }
     println!(
         "{counted} that kernel/1 accepts, with {numbers} numbers, asked again under three semantics; {infinite} of them hold a number that is not \
-         finite, and are told so; not counted: {aside} that kernel/1 does not accept"
+         finite, which is the answer; not counted: {aside} that kernel/1 does not accept"
     );
     println!("every other is accepted, with a check more for each of its numbers (seed {seed})");
     Ok(())

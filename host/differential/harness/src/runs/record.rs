@@ -29,7 +29,7 @@ impl Record {
             read => read.map_err(|error| format!("{file} cannot be read: {error}"))?,
         };
         for line in text.lines() {
-            let (key, run) = read_line(line).ok_or_else(|| format!("{file} has a line that is no run: {line}"))?;
+            let (key, run) = read_line(line).ok_or_else(|| format!("{file} has a line that is not a run: {line}"))?;
             record.runs.insert(key, run);
         }
         Ok(record)

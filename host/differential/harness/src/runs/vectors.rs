@@ -76,10 +76,10 @@ pub fn read(file: &str) -> Result<Vec<Case>, String> {
         rest = after;
         if !line.starts_with(b"#") {
             let counts = String::from_utf8_lossy(line);
-            let (input, output) = counts.split_once(',').ok_or_else(|| format!("{counts} is no pair of byte counts"))?;
+            let (input, output) = counts.split_once(',').ok_or_else(|| format!("{counts} is not a pair of byte counts"))?;
             let [input, output] = [input, output].map(|count| count.parse::<usize>().unwrap_or(usize::MAX));
             let whole = input.checked_add(output).filter(|whole| *whole <= rest.len()).ok_or("a list that is cut short")?;
-            cases.push(Case::of_check_in(&rest[..input]).ok_or("a case of the list is no check.in")?);
+            cases.push(Case::of_check_in(&rest[..input]).ok_or("a case of the list is not a check.in")?);
             rest = &rest[whole..];
         }
     }

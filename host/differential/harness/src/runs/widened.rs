@@ -14,7 +14,7 @@ use model::trees::Schema;
 use model::{is_widening, only_marks_opened, Answer};
 
 /// Runs so many pairs of schemas that differ, each answer one that library, model and Rust agree on, under the stock table or each pair under one of
-/// its own; an error is told to the reader already.
+/// its own; an error has already been printed.
 pub fn widened(pairs: u64, seed: u64, with_tables: bool) -> Result<(), String> {
     let mut table = Table::default();
     let (mut counted, mut equal, mut aside) = (0, 0_u64, 0_u64);
@@ -76,7 +76,7 @@ fn relation(random: &mut Random, first: &Schema, second: &Schema, level: Level) 
     }
 }
 
-/// Both calls, each held by all three, and the promise about the two; none where one was refused or kept out. An error tells which case
+/// Both calls, each answered by all three, and the promise about the two; none where one was refused or kept out. An error says which case
 /// it is about, 0 or 1.
 fn fare(cases: &[Case; 2], marks_alone: bool) -> Result<Option<Fared>, (usize, String)> {
     let first = hold(&cases[0]).map_err(|problem| (0, problem))?;

@@ -15,7 +15,7 @@ fn key<'a>(semantics: u64, reader: u64, path: &'a str) -> KeyCall<'a> {
     }
 }
 
-/// The detail, 0 where the path can be read; nothing else is told of a key.
+/// The detail, 0 where the path can be read; nothing else is answered to a key.
 fn detail(semantics: u64, reader: u64, path: &str) -> u32 {
     let answer = check_key(&key(semantics, reader, path));
     let told = match answer.detail {

@@ -1,4 +1,4 @@
-//! Two schema sheets side by side, read for people: what an entry is called, and what has grown. Whether one is a widening of the other is the library's to say.
+//! Two schema sheets side by side, read for display: what an entry is called, and what has grown. Whether one is a widening of the other, the library decides.
 
 use crate::region::Position;
 use entity_rules::entries::{Content, Entry, read_schema};

@@ -1,4 +1,4 @@
-//! Two schemas, held against each other, with what a person wants to know about the answer.
+//! Two schemas compared, with what a person wants to know about the answer.
 
 pub mod json;
 mod members;
@@ -129,12 +129,12 @@ fn hint(reason: BreachReason, new: Option<&Member>) -> Option<&'static str> {
         BreachReason::KindDiffers if is_json => {
             Some("a quantifier over the field would fail, now that it is json")
         }
-        BreachReason::ItemsDiffer if has_element => {
-            Some("paths through the elements were free, and would now be held against the element")
-        }
-        BreachReason::FieldAdded => {
-            Some("paths of that name were free, and would now be held against the field")
-        }
+        BreachReason::ItemsDiffer if has_element => Some(
+            "paths through the elements were not checked before, and would now be checked against the element",
+        ),
+        BreachReason::FieldAdded => Some(
+            "paths of that name were not checked before, and would now be checked against the field",
+        ),
         _ => None,
     }
 }

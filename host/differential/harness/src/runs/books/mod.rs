@@ -1,4 +1,4 @@
-//! Rule books: the tally of library and model, held against what single checks add up to, on which library, model and Rust agree.
+//! Rule books: the tally of library and model, compared with what single checks add up to, on which library, model and Rust agree.
 
 pub mod run;
 pub mod vectors;
@@ -13,7 +13,7 @@ use model::{book, sheets, tally, write_book, Answer, TallyNumbers};
 use std::collections::BTreeMap;
 use std::panic::catch_unwind;
 
-/// The model's numbers, held against the library's. An error tells in what they differ.
+/// The model's numbers, compared with the library's. An error says how they differ.
 pub fn hold(case: &BookCase, extent: Extent) -> Result<TallyNumbers, String> {
     let numbers = catch_unwind(|| tally(&case.call())).map_err(|_| "the model panics".to_owned())?;
     if !case.expect.allows(&numbers) {

@@ -1,4 +1,4 @@
-//! `books`: generated rule books, the tally of library and model held against single checks by library, model and Rust.
+//! `books`: generated rule books, the tally of library and model compared with single checks by library, model and Rust.
 
 use crate::library::lent::Extent;
 use crate::runs::books::{hold_all, report};

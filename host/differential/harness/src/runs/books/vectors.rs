@@ -33,7 +33,7 @@ pub fn vectors(file: &str, seed: u64) -> Result<(), String> {
         }
         list.take(&case(&mut Random::of_case(seed, number)).1)?;
     }
-    // That a buffer is too short is not told.
+    // That a buffer is too short is not recorded.
     if let Some(missing) = list.table.missing().iter().find(|answer| **answer != 3) {
         return Err(format!("no book of the list has the answer {missing}"));
     }
@@ -63,7 +63,7 @@ struct List {
 }
 
 impl List {
-    /// Adds the book if it is new and small, the Rust was asked about all of its sheets, and its buffers are wide enough, which the list does not tell; an
+    /// Adds the book if it is new and small, the Rust was asked about all of its sheets, and its buffers are wide enough, which the list does not record; an
     /// error is a disagreement.
     fn take(&mut self, case: &BookCase) -> Result<(), String> {
         let is_wide = case.path_len >= MIN_PATH_BYTES && case.result_len >= TALLY_BYTES;

@@ -1,4 +1,4 @@
-//! Instants: the model's reading held against a second one, written apart from it, and against the library's.
+//! Instants: the model's reading compared with a second one, written apart from it, and with the library's.
 //!
 //! The reader of the Rust is not available. Where the sources bring it, `is_instant` asks it; otherwise it asks the stand-in.
 
@@ -58,7 +58,7 @@ fn dates() -> Result<u64, String> {
     Ok(count)
 }
 
-/// Holds library, model and second reading against each other: the fields, or none.
+/// Compares library, model and second reading with each other: the fields, or none.
 pub fn hold(text: &[u8]) -> Result<Option<Fields>, String> {
     let fields = read(text)?;
     library::instants::hold(text, fields).map_err(|trouble| format!("{:?}: {trouble}", String::from_utf8_lossy(text)))?;

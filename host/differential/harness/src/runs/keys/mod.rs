@@ -15,7 +15,7 @@ use cases::keys::{candidates, KeyCase};
 use model::{check_key, decode_schema, write_schema, Answer};
 use std::panic::catch_unwind;
 
-/// The model's answer, held against the library's and the Rust's. An error tells in what they differ.
+/// The model's answer, compared with the library's and the Rust's. An error says how they differ.
 pub fn hold(case: &KeyCase, extent: Extent) -> Result<Answer, String> {
     let answer = catch_unwind(|| check_key(&case.call())).map_err(|_| "the model panics".to_owned())?;
     if !case.expect.allows(answer.number, answer.detail) {
@@ -32,7 +32,7 @@ pub fn hold(case: &KeyCase, extent: Extent) -> Result<Answer, String> {
         if write_schema(&schema) != case.schema {
             return Err("the schema sheet was read as something that is written otherwise".to_owned());
         }
-        let path = std::str::from_utf8(&case.path).map_err(|_| "a path that is no UTF-8 was let in".to_owned())?;
+        let path = std::str::from_utf8(&case.path).map_err(|_| "a path that is not UTF-8 was accepted".to_owned())?;
         same(&answer, &Schemas::new(&schema), case.semantics, case.reader, path)?;
     }
     Ok(answer)
@@ -50,7 +50,7 @@ fn shape(answer: &Answer) -> Result<(), String> {
     if *answer == bare && has_detail {
         Ok(())
     } else {
-        Err(format!("an answer that is told otherwise: {}", line(answer)))
+        Err(format!("an answer that is reported differently: {}", line(answer)))
     }
 }
 

@@ -1,4 +1,4 @@
-//! `keys`: generated paths under both readers and all four semantics, library, model and Rust held against each other.
+//! `keys`: generated paths under both readers and all four semantics, library, model and Rust compared with each other.
 
 use crate::library::lent::Extent;
 use crate::runs::keys::{hold, report};

@@ -32,7 +32,7 @@ pub fn vectors(file: &str, seed: u64) -> Result<(), String> {
             list.take(&case)?;
         }
     }
-    // That a result is too short is not told.
+    // That a result is too short is not recorded.
     if let Some(missing) = list.table.missing().iter().find(|(number, ..)| *number != 3) {
         return Err(format!("no case of the list has the answer {missing:?}"));
     }
@@ -62,7 +62,7 @@ struct List {
 }
 
 impl List {
-    /// Adds the case if it is new and its result is wide enough, which the list does not tell; an error is a disagreement.
+    /// Adds the case if it is new and its result is wide enough, which the list does not record; an error is a disagreement.
     fn take(&mut self, case: &KeyCase) -> Result<(), String> {
         let answer = hold(case, Extent::Some).map_err(|trouble| report(case, &trouble, "a case for the list"))?;
         let KeyCase { semantics, reader, path, schema, .. } = case;

@@ -13,7 +13,7 @@ use cases::random::Random;
 use model::trees::Schema;
 use model::{is_widening, only_marks_opened, write_schema};
 
-/// Runs so many pairs of schemas that differ, each with one path under both readers; an error is told to the reader already.
+/// Runs so many pairs of schemas that differ, each with one path under both readers; an error has already been printed.
 pub fn widened(pairs: u64, seed: u64) -> Result<(), String> {
     let mut tables = READERS.map(|_| Table::default());
     let (mut counted, mut equal) = (0, 0_u64);
@@ -64,7 +64,7 @@ fn path(random: &mut Random, schema: &Schema, service: bool) -> String {
     }
 }
 
-/// Both calls, each held by all three, and the promise about the two. An error tells which case it is about, 0 or 1.
+/// Both calls, each answered by all three, and the promise about the two. An error says which case it is about, 0 or 1.
 fn fare(cases: &[KeyCase; 2], marks_alone: bool) -> Result<Fared, (usize, String)> {
     let first = hold(&cases[0], Extent::Some).map_err(|trouble| (0, trouble))?;
     let second = hold(&cases[1], Extent::Some).map_err(|trouble| (1, trouble))?;

@@ -1,4 +1,4 @@
-//! `marks`: rules with known marks, then generated ones; library, model, second reading and Rust held against each other.
+//! `marks`: rules with known marks, then generated ones; library, model, second reading and Rust compared with each other.
 
 use crate::library::entry::Entry;
 use crate::library::lent::Extent;

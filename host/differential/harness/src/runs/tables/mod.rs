@@ -8,7 +8,7 @@ use crate::readings::refusals::load_refusal;
 use cases::shrink::shorter;
 use cases::tables::LoadCase;
 
-/// The number that library, model and second reading agree on. An error tells in what they differ.
+/// The number that library, model and second reading agree on. An error says how they differ.
 pub fn hold_load(case: &LoadCase) -> Result<u32, String> {
     let (number, buffer) = case.answer();
     if case.expect.is_some_and(|expected| expected != number) {

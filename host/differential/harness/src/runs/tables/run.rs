@@ -1,4 +1,4 @@
-//! `tables`: generated cases under name tables, and tables loaded; library, model and Rust held against each other.
+//! `tables`: generated cases under name tables, and tables loaded; library, model and Rust compared with each other.
 
 use crate::library::lent::Extent;
 use crate::runs::agreement::{hold, hold_with, Held};

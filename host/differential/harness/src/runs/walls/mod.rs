@@ -11,7 +11,7 @@ use cases::walls::{Printed, WallCase};
 use model::{tally, wall, BookCall, TallyNumbers, PAGE_BYTES, PAGE_SHEETS, TALLY_BYTES};
 use std::panic::catch_unwind;
 
-/// What the model prints, held against the library. An error tells in what they differ.
+/// What the model prints, compared with the library. An error says how they differ.
 pub fn hold(case: &WallCase, extent: Extent) -> Result<Printed, String> {
     let printed = catch_unwind(|| wall(&case.call())).map_err(|_| "the model panics".to_owned())?;
     let (numbers, pages) = &printed;
@@ -27,7 +27,7 @@ pub fn hold(case: &WallCase, extent: Extent) -> Result<Printed, String> {
         let counts = read_again(pages)?;
         let tally = tally(&BookCall { result_len: TALLY_BYTES, ..case.book.call() });
         if counts != tally {
-            return Err(format!("the pages tell {counts:?}, the tally {tally:?}"));
+            return Err(format!("the pages say {counts:?}, the tally {tally:?}"));
         }
     }
     Ok(printed)
@@ -44,7 +44,7 @@ fn read_again(pages: &[u8]) -> Result<TallyNumbers, String> {
         }
         let before = counts;
         for line in &lines[1..59] {
-            read_line(line, &mut counts).ok_or_else(|| format!("{:?} is no line of a result", String::from_utf8_lossy(line)))?;
+            read_line(line, &mut counts).ok_or_else(|| format!("{:?} is not a line of a result", String::from_utf8_lossy(line)))?;
         }
         let ends = [format!("PAGE {:>5}", (at + 1) % 100_000), format!("ACCEPTED {:>2}", counts[2] - before[2])];
         let is_last = (at + 1) * PAGE_BYTES == pages.len();

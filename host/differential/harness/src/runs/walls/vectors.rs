@@ -36,7 +36,7 @@ pub fn vectors(file: &str, seed: u64) -> Result<(), String> {
         }
         list.take(&case(&mut Random::of_case(seed, number)).1)?;
     }
-    // That a path buffer or a result is too short is not told.
+    // That a path buffer or a result is too short is not recorded.
     if let Some(missing) = [0, 1, 2, 33, 34, 37, 38].iter().find(|number| !list.numbers.contains(number)) {
         return Err(format!("no book of the list has the answer {missing}"));
     }
@@ -65,7 +65,7 @@ struct List {
 }
 
 impl List {
-    /// Adds the book if it is new and small and its path buffer and result are wide enough, which the list does not tell; an error is a disagreement.
+    /// Adds the book if it is new and small and its path buffer and result are wide enough, which the list does not record; an error is a disagreement.
     fn take(&mut self, case: &WallCase) -> Result<(), String> {
         let book = &case.book;
         let is_wide = book.path_len >= MIN_PATH_BYTES && book.result_len >= WALL_BYTES;

@@ -1,4 +1,4 @@
-//! Pairs of schemas: whether the second is a widening of the first, held by library and model, and against what the Rust answers for rules over both.
+//! Pairs of schemas: whether the second is a widening of the first, by library and model, and compared with what the Rust answers for rules over both.
 
 pub mod run;
 pub mod vectors;
@@ -10,7 +10,7 @@ use cases::widens::{candidates, Expect, WidensCase};
 use model::{decode_schema, is_widening, only_marks_opened, widens, write_schema};
 use std::panic::catch_unwind;
 
-/// The model's numbers, held against the library's. An error tells in what they differ.
+/// The model's numbers, compared with the library's. An error says how they differ.
 pub fn hold(case: &WidensCase, extent: Extent) -> Result<[u32; 7], String> {
     let WidensCase { first, second, result_len, expect } = case;
     let numbers = catch_unwind(|| widens(first, second, *result_len)).map_err(|_| "the model panics".to_owned())?;

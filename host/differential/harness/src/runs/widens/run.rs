@@ -1,4 +1,4 @@
-//! `widens`: generated pairs of schemas, the library held against the model; and rules over pairs, where the Rust shows what a widening keeps and a breach may break.
+//! `widens`: generated pairs of schemas, the library compared with the model; and rules over pairs, where the Rust shows what a widening keeps and a breach may break.
 
 use crate::library::lent::Extent;
 use crate::readings::answer::line;

@@ -41,7 +41,7 @@ pub fn vectors(file: &str, seed: u64) -> Result<(), String> {
             list.take(&make(&mut Random::of_case(seed, number)))?;
         }
     }
-    // That a result is too short is not told.
+    // That a result is too short is not recorded.
     if let Some(missing) = list.table.missing().iter().find(|answer| answer[0] != 3) {
         return Err(format!("no pair of the list has the answer {missing:?}"));
     }
@@ -70,7 +70,7 @@ struct List {
 }
 
 impl List {
-    /// Adds the pair if it is new and its result is wide enough, which the list does not tell; an error is a disagreement.
+    /// Adds the pair if it is new and its result is wide enough, which the list does not record; an error is a disagreement.
     fn take(&mut self, case: &WidensCase) -> Result<(), String> {
         let numbers = hold(case, Extent::Some).map_err(|trouble| report(case, &trouble, "a pair for the list"))?;
         let WidensCase { first, second, .. } = case;

@@ -1,4 +1,4 @@
-//! `leaves`: the model's text and numbers held against Rust's own `str`, `char` and `f64` and against serde_json's number grammar, and the library's test
+//! `text_samples`: the model's text and numbers compared with Rust's own `str`, `char` and `f64` and with serde_json's number grammar, and the library's test
 //! of numbers against the model's.
 
 use crate::library::raw;
@@ -17,7 +17,7 @@ const SEED: u64 = 1;
 type Check = (&'static str, fn() -> Result<u64, String>);
 
 /// Runs every check; an error names the first input on which two readings differ.
-pub fn leaves() -> Result<(), String> {
+pub fn text_samples() -> Result<(), String> {
     let checks: [Check; 11] = [
         ("UTF-8, all strings of up to 3 bytes", short_utf8),
         ("UTF-8, 4 bytes at the edges of the ranges", four_byte_utf8),
