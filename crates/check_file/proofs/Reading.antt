@@ -13,9 +13,9 @@ use Rattle.sheet.specs.Reader.{_>>=_, _>>_, andThen, pure}
 use Rattle.sheet.specs.Numeral.{isDigit, digits, decimal}
 use Rattle.sheet.specs.Entries.{byte}
 use Rattle.check_file.specs.File.{field}
-use Rattle.check_file.specs.Places.{tooLarge, ReadsTo, NumeralIs, digitsBehind}
-use Rattle.check_file.specs.declared.numeral.NumeralRead.{NumeralRead}
-use Rattle.check_file.specs.declared.numeral.NumeralRead.the-variants.{Is, Missing}
+use Rattle.check_file.specs.Places.{tooLarge, ReadsTo, CappedIs, digitsBehind}
+use Rattle.check_file.specs.declared.numeral.CappedRead.{CappedRead}
+use Rattle.check_file.specs.declared.numeral.CappedRead.the-variants.{Is, Missing}
 
 -- The digits from place i on, after those whose value is n: none at the end, none before another byte, one more.
 
@@ -98,7 +98,7 @@ module _ (s : List ℕ) (at : ℕ) (h : at < length s) where
     unfolding decimal digitsBehind
     decimal-digits d = rw (add-one, drop-cons s at 0 h, ne-eqb (getD s at 0) 48 other, d)
 
-    pub decimal-some : isDigit (getD s at 0) ≡ true → (r : NumeralRead) → NumeralIs (digitsBehind (getD s at 0 - 48)) s (at + 1) r → NumeralIs decimal s at r
+    pub decimal-some : isDigit (getD s at 0) ≡ true → (r : CappedRead) → CappedIs (digitsBehind (getD s at 0 - 48)) s (at + 1) r → CappedIs decimal s at r
     decimal-some d (Is value next) e =
         record {
           number = e .number;

@@ -18,8 +18,8 @@ unfolding littleEndian bytesOf fieldsOf resultAfter numbersOf numberAt fieldAt
 result before = resultAfter (numbersOf (refused 3)) before
 
 unfoldable compared : List ℕ → List ℕ
-unfolding littleEndian bytesOf fieldsOf resultAfter inPlaces SheetDecision.numbersOf SheetDecision.reasonNumber
-compared before = resultAfter (inPlaces (SheetDecision.numbersOf (SheetDecision.decision (refuted markCloses 2 3)))) before
+unfolding littleEndian bytesOf fieldsOf resultAfter inPlaces SheetDecision.decisionNumbers SheetDecision.reasonNumber
+compared before = resultAfter (inPlaces (SheetDecision.decisionNumbers (SheetDecision.decision (refuted markCloses 2 3)))) before
 
 unfoldable report : (count : ℕ) → List ℕ → List ℕ
 unfolding littleEndian bytesOf fieldsOf reportFields reportAfter numbersOf
