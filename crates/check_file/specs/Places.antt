@@ -20,14 +20,14 @@ abbrev pub tooLarge : ℕ
 tooLarge = maxFile + 1
 
 -- `p` reads a number from place `at` on, which is answered as `value`, and stops at `next`
-pub record ReadsTo (p : Reader (List ℕ) ℕ) (s : List ℕ) (at value next : ℕ) : Type 0 where
+pub record CappedTo (p : Reader (List ℕ) ℕ) (s : List ℕ) (at value next : ℕ) : Type 0 where
   pub number : ℕ
   pub reads : p (drop at s) ≡ some (number, drop next s)
   pub answered : value ≡ min number tooLarge
   pub within : next ≤ length s
 
 abbrev pub CappedIs : Reader (List ℕ) ℕ → List ℕ → ℕ → CappedRead → Type 0
-CappedIs p s at (numeral.Is value next) = ReadsTo p s at value next
+CappedIs p s at (numeral.Is value next) = CappedTo p s at value next
 CappedIs p s at numeral.Missing = p (drop at s) ≡ none
 
 -- the digits after those whose value is `first`
