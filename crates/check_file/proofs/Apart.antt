@@ -13,7 +13,7 @@ use Rattle.sheet.specs.Reader.{Reader, _>>=_, _>>_, andThen, pure}
 use Rattle.sheet.specs.ReaderLaws.{by-test}
 use Rattle.sheet.specs.Entries.{byte, bytes}
 use Rattle.check_file.specs.File.{maxFile, Parts, field, end, texts, wholeFile, takenApart}
-use Rattle.check_file.specs.Places.{tooLarge, ReadsTo, partOf, partsAt, TextsAre, answerable, TakenIs}
+use Rattle.check_file.specs.Places.{tooLarge, CappedTo, partOf, partsAt, TextsAre, answerable, TakenIs}
 use Rattle.check_file.specs.declared.file.Taken.{Taken}
 use Rattle.check_file.specs.declared.file.Taken.the-variants.{Apart, OtherForm}
 
@@ -152,27 +152,27 @@ module _ (s : List ℕ) (short : length s ≤ maxFile) where
   unfolding takenApart wholeFile _>>=_ andThen
   missing-1 e = rw (le-leb (length s) maxFile short, e)
 
-  module _ {kind a : ℕ} (r1 : ReadsTo field s 0 kind a) where
+  module _ {kind a : ℕ} (r1 : CappedTo field s 0 kind a) where
     pub missing-2 : field (drop a s) ≡ none → takenApart s ≡ none
     unfolding takenApart wholeFile _>>=_ andThen
     missing-2 e = rw (le-leb (length s) maxFile short, r1 .reads, e)
 
-    module _ {semantics b : ℕ} (r2 : ReadsTo field s a semantics b) where
+    module _ {semantics b : ℕ} (r2 : CappedTo field s a semantics b) where
       pub missing-3 : field (drop b s) ≡ none → takenApart s ≡ none
       unfolding takenApart wholeFile _>>=_ andThen
       missing-3 e = rw (le-leb (length s) maxFile short, r1 .reads, r2 .reads, e)
 
-      module _ {label c : ℕ} (r3 : ReadsTo field s b label c) where
+      module _ {label c : ℕ} (r3 : CappedTo field s b label c) where
         pub missing-4 : field (drop c s) ≡ none → takenApart s ≡ none
         unfolding takenApart wholeFile _>>=_ andThen
         missing-4 e = rw (le-leb (length s) maxFile short, r1 .reads, r2 .reads, r3 .reads, e)
 
-        module _ {schema d : ℕ} (r4 : ReadsTo field s c schema d) where
+        module _ {schema d : ℕ} (r4 : CappedTo field s c schema d) where
           pub missing-5 : field (drop d s) ≡ none → takenApart s ≡ none
           unfolding takenApart wholeFile _>>=_ andThen
           missing-5 e = rw (le-leb (length s) maxFile short, r1 .reads, r2 .reads, r3 .reads, r4 .reads, e)
 
-          module _ {rule at : ℕ} (r5 : ReadsTo field s d rule at) where
+          module _ {rule at : ℕ} (r5 : CappedTo field s d rule at) where
             abbrev behind : Option (Parts × List ℕ)
             behind = texts (r1 .number) (r2 .number) (r3 .number) (r4 .number) (r5 .number) (drop at s)
 

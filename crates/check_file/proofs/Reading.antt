@@ -13,9 +13,9 @@ use Rattle.sheet.specs.Reader.{_>>=_, _>>_, andThen, pure}
 use Rattle.sheet.specs.Numeral.{isDigit, digits, decimal}
 use Rattle.sheet.specs.Entries.{byte}
 use Rattle.check_file.specs.File.{field}
-use Rattle.check_file.specs.Places.{tooLarge, ReadsTo, NumeralIs, digitsBehind}
-use Rattle.check_file.specs.declared.numeral.NumeralRead.{NumeralRead}
-use Rattle.check_file.specs.declared.numeral.NumeralRead.the-variants.{Is, Missing}
+use Rattle.check_file.specs.Places.{tooLarge, CappedTo, CappedIs, digitsBehind}
+use Rattle.check_file.specs.declared.numeral.CappedRead.{CappedRead}
+use Rattle.check_file.specs.declared.numeral.CappedRead.the-variants.{Is, Missing}
 
 -- The digits from place i on, after those whose value is n: none at the end, none before another byte, one more.
 
@@ -52,7 +52,7 @@ module _ {first : ℕ} {s : List ℕ} {at value i : ℕ} (p : Passed first s at 
         within = omega arith;
       }
 
-  pub passed-end : length s ≤ i → ReadsTo (digitsBehind first) s at value i
+  pub passed-end : length s ≤ i → CappedTo (digitsBehind first) s at value i
   unfolding digitsBehind
   passed-end h =
       record {
@@ -62,7 +62,7 @@ module _ {first : ℕ} {s : List ℕ} {at value i : ℕ} (p : Passed first s at 
         within = p .within;
       }
 
-  pub passed-stop : i < length s → isDigit (getD s i 0) ≡ false → ReadsTo (digitsBehind first) s at value i
+  pub passed-stop : i < length s → isDigit (getD s i 0) ≡ false → CappedTo (digitsBehind first) s at value i
   unfolding digitsBehind
   passed-stop h d =
       record {
@@ -79,7 +79,7 @@ unfolding decimal
 decimal-end s at h = rw (drop-of-length-le s h)
 
 module _ (s : List ℕ) (at : ℕ) (h : at < length s) where
-  pub decimal-zero : getD s at 0 ≡ 48 → ReadsTo decimal s at 0 (at + 1)
+  pub decimal-zero : getD s at 0 ≡ 48 → CappedTo decimal s at 0 (at + 1)
   unfolding decimal
   decimal-zero e =
       record {
@@ -98,7 +98,7 @@ module _ (s : List ℕ) (at : ℕ) (h : at < length s) where
     unfolding decimal digitsBehind
     decimal-digits d = rw (add-one, drop-cons s at 0 h, ne-eqb (getD s at 0) 48 other, d)
 
-    pub decimal-some : isDigit (getD s at 0) ≡ true → (r : NumeralRead) → NumeralIs (digitsBehind (getD s at 0 - 48)) s (at + 1) r → NumeralIs decimal s at r
+    pub decimal-some : isDigit (getD s at 0) ≡ true → (r : CappedRead) → CappedIs (digitsBehind (getD s at 0 - 48)) s (at + 1) r → CappedIs decimal s at r
     decimal-some d (Is value next) e =
         record {
           number = e .number;
@@ -114,7 +114,7 @@ pub field-none : (s : List ℕ) (at : ℕ) → decimal (drop at s) ≡ none → 
 unfolding field _>>=_ andThen
 field-none s at e = rw e
 
-module _ {s : List ℕ} {at value next : ℕ} (r : ReadsTo decimal s at value next) where
+module _ {s : List ℕ} {at value next : ℕ} (r : CappedTo decimal s at value next) where
   pub field-end : length s ≤ next → field (drop at s) ≡ none
   unfolding field _>>=_ _>>_ andThen byte
   field-end h = rw (r .reads, drop-of-length-le s h)
@@ -123,7 +123,7 @@ module _ {s : List ℕ} {at value next : ℕ} (r : ReadsTo decimal s at value ne
   unfolding field _>>=_ _>>_ andThen byte
   field-other h other = rw (r .reads, drop-cons s next 0 h, ne-eqb (getD s next 0) 44 other)
 
-  pub field-some : next < length s → getD s next 0 ≡ 44 → ReadsTo field s at value (next + 1)
+  pub field-some : next < length s → getD s next 0 ≡ 44 → CappedTo field s at value (next + 1)
   unfolding field _>>=_ _>>_ andThen byte pure
   field-some h e =
       record {

@@ -8,8 +8,8 @@ use Rattle.sheet.specs.Reader.{Reader}
 use Rattle.sheet.specs.Numeral as Numeral
 use Rattle.check_file.specs.File as File
 use Rattle.check_file.specs.File.{maxFile, Parts, takenApart}
-use Rattle.check_file.specs.declared.numeral.NumeralRead.{NumeralRead}
-use Rattle.check_file.specs.declared.numeral.NumeralRead.the-variants as numeral
+use Rattle.check_file.specs.declared.numeral.CappedRead.{CappedRead}
+use Rattle.check_file.specs.declared.numeral.CappedRead.the-variants as numeral
 use Rattle.check_file.specs.declared.file.Span.{Span}
 use Rattle.check_file.specs.declared.file.Placed.{Placed}
 use Rattle.check_file.specs.declared.file.Taken.{Taken}
@@ -20,15 +20,15 @@ abbrev pub tooLarge : ℕ
 tooLarge = maxFile + 1
 
 -- `p` reads a number from place `at` on, which is answered as `value`, and stops at `next`
-pub record ReadsTo (p : Reader (List ℕ) ℕ) (s : List ℕ) (at value next : ℕ) : Type 0 where
+pub record CappedTo (p : Reader (List ℕ) ℕ) (s : List ℕ) (at value next : ℕ) : Type 0 where
   pub number : ℕ
   pub reads : p (drop at s) ≡ some (number, drop next s)
   pub answered : value ≡ min number tooLarge
   pub within : next ≤ length s
 
-abbrev pub NumeralIs : Reader (List ℕ) ℕ → List ℕ → ℕ → NumeralRead → Type 0
-NumeralIs p s at (numeral.Is value next) = ReadsTo p s at value next
-NumeralIs p s at numeral.Missing = p (drop at s) ≡ none
+abbrev pub CappedIs : Reader (List ℕ) ℕ → List ℕ → ℕ → CappedRead → Type 0
+CappedIs p s at (numeral.Is value next) = CappedTo p s at value next
+CappedIs p s at numeral.Missing = p (drop at s) ≡ none
 
 -- the digits after those whose value is `first`
 unfoldable pub digitsBehind : ℕ → Reader (List ℕ) ℕ

@@ -1,5 +1,5 @@
 // A file taken apart.
-use crate::numeral::NumeralRead;
+use crate::numeral::CappedRead;
 use crate::numeral::{self};
 use definition::limits::MAX_FILE_BYTES;
 use sheet::numeral::wide;
@@ -70,19 +70,19 @@ pub fn take_apart(file: &[u8]) -> Taken
     if MAX_FILE_BYTES < file.len() {
         return Taken::OtherForm;
     }
-    let NumeralRead::Is(kind, second) = numeral::field(file, 0) else {
+    let CappedRead::Is(kind, second) = numeral::field(file, 0) else {
         return Taken::OtherForm;
     };
-    let NumeralRead::Is(semantics, third) = numeral::field(file, second) else {
+    let CappedRead::Is(semantics, third) = numeral::field(file, second) else {
         return Taken::OtherForm;
     };
-    let NumeralRead::Is(label, fourth) = numeral::field(file, third) else {
+    let CappedRead::Is(label, fourth) = numeral::field(file, third) else {
         return Taken::OtherForm;
     };
-    let NumeralRead::Is(schema, fifth) = numeral::field(file, fourth) else {
+    let CappedRead::Is(schema, fifth) = numeral::field(file, fourth) else {
         return Taken::OtherForm;
     };
-    let NumeralRead::Is(rule, behind) = numeral::field(file, fifth) else {
+    let CappedRead::Is(rule, behind) = numeral::field(file, fifth) else {
         return Taken::OtherForm;
     };
     texts(file, behind, kind, semantics, label, schema, rule)

@@ -7,11 +7,11 @@ ghost use Prim.Native.Nat.{min, _≤_};
 ghost use lib.ListN.{length};
 ghost use Rattle.sheet.specs.Numeral.{decimal};
 ghost use Rattle.check_file.specs.File.{field};
-ghost use Rattle.check_file.specs.Places.{tooLarge, digitsBehind, NumeralIs};
+ghost use Rattle.check_file.specs.Places.{tooLarge, digitsBehind, CappedIs};
 
 const TOO_LARGE: u32 = MAX_FILE_BYTES as u32 + 1;
 
-pub enum NumeralRead {
+pub enum CappedRead {
     // The number, and the place after it.
     Is(u32, usize),
     Missing,
@@ -24,9 +24,9 @@ fn capped(n: u32) -> u32
 }
 
 // The digits from `at` on, after the one whose value is `first`.
-fn digits(s: &[u8], at: usize, first: u32) -> NumeralRead
+fn digits(s: &[u8], at: usize, first: u32) -> CappedRead
     requires { ⌜ (at ≤ length (now s)) × (first ≤ 9) ⌝ }
-    ensures { λ r. ⌜ NumeralIs (digitsBehind first) (now (s .entry)) at r ⌝ }
+    ensures { λ r. ⌜ CappedIs (digitsBehind first) (now (s .entry)) at r ⌝ }
 {
     let mut value = first;
     let mut i = at;
@@ -36,41 +36,41 @@ fn digits(s: &[u8], at: usize, first: u32) -> NumeralRead
             value = capped(value * 10 + (wide(b) - 48));
             i += 1;
         } else {
-            return NumeralRead::Is(value, i);
+            return CappedRead::Is(value, i);
         }
     }
-    NumeralRead::Is(value, i)
+    CappedRead::Is(value, i)
 }
 
 // A numeral whose first digit is at `at`.
-fn numeral(s: &[u8], at: usize) -> NumeralRead
-    ensures { λ r. ⌜ NumeralIs decimal (now (s .entry)) at r ⌝ }
+fn numeral(s: &[u8], at: usize) -> CappedRead
+    ensures { λ r. ⌜ CappedIs decimal (now (s .entry)) at r ⌝ }
 {
     if s.len() <= at {
-        return NumeralRead::Missing;
+        return CappedRead::Missing;
     }
     let b = s[at];
     if b == b'0' {
-        return NumeralRead::Is(0, at + 1);
+        return CappedRead::Is(0, at + 1);
     }
     if is_digit(b) {
         return digits(s, at + 1, wide(b) - 48);
     }
-    NumeralRead::Missing
+    CappedRead::Missing
 }
 
 // A numeral and the comma after it.
-pub fn field(s: &[u8], at: usize) -> NumeralRead
-    ensures { λ r. ⌜ NumeralIs field (now (s .entry)) at r ⌝ }
+pub fn field(s: &[u8], at: usize) -> CappedRead
+    ensures { λ r. ⌜ CappedIs field (now (s .entry)) at r ⌝ }
 {
-    let NumeralRead::Is(value, next) = numeral(s, at) else {
-        return NumeralRead::Missing;
+    let CappedRead::Is(value, next) = numeral(s, at) else {
+        return CappedRead::Missing;
     };
     if s.len() <= next {
-        return NumeralRead::Missing;
+        return CappedRead::Missing;
     }
     if s[next] == b',' {
-        return NumeralRead::Is(value, next + 1);
+        return CappedRead::Is(value, next + 1);
     }
-    NumeralRead::Missing
+    CappedRead::Missing
 }

@@ -13,7 +13,8 @@ use Rattle.sheet.specs.Reader.{orElse}
 use Rattle.sheet.specs.Entries.{ConditionHead, literalHead, manyHead, negationHead, oneHead, twoHead, comparisonHead, quantifierHead, conditionHead}
 use Rattle.definition.specs.Tree.{Text, Value, Condition, literal, many, negation, one, two, comparison, quantifier, Conditions, noConditions, condition}
 use Rattle.definition.specs.Within.{conditionEntries, valueEntries}
-use Rattle.rule.specs.Index.{startOf, endOf, countOfConditions, ValueAt, ConditionAt, ConditionsAt}
+use Rattle.definition.specs.Write.{countOfConditions}
+use Rattle.rule.specs.Index.{startOf, endOf, ValueAt, ConditionAt, ConditionsAt}
 use Rattle.rule.specs.IndexLaws.{value-next, condition-next}
 use Rattle.validation.specs.Check.{entryOf}
 use Rattle.validation.specs.Location.{operatorName, dotted, index, through, hereOr, hereAs, inValue, inSide, atQuantifier, inCondition, inConditions}

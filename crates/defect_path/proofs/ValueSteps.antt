@@ -11,7 +11,8 @@ use Rattle.sheet.specs.Reader.{orElse}
 use Rattle.sheet.specs.Entries.{ValueHead, constantHead, numberHead, stringHead, arrayHead, objectHead, valueHead, keyHead}
 use Rattle.definition.specs.Tree.{Text, Value, constant, number, string, array, object, Values, noValues, value, Pairs, noPairs, pair}
 use Rattle.definition.specs.Within.{valueEntries}
-use Rattle.rule.specs.Index.{startOf, countOfValues, countOfPairs, EntryAt, ValueAt, ValuesAt, PairsAt}
+use Rattle.definition.specs.Write.{countOfValues, countOfPairs}
+use Rattle.rule.specs.Index.{startOf, EntryAt, ValueAt, ValuesAt, PairsAt}
 use Rattle.rule.specs.IndexLaws.{value-next}
 use Rattle.validation.specs.Location.{dotted, index, through, hereOr, inValue, inValues, inPairs}
 use Rattle.buffer.specs.Wrote.{Wrote}

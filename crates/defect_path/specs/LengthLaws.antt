@@ -16,7 +16,7 @@ use Rattle.sheet.specs.Write.{writeEnd, writeItem, writeLength, writeLast, writ
 use Rattle.sheet.specs.Entries.{ConditionHead, literalHead, manyHead, negationHead, oneHead, twoHead, comparisonHead, quantifierHead, ValueHead, constantHead, numberHead, stringHead, arrayHead, objectHead}
 use Rattle.sheet.specs.Entries as entries
 use Rattle.definition.specs.Tree.{Text, Value, constant, number, string, array, object, Values, noValues, value, Pairs, noPairs, pair, Condition, literal, many, negation, one, two, comparison, quantifier, Conditions, noConditions, condition, Rule, rule, template}
-use Rattle.definition.specs.Write.{valueCount, pairCount, conditionCount, writeValue, writeValues, writePairs, writeCondition, writeConditions, writeRule}
+use Rattle.definition.specs.Write.{countOfValues, countOfPairs, countOfConditions, writeValue, writeValues, writePairs, writeCondition, writeConditions, writeRule}
 use Rattle.definition.specs.Within.{ConditionFits, ConditionsFit, RuleFits, RuleWithin}
 use Rattle.validation.specs.Check.{entryOf}
 use Rattle.validation.specs.Location.{operatorName, dotted, index, through, hereOr, hereAs, inValue, inValues, inPairs, inSide, atQuantifier, inCondition, inConditions, behindLabel, pathOf}
@@ -110,16 +110,16 @@ value-least (constant e type) = value-head-least (constantHead type)
 value-least (number e digits) = value-head-least (numberHead digits)
 value-least (string e t) = value-head-least (stringHead t)
 value-least (array e values) =
-    let h = value-head-least (arrayHead (valueCount values)) in
+    let h = value-head-least (arrayHead (countOfValues values)) in
     simp length-append (omega arith)
 value-least (object e pairs) =
-    let h = value-head-least (objectHead (pairCount pairs)) in
+    let h = value-head-least (objectHead (countOfPairs pairs)) in
     simp length-append (omega arith)
 
 condition-least : (c : Condition) → 7 ≤ length (writeCondition c)
 unfolding writeCondition
 condition-least (literal e truth) = condition-head-least (literalHead truth)
-condition-least (many e op children) = let h = condition-head-least (manyHead op (conditionCount children)) in simp length-append (omega arith)
+condition-least (many e op children) = let h = condition-head-least (manyHead op (countOfConditions children)) in simp length-append (omega arith)
 condition-least (negation e child) = let h = condition-head-least negationHead in simp length-append (omega arith)
 condition-least (one e op v) = let h = condition-head-least (oneHead op) in simp length-append (omega arith)
 condition-least (two e op left right) = let h = condition-head-least (twoHead op) in simp length-append (omega arith)
@@ -244,12 +244,12 @@ module _ (place : ℕ) where
     value-short (number e digits) = own-short (eqb e place) none (value-head-least (numberHead digits)) none-short
     value-short (string e t) = own-short (eqb e place) none (value-head-least (stringHead t)) none-short
     value-short (array e values) =
-        let h = value-head-least (arrayHead (valueCount values)) in
-        let l = length-append (writeValueHead (arrayHead (valueCount values))) (writeValues values) in
+        let h = value-head-least (arrayHead (countOfValues values)) in
+        let l = length-append (writeValueHead (arrayHead (countOfValues values))) (writeValues values) in
         own-short (eqb e place) (inValues place 0 values) (omega arith) (wider (inValues place 0 values) (values-short 0 values) (omega arith))
     value-short (object e pairs) =
-        let h = value-head-least (objectHead (pairCount pairs)) in
-        let l = length-append (writeValueHead (objectHead (pairCount pairs))) (writePairs pairs) in
+        let h = value-head-least (objectHead (countOfPairs pairs)) in
+        let l = length-append (writeValueHead (objectHead (countOfPairs pairs))) (writePairs pairs) in
         own-short (eqb e place) (inPairs place pairs) (omega arith) (wider (inPairs place pairs) (pairs-short pairs) (omega arith))
 
     values-short : (k : ℕ) (vs : Values) → Short 7 (k + 3 + length (writeValues vs)) (inValues place k vs)
@@ -296,8 +296,8 @@ module _ (place : ℕ) where
     condition-short : (defect : ℕ) (c : Condition) → ConditionFits c → Short 0 (length (writeCondition c)) (inCondition defect place c)
     condition-short defect (literal e truth) fits = own-short (eqb e place) none (omega arith) none-short
     condition-short defect (many e op children) fits =
-        let h = condition-head-least (manyHead op (conditionCount children)) in
-        let l = length-append (writeConditionHead (manyHead op (conditionCount children))) (writeConditions children) in
+        let h = condition-head-least (manyHead op (countOfConditions children)) in
+        let l = length-append (writeConditionHead (manyHead op (countOfConditions children))) (writeConditions children) in
         own-short (eqb e place) _ (omega arith)
         (wider _ (conditions-short defect op (many-name op (fits .0 .0) (fits .0 .1)) 0 children (fits .1)) (omega arith))
     condition-short defect (negation e child) fits =

@@ -8,11 +8,11 @@ use Rattle.sheet.specs.Ascii.{ascii}
 use Rattle.sheet.specs.Numeral.{decimalIn, decimalOf}
 use Rattle.sheet.specs.Write.{writeEnd, writeItem, markOf, writeMark, writeLength, writeText, writeHolderHead, writeArgumentsHead, writeSchemaHead, writeFieldHead, writeRuleHead, writeLast, writeOperator, writeConditionHead, writeType, writeValueHead, writeKeyHead}
 use Rattle.definition.specs.Tree.{Schema, field, absent, element, noMembers, member, number, string, constant, array, object, noValues, value, noPairs, pair, rule, template, quantifier, two, negation}
-use Rattle.definition.specs.Write.{hasItems, memberCount, writeField, headOf, headOfArguments, writeArguments, writeSchema, valueCount, pairCount, writeValue, conditionCount, writeCondition, writeRule}
+use Rattle.definition.specs.Write.{hasItems, countOfMembers, writeField, headOf, headOfArguments, writeArguments, writeSchema, countOfValues, countOfPairs, writeValue, countOfConditions, writeCondition, writeRule}
 
 -- opens every writer, so that an example computes
 opened : Schema → List ℕ
-unfolding ascii decimalIn decimalOf writeEnd writeItem markOf writeMark writeLength writeText writeHolderHead writeArgumentsHead writeSchemaHead writeFieldHead writeRuleHead writeLast writeOperator writeConditionHead writeType writeValueHead writeKeyHead hasItems memberCount writeField headOf headOfArguments writeArguments writeSchema valueCount pairCount writeValue conditionCount writeCondition writeRule
+unfolding ascii decimalIn decimalOf writeEnd writeItem markOf writeMark writeLength writeText writeHolderHead writeArgumentsHead writeSchemaHead writeFieldHead writeRuleHead writeLast writeOperator writeConditionHead writeType writeValueHead writeKeyHead hasItems countOfMembers writeField headOf headOfArguments writeArguments writeSchema countOfValues countOfPairs writeValue countOfConditions writeCondition writeRule
 opened t = writeSchema t
 
 -- an open record with `tags`, an array of strings, and the union `unit` with the tag `of`; arguments without fields

@@ -11,7 +11,7 @@ use Rattle.sheet.specs.RuleHeadLaws.{ConditionHeadFits, conditionHead-exact}
 use Rattle.definition.specs.Tree.{Value, Condition, literal, many, negation, one, two, comparison, quantifier, Conditions, noConditions, condition}
 use Rattle.definition.specs.Limits.{maxValueNesting}
 use Rattle.definition.specs.Decode.{Ahead, entry, anyValue, conditionsOf, conditionOf, conditionIn}
-use Rattle.definition.specs.Write.{writeValue, conditionCount, writeCondition, writeConditions}
+use Rattle.definition.specs.Write.{writeValue, countOfConditions, writeCondition, writeConditions}
 use Rattle.definition.specs.Within.{valueEntries, OperandFits, ValueFrom, conditionEntries, conditionsEntries, conditionNesting, conditionsNesting, ConditionFits, ConditionsFit, ConditionFrom, ConditionsFrom}
 use Rattle.definition.specs.TreeLaws.{Moves, TreeLaw, moves-none, moves-split, Enters, entering, entry-reads, announced-inv, announced-reads, announced-both-inv, announced-both-reads, enters-alone, enters-moves, enters-first}
 use Rattle.definition.specs.ValueLaws.{value-law, value-takes}
@@ -22,7 +22,7 @@ pub record ConditionGood (depth next : ℕ) (c : Condition) : Type 0 where
   pub numbers : ConditionFrom next c
 
 pub record ConditionsGood (depth n next : ℕ) (cs : Conditions) : Type 0 where
-  pub count : conditionCount cs ≡ n
+  pub count : countOfConditions cs ≡ n
   pub nesting : conditionsNesting cs ≤ depth
   pub fits : ConditionsFit cs
   pub numbers : ConditionsFrom next cs
@@ -53,15 +53,15 @@ condition-takes (two e op left right) = omega arith
 condition-takes (comparison e which left right) = omega arith
 condition-takes (quantifier e op bind over body) = omega arith
 
-conditions-take : (cs : Conditions) → conditionCount cs ≤ conditionsEntries cs
-unfolding conditionCount conditionsEntries
+conditions-take : (cs : Conditions) → countOfConditions cs ≤ conditionsEntries cs
+unfolding countOfConditions conditionsEntries
 conditions-take noConditions = omega arith
 conditions-take (condition c others) = omega (arith, condition-takes c, conditions-take others)
 
 module _ (depth : ℕ) (p : Reader Ahead Condition) (law : ConditionLaw depth p) where
   conditions-sound : (n : ℕ) (a : Ahead) (cs : Conditions) (b : Ahead) → Reads (conditionsOf n p) a cs b
-      → Moves (writeConditions cs) (conditionsEntries cs) (conditionCount cs) a b × ConditionsGood depth n (a .next) cs
-  unfolding conditionsOf writeConditions conditionsEntries conditionCount conditionsNesting
+      → Moves (writeConditions cs) (conditionsEntries cs) (countOfConditions cs) a b × ConditionsGood depth n (a .next) cs
+  unfolding conditionsOf writeConditions conditionsEntries countOfConditions conditionsNesting
   conditions-sound zero a cs b e =
       let q = pure-inv _ _ e in
       rw (← (q .0), ← (q .1)) (record { rest = refl; next = omega arith; left = omega arith }, record { count = refl; nesting = omega arith; fits = tt; numbers = tt })
@@ -77,8 +77,8 @@ module _ (depth : ℕ) (p : Reader Ahead Condition) (law : ConditionLaw depth p)
       )
 
   conditions-complete : (n : ℕ) (a : Ahead) (cs : Conditions) (b : Ahead) → a .left ≤ maxCount
-      → Moves (writeConditions cs) (conditionsEntries cs) (conditionCount cs) a b → ConditionsGood depth n (a .next) cs → Reads (conditionsOf n p) a cs b
-  unfolding conditionsOf writeConditions conditionsEntries conditionCount conditionsNesting pure
+      → Moves (writeConditions cs) (conditionsEntries cs) (countOfConditions cs) a b → ConditionsGood depth n (a .next) cs → Reads (conditionsOf n p) a cs b
+  unfolding conditionsOf writeConditions conditionsEntries countOfConditions conditionsNesting pure
   conditions-complete zero a noConditions b l m g = rw (moves-none a b m)
   conditions-complete zero a (condition c others) b l m g = absurd (omega arith)
   conditions-complete (suc n) a noConditions b l m g = absurd (omega arith)
@@ -90,7 +90,7 @@ module _ (depth : ℕ) (p : Reader Ahead Condition) (law : ConditionLaw depth p)
       (record { count = omega arith; nesting = omega arith; fits = g .fits .1; numbers = rw (m₁ .next) (g .numbers .1) }))
       refl)
 
-  conditions-law : (n : ℕ) → TreeLaw (conditionsOf n p) writeConditions conditionsEntries conditionCount (ConditionsGood depth n)
+  conditions-law : (n : ℕ) → TreeLaw (conditionsOf n p) writeConditions conditionsEntries countOfConditions (ConditionsGood depth n)
   conditions-law n = record { sound = conditions-sound n; complete = conditions-complete n; announced-first = conditions-take }
 
   -- a condition of each kind, whose parts are read by `p`
@@ -148,9 +148,9 @@ module _ (depth : ℕ) (p : Reader Ahead Condition) (law : ConditionLaw depth p)
       bind-reads _ _ (entry-reads conditionHead-exact a (literalHead truth) b (enters-alone _ tt a b m)) (rw (g .numbers))
   conditionOf-complete a (many e op children) b l m g =
       let k = conditions-take children in
-      enters-first (manyHead op (conditionCount children)) (g .fits .0, omega arith) (writeConditions children) _ 0 a b m λ a₁ m₁ m₂.
-      bind-reads _ _ (entry-reads conditionHead-exact a (manyHead op (conditionCount children)) a₁ m₁)
-      (announced-reads (conditions-law (conditionCount children)) _ children a₁ b (omega arith) m₂
+      enters-first (manyHead op (countOfConditions children)) (g .fits .0, omega arith) (writeConditions children) _ 0 a b m λ a₁ m₁ m₂.
+      bind-reads _ _ (entry-reads conditionHead-exact a (manyHead op (countOfConditions children)) a₁ m₁)
+      (announced-reads (conditions-law (countOfConditions children)) _ children a₁ b (omega arith) m₂
       (record { count = refl; nesting = omega arith; fits = g .fits .1; numbers = rw (m₁ .next) (g .numbers .1) })
       (rw (g .numbers .0)))
   conditionOf-complete a (negation e child) b l m g =

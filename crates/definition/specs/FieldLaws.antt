@@ -16,7 +16,7 @@ use Rattle.sheet.specs.Write.{writeFieldHead}
 use Rattle.sheet.specs.HeadLaws.{FieldHeadFits, fieldHead-exact}
 use Rattle.definition.specs.Tree.{Text, Field, field, Items, absent, element, Members, noMembers, member}
 use Rattle.definition.specs.Decode.{Ahead, entry, announce, toCount, elementOf, membersOf, fieldIn}
-use Rattle.definition.specs.Write.{hasItems, memberCount, writeField, writeItems, writeMembers}
+use Rattle.definition.specs.Write.{hasItems, countOfMembers, writeField, writeItems, writeMembers}
 use Rattle.definition.specs.Within.{fieldEntries, itemsEntries, membersEntries, fieldNesting, itemsNesting, membersNesting, FieldFits, ItemsFit, MembersFit, FieldRises, ItemsRise, MembersRise, FieldFrom, ItemsFrom, MembersFrom}
 use Rattle.definition.specs.RisingLaws.{follows-behind, behind-follows}
 use Rattle.definition.specs.TreeLaws.{Moves, TreeLaw, moves-none, moves-split, Enters, entering, entry-reads, announced-both-inv, announced-both-reads, enters-moves, enters-first}
@@ -37,7 +37,7 @@ pub record ItemsGood (depth : ℕ) (has : Bool) (next : ℕ) (items : Items) : T
   pub numbers : ItemsFrom next items
 
 pub record MembersGood (depth n : ℕ) (before : Option Text) (next : ℕ) (ms : Members) : Type 0 where
-  pub count : memberCount ms ≡ n
+  pub count : countOfMembers ms ≡ n
   pub nesting : membersNesting ms ≤ depth
   pub rises : MembersRise before ms
   pub fits : MembersFit ms
@@ -55,8 +55,8 @@ unfolding hasItems toCount itemsEntries
 items-take absent = omega arith
 items-take (element f) = field-takes f
 
-pub members-take : (ms : Members) → memberCount ms ≤ membersEntries ms
-unfolding memberCount membersEntries
+pub members-take : (ms : Members) → countOfMembers ms ≤ membersEntries ms
+unfolding countOfMembers membersEntries
 members-take noMembers = omega arith
 members-take (member name f others) = omega (arith, field-takes f, members-take others)
 
@@ -102,8 +102,8 @@ module _ (depth : ℕ) (p : Reader Ahead (Text × Field)) (law : FieldLaw depth 
   items-law has = record { sound = items-sound has; complete = items-complete has; announced-first = items-take }
 
   members-sound : (n : ℕ) (before : Option Text) (a : Ahead) (ms : Members) (b : Ahead) → Reads (membersOf n before p) a ms b
-      → Moves (writeMembers ms) (membersEntries ms) (memberCount ms) a b × MembersGood depth n before (a .next) ms
-  unfolding membersOf writeMembers membersEntries memberCount membersNesting
+      → Moves (writeMembers ms) (membersEntries ms) (countOfMembers ms) a b × MembersGood depth n before (a .next) ms
+  unfolding membersOf writeMembers membersEntries countOfMembers membersNesting
   members-sound zero before a ms b e =
       let q = pure-inv _ _ e in
       rw (← (q .0), ← (q .1))
@@ -128,8 +128,8 @@ module _ (depth : ℕ) (p : Reader Ahead (Text × Field)) (law : FieldLaw depth 
       )
 
   members-complete : (n : ℕ) (before : Option Text) (a : Ahead) (ms : Members) (b : Ahead) → a .left ≤ maxCount
-      → Moves (writeMembers ms) (membersEntries ms) (memberCount ms) a b → MembersGood depth n before (a .next) ms → Reads (membersOf n before p) a ms b
-  unfolding membersOf writeMembers membersEntries memberCount membersNesting pure
+      → Moves (writeMembers ms) (membersEntries ms) (countOfMembers ms) a b → MembersGood depth n before (a .next) ms → Reads (membersOf n before p) a ms b
+  unfolding membersOf writeMembers membersEntries countOfMembers membersNesting pure
   members-complete zero before a noMembers b l m g = rw (moves-none a b m)
   members-complete zero before a (member name f others) b l m g = absurd (omega arith)
   members-complete (suc n) before a noMembers b l m g = absurd (omega arith)
@@ -144,7 +144,7 @@ module _ (depth : ℕ) (p : Reader Ahead (Text × Field)) (law : FieldLaw depth 
       (record { count = omega arith; nesting = omega arith; rises = g .rises .2; fits = g .fits .2; numbers = rw (m₁ .next) (g .numbers .1) }))
       refl))
 
-  pub members-law : (n : ℕ) (before : Option Text) → TreeLaw (membersOf n before p) writeMembers membersEntries memberCount (MembersGood depth n before)
+  pub members-law : (n : ℕ) (before : Option Text) → TreeLaw (membersOf n before p) writeMembers membersEntries countOfMembers (MembersGood depth n before)
   members-law n before = record { sound = members-sound n before; complete = members-complete n before; announced-first = members-take }
 
   -- a field, whose element and properties are read by `p`
@@ -179,11 +179,11 @@ module _ (depth : ℕ) (p : Reader Ahead (Text × Field)) (law : FieldLaw depth 
   field-complete a name (field e kind isOpen tag items members) b l m g =
       let k = members-take members in
       enters-first
-      (record { kind = kind; isOpen = isOpen; hasItems = hasItems items; count = memberCount members; name = name; tag = tag })
+      (record { kind = kind; isOpen = isOpen; hasItems = hasItems items; count = countOfMembers members; name = name; tag = tag })
       (record { kind = g .fits .0; count = omega arith; name = g .name; tag = g .fits .1 })
       (writeItems items ++ writeMembers members) _ 0 a b m λ a₁ m₁ m₂.
       bind-reads _ _ (entry-reads fieldHead-exact a _ a₁ m₁)
-      (announced-both-reads (items-law (hasItems items)) (members-law (memberCount members) none) _ items members a₁ b (omega arith) m₂
+      (announced-both-reads (items-law (hasItems items)) (members-law (countOfMembers members) none) _ items members a₁ b (omega arith) m₂
       (record { mark = refl; nesting = omega arith; rises = g .rises .0; fits = g .fits .2; numbers = rw (m₁ .next) (g .numbers .1) })
       (record { count = refl; nesting = omega arith; rises = g .rises .1; fits = g .fits .3; numbers = rw (m₁ .next) (g .numbers .2) })
       (rw (g .numbers .0)))

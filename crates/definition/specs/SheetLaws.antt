@@ -18,7 +18,7 @@ use Rattle.sheet.specs.RuleHeadLaws.{RuleHeadFits, ruleHead-exact}
 use Rattle.definition.specs.Tree.{Holder, Schema, Rule, rule, template}
 use Rattle.definition.specs.Limits.{maxSheetBytes, maxFieldNesting}
 use Rattle.definition.specs.Decode.{Ahead, announce, atEnd, whole, membersOf, fieldIn, holderOf, argumentsOf, schema, ruleOf, anyRule}
-use Rattle.definition.specs.Write.{memberCount, writeMembers, headOf, headOfArguments, writeArguments, writeSchema, writeValue, writeCondition, writeRule}
+use Rattle.definition.specs.Write.{countOfMembers, writeMembers, headOf, headOfArguments, writeArguments, writeSchema, writeValue, writeCondition, writeRule}
 use Rattle.definition.specs.Within.{membersEntries, argumentsEntries, schemaEntries, ruleEntries, membersNesting, argumentsNesting, schemaNesting, SchemaRises, MembersFit, ArgumentsFit, MembersRise, ArgumentsRise, MembersFrom, ArgumentsFrom, RuleFits, RuleFrom}
 use Rattle.definition.specs.TreeLaws.{Moves, TreeLaw, moves-none, moves-split, Enters, entering, entry-reads, announcing, announce-reads, announced-inv, announced-reads, enters-moves, enters-first}
 use Rattle.definition.specs.ConditionLaws.{condition-law, operand-law}
@@ -33,7 +33,7 @@ pub record HolderGood (h : HolderHead) (next : ℕ) (x : Holder) : Type 0 where
   pub fits : MembersFit (x .members)
   pub numbers : MembersFrom next (x .members)
 
-fields-law : (depth n : ℕ) → TreeLaw (membersOf n none (fieldIn depth)) writeMembers membersEntries memberCount (MembersGood depth n none)
+fields-law : (depth n : ℕ) → TreeLaw (membersOf n none (fieldIn depth)) writeMembers membersEntries countOfMembers (MembersGood depth n none)
 fields-law depth n = members-law depth (fieldIn depth) (field-law depth) n none
 
 holder-sound : (h : HolderHead) (a : Ahead) (x : Holder) (b : Ahead) → Reads (holderOf h) a x b
@@ -50,7 +50,7 @@ holder-complete : (h : HolderHead) (a : Ahead) (x : Holder) (b : Ahead) → a .l
 unfolding holderOf headOf pure
 holder-complete h a x b l m g =
     rw (← (g .head))
-    (announced-reads (fields-law _ (memberCount (x .members))) _ (x .members) a b l m
+    (announced-reads (fields-law _ (countOfMembers (x .members))) _ (x .members) a b l m
     (record { count = refl; nesting = g .nesting; rises = g .rises; fits = g .fits; numbers = g .numbers })
     refl)
 

@@ -33,7 +33,7 @@ moves-none a b m =
 
 -- where the first of two stops
 module _ {C : Type 0} where
-  pub moves-split : (w₁ w₂ : List ℕ) (n₁ n₂ k₁ k₂ : ℕ) (a c : Ahead) → Moves (w₁ ++ w₂) (n₁ + n₂) (k₁ + k₂) a c → k₂ ≤ n₂
+  pub moves-split : (w₁ w₂ : List ℕ) (n₁ n₂ k₁ k₂ : ℕ) (a c : Ahead) → Moves (w₁ ++ w₂) (n₁ + n₂) (k₂ + k₁) a c → k₂ ≤ n₂
       → ((b : Ahead) → Moves w₁ n₁ k₁ a b → Moves w₂ n₂ k₂ b c → C) → C
   moves-split w₁ w₂ n₁ n₂ k₁ k₂ a c m h f =
       f (record { next = a .next + n₁; left = c .left + n₂ - k₂; rest = w₂ ++ c .rest })

@@ -10,7 +10,7 @@ use Rattle.sheet.specs.Write.{writeValueHead}
 use Rattle.sheet.specs.RuleHeadLaws.{ValueHeadFits, valueHead-exact, keyHead-exact}
 use Rattle.definition.specs.Tree.{Value, constant, number, string, array, object, Values, noValues, value, Pairs, noPairs, pair}
 use Rattle.definition.specs.Decode.{Ahead, entry, valuesOf, pairsOf, objectOf, valueOf, valueIn}
-use Rattle.definition.specs.Write.{valueCount, pairCount, writeValue, writeValues, writePairs}
+use Rattle.definition.specs.Write.{countOfValues, countOfPairs, writeValue, writeValues, writePairs}
 use Rattle.definition.specs.Within.{valueEntries, valuesEntries, pairsEntries, valueNesting, valuesNesting, pairsNesting, KeysDiffer, ValueFits, ValuesFit, PairsFit, ValueFrom, ValuesFrom, PairsFrom}
 use Rattle.definition.specs.KeyLaws.{none-twice-differ, differ-none-twice}
 use Rattle.definition.specs.TreeLaws.{Moves, TreeLaw, moves-none, moves-split, Enters, entering, entry-reads, announced-inv, announced-reads, enters-alone, enters-moves, enters-first}
@@ -21,13 +21,13 @@ pub record ValueGood (depth next : ℕ) (v : Value) : Type 0 where
   pub numbers : ValueFrom next v
 
 pub record ValuesGood (depth n next : ℕ) (vs : Values) : Type 0 where
-  pub count : valueCount vs ≡ n
+  pub count : countOfValues vs ≡ n
   pub nesting : valuesNesting vs ≤ depth
   pub fits : ValuesFit vs
   pub numbers : ValuesFrom next vs
 
 pub record PairsGood (depth n next : ℕ) (ps : Pairs) : Type 0 where
-  pub count : pairCount ps ≡ n
+  pub count : countOfPairs ps ≡ n
   pub nesting : pairsNesting ps ≤ depth
   pub fits : PairsFit ps
   pub numbers : PairsFrom next ps
@@ -47,20 +47,20 @@ value-takes (string e text) = omega arith
 value-takes (array e values) = omega arith
 value-takes (object e pairs) = omega arith
 
-values-take : (vs : Values) → valueCount vs ≤ valuesEntries vs
-unfolding valueCount valuesEntries
+values-take : (vs : Values) → countOfValues vs ≤ valuesEntries vs
+unfolding countOfValues valuesEntries
 values-take noValues = omega arith
 values-take (value v others) = omega (arith, value-takes v, values-take others)
 
-pairs-take : (ps : Pairs) → 2 * pairCount ps ≤ pairsEntries ps
-unfolding pairCount pairsEntries
+pairs-take : (ps : Pairs) → 2 * countOfPairs ps ≤ pairsEntries ps
+unfolding countOfPairs pairsEntries
 pairs-take noPairs = omega arith
 pairs-take (pair key v others) = omega (arith, value-takes v, pairs-take others)
 
 module _ (depth : ℕ) (p : Reader Ahead Value) (law : ValueLaw depth p) where
   values-sound : (n : ℕ) (a : Ahead) (vs : Values) (b : Ahead) → Reads (valuesOf n p) a vs b
-      → Moves (writeValues vs) (valuesEntries vs) (valueCount vs) a b × ValuesGood depth n (a .next) vs
-  unfolding valuesOf writeValues valuesEntries valueCount valuesNesting
+      → Moves (writeValues vs) (valuesEntries vs) (countOfValues vs) a b × ValuesGood depth n (a .next) vs
+  unfolding valuesOf writeValues valuesEntries countOfValues valuesNesting
   values-sound zero a vs b e =
       let q = pure-inv _ _ e in
       rw (← (q .0), ← (q .1)) (record { rest = refl; next = omega arith; left = omega arith }, record { count = refl; nesting = omega arith; fits = tt; numbers = tt })
@@ -75,9 +75,9 @@ module _ (depth : ℕ) (p : Reader Ahead Value) (law : ValueLaw depth p) where
         record { count = omega arith; nesting = omega arith; fits = (m₁ .1 .fits, m₂ .1 .fits); numbers = (m₁ .1 .numbers, rw (m₁ .0 .next) at (m₂ .1 .numbers)) },
       )
 
-  values-complete : (n : ℕ) (a : Ahead) (vs : Values) (b : Ahead) → a .left ≤ maxCount → Moves (writeValues vs) (valuesEntries vs) (valueCount vs) a b
+  values-complete : (n : ℕ) (a : Ahead) (vs : Values) (b : Ahead) → a .left ≤ maxCount → Moves (writeValues vs) (valuesEntries vs) (countOfValues vs) a b
       → ValuesGood depth n (a .next) vs → Reads (valuesOf n p) a vs b
-  unfolding valuesOf writeValues valuesEntries valueCount valuesNesting pure
+  unfolding valuesOf writeValues valuesEntries countOfValues valuesNesting pure
   values-complete zero a noValues b l m g = rw (moves-none a b m)
   values-complete zero a (value v others) b l m g = absurd (omega arith)
   values-complete (suc n) a noValues b l m g = absurd (omega arith)
@@ -89,12 +89,12 @@ module _ (depth : ℕ) (p : Reader Ahead Value) (law : ValueLaw depth p) where
       (record { count = omega arith; nesting = omega arith; fits = g .fits .1; numbers = rw (m₁ .next) (g .numbers .1) }))
       refl)
 
-  pub values-law : (n : ℕ) → TreeLaw (valuesOf n p) writeValues valuesEntries valueCount (ValuesGood depth n)
+  pub values-law : (n : ℕ) → TreeLaw (valuesOf n p) writeValues valuesEntries countOfValues (ValuesGood depth n)
   values-law n = record { sound = values-sound n; complete = values-complete n; announced-first = values-take }
 
   pairs-sound : (n : ℕ) (a : Ahead) (ps : Pairs) (b : Ahead) → Reads (pairsOf n p) a ps b
-      → Moves (writePairs ps) (pairsEntries ps) (2 * pairCount ps) a b × PairsGood depth n (a .next) ps
-  unfolding pairsOf writePairs pairsEntries pairCount pairsNesting
+      → Moves (writePairs ps) (pairsEntries ps) (2 * countOfPairs ps) a b × PairsGood depth n (a .next) ps
+  unfolding pairsOf writePairs pairsEntries countOfPairs pairsNesting
   pairs-sound zero a ps b e =
       let q = pure-inv _ _ e in
       rw (← (q .0), ← (q .1)) (record { rest = refl; next = omega arith; left = omega arith }, record { count = refl; nesting = omega arith; fits = tt; numbers = tt })
@@ -116,14 +116,14 @@ module _ (depth : ℕ) (p : Reader Ahead Value) (law : ValueLaw depth p) where
       )
 
   pairs-complete : (n : ℕ) (a : Ahead) (ps : Pairs) (b : Ahead) → a .left ≤ maxCount
-      → Moves (writePairs ps) (pairsEntries ps) (2 * pairCount ps) a b → PairsGood depth n (a .next) ps → Reads (pairsOf n p) a ps b
-  unfolding pairsOf writePairs pairsEntries pairCount pairsNesting pure
+      → Moves (writePairs ps) (pairsEntries ps) (2 * countOfPairs ps) a b → PairsGood depth n (a .next) ps → Reads (pairsOf n p) a ps b
+  unfolding pairsOf writePairs pairsEntries countOfPairs pairsNesting pure
   pairs-complete zero a noPairs b l m g = rw (moves-none a b m)
   pairs-complete zero a (pair key v others) b l m g = absurd (omega arith)
   pairs-complete (suc n) a noPairs b l m g = absurd (omega arith)
   pairs-complete (suc n) a (pair key v others) b l m g =
       let f = g .fits in
-      enters-first key (f .0) (writeValue v ++ writePairs others) _ (1 + 2 * pairCount others) a b
+      enters-first key (f .0) (writeValue v ++ writePairs others) _ (2 * countOfPairs others + 1) a b
       (record { rest = m .rest; next = m .next; left = omega arith }) λ a₁ m₁ m₂.
       moves-split (writeValue v) (writePairs others) _ _ _ _ a₁ b m₂ (pairs-take others) λ a₂ m₃ m₄.
       bind-reads _ _ (entry-reads keyHead-exact a key a₁ m₁)
@@ -135,7 +135,7 @@ module _ (depth : ℕ) (p : Reader Ahead Value) (law : ValueLaw depth p) where
       refl))
 
   object-sound : (n : ℕ) (a : Ahead) (ps : Pairs) (b : Ahead) → Reads (objectOf n p) a ps b
-      → Moves (writePairs ps) (pairsEntries ps) (2 * pairCount ps) a b × ObjectGood depth n (a .next) ps
+      → Moves (writePairs ps) (pairsEntries ps) (2 * countOfPairs ps) a b × ObjectGood depth n (a .next) ps
   unfolding objectOf
   object-sound n a ps b e =
       bind-inv _ _ _ e λ pairs a₁ e₁ e.
@@ -146,13 +146,13 @@ module _ (depth : ℕ) (p : Reader Ahead Value) (law : ValueLaw depth p) where
       rw (← (q .0), ← (q .1), ← (h .1)) (m .0, record { pairs = m .1; differ = none-twice-differ pairs (h .0) })
 
   object-complete : (n : ℕ) (a : Ahead) (ps : Pairs) (b : Ahead) → a .left ≤ maxCount
-      → Moves (writePairs ps) (pairsEntries ps) (2 * pairCount ps) a b → ObjectGood depth n (a .next) ps → Reads (objectOf n p) a ps b
+      → Moves (writePairs ps) (pairsEntries ps) (2 * countOfPairs ps) a b → ObjectGood depth n (a .next) ps → Reads (objectOf n p) a ps b
   unfolding objectOf pure
   object-complete n a ps b l m g =
       bind-reads _ _ (pairs-complete n a ps b l m (g .pairs))
       (then-reads _ _ (ensure-reads _ _ (differ-none-twice ps (g .differ))) refl)
 
-  pub object-law : (n : ℕ) → TreeLaw (objectOf n p) writePairs pairsEntries (λ ps. 2 * pairCount ps) (ObjectGood depth n)
+  pub object-law : (n : ℕ) → TreeLaw (objectOf n p) writePairs pairsEntries (λ ps. 2 * countOfPairs ps) (ObjectGood depth n)
   object-law n = record { sound = object-sound n; complete = object-complete n; announced-first = pairs-take }
 
   -- a value of each kind, whose parts are read by `p`
@@ -191,16 +191,16 @@ module _ (depth : ℕ) (p : Reader Ahead Value) (law : ValueLaw depth p) where
       bind-reads _ _ (entry-reads valueHead-exact a (stringHead text) b (enters-alone _ (g .fits) a b m)) (rw (g .numbers))
   valueOf-complete a (array e values) b l m g =
       let k = values-take values in
-      enters-first (arrayHead (valueCount values)) (omega arith) (writeValues values) _ 0 a b m λ a₁ m₁ m₂.
-      bind-reads _ _ (entry-reads valueHead-exact a (arrayHead (valueCount values)) a₁ m₁)
-      (announced-reads (values-law (valueCount values)) _ values a₁ b (omega arith) m₂
+      enters-first (arrayHead (countOfValues values)) (omega arith) (writeValues values) _ 0 a b m λ a₁ m₁ m₂.
+      bind-reads _ _ (entry-reads valueHead-exact a (arrayHead (countOfValues values)) a₁ m₁)
+      (announced-reads (values-law (countOfValues values)) _ values a₁ b (omega arith) m₂
       (record { count = refl; nesting = omega arith; fits = g .fits; numbers = rw (m₁ .next) (g .numbers .1) })
       (rw (g .numbers .0)))
   valueOf-complete a (object e pairs) b l m g =
       let k = pairs-take pairs in
-      enters-first (objectHead (pairCount pairs)) (omega arith) (writePairs pairs) _ 0 a b m λ a₁ m₁ m₂.
-      bind-reads _ _ (entry-reads valueHead-exact a (objectHead (pairCount pairs)) a₁ m₁)
-      (announced-reads (object-law (pairCount pairs)) _ pairs a₁ b (omega arith) m₂
+      enters-first (objectHead (countOfPairs pairs)) (omega arith) (writePairs pairs) _ 0 a b m λ a₁ m₁ m₂.
+      bind-reads _ _ (entry-reads valueHead-exact a (objectHead (countOfPairs pairs)) a₁ m₁)
+      (announced-reads (object-law (countOfPairs pairs)) _ pairs a₁ b (omega arith) m₂
       (record {
         pairs = record { count = refl; nesting = omega arith; fits = g .fits .1; numbers = rw (m₁ .next) (g .numbers .1) };
         differ = g .fits .0;

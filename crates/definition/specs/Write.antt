@@ -14,15 +14,15 @@ unfoldable pub hasItems : Items → Bool
 hasItems absent = false
 hasItems (element f) = true
 
-unfoldable pub memberCount : Members → ℕ
-memberCount noMembers = 0
-memberCount (member name f others) = 1 + memberCount others
+unfoldable pub countOfMembers : Members → ℕ
+countOfMembers noMembers = 0
+countOfMembers (member name f others) = countOfMembers others + 1
 
 unfoldable mutual
   pub writeField : Text → Field → List ℕ
   writeField name (field e kind isOpen tag items members) =
       writeFieldHead
-      (record { kind = kind; isOpen = isOpen; hasItems = hasItems items; count = memberCount members; name = name; tag = tag })
+      (record { kind = kind; isOpen = isOpen; hasItems = hasItems items; count = countOfMembers members; name = name; tag = tag })
       ++ (writeItems items ++ writeMembers members)
 
   -- an element's name is empty
@@ -35,7 +35,7 @@ unfoldable mutual
   writeMembers (member name f others) = writeField name f ++ writeMembers others
 
 unfoldable pub headOf : Holder → HolderHead
-headOf h = record { isOpen = h .isOpen; count = memberCount (h .members) }
+headOf h = record { isOpen = h .isOpen; count = countOfMembers (h .members) }
 
 unfoldable pub headOfArguments : Option Holder → Option HolderHead
 headOfArguments none = none
@@ -52,21 +52,21 @@ writeSchema t =
 
 -- Values
 
-unfoldable pub valueCount : Values → ℕ
-valueCount noValues = 0
-valueCount (value v others) = 1 + valueCount others
+unfoldable pub countOfValues : Values → ℕ
+countOfValues noValues = 0
+countOfValues (value v others) = countOfValues others + 1
 
-unfoldable pub pairCount : Pairs → ℕ
-pairCount noPairs = 0
-pairCount (pair key v others) = 1 + pairCount others
+unfoldable pub countOfPairs : Pairs → ℕ
+countOfPairs noPairs = 0
+countOfPairs (pair key v others) = countOfPairs others + 1
 
 unfoldable mutual
   pub writeValue : Value → List ℕ
   writeValue (constant e type) = writeValueHead (constantHead type)
   writeValue (number e digits) = writeValueHead (numberHead digits)
   writeValue (string e text) = writeValueHead (stringHead text)
-  writeValue (array e values) = writeValueHead (arrayHead (valueCount values)) ++ writeValues values
-  writeValue (object e pairs) = writeValueHead (objectHead (pairCount pairs)) ++ writePairs pairs
+  writeValue (array e values) = writeValueHead (arrayHead (countOfValues values)) ++ writeValues values
+  writeValue (object e pairs) = writeValueHead (objectHead (countOfPairs pairs)) ++ writePairs pairs
 
   pub writeValues : Values → List ℕ
   writeValues noValues = []
@@ -78,14 +78,14 @@ unfoldable mutual
 
 -- Conditions
 
-unfoldable pub conditionCount : Conditions → ℕ
-conditionCount noConditions = 0
-conditionCount (condition c others) = 1 + conditionCount others
+unfoldable pub countOfConditions : Conditions → ℕ
+countOfConditions noConditions = 0
+countOfConditions (condition c others) = countOfConditions others + 1
 
 unfoldable mutual
   pub writeCondition : Condition → List ℕ
   writeCondition (literal e truth) = writeConditionHead (literalHead truth)
-  writeCondition (many e op children) = writeConditionHead (manyHead op (conditionCount children)) ++ writeConditions children
+  writeCondition (many e op children) = writeConditionHead (manyHead op (countOfConditions children)) ++ writeConditions children
   writeCondition (negation e child) = writeConditionHead negationHead ++ writeCondition child
   writeCondition (one e op v) = writeConditionHead (oneHead op) ++ writeValue v
   writeCondition (two e op left right) = writeConditionHead (twoHead op) ++ (writeValue left ++ writeValue right)

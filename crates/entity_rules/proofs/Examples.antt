@@ -7,7 +7,7 @@ use lib.ListN.{replicate}
 use Rattle.buffer.specs.Bytes.{littleEndian, bytesOf, numberAt, fieldAt}
 use Rattle.validation.specs.Result.{refused, accepted, numbersOf}
 use Rattle.widening.specs.Decision.{markCloses, refuted}
-use Rattle.widening.specs.SheetDecision as SheetDecision
+use Rattle.widening.specs.SheetDecision.{decision, reasonNumber, decisionNumbers}
 use Rattle.entity_rules.specs.Entry.{fieldsOf, resultAfter}
 use Rattle.entity_rules.specs.CheckEntry.{reportFields, reportAfter}
 use Rattle.host_numbers.specs.NumberTest.{packed}
@@ -18,8 +18,8 @@ unfolding littleEndian bytesOf fieldsOf resultAfter numbersOf numberAt fieldAt
 result before = resultAfter (numbersOf (refused 3)) before
 
 unfoldable compared : List ℕ → List ℕ
-unfolding littleEndian bytesOf fieldsOf resultAfter inPlaces SheetDecision.numbersOf SheetDecision.reasonNumber
-compared before = resultAfter (inPlaces (SheetDecision.numbersOf (SheetDecision.decision (refuted markCloses 2 3)))) before
+unfolding littleEndian bytesOf fieldsOf resultAfter inPlaces decisionNumbers reasonNumber
+compared before = resultAfter (inPlaces (decisionNumbers (decision (refuted markCloses 2 3)))) before
 
 unfoldable report : (count : ℕ) → List ℕ → List ℕ
 unfolding littleEndian bytesOf fieldsOf reportFields reportAfter numbersOf

@@ -8,8 +8,7 @@ use borrow.Author.Tests.{le-leb, lt-leb}
 use Rattle.validation.specs.Result.{Numbers}
 use Rattle.single_check.specs.Outcomes.{numbersBy}
 use Rattle.single_check.specs.declared.outcome.Outcome.{Outcome}
-use Rattle.widening.specs.SheetDecision as SheetDecision
-use Rattle.widening.specs.SheetDecision.{decision, widensSheets, reasonNumber, numbersOf}
+use Rattle.widening.specs.SheetDecision.{SheetAnswer, decision, widensSheets, reasonNumber, decisionNumbers}
 use Rattle.schema_change.specs.Answers.{reasonOf, decisionOf, answerOf}
 use Rattle.schema_change.specs.declared.answer.Reason.{Reason}
 use Rattle.schema_change.specs.declared.answer.Change.{Change}
@@ -22,31 +21,31 @@ use Rattle.entity_rules.specs.WidensEntry.{inPlaces, widensNumbers, Wide
 module _ {x : Change} {r : Outcome} where
   pub marks-told : x ≡ Marks
       → numbersBy r ≡ inPlaces (record { number = 0; answer = 1; reason = 0; first = 0; second = 0 })
-      → numbersBy r ≡ inPlaces (numbersOf (decision (decisionOf x)))
-  unfolding numbersOf
+      → numbersBy r ≡ inPlaces (decisionNumbers (decision (decisionOf x)))
+  unfolding decisionNumbers
   marks-told e h = rw e h
 
   pub anything-told : x ≡ Anything
       → numbersBy r ≡ inPlaces (record { number = 0; answer = 2; reason = 0; first = 0; second = 0 })
-      → numbersBy r ≡ inPlaces (numbersOf (decision (decisionOf x)))
-  unfolding numbersOf
+      → numbersBy r ≡ inPlaces (decisionNumbers (decision (decisionOf x)))
+  unfolding decisionNumbers
   anything-told e h = rw e h
 
   pub refuted-told : {why : Reason} {e e′ n : ℕ} → x ≡ Refuted why e e′
       → n ≡ reasonNumber (reasonOf why)
       → numbersBy r ≡ inPlaces (record { number = 0; answer = 3; reason = n; first = e; second = e′ })
-      → numbersBy r ≡ inPlaces (numbersOf (decision (decisionOf x)))
-  unfolding numbersOf
+      → numbersBy r ≡ inPlaces (decisionNumbers (decision (decisionOf x)))
+  unfolding decisionNumbers
   refuted-told q n h = rw (q, ← n) h
 
 module _ {x : Answer} {r : Outcome} where
   pub malformed-told : {which : ℕ} → x ≡ Malformed which
       → numbersBy r ≡ inPlaces (record { number = 4; answer = which; reason = 0; first = 0; second = 0 })
-      → numbersBy r ≡ inPlaces (numbersOf (answerOf x))
-  unfolding numbersOf
+      → numbersBy r ≡ inPlaces (decisionNumbers (answerOf x))
+  unfolding decisionNumbers
   malformed-told e h = rw e h
 
-  pub change-told : {c : Change} → x ≡ Is c → numbersBy r ≡ inPlaces (numbersOf (decision (decisionOf c))) → numbersBy r ≡ inPlaces (numbersOf (answerOf x))
+  pub change-told : {c : Change} → x ≡ Is c → numbersBy r ≡ inPlaces (decisionNumbers (decision (decisionOf c))) → numbersBy r ≡ inPlaces (decisionNumbers (answerOf x))
   change-told e h = rw e h
 
 pub short-answered : {first second result : List ℕ} → length result < resultBytes → WidensAnswered first second result result 3
@@ -58,12 +57,12 @@ short-answered {result = result} short =
 pub widens-answered : {first second result resultNow : List ℕ} (x : Answer) (r : Outcome)
     → resultBytes ≤ length result
     → answerOf x ≡ widensSheets first second
-    → numbersBy r ≡ inPlaces (numbersOf (answerOf x))
+    → numbersBy r ≡ inPlaces (decisionNumbers (answerOf x))
     → Written r result resultNow
     → WidensAnswered first second result resultNow (r .number)
 unfolding widensNumbers
 widens-answered {first} {second} {result} x r room e h w =
-    let numbers : numbersBy r ≡ widensNumbers first second = h ∙ ap (λ (a : SheetDecision.Answer). inPlaces (numbersOf a)) e in
+    let numbers : numbersBy r ≡ widensNumbers first second = h ∙ ap (λ (a : SheetAnswer). inPlaces (decisionNumbers a)) e in
     record {
       number = ap (λ (n : Numbers). n .number) numbers ∙ rw (le-leb resultBytes (length result) room) refl;
       result = w .stands ∙ ap (λ (n : Numbers). resultAfter n result) numbers;

@@ -25,7 +25,7 @@ use Rattle.entity_rules.specs.Entry.{resultBytes, resultAfter, pathLent,
 use Rattle.entity_rules.specs.EntryLaws.{numbers-of-answer, entry-call, short-result-refused}
 use Rattle.entity_rules.specs.CheckEntry.{reportBytes, reportAfter, checkCall, CheckAnswered}
 use Rattle.entity_rules.specs.CheckEntryLaws.{numbers-of-check}
-use Rattle.entity_rules.specs.Exchange.{Exchange, callBy, runBy, Answered, EntryDemand1}
+use Rattle.entity_rules.specs.Exchange.{Exchange, callBy, runBy, ExchangeAnswered, EntryDemand1}
 
 -- What the contracts of the three functions say of an exchange.
 
@@ -51,7 +51,7 @@ module _ (takes : Takes) (kind semantics : ℕ) (label schema rule pathBefore pa
       }
 
   pub entry-answered : EntryAnswered (entryAnswer takes kind semantics label schema rule (length pathBefore) (length resultBefore)) pathBefore path resultBefore result returned
-      → Answered entryExchange
+      → ExchangeAnswered entryExchange
   unfolding entryExchange callBy entryAnswer resultAfter
   entry-answered a =
       record {
@@ -82,7 +82,7 @@ module _ (kind semantics : ℕ) (label table schema rule pathBefore path marksBe
       }
 
   pub check-answered : CheckAnswered (checkCall kind semantics label table schema rule (length pathBefore) (length marksBefore) (length resultBefore)) pathBefore path marksBefore marks resultBefore result returned
-      → Answered checkExchange
+      → ExchangeAnswered checkExchange
   unfolding checkExchange callBy checkCall reportAfter
   check-answered a =
       record {
@@ -100,7 +100,7 @@ refusal-123 true true = record { listed = refl }
 refusal-123 true false = record { listed = refl }
 refusal-123 false b = record { listed = refl }
 
-module _ (e : Exchange) (a : Answered e) where
+module _ (e : Exchange) (a : ExchangeAnswered e) where
   keeps : (IsDefect (e .returned) → ⊥) → e .path ≡ e .pathBefore
   keeps h = a .path ∙ keeps-path (e .pathBefore) (heard (callBy e)) (rw (a .number) at h)
 
@@ -132,7 +132,7 @@ unrefused-room e n =
     let wide = and-left _ _ (is-set _ (due .1 .1 .0)) in
     lent-room (e .need) (length (e .pathBefore)) (length (e .resultBefore)) (leb-true pathBytes _ wide)
 
-module _ (e : Exchange) (a : Answered e) (n : Unrefused (callBy e)) where
+module _ (e : Exchange) (a : ExchangeAnswered e) (n : Unrefused (callBy e)) where
   same-call : callOf (runBy e) ≡ callBy e
   unfolding runBy callBy
   same-call =
@@ -153,7 +153,7 @@ module _ (e : Exchange) (a : Answered e) (n : Unrefused (callBy e)) where
 
 -- Demand 2, its proved half
 pub entry-demand-2 : (e : Exchange) (s : Schema) (t : Rule)
-    → Answered e
+    → ExchangeAnswered e
     → decodeSchema (e .schema) ≡ some s
     → decodeRule (e .rule) ≡ some t
     → Unrefused (callBy e)
@@ -163,8 +163,8 @@ entry-demand-2 e s t a schema rule n = demand-2 (runBy e) s t (exchange-meets e 
 
 -- Demand 3
 pub entry-demand-3 : {l : Level} (e e′ : Exchange)
-    → Answered e
-    → Answered e′
+    → ExchangeAnswered e
+    → ExchangeAnswered e′
     → SameButSchema (runBy e) (runBy e′)
     → Widens l (e .schema) (e′ .schema)
     → Unrefused (callBy e)

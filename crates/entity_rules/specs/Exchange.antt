@@ -37,7 +37,7 @@ runBy e =
     entryRun (e .takes) (e .kind) (e .semantics) (e .label) (e .table) (e .schema) (e .rule) (e .pathBefore) (e .marksLent) (e .path) (e .result)
 
 -- what every such function ensures, with nothing required
-pub record Answered (e : Exchange) : Type 0 where
+pub record ExchangeAnswered (e : Exchange) : Type 0 where
   pub number : e .returned ≡ numbersOf (resultOf (callBy e)) .number
   pub path : e .path ≡ pathAfter (resultOf (callBy e)) (e .pathBefore)
   pub numbers : e .need ≤ length (e .resultBefore) → numbersIn (e .result) ≡ numbersOf (resultOf (callBy e))

@@ -6,13 +6,12 @@ use mathlib.Core.Path.{_≡_}
 use lib.Dec.{leb}
 use lib.ListN.{length}
 use Rattle.validation.specs.Result.{Numbers}
-use Rattle.widening.specs.SheetDecision as SheetDecision
-use Rattle.widening.specs.SheetDecision.{widensSheets, numbersOf}
+use Rattle.widening.specs.SheetDecision.{widensSheets, DecisionNumbers, decisionNumbers}
 use Rattle.buffer.specs.Bytes.{InFourBytes}
 use Rattle.entity_rules.specs.Entry.{resultBytes, fieldsOf, resultAfter}
 
 -- the five numbers are in the places of a result's first five, and the last two are 0
-unfoldable pub inPlaces : SheetDecision.Numbers → Numbers
+unfoldable pub inPlaces : DecisionNumbers → Numbers
 inPlaces n =
     record {
       number = n .number;
@@ -25,7 +24,7 @@ inPlaces n =
     }
 
 unfoldable pub widensNumbers : (first second : List ℕ) → Numbers
-widensNumbers first second = inPlaces (numbersOf (widensSheets first second))
+widensNumbers first second = inPlaces (decisionNumbers (widensSheets first second))
 
 -- a result buffer under 28 bytes is refusal 3, and keeps its bytes
 pub record WidensAnswered (first second resultBefore resultNow : List ℕ) (r : ℕ) : Type 0 where

@@ -6,7 +6,7 @@ use single_check::outcome::Outcome;
 ghost use mathlib.Core.Path.{_≡_};
 ghost use Rattle.schema_change.specs.Answers.{reasonOf, decisionOf, answerOf};
 ghost use Rattle.single_check.specs.Outcomes.{numbersBy};
-ghost use Rattle.widening.specs.SheetDecision.{decision, reasonNumber, numbersOf};
+ghost use Rattle.widening.specs.SheetDecision.{decision, reasonNumber, decisionNumbers};
 ghost use Rattle.entity_rules.specs.WidensEntry.{inPlaces};
 
 fn reason_number(reason: Reason) -> u32
@@ -39,7 +39,7 @@ fn in_places(number: u32, answer: u32, reason: u32, first: u32, second: u32) -> 
 }
 
 fn told_change(change: Change) -> Outcome
-    ensures { λ r. ⌜ numbersBy r ≡ inPlaces (numbersOf (decision (decisionOf change))) ⌝ }
+    ensures { λ r. ⌜ numbersBy r ≡ inPlaces (decisionNumbers (decision (decisionOf change))) ⌝ }
 {
     match change {
         Change::Marks => in_places(0, 1, 0, 0, 0),
@@ -51,7 +51,7 @@ fn told_change(change: Change) -> Outcome
 }
 
 pub fn told(answer: Answer) -> Outcome
-    ensures { λ r. ⌜ numbersBy r ≡ inPlaces (numbersOf (answerOf answer)) ⌝ }
+    ensures { λ r. ⌜ numbersBy r ≡ inPlaces (decisionNumbers (answerOf answer)) ⌝ }
 {
     match answer {
         Answer::Malformed(which) => in_places(4, which, 0, 0, 0),

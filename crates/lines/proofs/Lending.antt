@@ -1,7 +1,7 @@
 -- A reader made in a local and lent once, for every kind of entry: the walk of
 --     fn head(sheet: &[u8], at: usize) -> E { let mut lines = new(sheet, at); next(&mut lines) }
 -- whose contract is that of the reader of heads on plain bytes.
-use mathlib.Core.Path.{_≡_, refl, subst}
+use mathlib.Core.Path.{refl}
 use Prim.Native.Nat.{ℕ, _<_, _^_}
 use mathlib.Core.List.{List, [], _∷_}
 use lib.Dec.{T as Holds}

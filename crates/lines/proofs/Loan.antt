@@ -12,12 +12,12 @@ use mir.Syntax.{Fn, named, erased, w64}
 use mir.Val.{Val, vint, vptr}
 use base.Logic.{SProp, ent, sep, wand, ex, emp, via, fst∗, snd∗, exE, id⊢, apply∗}
 use base.Fml.{GName, Lft, Share, Fml, ftrue, fsep, fat, flft, fdead, flent}
-use prog.Wp.{Heap, Calls, Loops, WpFn, Tables}
+use prog.Wp.{Heap, WpFn, Tables}
 use ghost.Atoms.{Atoms, sem}
 use contract.BorrowLft.{meet-⊑-left, meet-⊑-right}
 use contract.Lifetimes.{Lfts}
 use contract.Monad.{fact}
-use types.Kit.{Goal, Soaks, Seq, Item, Given, mean, ‵, raw, _⊛_, given, ⋆, some, later, _$_, _∵_, !, qed, by, move, drop, use1, use2, use3, split, split3, join, learn, pick, check, show, fsplit, fjoin, fpick, fpack, suffices, frame, await, updating, now as at-once, done}
+use types.Kit.{Goal, Soaks, Seq, Item, Given, mean, ‵, raw, _⊛_, given, ⋆, some, later, _$_, _∵_, !, qed, move, drop, use1, use2, use3, split, split3, join, learn, pick, check, show, fsplit, fjoin, fpick, fpack, suffices, frame, await, updating, now as at-once, done}
 use types.SemTy.{Body}
 use types.Tokens.{lft-new, lft-end}
 use sound.WpLaws.{FmC, fmOf, WpFn-mono}

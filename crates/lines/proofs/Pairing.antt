@@ -1,7 +1,7 @@
 -- A reader made in a local and lent twice in a row, for any two kinds of entries: the walk of
 --     fn pair(sheet: &[u8], at: usize) -> P { let mut lines = new(sheet, at); let a = first(&mut lines); let b = second(&mut lines); P { a, b } }
 -- What `second` answers is read where `first` left the reader. P is any type that is made of the two answers (`builds`), and `Says` what follows of what was read (`joins`).
-use mathlib.Core.Path.{_≡_, refl, ap, _∙_}
+use mathlib.Core.Path.{refl, ap, _∙_}
 use Prim.Native.Nat.{ℕ, _<_, _^_}
 use mathlib.Core.List.{List, [], _∷_}
 use lib.Dec.{T as Holds}

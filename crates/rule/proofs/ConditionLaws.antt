@@ -10,7 +10,8 @@ use Rattle.sheet.specs.Entries.{ConditionHead, literalHead, manyHead, negationH
 use Rattle.definition.specs.Tree.{Value, constant, Values, noValues, value, Condition, literal, many, negation, one, two, comparison, quantifier, Conditions, noConditions, condition}
 use Rattle.definition.specs.Decode.{Ahead, entered, entry, anyValue, valuesOf, conditionsOf, conditionOf, conditionIn}
 use Rattle.definition.specs.Within.{conditionEntries, conditionsEntries, valuesEntries}
-use Rattle.rule.specs.Index.{countOfValues, countOfConditions, EntryAt, ValuesAt, ConditionAt, ConditionsAt}
+use Rattle.definition.specs.Write.{countOfValues, countOfConditions}
+use Rattle.rule.specs.Index.{EntryAt, ValuesAt, ConditionAt, ConditionsAt}
 use Rattle.rule.proofs.ReaderLaws.{some-both, First, then-first, paid, announced, not-announced, nothing-paid}
 use Rattle.rule.proofs.ValueLaws.{values-count}
 

@@ -18,10 +18,10 @@ use Rattle.definition.specs.Limits.{maxSheetBytes, maxRuleEntries, maxCondition
 use Rattle.definition.specs.Tree.{Rule, rule, template}
 use Rattle.definition.specs.Decode.{Ahead, entered, entry, announce, atEnd, whole, anyValue, conditionIn, anyRule, decodeRule}
 use Rattle.definition.specs.Decode as decode
-use Rattle.definition.specs.Within.{conditionEntries, valueEntries}
+use Rattle.definition.specs.Within.{conditionEntries, valueEntries, ruleEntries}
 use Rattle.rule.specs.declared.cursor.Cursor.{Cursor}
 use Rattle.rule.specs.declared.cursor.TreeRead.the-variants as tree
-use Rattle.rule.specs.Index.{sizeOfRule, ValueAt, ConditionAt}
+use Rattle.rule.specs.Index.{ValueAt, ConditionAt}
 use Rattle.rule.specs.IndexLaws.{value-frame, condition-frame}
 use Rattle.rule.specs.Read.{aheadOf, Kept, Ready, Indexed}
 use Rattle.rule.specs.Rule.{isTemplate, isTemplateHead, TreeAnswer, RuleIndexed}
@@ -152,7 +152,7 @@ module _ (s words mid : List ℕ) (behind : ℕ) (short : length s ≤ maxSheetB
       → length s ≤ next .at
       → x ≡ 0 * 4096 + next .word
       → RuleIndexed s words (set mid 0 x) (record { «is_template» = isTemplateHead h; entries = next .word })
-  unfolding ruleOf isTemplate sizeOfRule
+  unfolding ruleOf isTemplate ruleEntries
   rule-answer (head.Rule name message) next {x} reads room inner q word =
       let end : next .word ≡ 0 + (1 + conditionEntries (inner .tree)) = omega (arith, inner .size) in
       record {

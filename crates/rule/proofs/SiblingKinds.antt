@@ -15,9 +15,10 @@ use Rattle.definition.specs.Limits.{maxRuleEntries}
 use Rattle.definition.specs.Tree.{Text, Value, Values, noValues, value, Pairs, noPairs, pair, Condition, Conditions, noConditions, condition}
 use Rattle.definition.specs.Decode.{Ahead, valueIn, valuesOf, pairsOf, keysOf, conditionIn, conditionsOf}
 use Rattle.definition.specs.Within.{conditionEntries, conditionsEntries, pairsEntries, valueEntries, valuesEntries}
+use Rattle.definition.specs.Write.{countOfPairs}
 use Rattle.rule.specs.declared.cursor.Cursor.{Cursor}
 use Rattle.rule.specs.declared.cursor.TreeRead.the-variants as tree
-use Rattle.rule.specs.Index.{countOfPairs, ValueAt, ValuesAt, PairsAt, ConditionAt, ConditionsAt}
+use Rattle.rule.specs.Index.{ValueAt, ValuesAt, PairsAt, ConditionAt, ConditionsAt}
 use Rattle.rule.specs.IndexLaws.{Agree, agree-within, entry-frame, value-frame, condition-frame}
 use Rattle.rule.specs.Read.{aheadOf, pairIn, PairAt, sizeOfPair, Kept, Indexed, PairsAnswer}
 use Rattle.rule.specs.Keys.{NoneTwice}

@@ -20,7 +20,8 @@ use Rattle.sheet.specs.declared.part.Part.{Part}
 use Rattle.definition.specs.Limits.{maxRuleEntries}
 use Rattle.definition.specs.Tree.{Text, Pairs, noPairs, pair}
 use Rattle.definition.specs.Decode.{keysOf}
-use Rattle.rule.specs.Index.{startOf, endOf, countOfPairs, PairsAt}
+use Rattle.definition.specs.Write.{countOfPairs}
+use Rattle.rule.specs.Index.{startOf, endOf, PairsAt}
 use Rattle.rule.specs.Keys.{NoneTwice}
 use Rattle.rule.specs.Table.{slots, stirred, slotOf, Placed, textsOf, latest, Linked, Chained, Falls, IsChained}
 use Rattle.rule.proofs.ReaderLaws.{some-both}

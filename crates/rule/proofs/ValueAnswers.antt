@@ -19,13 +19,13 @@ use Rattle.rule.specs.declared.value.Held.{Held}
 use Rattle.rule.specs.declared.value.Held.the-variants as held
 use Rattle.rule.specs.Index.{ValueAt, ValuesAt, PairsAt}
 use Rattle.rule.specs.IndexLaws.{values-frame, pairs-frame}
-use Rattle.rule.specs.Read.{aheadOf, heldBy, countOf, costOf, HeldAnswer, Kept, Ready, Indexed}
+use Rattle.rule.specs.Read.{aheadOf, heldBy, heldCount, costOf, HeldAnswer, Kept, Ready, Indexed}
 use Rattle.rule.proofs.KeptLaws.{kept-all, kept-wider}
 use Rattle.rule.proofs.ValueLaws.{value-too-deep, value-headless, value-headed, HoldsValues, constant-holds, number-holds, string-holds, array-holds, values-unpaid, values-bad, values-held, pairs-unpaid, pairs-bad, pairs-held}
 use Rattle.rule.proofs.CloseLaws.{value-closed}
 
 -- the count that the sheet's reader bounds
-pub held-few : (h : ValueHead) → valueCount h ≤ maxCount → countOf (heldBy h) ≤ maxCount
+pub held-few : (h : ValueHead) → valueCount h ≤ maxCount → heldCount (heldBy h) ≤ maxCount
 unfolding valueCount
 held-few (head.Constant type) e = omega arith
 held-few (head.Number digits) e = omega arith

@@ -11,7 +11,8 @@ use Rattle.sheet.specs.Entries.{ValueHead, constantHead, numberHead, stringHead
 use Rattle.definition.specs.Tree.{Text, Value, constant, number, string, array, object, Values, noValues, value, Pairs, noPairs, pair}
 use Rattle.definition.specs.Decode.{Ahead, entered, entry, valuesOf, pairsOf, keysOf, objectOf, valueOf, valueIn}
 use Rattle.definition.specs.Within.{pairsEntries, valueEntries, valuesEntries}
-use Rattle.rule.specs.Index.{countOfValues, countOfPairs, EntryAt, ValueAt, ValuesAt, PairsAt}
+use Rattle.definition.specs.Write.{countOfValues, countOfPairs}
+use Rattle.rule.specs.Index.{EntryAt, ValueAt, ValuesAt, PairsAt}
 use Rattle.rule.specs.Read.{pairIn}
 use Rattle.rule.proofs.ReaderLaws.{some-both, then-some, First, then-first, paid, announced, not-announced, nothing-paid}
 

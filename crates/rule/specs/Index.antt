@@ -9,6 +9,7 @@ use Rattle.sheet.specs.Reader.{Reader}
 use Rattle.sheet.specs.Entries.{literalHead, manyHead, negationHead, oneHead, twoHead, comparisonHead, quantifierHead, conditionHead, constantHead, numberHead, stringHead, arrayHead, objectHead, valueHead, keyHead, ruleHead}
 use Rattle.sheet.specs.Entries as Entries
 use Rattle.definition.specs.Within.{valueEntries, valuesEntries, pairsEntries, conditionEntries, conditionsEntries}
+use Rattle.definition.specs.Write.{countOfValues, countOfPairs, countOfConditions}
 use Rattle.definition.specs.Tree.{Value, constant, number, string, array, object, Values, noValues, value, Pairs, noPairs, pair, Condition, literal, many, negation, one, two, comparison, quantifier, Conditions, noConditions, condition, Rule, rule, template}
 
 abbrev pub startOf : List ℕ → ℕ → ℕ
@@ -23,18 +24,6 @@ pub record EntryAt {H : Type 0} (reader : Reader (List ℕ) H) (sheet words : Li
   pub ends : endOf words i ≡ i + size
   pub rest : List ℕ
   pub reads : reader (drop (startOf words i) sheet) ≡ some (h, rest)
-
-unfoldable pub countOfValues : Values → ℕ
-countOfValues noValues = 0
-countOfValues (value v others) = countOfValues others + 1
-
-unfoldable pub countOfPairs : Pairs → ℕ
-countOfPairs noPairs = 0
-countOfPairs (pair key v others) = countOfPairs others + 1
-
-unfoldable pub countOfConditions : Conditions → ℕ
-countOfConditions noConditions = 0
-countOfConditions (condition c others) = countOfConditions others + 1
 
 abbrev mutual
   pub ValueAt : (sheet words : List ℕ) (i : ℕ) → Value → Type 0
@@ -93,7 +82,3 @@ RuleAt sheet words (rule name message assert) =
     EntryAt ruleHead sheet words 0 (1 + conditionEntries assert) 1 (Entries.rule name message) × ConditionAt sheet words 1 assert
 RuleAt sheet words (template v) =
     EntryAt ruleHead sheet words 0 (1 + valueEntries v) 1 Entries.template × ValueAt sheet words 1 v
-
-unfoldable pub sizeOfRule : Rule → ℕ
-sizeOfRule (rule name message assert) = 1 + conditionEntries assert
-sizeOfRule (template v) = 1 + valueEntries v

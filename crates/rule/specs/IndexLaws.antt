@@ -5,9 +5,9 @@ use mathlib.Core.Path.{_≡_, refl, ap, _∙_}
 use native.Mathlib.Omega.{arith}
 use lib.ListN.{getD}
 use Rattle.sheet.specs.Reader.{Reader}
-use Rattle.definition.specs.Tree.{Value, constant, number, string, array, object, Values, noValues, value, Pairs, noPairs, pair, Condition, literal, many, negation, one, two, comparison, quantifier, Conditions, noConditions, condition, Rule, rule, template}
+use Rattle.definition.specs.Tree.{Value, constant, number, string, array, object, Values, noValues, value, Pairs, noPairs, pair, Condition, literal, many, negation, one, two, comparison, quantifier, Conditions, noConditions, condition}
 use Rattle.definition.specs.Within.{conditionEntries, conditionsEntries, pairsEntries, valueEntries, valuesEntries}
-use Rattle.rule.specs.Index.{endOf, sizeOfRule, EntryAt, ValueAt, ValuesAt, PairsAt, ConditionAt, ConditionsAt, RuleAt}
+use Rattle.rule.specs.Index.{endOf, EntryAt, ValueAt, ValuesAt, PairsAt, ConditionAt, ConditionsAt}
 
 -- the words from `a` up to `b` are the same in both
 pub record Agree (words later : List ℕ) (a b : ℕ) : Type 0 where
@@ -83,13 +83,6 @@ module _ (sheet words later : List ℕ) where
     conditions-frame noConditions i at agree = tt
     conditions-frame (condition c others) i at agree =
         (condition-frame c i (at .0) (agree-within agree (omega arith) (omega arith)), conditions-frame others (i + conditionEntries c) (at .1) (agree-within agree (omega arith) (omega arith)))
-
-  pub rule-frame : (r : Rule) → RuleAt sheet words r → Agree words later 0 (sizeOfRule r) → RuleAt sheet later r
-  unfolding sizeOfRule
-  rule-frame (rule name message assert) at agree =
-      (entry-frame (at .0) agree (omega arith) (omega arith), condition-frame assert 1 (at .1) (agree-within agree (omega arith) (omega arith)))
-  rule-frame (template v) at agree =
-      (entry-frame (at .0) agree (omega arith) (omega arith), value-frame v 1 (at .1) (agree-within agree (omega arith) (omega arith)))
 
 -- the next sibling, or the sibling of the nearest holder that has one
 module _ (sheet words : List ℕ) (i : ℕ) where

@@ -9,7 +9,8 @@ use Rattle.sheet.specs.Places.{ReadsTo}
 use Rattle.sheet.specs.declared.part.Part.{Part}
 use Rattle.definition.specs.Tree.{Text, Pairs}
 use Rattle.definition.specs.Decode.{keysOf}
-use Rattle.rule.specs.Index.{countOfPairs, PairsAt}
+use Rattle.definition.specs.Write.{countOfPairs}
+use Rattle.rule.specs.Index.{PairsAt}
 
 -- whether the key of that entry is one of `count` keys, whose words begin at `i`
 pub record StandsAmong (s words : List ℕ) (entry : Part) (i count : ℕ) (r : Bool) : Type 0 where

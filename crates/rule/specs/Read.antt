@@ -50,9 +50,9 @@ heldBy (value-head.Text t) = held.Values 0
 heldBy (value-head.Array n) = held.Values n
 heldBy (value-head.Object n) = held.Pairs n
 
-abbrev pub countOf : Held → ℕ
-countOf (held.Values n) = n
-countOf (held.Pairs n) = n
+abbrev pub heldCount : Held → ℕ
+heldCount (held.Values n) = n
+heldCount (held.Pairs n) = n
 
 -- the entries that are announced: a key is one of its own
 abbrev pub costOf : Held → ℕ

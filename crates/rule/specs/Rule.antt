@@ -9,12 +9,13 @@ use Rattle.sheet.specs.declared.rule_heads.RuleHead.the-variants as rule-head
 use Rattle.definition.specs.Limits.{maxRuleEntries, maxConditionNesting, maxValueNesting}
 use Rattle.definition.specs.Tree.{Rule, rule, template}
 use Rattle.definition.specs.Decode.{decodeRule}
+use Rattle.definition.specs.Within.{ruleEntries}
 use Rattle.rule.specs.declared.cursor.Cursor.{Cursor}
 use Rattle.rule.specs.declared.cursor.TreeRead.{TreeRead}
 use Rattle.rule.specs.declared.RuleSheet.{RuleSheet}
 use Rattle.rule.specs.declared.RuleRead.{RuleRead}
 use Rattle.rule.specs.declared.RuleRead.the-variants.{Good, Bad}
-use Rattle.rule.specs.Index.{RuleAt, sizeOfRule}
+use Rattle.rule.specs.Index.{RuleAt}
 use Rattle.rule.specs.Read.{Kept, ConditionAnswer, ValueAnswer}
 
 unfoldable pub isTemplate : Rule → Bool
@@ -35,7 +36,7 @@ pub record RuleIndexed (s before after : List ℕ) (r : RuleSheet) : Type 0 wher
   pub reads : decodeRule s ≡ some tree
   pub indexed : RuleAt s after tree
   pub kind : r .«is_template» ≡ isTemplate tree
-  pub size : r .entries ≡ sizeOfRule tree
+  pub size : r .entries ≡ ruleEntries tree
   pub within : r .entries ≤ maxRuleEntries
   pub kept : Kept before after 0 maxRuleEntries
 

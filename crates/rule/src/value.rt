@@ -19,7 +19,7 @@ ghost use Prim.Native.Nat.{_*_, _≤_};
 ghost use Rattle.sheet.specs.Entries.{maxCount};
 ghost use Rattle.sheet.specs.Order.{follows};
 ghost use Rattle.sheet.specs.Parts.{partOf, optionalOf};
-ghost use Rattle.rule.specs.Read.{Ready, heldBy, countOf, costOf, HeldAnswer, ValueAnswer, ValuesAnswer, PairAnswer, PairsAnswer};
+ghost use Rattle.rule.specs.Read.{Ready, heldBy, heldCount, costOf, HeldAnswer, ValueAnswer, ValuesAnswer, PairAnswer, PairsAnswer};
 
 // What a value holds.
 pub enum Held {
@@ -51,7 +51,7 @@ fn held_by(h: ValueHead) -> Held
 
 // The entries of what a value holds: a key is one of its own.
 fn cost_of(held: Held) -> usize
-    requires { ⌜ countOf held ≤ maxCount ⌝ }
+    requires { ⌜ heldCount held ≤ maxCount ⌝ }
     ensures { λ r. ⌜ r ≡ costOf held ⌝ }
 {
     match held {

@@ -11,7 +11,7 @@ use Rattle.sheet.specs.NumeralLaws.{decimalOf-begins}
 use Rattle.sheet.specs.Entries.{ConditionHead, literalHead, manyHead, negationHead, oneHead, twoHead, comparisonHead, quantifierHead, ValueHead, constantHead, numberHead, stringHead, arrayHead, objectHead}
 use Rattle.sheet.specs.Write.{writeEnd, writeItem, writeLength, writeRuleHead, writeLast, writeOperator, writeConditionHead, writeType, writeValueHead, writeKeyHead, markOf}
 use Rattle.definition.specs.Tree.{Text, Value, constant, number, string, array, object, Values, noValues, value, Pairs, noPairs, pair, Condition, literal, many, negation, one, two, comparison, quantifier, Conditions, noConditions, condition, Rule, rule, template, Schema}
-use Rattle.definition.specs.Write.{writeValue, writeValues, writePairs, writeCondition, writeConditions, writeRule, valueCount, pairCount, conditionCount}
+use Rattle.definition.specs.Write.{writeValue, writeValues, writePairs, writeCondition, writeConditions, writeRule, countOfValues, countOfPairs, countOfConditions}
 use Rattle.definition.specs.Decode.{decodeSchema, decodeRule}
 use Rattle.definition.specs.RoundTrip.{rule-round-trip}
 use Rattle.definition.specs.Within.{valueEntries, valuesEntries, pairsEntries, conditionEntries, conditionsEntries, ruleEntries}
@@ -84,9 +84,9 @@ mutual
   value-bytes (number e digits) = value-head-bytes (numberHead digits)
   value-bytes (string e text) = value-head-bytes (stringHead text)
   value-bytes (array e values) =
-      simp length-append (omega (arith, value-head-bytes (arrayHead (valueCount values)), values-bytes values))
+      simp length-append (omega (arith, value-head-bytes (arrayHead (countOfValues values)), values-bytes values))
   value-bytes (object e pairs) =
-      simp length-append (omega (arith, value-head-bytes (objectHead (pairCount pairs)), pairs-bytes pairs))
+      simp length-append (omega (arith, value-head-bytes (objectHead (countOfPairs pairs)), pairs-bytes pairs))
 
   values-bytes : (vs : Values) → 3 * valuesEntries vs ≤ length (writeValues vs)
   values-bytes noValues = omega arith
@@ -103,7 +103,7 @@ mutual
   condition-bytes : (c : Condition) → 3 * conditionEntries c + 4 ≤ length (writeCondition c)
   condition-bytes (literal e truth) = condition-head-bytes (literalHead truth)
   condition-bytes (many e op children) =
-      simp length-append (omega (arith, condition-head-bytes (manyHead op (conditionCount children)), conditions-bytes children))
+      simp length-append (omega (arith, condition-head-bytes (manyHead op (countOfConditions children)), conditions-bytes children))
   condition-bytes (negation e child) = simp length-append (omega (arith, condition-head-bytes negationHead, condition-bytes child))
   condition-bytes (one e op v) = simp length-append (omega (arith, condition-head-bytes (oneHead op), value-bytes v))
   condition-bytes (two e op left right) =

@@ -1,7 +1,7 @@
 -- What a tally promises: every sheet of the book is counted once, under the number that its own check answers.
 use Prim.Native.Nat.{ℕ, zero, suc, _+_, _*_, _≤_, _<_, min}
 use native.Mathlib.Omega.{arith}
-use mathlib.Core.Bool.{Bool, true, false, cond, and-false}
+use mathlib.Core.Bool.{Bool, true, false, cond, and-false, false≢true}
 use mathlib.Core.List.{List, [], _∷_, _++_, map, map-map}
 use mathlib.Core.Logic.{_↔_}
 use mathlib.Core.Option.{Option, none, some, Option·none-ne-some, Option·some-injective, orElse}
@@ -13,7 +13,7 @@ use Rattle.sheet.specs.ReaderLaws.{by-test}
 use Rattle.definition.specs.Decode.{decodeSchema}
 use Rattle.reference.specs.Setting.{oneOf}
 use Rattle.validation.specs.Check.{isNone, IsDefect}
-use Rattle.validation.specs.Result.{Call, Answer, refused, Heard, refusal, acceptance, finding, ofTable, ofSettings, early, ofSheets, refusals, firstRefusal, numbersOf, resultOf, pathBytes}
+use Rattle.validation.specs.Result.{Call, Answer, refused, refusalNumbers, IsRefusal, Heard, refusal, acceptance, finding, ofTable, ofSettings, early, ofSheets, refusals, firstRefusal, numbersOf, resultOf, pathBytes}
 use Rattle.validation.specs.Result as Result
 use Rattle.validation.specs.RefusalLaws.{every, present, none-due, first-none, of-listed, of-first, sheets-first, first-append, outside}
 use Rattle.single_check.specs.SheetLaws.{roomy}
@@ -243,24 +243,30 @@ module _ (c : BookCall) (h : settingRefusal c ≡ none) where
 same-number : (a : BookAnswer) (m n : ℕ) → a ≡ bookRefused m → a ≡ bookRefused n → m ≡ n
 same-number a m n e f = cc
 
+-- a refusal of the settings or of the table is one of a single check's, and those that only a book or its pages have are not listed there
+pub setting-listed : (c : BookCall) (n : ℕ) → settingRefusal c ≡ some n → IsRefusal n
+unfolding ofSettings refusalNumbers oneOf every
+setting-listed c n e = record { listed = of-first (λ (m : ℕ). oneOf m refusalNumbers) n (ofSettings (askedOf c []) (c .lent)) refl e }
+
+pub table-listed : (c : BookCall) (n : ℕ) → firstRefusal (ofTable (c .table)) ≡ some n → IsRefusal n
+unfolding refusalNumbers oneOf every
+table-listed c n e = record { listed = of-first (λ (m : ℕ). oneOf m refusalNumbers) n (ofTable (c .table)) refl e }
+
+pub unlisted : {m : ℕ} (n : ℕ) → oneOf n refusalNumbers ≡ false → m ≡ n → IsRefusal m → ⊥
+unlisted n e same r = false≢true (sym e ∙ ap (λ (k : ℕ). oneOf k refusalNumbers) (sym same) ∙ r .listed)
+
 -- 34 is heard exactly where 1 to 3 are not due and the file is not of the form
 pub book-34 : (c : BookCall) → (bookAnswer c ≡ bookRefused 34) ↔ ((settingRefusal c ≡ none) × (sheetsOf (c .book) ≡ none))
-unfolding ofSettings every
+unfolding refusalNumbers oneOf
 book-34 c = (λ e. by-settings e (settingRefusal c) refl, λ e. form-refused c (e .0) (e .1))
   where
-    low : (n : ℕ) → settingRefusal c ≡ some n → n ≤ 3
-    low n f = leb-true n 3 (of-first (λ (m : ℕ). leb m 3) n (ofSettings (askedOf c []) (c .lent)) refl f)
-
-    high : (n : ℕ) → firstRefusal (ofTable (c .table)) ≡ some n → 37 ≤ n
-    high n f = leb-true 37 n (of-first (λ (m : ℕ). leb 37 m) n (ofTable (c .table)) refl f)
-
     by-table : bookAnswer c ≡ bookRefused 34 → settingRefusal c ≡ none → (sheets : List (List ℕ)) → sheetsOf (c .book) ≡ some sheets
         → (o : Option ℕ) → firstRefusal (ofTable (c .table)) ≡ o → ⊥
     by-table e h sheets form none f =
         let both : tallied (tallyOf (answersOf c sheets)) ≡ bookRefused 34 = sym (book-tallied c h sheets form f) ∙ e in
         let z : _≡_ {A = ℕ} 0 1 = cc in
         omega arith
-    by-table e h sheets form (some n) f = omega (arith, high n f, same-number _ n 34 (table-refused c h sheets form n f) e)
+    by-table e h sheets form (some n) f = unlisted 34 refl (same-number _ n 34 (table-refused c h sheets form n f) e) (table-listed c n f)
 
     by-form : bookAnswer c ≡ bookRefused 34 → settingRefusal c ≡ none → (o : Option (List (List ℕ))) → sheetsOf (c .book) ≡ o → sheetsOf (c .book) ≡ none
     by-form e h none f = f
@@ -268,7 +274,7 @@ book-34 c = (λ e. by-settings e (settingRefusal c) refl, λ e. form-refused c (
 
     by-settings : bookAnswer c ≡ bookRefused 34 → (o : Option ℕ) → settingRefusal c ≡ o → (settingRefusal c ≡ none) × (sheetsOf (c .book) ≡ none)
     by-settings e none f = (f, by-form e f (sheetsOf (c .book)) refl)
-    by-settings e (some n) f = absurd (omega (arith, low n f, same-number _ n 34 (settings-first c n f) e))
+    by-settings e (some n) f = absurd (unlisted 34 refl (same-number _ n 34 (settings-first c n f) e) (setting-listed c n f))
 
 -- a book of one sheet tallies what its single check answers
 pub one-sheet : (c : BookCall) (sheet : List ℕ) (t : Tally) → sheetsOf (c .book) ≡ some (sheet ∷ []) → bookAnswer c ≡ tallied t

@@ -13,7 +13,8 @@ use Rattle.sheet.specs.Parts.{partOf}
 use Rattle.sheet.specs.declared.part.Part.{Part}
 use Rattle.definition.specs.Tree.{field, Items, Members}
 use Rattle.definition.specs.Decode.{Ahead, entry, entered, announce, toCount, elementOf, membersOf, fieldIn}
-use Rattle.schema.specs.Index.{maxSlots, placeWord, hasElement, elements, countOf, below, belowItems, HeadAt, FieldAt}
+use Rattle.definition.specs.Write.{hasItems, countOfMembers}
+use Rattle.schema.specs.Index.{maxSlots, placeWord, elements, below, belowItems, HeadAt, FieldAt}
 use Rattle.schema.specs.IndexLaws.{ItemsAt-kept, elements-marked}
 use Rattle.schema.specs.Kept.{Kept, SlotKept, OthersKept}
 use Rattle.schema.specs.Fields.{ahead, SlotPut, Ready, FieldGood, ItemsGood, MembersGood}
@@ -133,7 +134,7 @@ module _ (s : List ℕ) (from : Cursor) (h : FieldHead) (end elems : ℕ) (head 
       (one .indexed) in
       let low : from .used + (elems + h .count) + belowItems (one .items) ≡ behind .used = omega arith in (
         p .0,
-        head-at s h (from .at) end (placeWord e slot / 4096) (hasElement (one .items)) (countOf (many .members)) head (p .1) (one .marked) m,
+        head-at s h (from .at) end (placeWord e slot / 4096) (hasItems (one .items)) (countOfMembers (many .members)) head (p .1) (one .marked) m,
         rw (slot-kept .place, slot-kept .name, put .named, named),
         rw (slot-kept .name) (put .childAt),
         rw (n, m) kept,

@@ -17,8 +17,9 @@ use Rattle.definition.specs.Tree as Tree
 use Rattle.definition.specs.Tree.{Text, Field, Members, noMembers, member}
 use Rattle.definition.specs.Within.{FieldRises, MembersRise}
 use Rattle.definition.specs.RisingLaws.{AllBehind, rising-behind}
+use Rattle.definition.specs.Write.{countOfMembers}
 use Rattle.reference.specs.Walk.{lookup}
-use Rattle.schema.specs.Index.{maxSlots, slotName, countOf, below, belowMembers, FieldAt, MembersAt}
+use Rattle.schema.specs.Index.{maxSlots, slotName, below, belowMembers, FieldAt, MembersAt}
 use Rattle.schema.specs.IndexLaws.{slot-named}
 use Rattle.schema.specs.Slot.{HolderAt}
 use Rattle.schema.specs.Lookup.{FoundAt, LookedUp}
@@ -39,8 +40,8 @@ pub record MemberAt (s w : List ℕ) (k i : ℕ) (members : Members) (top : ℕ)
   pub indexed : FieldAt s w (k + i) low name f
   pub room : low + below f ≤ top
 
-pub member-at : (s w : List ℕ) (k low i : ℕ) (members : Members) (top : ℕ) → i < countOf members → low + belowMembers members ≤ top → MembersAt s w k low members → MemberAt s w k i members top
-unfolding countOf belowMembers
+pub member-at : (s w : List ℕ) (k low i : ℕ) (members : Members) (top : ℕ) → i < countOfMembers members → low + belowMembers members ≤ top → MembersAt s w k low members → MemberAt s w k i members top
+unfolding countOfMembers belowMembers
 member-at s w k low i noMembers top h l m = absurd (omega arith)
 member-at s w k low zero (member name f others) top h l m =
     let e : k + 0 ≡ k = omega arith in
@@ -95,13 +96,13 @@ pub record Between (members : Members) (name : Text) (low high : ℕ) : Type 0 w
   pub lower : (i : ℕ) (n : Text) (f : Field) → i < low → IsMember i members n f → precedes n name ≡ true
   pub upper : (i : ℕ) (n : Text) (f : Field) → high ≤ i → IsMember i members n f → precedes name n ≡ true
 
-is-below : (i : ℕ) (members : Members) (n : Text) (f : Field) → IsMember i members n f → i < countOf members
-unfolding countOf
+is-below : (i : ℕ) (members : Members) (n : Text) (f : Field) → IsMember i members n f → i < countOfMembers members
+unfolding countOfMembers
 is-below i noMembers n f p = absurd p
 is-below zero (member name g others) n f p = omega arith
 is-below (suc i) (member name g others) n f p = omega (arith, is-below i others n f p)
 
-pub between-all : (members : Members) (name : Text) → Between members name 0 (countOf members)
+pub between-all : (members : Members) (name : Text) → Between members name 0 (countOfMembers members)
 between-all members name =
     record {
       lower = λ i n f h p. absurd (omega arith);

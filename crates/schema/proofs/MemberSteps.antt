@@ -13,7 +13,8 @@ use Rattle.sheet.specs.Reader.{Reader, _>>=_, _>>_, andThen, pure, ensure}
 use Rattle.sheet.specs.Order.{follows}
 use Rattle.definition.specs.Tree.{Text, Field, absent, element, Members, noMembers, member}
 use Rattle.definition.specs.Decode.{Ahead, toCount, elementOf, membersOf, fieldIn}
-use Rattle.schema.specs.Index.{maxSlots, slotName, hasElement, countOf, below, belowItems, belowMembers, FieldAt, MembersAt}
+use Rattle.definition.specs.Write.{hasItems, countOfMembers}
+use Rattle.schema.specs.Index.{maxSlots, slotName, below, belowItems, belowMembers, FieldAt, MembersAt}
 use Rattle.schema.specs.IndexLaws.{MembersAt-kept, slot-named}
 use Rattle.schema.specs.Kept.{Kept, OthersKept}
 use Rattle.schema.specs.Fields.{ahead, nameBefore, Moved, FieldGood, ItemsGood, MembersGood}
@@ -30,7 +31,7 @@ length-zero (x ∷ l) e = absurd (omega arith)
 
 pub element-absent : (s w : List ℕ) (depth : ℕ) (has : Bool) (slot : ℕ) (from : Cursor) → has ≡ false → from .at ≤ length s → from .used ≤ maxSlots
     → ItemsGood s w w depth has slot from from
-unfolding elementOf pure hasElement belowItems toCount
+unfolding elementOf pure hasItems belowItems toCount
 element-absent s w depth has slot from e at used =
     rw e
     (record {
@@ -53,7 +54,7 @@ module _ (s a b : List ℕ) (depth : ℕ) (has : Bool) (here : has ≡ true) (sl
   element-named n = rw (here, good .reads, ne-eqb (length name) 0 n)
 
   pub element-good : length name ≡ 0 → ItemsGood s a b depth has slot from to
-  unfolding elementOf _>>=_ _>>_ andThen ensure pure hasElement belowItems toCount
+  unfolding elementOf _>>=_ _>>_ andThen ensure pure hasItems belowItems toCount
   element-good n =
       rw here
       (record {
@@ -143,10 +144,10 @@ unfolding resumed andThen pure
 resumed-more done name f none = refl
 resumed-more done name f (some r) = rw (joined-more done name f (r .0))
 
-countOf-joined : (done : Members) (name : Text) (f : Field) → countOf (joined done (member name f noMembers)) ≡ countOf done + 1
-unfolding joined countOf
-countOf-joined noMembers name f = refl
-countOf-joined (member n g done) name f = rw (countOf-joined done name f)
+countOfMembers-joined : (done : Members) (name : Text) (f : Field) → countOfMembers (joined done (member name f noMembers)) ≡ countOfMembers done + 1
+unfolding joined countOfMembers
+countOfMembers-joined noMembers name f = refl
+countOfMembers-joined (member n g done) name f = rw (countOfMembers-joined done name f)
 
 belowMembers-joined : (done : Members) (name : Text) (f : Field) → belowMembers (joined done (member name f noMembers)) ≡ belowMembers done + below f
 unfolding joined belowMembers
@@ -154,11 +155,11 @@ belowMembers-joined noMembers name f = omega arith
 belowMembers-joined (member n g done) name f = rw (belowMembers-joined done name f) (omega arith)
 
 MembersAt-joined : (s w : List ℕ) (k low : ℕ) (done : Members) (name : Text) (f : Field) → MembersAt s w k low done
-    → FieldAt s w (k + countOf done) (low + belowMembers done) name f → MembersAt s w k low (joined done (member name f noMembers))
-unfolding joined countOf belowMembers
+    → FieldAt s w (k + countOfMembers done) (low + belowMembers done) name f → MembersAt s w k low (joined done (member name f noMembers))
+unfolding joined countOfMembers belowMembers
 MembersAt-joined s w k low noMembers name f h g = (rw (add-zero k, add-zero low) at g, tt)
 MembersAt-joined s w k low (member n e done) name f h g =
-    let p : k + (countOf done + 1) ≡ k + 1 + countOf done = omega arith in
+    let p : k + (countOfMembers done + 1) ≡ k + 1 + countOfMembers done = omega arith in
     let q : low + (below e + belowMembers done) ≡ low + below e + belowMembers done = omega arith in
     (h .0, MembersAt-joined s w (k + 1) (low + below e) done name f (h .1) (rw (p, q) at g))
 
@@ -172,14 +173,14 @@ pub record Sofar (s a b : List ℕ) (depth first count : ℕ) (from to : Cursor)
   pub within : i ≤ count
   pub kept : Kept a b
   pub reads : membersOf count none (fieldIn depth) (ahead s from) ≡ resumed done (membersOf (count - i) (nameBefore s i before) (fieldIn depth) (ahead s to))
-  pub counted : countOf done ≡ i
+  pub counted : countOfMembers done ≡ i
   pub indexed : MembersAt s b first (from .used) done
   pub others : OthersKept a b first i (from .used) (to .used)
   pub moved : Moved s from to i (belowMembers done)
 
 pub sofar-none : (s a : List ℕ) (depth first count : ℕ) (from : Cursor) (before : Part) → from .at ≤ length s → from .used ≤ maxSlots
     → Sofar s a a depth first count from from before 0
-unfolding nameBefore countOf belowMembers
+unfolding nameBefore countOfMembers belowMembers
 sofar-none s a depth first count from before at used =
     let e : count - 0 ≡ count = omega arith in
     record {
@@ -236,7 +237,7 @@ module _ (s a b : List ℕ) (depth first count : ℕ) (from to : Cursor) (before
           let o = membersOf (count - (i + 1)) (some (partOf s name)) (fieldIn depth) (ahead s behind) in
           let done = sofar .done in
           let f = good .f in
-          let n = countOf-joined done (partOf s name) f in
+          let n = countOfMembers-joined done (partOf s name) f in
           let l = belowMembers-joined done (partOf s name) f in
           let k = sofar .counted in
           let u : from .used + belowMembers done ≡ to .used = omega arith in

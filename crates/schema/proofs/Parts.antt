@@ -10,7 +10,8 @@ use Rattle.sheet.specs.Entries.{fieldHead}
 use Rattle.definition.specs.Tree.{field, Items, absent, element}
 use Rattle.definition.specs.Within.{ItemsRise}
 use Rattle.definition.specs.Decode.{toCount}
-use Rattle.schema.specs.Index.{maxSlots, placeWord, childSlot, hasElement, elements, countOf, below, belowItems, ItemsAt}
+use Rattle.definition.specs.Write.{hasItems, countOfMembers}
+use Rattle.schema.specs.Index.{maxSlots, placeWord, childSlot, elements, below, belowItems, ItemsAt}
 use Rattle.schema.specs.IndexLaws.{elements-marked}
 use Rattle.schema.specs.Slot.{ElementAt, elementFrom, IndexedIs}
 use Rattle.sheet.specs.Places.{Knows, fieldOf}
@@ -24,8 +25,8 @@ headless-parts s w k r n (field e kind o tag items members) holds =
     absurd (Option·none-ne-some _ (sym n ∙ holds .indexed .1 .reads))
 
 items-element : (s w : List ℕ) (k low : ℕ) (items : Items) → ItemsAt s w k low items → ItemsRise items → k + elements items ≤ maxSlots → low + belowItems items ≤ maxSlots
-    → ElementAt s w (elementFrom (hasElement items) k) items
-unfolding elementFrom hasElement elements belowItems
+    → ElementAt s w (elementFrom (hasItems items) k) items
+unfolding elementFrom hasItems elements belowItems
 items-element s w k low absent at rises slot room = tt
 items-element s w k low (element f) at rises slot room = record { name = []; low = low; indexed = at; rises = rises; slot = omega arith; room = room }
 
@@ -44,8 +45,8 @@ unfolding fieldOf below
 indexed-parts s w k head place child elems el known p c n l (field e kind o tag items members) holds =
     let at = holds .indexed in
     let q = known .reads _ _ (at .1 .reads) in
-    let has : head .items ≡ hasElement items = ap (λ (h : Entries.FieldHead). h .hasItems) q in
-    let count : head .count ≡ countOf members = ap (λ (h : Entries.FieldHead). h .count) q in
+    let has : head .items ≡ hasItems items = ap (λ (h : Entries.FieldHead). h .hasItems) q in
+    let count : head .count ≡ countOfMembers members = ap (λ (h : Entries.FieldHead). h .count) q in
     let low : child ≡ holds .low = c ∙ at .3 in
     let m : elems ≡ elements items = n ∙ ap toCount has ∙ sym (elements-marked items) in
     let room = holds .room in
@@ -56,12 +57,12 @@ indexed-parts s w k head place child elems el known p c n l (field e kind o tag 
       tagged = ap (λ (h : Entries.FieldHead). h .tag) q;
       elements =
           rw (l, has, low)
-          (items-element s w (holds .low) (holds .low + (elements items + countOf members)) items (at .4) (holds .rises .0) (omega arith) (omega arith));
+          (items-element s w (holds .low) (holds .low + (elements items + countOfMembers members)) items (at .4) (holds .rises .0) (omega arith) (omega arith));
       members =
           record {
             marked = ap (λ (h : Entries.FieldHead). h .isOpen) q;
             counted = sym count;
-            low = holds .low + (elements items + countOf members) + belowItems items;
+            low = holds .low + (elements items + countOfMembers members) + belowItems items;
             indexed = rw first (at .5);
             rises = holds .rises .1;
             slots = omega arith;

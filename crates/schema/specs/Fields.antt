@@ -8,7 +8,8 @@ use lib.ListN.{length, drop}
 use Rattle.definition.specs.Tree.{Text, Field, Items, Members}
 use Rattle.definition.specs.Decode.{Ahead, toCount, fieldIn, elementOf, membersOf}
 use Rattle.definition.specs.Limits.{maxSheetBytes}
-use Rattle.schema.specs.Index.{indexEnd, maxSlots, placeWord, childSlot, slotName, hasElement, countOf, below, belowItems, belowMembers, FieldAt, ItemsAt, MembersAt}
+use Rattle.definition.specs.Write.{hasItems, countOfMembers}
+use Rattle.schema.specs.Index.{indexEnd, maxSlots, placeWord, childSlot, slotName, below, belowItems, belowMembers, FieldAt, ItemsAt, MembersAt}
 use Rattle.schema.specs.Kept.{Kept, OthersKept}
 use Rattle.sheet.specs.Parts.{partOf}
 use Rattle.sheet.specs.Places.{NamePlaced, maxPrefix}
@@ -81,7 +82,7 @@ pub record FieldAnswer (s before after : List ℕ) (depth slot : ℕ) (from : Cu
 pub record ItemsGood (s before after : List ℕ) (depth : ℕ) (has : Bool) (slot : ℕ) (from to : Cursor) : Type 0 where
   pub items : Items
   pub reads : elementOf has (fieldIn depth) (ahead s from) ≡ some (items, ahead s to)
-  pub marked : hasElement items ≡ has
+  pub marked : hasItems items ≡ has
   pub indexed : ItemsAt s after slot (from .used) items
   pub others : OthersKept before after slot (toCount has) (from .used) (to .used)
   pub moved : Moved s from to (toCount has) (belowItems items)
@@ -104,7 +105,7 @@ nameBefore s (suc i) p = some (partOf s p)
 pub record MembersGood (s before after : List ℕ) (depth first count : ℕ) (from to : Cursor) : Type 0 where
   pub members : Members
   pub reads : membersOf count none (fieldIn depth) (ahead s from) ≡ some (members, ahead s to)
-  pub counted : countOf members ≡ count
+  pub counted : countOfMembers members ≡ count
   pub indexed : MembersAt s after first (from .used) members
   pub others : OthersKept before after first count (from .used) (to .used)
   pub moved : Moved s from to count (belowMembers members)

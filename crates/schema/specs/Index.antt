@@ -1,7 +1,6 @@
 -- The index of a schema in the scratch: a slot of two words for each field. The children of a field are in neighbouring slots, its
 -- element first, then its properties in the order of their names; they are followed by the slots of what lies below them, child by child.
 use Prim.Native.Nat.{ℕ, _+_, _-_, _*_, _/_, _%_}
-use mathlib.Core.Bool.{Bool, true, false}
 use mathlib.Core.List.{List, []}
 use mathlib.Core.Option.{some}
 use mathlib.Core.Path.{_≡_}
@@ -11,6 +10,7 @@ use Rattle.sheet.specs.Parts.{partOf}
 use Rattle.sheet.specs.declared.part.Part.{Part}
 use Rattle.definition.specs.Tree.{Text, Field, field, Items, absent, element, Members, noMembers, member}
 use Rattle.definition.specs.Limits.{maxSchemaEntries}
+use Rattle.definition.specs.Write.{hasItems, countOfMembers}
 
 -- the words before this one are a rule's
 abbrev pub firstWord : ℕ
@@ -40,22 +40,14 @@ childSlot words k = nameWord words k % 4096
 abbrev pub slotName : List ℕ → ℕ → Part
 slotName words k = record { start = placeWord words k / 4096 + nameWord words k / 4096 % 32; len = nameWord words k / 131072 }
 
-unfoldable pub hasElement : Items → Bool
-hasElement absent = false
-hasElement (element f) = true
-
 unfoldable pub elements : Items → ℕ
 elements absent = 0
 elements (element f) = 1
 
-unfoldable pub countOf : Members → ℕ
-countOf noMembers = 0
-countOf (member name f others) = countOf others + 1
-
 -- how many fields lie below
 unfoldable mutual
   pub below : Field → ℕ
-  below (field e kind o tag items members) = elements items + countOf members + (belowItems items + belowMembers members)
+  below (field e kind o tag items members) = elements items + countOfMembers members + (belowItems items + belowMembers members)
 
   pub belowItems : Items → ℕ
   belowItems absent = 0
@@ -76,11 +68,11 @@ abbrev mutual
   FieldAt sheet words k low name (field e kind o tag items members) =
       (placeWord words k % 4096 ≡ e)
       × HeadAt sheet (placeWord words k / 4096)
-      (record { kind = kind; isOpen = o; hasItems = hasElement items; count = countOf members; name = name; tag = tag })
+      (record { kind = kind; isOpen = o; hasItems = hasItems items; count = countOfMembers members; name = name; tag = tag })
       × (partOf sheet (slotName words k) ≡ name)
       × (childSlot words k ≡ low)
-      × ItemsAt sheet words low (low + (elements items + countOf members)) items
-      × MembersAt sheet words (low + elements items) (low + (elements items + countOf members) + belowItems items) members
+      × ItemsAt sheet words low (low + (elements items + countOfMembers members)) items
+      × MembersAt sheet words (low + elements items) (low + (elements items + countOfMembers members) + belowItems items) members
 
   pub ItemsAt : (sheet words : List ℕ) (k low : ℕ) → Items → Type 0
   ItemsAt sheet words k low absent = Unit {0}

@@ -9,11 +9,12 @@ use Rattle.sheet.specs.Entries.{FieldHead}
 use Rattle.sheet.specs.Parts.{partOf}
 use Rattle.definition.specs.Tree.{Text, Field, field, Items, absent, element, Members, noMembers, member}
 use Rattle.definition.specs.Decode.{toCount}
-use Rattle.schema.specs.Index.{slotName, hasElement, elements, countOf, below, belowItems, belowMembers, HeadAt, FieldAt, ItemsAt, MembersAt}
+use Rattle.definition.specs.Write.{hasItems, countOfMembers}
+use Rattle.schema.specs.Index.{slotName, elements, below, belowItems, belowMembers, HeadAt, FieldAt, ItemsAt, MembersAt}
 use Rattle.schema.specs.Kept.{SlotKept, SlotsKept}
 
 mutual
-  unfolding elements countOf below belowItems belowMembers
+  unfolding elements countOfMembers below belowItems belowMembers
 
   pub FieldAt-kept : (s a b : List ℕ) (k low : ℕ) (name : Text) (f : Field) → SlotKept a b k → SlotsKept a b low (below f) → FieldAt s a k low name f → FieldAt s b k low name f
   FieldAt-kept s a b k low name (field e kind o tag items members) here there h = (
@@ -21,10 +22,10 @@ mutual
     rw (here .place) (h .1),
     rw (here .place, here .name) (h .2),
     rw (here .name) (h .3),
-    ItemsAt-kept s a b low (low + (elements items + countOf members)) items
+    ItemsAt-kept s a b low (low + (elements items + countOfMembers members)) items
         (λ j p q. there j (omega arith) (omega arith))
         (λ j p q. there j (omega arith) (omega arith)) (h .4),
-    MembersAt-kept s a b (low + elements items) (low + (elements items + countOf members) + belowItems items) members
+    MembersAt-kept s a b (low + elements items) (low + (elements items + countOfMembers members) + belowItems items) members
         (λ j p q. there j (omega arith) (omega arith))
         (λ j p q. there j (omega arith) (omega arith)) (h .5),
   )
@@ -34,7 +35,7 @@ mutual
   ItemsAt-kept s a b k low (element f) here there h =
       FieldAt-kept s a b k low [] f (here k (omega arith) (omega arith)) (λ j p q. there j p q) h
 
-  pub MembersAt-kept : (s a b : List ℕ) (k low : ℕ) (members : Members) → SlotsKept a b k (countOf members) → SlotsKept a b low (belowMembers members) → MembersAt s a k low members → MembersAt s b k low members
+  pub MembersAt-kept : (s a b : List ℕ) (k low : ℕ) (members : Members) → SlotsKept a b k (countOfMembers members) → SlotsKept a b low (belowMembers members) → MembersAt s a k low members → MembersAt s b k low members
   MembersAt-kept s a b k low noMembers here there h = tt
   MembersAt-kept s a b k low (member name f others) here there h = (
     FieldAt-kept s a b k low name f (here k (omega arith) (omega arith)) (λ j p q. there j (omega arith) (omega arith)) (h .0),
@@ -49,8 +50,8 @@ slot-named s w k low name (field e kind o tag items members) at = at .2
 
 -- Whatever two trees have the same index are the same.
 
-pub elements-marked : (items : Items) → elements items ≡ toCount (hasElement items)
-unfolding elements hasElement toCount
+pub elements-marked : (items : Items) → elements items ≡ toCount (hasItems items)
+unfolding elements hasItems toCount
 elements-marked absent = refl
 elements-marked (element f) = refl
 
@@ -63,32 +64,32 @@ pub head-unique : {s : List ℕ} {start : ℕ} {h h′ : FieldHead} → HeadAt s
 head-unique p q = ap (λ (r : FieldHead × List ℕ). r .0) (Option·some-injective _ _ (sym (p .reads) ∙ q .reads))
 
 mutual
-  unfolding hasElement countOf below belowItems
+  unfolding hasItems countOfMembers below belowItems
 
   pub FieldAt-unique : (s w : List ℕ) (k low low′ : ℕ) (name name′ : Text) (f g : Field) → FieldAt s w k low name f → FieldAt s w k low′ name′ g → Same low low′ name name′ f g
   FieldAt-unique s w k low low′ name name′ (field e kind o tag items members) (field e′ kind′ o′ tag′ items′ members′) p q =
       let h = head-unique (p .1) (q .1) in
       let l : low ≡ low′ = sym (p .3) ∙ q .3 in
-      let has : hasElement items ≡ hasElement items′ = ap (λ (h : FieldHead). h .hasItems) h in
-      let count : countOf members ≡ countOf members′ = ap (λ (h : FieldHead). h .count) h in
+      let has : hasItems items ≡ hasItems items′ = ap (λ (h : FieldHead). h .hasItems) h in
+      let count : countOfMembers members ≡ countOfMembers members′ = ap (λ (h : FieldHead). h .count) h in
       let n : elements items ≡ elements items′ = elements-marked items ∙ ap toCount has ∙ sym (elements-marked items′) in
-      let i : items ≡ items′ = ItemsAt-unique s w low (low + (elements items + countOf members)) items items′ has (p .4) (rw (l, n, count) (q .4)) in
+      let i : items ≡ items′ = ItemsAt-unique s w low (low + (elements items + countOfMembers members)) items items′ has (p .4) (rw (l, n, count) (q .4)) in
       let b : belowItems items ≡ belowItems items′ = ap belowItems i in
       let m : members ≡ members′
-      = MembersAt-unique s w (low + elements items) (low + (elements items + countOf members) + belowItems items) members members′ count (p .5) (rw (l, n, count, b) (q .5)) in
+      = MembersAt-unique s w (low + elements items) (low + (elements items + countOfMembers members) + belowItems items) members members′ count (p .5) (rw (l, n, count, b) (q .5)) in
       record {
         lows = l;
         names = ap (λ (h : FieldHead). h .name) h;
         fields = cc (sym (p .0) ∙ q .0, ap (λ (h : FieldHead). h .kind) h, ap (λ (h : FieldHead). h .isOpen) h, ap (λ (h : FieldHead). h .tag) h);
       }
 
-  pub ItemsAt-unique : (s w : List ℕ) (k low : ℕ) (items items′ : Items) → hasElement items ≡ hasElement items′ → ItemsAt s w k low items → ItemsAt s w k low items′ → items ≡ items′
+  pub ItemsAt-unique : (s w : List ℕ) (k low : ℕ) (items items′ : Items) → hasItems items ≡ hasItems items′ → ItemsAt s w k low items → ItemsAt s w k low items′ → items ≡ items′
   ItemsAt-unique s w k low absent absent e p q = refl
   ItemsAt-unique s w k low absent (element g) e p q = absurd (false≢true e)
   ItemsAt-unique s w k low (element f) absent e p q = absurd (false≢true (sym e))
   ItemsAt-unique s w k low (element f) (element g) e p q = ap element (FieldAt-unique s w k low low [] [] f g p q .fields)
 
-  pub MembersAt-unique : (s w : List ℕ) (k low : ℕ) (ms ms′ : Members) → countOf ms ≡ countOf ms′ → MembersAt s w k low ms → MembersAt s w k low ms′ → ms ≡ ms′
+  pub MembersAt-unique : (s w : List ℕ) (k low : ℕ) (ms ms′ : Members) → countOfMembers ms ≡ countOfMembers ms′ → MembersAt s w k low ms → MembersAt s w k low ms′ → ms ≡ ms′
   MembersAt-unique s w k low noMembers noMembers e p q = refl
   MembersAt-unique s w k low noMembers (member name g others) e p q = absurd (omega arith)
   MembersAt-unique s w k low (member name f others) noMembers e p q = absurd (omega arith)

@@ -7,7 +7,8 @@ use lib.ListN.{length}
 use Rattle.sheet.specs.Entries.{HolderHead}
 use Rattle.definition.specs.Tree as Tree
 use Rattle.definition.specs.Decode.{holderOf, argumentsOf, decodeSchema}
-use Rattle.schema.specs.Index.{maxSlots, countOf, belowMembers, MembersAt}
+use Rattle.definition.specs.Write.{countOfMembers}
+use Rattle.schema.specs.Index.{maxSlots, belowMembers, MembersAt}
 use Rattle.schema.specs.Kept.{Kept, OthersKept}
 use Rattle.schema.specs.Slot.{HolderAt}
 use Rattle.schema.specs.Fields.{ahead, Moved}
@@ -54,7 +55,7 @@ pub record SchemaAnswer (sheet before after : List ℕ) (r : SchemaRead) : Type 
 
 pub record HolderPlaced (sheet words : List ℕ) (h : Holder) (t : Tree.Holder) : Type 0 where
   pub marked : h .opened ≡ t .isOpen
-  pub counted : countOf (t .members) ≡ h .count
+  pub counted : countOfMembers (t .members) ≡ h .count
   pub indexed : MembersAt sheet words (h .first) (h .first + h .count) (t .members)
   pub room : h .first + (h .count + belowMembers (t .members)) ≤ maxSlots
 

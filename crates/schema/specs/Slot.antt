@@ -7,7 +7,8 @@ use mathlib.Core.Path.{_≡_}
 use Rattle.definition.specs.Tree as Tree
 use Rattle.definition.specs.Tree.{Text, Field, field, Items, absent, element}
 use Rattle.definition.specs.Within.{FieldRises, MembersRise}
-use Rattle.schema.specs.Index.{maxSlots, countOf, below, belowMembers, FieldAt, MembersAt}
+use Rattle.definition.specs.Write.{countOfMembers}
+use Rattle.schema.specs.Index.{maxSlots, below, belowMembers, FieldAt, MembersAt}
 use Rattle.sheet.specs.Parts.{optionalOf}
 use Rattle.schema.specs.declared.index.Holder.{Holder}
 use Rattle.schema.specs.declared.index.ElementSlot.{ElementSlot}
@@ -26,7 +27,7 @@ pub record SlotHolds (sheet words : List ℕ) (k : ℕ) (f : Field) : Type 0 whe
 -- the slots from the first one on hold the members
 pub record HolderAt (sheet words : List ℕ) (h : Holder) (t : Tree.Holder) : Type 0 where
   pub marked : h .opened ≡ t .isOpen
-  pub counted : countOf (t .members) ≡ h .count
+  pub counted : countOfMembers (t .members) ≡ h .count
   pub low : ℕ
   pub indexed : MembersAt sheet words (h .first) low (t .members)
   pub rises : MembersRise none (t .members)

@@ -75,13 +75,13 @@ fn read_holder(sheet: &[u8], words: &mut [u32], head: HolderHead, from: Cursor) 
 fn read_arguments(
     sheet: &[u8],
     words: &mut [u32],
-    head: sheet::schema_heads::Arguments,
+    head: sheet::schema_heads::ArgumentsHead,
     from: Cursor,
 ) -> ArgumentsRead
     requires { ⌜ Ready (now sheet) (now words) from 0 0 ⌝ }
     ensures { λ r. ⌜ ArgumentsAnswer (now (sheet .entry)) (now (words .entry)) (now (words .exit)) (argumentsOf head) from r ⌝ }
 {
-    let sheet::schema_heads::Arguments::Are(h) = head else {
+    let sheet::schema_heads::ArgumentsHead::Are(h) = head else {
         return ArgumentsRead::Good(Arguments::Absent, from);
     };
     let HolderRead::Good(holder, to) = read_holder(sheet, words, h, from) else {

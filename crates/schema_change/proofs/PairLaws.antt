@@ -14,7 +14,8 @@ use Rattle.sheet.specs.declared.part.Part.{Part}
 use Rattle.definition.specs.Tree as Tree
 use Rattle.definition.specs.Tree.{Text, Field, Members, noMembers, member}
 use Rattle.definition.specs.RisingLaws.{rising-alone}
-use Rattle.schema.specs.Index.{slotName, countOf, below, belowMembers, FieldAt}
+use Rattle.definition.specs.Write.{countOfMembers}
+use Rattle.schema.specs.Index.{slotName, below, belowMembers, FieldAt}
 use Rattle.schema.specs.IndexLaws.{slot-named}
 use Rattle.schema.specs.Slot.{SlotHolds, HolderAt}
 use Rattle.schema.specs.declared.index.Holder.{Holder}
@@ -34,7 +35,7 @@ pub record First (s w : List ℕ) (h : Holder) (o : Bool) (members : Members) : 
 
 module _ (s w : List ℕ) (h : Holder) where
   first-of : (o : Bool) (m : Members) → HolderAt s w h (record { isOpen = o; members = m }) → 0 < h .count → First s w h o m
-  unfolding countOf belowMembers
+  unfolding countOfMembers belowMembers
   first-of o noMembers at some-left = let c = at .counted in absurd (omega arith)
   first-of o (member name f others) at some-left =
       let counted = at .counted in
@@ -67,20 +68,20 @@ module _ (s w : List ℕ) (h : Holder) where
 
 -- where a holder is at its end
 
-ended-neither : (m m′ : Members) → countOf m ≡ 0 → countOf m′ ≡ 0 → Neither ≡ pairingOf m m′
-unfolding countOf pairingOf
+ended-neither : (m m′ : Members) → countOfMembers m ≡ 0 → countOfMembers m′ ≡ 0 → Neither ≡ pairingOf m m′
+unfolding countOfMembers pairingOf
 ended-neither noMembers noMembers e e′ = refl
 ended-neither noMembers (member name′ f′ others′) e e′ = absurd (omega arith)
 ended-neither (member name f others) m′ e e′ = absurd (omega arith)
 
-ended-added : (m m′ : Members) → countOf m ≡ 0 → 0 < countOf m′ → Added ≡ pairingOf m m′
-unfolding countOf pairingOf
+ended-added : (m m′ : Members) → countOfMembers m ≡ 0 → 0 < countOfMembers m′ → Added ≡ pairingOf m m′
+unfolding countOfMembers pairingOf
 ended-added noMembers noMembers e e′ = absurd (omega arith)
 ended-added noMembers (member name′ f′ others′) e e′ = refl
 ended-added (member name f others) m′ e e′ = absurd (omega arith)
 
-ended-missing : (m m′ : Members) → 0 < countOf m → countOf m′ ≡ 0 → Missing ≡ pairingOf m m′
-unfolding countOf pairingOf
+ended-missing : (m m′ : Members) → 0 < countOfMembers m → countOfMembers m′ ≡ 0 → Missing ≡ pairingOf m m′
+unfolding countOfMembers pairingOf
 ended-missing noMembers m′ e e′ = absurd (omega arith)
 ended-missing (member name f others) noMembers e e′ = refl
 ended-missing (member name f others) (member name′ f′ others′) e e′ = absurd (omega arith)

@@ -21,12 +21,12 @@ use Rattle.sheet.specs.declared.entry.LengthRead.the-variants as text-le
 use Rattle.sheet.specs.declared.entry.OptionalRead.{OptionalRead}
 use Rattle.sheet.specs.declared.entry.OptionalRead.the-variants as optional
 use Rattle.sheet.specs.declared.schema_heads.HolderHead.{HolderHead}
-use Rattle.sheet.specs.declared.schema_heads.HolderRead.{HolderRead}
-use Rattle.sheet.specs.declared.schema_heads.HolderRead.the-variants as holder
-use Rattle.sheet.specs.declared.schema_heads.Arguments.{Arguments}
-use Rattle.sheet.specs.declared.schema_heads.Arguments.the-variants as arguments
-use Rattle.sheet.specs.declared.schema_heads.ArgumentsRead.{ArgumentsRead}
-use Rattle.sheet.specs.declared.schema_heads.ArgumentsRead.the-variants as arguments-head
+use Rattle.sheet.specs.declared.schema_heads.HolderHeadRead.{HolderHeadRead}
+use Rattle.sheet.specs.declared.schema_heads.HolderHeadRead.the-variants as holder
+use Rattle.sheet.specs.declared.schema_heads.ArgumentsHead.{ArgumentsHead}
+use Rattle.sheet.specs.declared.schema_heads.ArgumentsHead.the-variants as arguments
+use Rattle.sheet.specs.declared.schema_heads.ArgumentsHeadRead.{ArgumentsHeadRead}
+use Rattle.sheet.specs.declared.schema_heads.ArgumentsHeadRead.the-variants as arguments-head
 use Rattle.sheet.specs.declared.schema_heads.SchemaHead.{SchemaHead}
 use Rattle.sheet.specs.declared.schema_heads.SchemaHeadRead.{SchemaHeadRead}
 use Rattle.sheet.specs.declared.schema_heads.SchemaHeadRead.the-variants as schema
@@ -126,20 +126,20 @@ OptionalIs l s at optional.Bad = Refuses (entries.optionalText (lengthOf l)) s a
 unfoldable pub holderOf : HolderHead → entries.HolderHead
 holderOf h = record { isOpen = h .opened; count = h .count }
 
-abbrev pub HolderIs : List ℕ → ℕ → HolderRead → Type 0
+abbrev pub HolderIs : List ℕ → ℕ → HolderHeadRead → Type 0
 HolderIs s at (holder.Is h next) = ReadsTo entries.holderHead s at (holderOf h) next × (h .count ≤ entries.maxCount)
 HolderIs s at holder.Bad = Refuses entries.holderHead s at
 
-unfoldable pub argumentsOf : Arguments → Option entries.HolderHead
+unfoldable pub argumentsOf : ArgumentsHead → Option entries.HolderHead
 argumentsOf (arguments.Are h) = some (holderOf h)
 argumentsOf arguments.Absent = none
 
 -- the number of fields
-unfoldable pub argumentCount : Arguments → ℕ
+unfoldable pub argumentCount : ArgumentsHead → ℕ
 argumentCount (arguments.Are h) = h .count
 argumentCount arguments.Absent = 0
 
-abbrev pub ArgumentsAre : List ℕ → ℕ → ArgumentsRead → Type 0
+abbrev pub ArgumentsAre : List ℕ → ℕ → ArgumentsHeadRead → Type 0
 ArgumentsAre s at (arguments-head.Is a next) = ReadsTo entries.argumentsHead s at (argumentsOf a) next × (argumentCount a ≤ entries.maxCount)
 ArgumentsAre s at arguments-head.Bad = Refuses entries.argumentsHead s at
 

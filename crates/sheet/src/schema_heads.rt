@@ -31,26 +31,26 @@ pub struct HolderHead {
     pub count: usize,
 }
 
-pub enum HolderRead {
+pub enum HolderHeadRead {
     // The head, and the place after it.
     Is(HolderHead, usize),
     Bad,
 }
 
-pub enum Arguments {
+pub enum ArgumentsHead {
     Are(HolderHead),
     Absent,
 }
 
-pub enum ArgumentsRead {
+pub enum ArgumentsHeadRead {
     // The head, and the place after it.
-    Is(Arguments, usize),
+    Is(ArgumentsHead, usize),
     Bad,
 }
 
 pub struct SchemaHead {
     pub fields: HolderHead,
-    pub arguments: Arguments,
+    pub arguments: ArgumentsHead,
 }
 
 pub enum SchemaHeadRead {
@@ -108,41 +108,41 @@ pub enum KnownField {
     Bad,
 }
 
-fn holder_head(s: &[u8], at: usize) -> HolderRead
+fn holder_head(s: &[u8], at: usize) -> HolderHeadRead
     ensures { λ r. ⌜ HolderIs (now (s .entry)) at r ⌝ }
 {
     let MarkRead::Is(opened, behind) = entry::mark(s, at) else {
-        return HolderRead::Bad;
+        return HolderHeadRead::Bad;
     };
     let NumeralRead::Is(count, next) = entry::item(s, behind, 0, MAX_COUNT) else {
-        return HolderRead::Bad;
+        return HolderHeadRead::Bad;
     };
-    HolderRead::Is(HolderHead { opened, count }, next)
+    HolderHeadRead::Is(HolderHead { opened, count }, next)
 }
 
-fn arguments_head(s: &[u8], at: usize) -> ArgumentsRead
+fn arguments_head(s: &[u8], at: usize) -> ArgumentsHeadRead
     ensures { λ r. ⌜ ArgumentsAre (now (s .entry)) at r ⌝ }
 {
     if entry::is_dashed(s, at) {
         let NumeralRead::Is(_, next) = entry::item(s, at + 2, 0, 0) else {
-            return ArgumentsRead::Bad;
+            return ArgumentsHeadRead::Bad;
         };
-        return ArgumentsRead::Is(Arguments::Absent, next);
+        return ArgumentsHeadRead::Is(ArgumentsHead::Absent, next);
     }
-    let HolderRead::Is(head, next) = holder_head(s, at) else {
-        return ArgumentsRead::Bad;
+    let HolderHeadRead::Is(head, next) = holder_head(s, at) else {
+        return ArgumentsHeadRead::Bad;
     };
-    ArgumentsRead::Is(Arguments::Are(head), next)
+    ArgumentsHeadRead::Is(ArgumentsHead::Are(head), next)
 }
 
 pub fn schema_head(s: &[u8], at: usize) -> SchemaHeadRead
     ensures { λ r. ⌜ SchemaIs (now (s .entry)) at r ⌝ }
 {
     if entry::starts_with(s, at, b'H') {
-        let HolderRead::Is(fields, behind) = holder_head(s, at + 1) else {
+        let HolderHeadRead::Is(fields, behind) = holder_head(s, at + 1) else {
             return SchemaHeadRead::Bad;
         };
-        let ArgumentsRead::Is(arguments, end) = arguments_head(s, behind) else {
+        let ArgumentsHeadRead::Is(arguments, end) = arguments_head(s, behind) else {
             return SchemaHeadRead::Bad;
         };
         if entry::starts_with(s, end, b'\n') {

@@ -61,7 +61,7 @@ pub record Bounds : Type 0 where
   pub affix : heard (ask 1 2 empty (ascii "R,-,-,\nC,16,0,\nV,5,3,$id\nV,1,0,\n")) ≡ finds 19 1 0 4 0 6 23 (ascii "r.assert.starts_with[1]")
   pub bind : heard (ask 1 2 bars (ascii "R,-,-,\nC,20,3,a.b\nV,5,12,$fields.bars\nC,1,1,\n"))
       ≡ finds 21 6 0 2 0 4 16 (ascii "r.assert.for_all")
-  -- defects are numbered from 11 to 22, refusals from 1 to 5
+  -- defects are numbered from 11 to 22; which numbers are refusals is a list
   pub defect-11 : IsDefect 11
   pub defect-22 : IsDefect 22
   pub no-defect-10 : IsDefect 10 → ⊥
@@ -71,13 +71,13 @@ pub record Bounds : Type 0 where
   pub no-refusal-0 : Heard (refused 0) → ⊥
   pub no-refusal-6 : Heard (refused 6) → ⊥
 
-no-refusal-above : Heard (refused 6) → ⊥
+unlisted-6 : Heard (refused 6) → ⊥
 unfolding refusalNumbers oneOf
-no-refusal-above (refusal p) = false≢true (p .listed)
+unlisted-6 (refusal p) = false≢true (p .listed)
 
-no-refusal-below : Heard (refused 0) → ⊥
+unlisted-0 : Heard (refused 0) → ⊥
 unfolding refusalNumbers oneOf
-no-refusal-below (refusal p) = false≢true (p .listed)
+unlisted-0 (refusal p) = false≢true (p .listed)
 
 pub bounds : Bounds
 unfolding heard empty bars times met lend label refuses refusalNumbers
@@ -115,6 +115,6 @@ bounds =
       no-defect-23 = λ d. omega (arith, d .high);
       refusal-1 = refusal {n = 1} (record { listed = refl });
       refusal-5 = refusal {n = 5} (record { listed = refl });
-      no-refusal-0 = no-refusal-below;
-      no-refusal-6 = no-refusal-above;
+      no-refusal-0 = unlisted-0;
+      no-refusal-6 = unlisted-6;
     }

@@ -103,19 +103,22 @@ unfoldable pub overPlaceIn : (over : Option ℕ) → ℕ → ℕ
 overPlaceIn none family = 0
 overPlaceIn (some e) family = cond (eqb family 1) e 0
 
+-- the first check that fails: how many pass before it, its number and place, the `in` entry of the quantifier around it, and the detail
+abbrev pub defectOf : Setting → (label : Text) → Rule → (passed number place : ℕ) (over : Option ℕ) (detail : ℕ) → Defect
+defectOf setting label r passed number place over d =
+    record {
+      number = number;
+      family = familyIn over (ownFamily setting number);
+      detail = d;
+      place = place;
+      overPlace = overPlaceIn over (ownFamily setting number);
+      passed = passed;
+      path = pathOf label r number place;
+    }
+
 unfoldable pub answerOf : Setting → (label : Text) → Rule → Verdict → Answer
 answerOf setting label r (allPass passed) = accepted passed
-answerOf setting label r (failsAt passed c d) =
-    defect
-    (record {
-      number = c .number;
-      family = familyIn (overOf (c .binders)) (ownFamily setting (c .number));
-      detail = d;
-      place = c .place;
-      overPlace = overPlaceIn (overOf (c .binders)) (ownFamily setting (c .number));
-      passed = passed;
-      path = pathOf label r (c .number) (c .place);
-    })
+answerOf setting label r (failsAt passed c d) = defect (defectOf setting label r passed (c .number) (c .place) (overOf (c .binders)) d)
 
 abbrev pub maxLabelBytes : ℕ
 maxLabelBytes = 256

@@ -7,8 +7,7 @@ use Rattle.definition.specs.Tree.{Text, Rule}
 use Rattle.reference.specs.Setting.{Setting}
 use Rattle.validation.specs.Check.{Check}
 use Rattle.validation.specs.Judge.{CheckOutcome, Verdict, allPass, failsAt, decide, judgeFrom}
-use Rattle.validation.specs.Location.{pathOf}
-use Rattle.validation.specs.Result.{Answer, accepted, defect, ownFamily, overOf, familyIn, overPlaceIn, answerOf}
+use Rattle.validation.specs.Result.{Answer, accepted, defect, overOf, defectOf, answerOf}
 
 pub data Shown : Type 0 where
   passes : (passed : ℕ) → Shown
@@ -20,17 +19,7 @@ shownOf (failsAt n c d) = fails n (c .number) (c .place) (overOf (c .binders)) d
 
 unfoldable pub answerShown : Setting → (label : Text) → Rule → Shown → Answer
 answerShown setting label r (passes n) = accepted n
-answerShown setting label r (fails n number place over d) =
-    defect
-    (record {
-      number = number;
-      family = familyIn over (ownFamily setting number);
-      detail = d;
-      place = place;
-      overPlace = overPlaceIn over (ownFamily setting number);
-      passed = n;
-      path = pathOf label r number place;
-    })
+answerShown setting label r (fails n number place over d) = defect (defectOf setting label r n number place over d)
 
 pub answer-shown : (setting : Setting) (label : Text) (r : Rule) (v : Verdict) → answerOf setting label r v ≡ answerShown setting label r (shownOf v)
 unfolding answerOf answerShown shownOf

@@ -12,11 +12,11 @@ use borrow.Author.Tests.{leb-true, leb-false, le-leb, lt-leb}
 use Rattle.sheet.specs.ReaderLaws.{by-test}
 use Rattle.reference.specs.Setting.{oneOf}
 use Rattle.validation.specs.Check.{isNone}
-use Rattle.validation.specs.Result.{Answer, Refusal, ofTable, ofSettings, firstRefusal, resultOf, pathBytes}
+use Rattle.validation.specs.Result.{Answer, refusalNumbers, IsRefusal, Refusal, ofTable, ofSettings, firstRefusal, resultOf, pathBytes}
 use Rattle.validation.specs.RefusalLaws.{every, present, is-set, none-due, of-listed, of-first, first-none, first-append}
 use Rattle.rule_book.specs.Book.{sheetsOf}
 use Rattle.rule_book.specs.Tally.{BookCall, askedOf, single, ofForm, answersOf, sum, Tally, tallyOf, tallied, orNoSheets, bookAnswer, KeptFrom}
-use Rattle.rule_book.specs.TallyLaws.{settingRefusal, no-room-due, book-tallied, cappedBook, capped-same, read-bound, AllWithin}
+use Rattle.rule_book.specs.TallyLaws.{settingRefusal, setting-listed, table-listed, unlisted, no-room-due, book-tallied, cappedBook, capped-same, read-bound, AllWithin}
 use Rattle.wall.specs.Pages.{pageBytes, resultLine, pageCount, pagesOf}
 use Rattle.wall.specs.PageLaws.{pages-size, ownCounts, lineAt, result-line, feet-add-up}
 use Rattle.wall.specs.Wall.{WallCall, wallAnswers, ofPages, wallRefusals, wallRefusalNumbers, WallAnswer, wallRefused, printed, refusedOr, wallAnswer, wallNumbers, pagesAfter, wallFreed, WallRun, wallCallOf, MeetsWall}
@@ -145,23 +145,14 @@ module _ (c : WallCall) (answers : List Answer) (e : wallAnswer c ≡ printed an
 same-number : (a : WallAnswer) (m n : ℕ) → a ≡ wallRefused m → a ≡ wallRefused n → m ≡ n
 same-number a m n e f = cc
 
-settings-low : (c : WallCall) (n : ℕ) → settingRefusal (c .run) ≡ some n → n ≤ 3
-unfolding ofSettings every
-settings-low c n f = leb-true n 3 (of-first (λ (m : ℕ). leb m 3) n (ofSettings (askedOf (c .run) []) (c .run .lent)) refl f)
-
-table-high : (c : WallCall) (n : ℕ) → firstRefusal (ofTable (c .run .table)) ≡ some n → 37 ≤ n
-unfolding every
-table-high c n f = leb-true 37 n (of-first (λ (m : ℕ). leb 37 m) n (ofTable (c .run .table)) refl f)
-
--- which way a call goes
+-- which way a call goes; one of a single check's refusals is that of the settings or that of the table
 pub data Goes (c : WallCall) : Type 0 where
-  bySettings : (n : ℕ) → n ≤ 3 → wallAnswer c ≡ wallRefused n → Goes c
+  byCheck : (n : ℕ) → IsRefusal n → wallAnswer c ≡ wallRefused n → Goes c
   byForm : settingRefusal (c .run) ≡ none → sheetsOf (c .run .book) ≡ none → wallAnswer c ≡ wallRefused 34 → Goes c
   byPages : settingRefusal (c .run) ≡ none → (sheets : List (List ℕ)) → sheetsOf (c .run .book) ≡ some sheets
       → c .pages < pageBytes * pageCount (length sheets)
       → wallAnswer c ≡ wallRefused 33
       → Goes c
-  byTable : (n : ℕ) → 37 ≤ n → wallAnswer c ≡ wallRefused n → Goes c
   through : (answers : List Answer) → wallAnswer c ≡ printed answers → Goes c
 
 pub goes : (c : WallCall) → Goes c
@@ -173,7 +164,7 @@ goes c = by-settings (settingRefusal (c .run)) refl
         → firstRefusal (ofTable (c .run .table)) ≡ o
         → Goes c
     by-table h sheets form room none e = through _ (wall-printed c h sheets form room e)
-    by-table h sheets form room (some n) e = byTable n (table-high c n e) (table-refused c h sheets form room n e)
+    by-table h sheets form room (some n) e = byCheck n (table-listed (c .run) n e) (table-refused c h sheets form room n e)
 
     by-form : settingRefusal (c .run) ≡ none → (o : Option (List (List ℕ))) → sheetsOf (c .run .book) ≡ o → Goes c
     by-form h none form = byForm h form (form-refused c h form)
@@ -184,31 +175,31 @@ goes c = by-settings (settingRefusal (c .run)) refl
 
     by-settings : (o : Option ℕ) → settingRefusal (c .run) ≡ o → Goes c
     by-settings none e = by-form e (sheetsOf (c .run .book)) refl
-    by-settings (some n) e = bySettings n (settings-low c n e) (settings-first c n e)
+    by-settings (some n) e = byCheck n (setting-listed (c .run) n e) (settings-first c n e)
 
 no-answer : (a : WallAnswer) (n : ℕ) (answers : List Answer) → a ≡ wallRefused n → a ≡ printed answers → ⊥
 no-answer a n answers e f = let z : _≡_ {A = ℕ} 0 1 = cc in omega arith
 
 pub wall-34 : (c : WallCall) → (wallAnswer c ≡ wallRefused 34) ↔ ((settingRefusal (c .run) ≡ none) × (sheetsOf (c .run .book) ≡ none))
+unfolding refusalNumbers oneOf
 wall-34 c = (λ e. by e (goes c), λ h. form-refused c (h .0) (h .1))
   where
     by : wallAnswer c ≡ wallRefused 34 → Goes c → (settingRefusal (c .run) ≡ none) × (sheetsOf (c .run .book) ≡ none)
-    by e (bySettings n low f) = absurd (omega (arith, same-number _ n 34 f e))
+    by e (byCheck n listed f) = absurd (unlisted 34 refl (same-number _ n 34 f e) listed)
     by e (byForm h form f) = (h, form)
     by e (byPages h sheets form short f) = absurd (omega (arith, same-number _ 33 34 f e))
-    by e (byTable n high f) = absurd (omega (arith, same-number _ n 34 f e))
     by e (through answers f) = absurd (no-answer _ 34 answers e f)
 
 pub wall-33 : (c : WallCall) → (wallAnswer c ≡ wallRefused 33)
     ↔ ((settingRefusal (c .run) ≡ none) × (sheets : List (List ℕ)) × (sheetsOf (c .run .book) ≡ some sheets) × (c .pages < pageBytes * pageCount (length sheets)))
+unfolding refusalNumbers oneOf
 wall-33 c = (λ e. by e (goes c), λ h. pages-refused c (h .0) (h .1) (h .2) (h .3))
   where
     by : wallAnswer c ≡ wallRefused 33 → Goes c
         → (settingRefusal (c .run) ≡ none) × (sheets : List (List ℕ)) × (sheetsOf (c .run .book) ≡ some sheets) × (c .pages < pageBytes * pageCount (length sheets))
-    by e (bySettings n low f) = absurd (omega (arith, same-number _ n 33 f e))
+    by e (byCheck n listed f) = absurd (unlisted 33 refl (same-number _ n 33 f e) listed)
     by e (byForm h form f) = absurd (omega (arith, same-number _ 34 33 f e))
     by e (byPages h sheets form short f) = (h, sheets, form, short)
-    by e (byTable n high f) = absurd (omega (arith, same-number _ n 33 f e))
     by e (through answers f) = absurd (no-answer _ 33 answers e f)
 
 -- every refusal is one of those listed

@@ -7,9 +7,9 @@ use Rattle.definition.specs.Computing.{computing}
 use Rattle.reference.specs.Walk.{entryOf}
 use Rattle.widening.specs.Widening.{marks, anything}
 use Rattle.widening.specs.Decision.{fieldMissing, kindDiffers, itemsDiffer, tagDiffers, markCloses, fieldAdded, argumentsGo, breachIf, sameTag, sameItemsMark, closes, ownDifferences, added, allAdded, missing, sought, fieldDifferences, itemsDifferences, membersDifferences, argumentsMarks, argumentsDifferences, differences, widening, refuted, withGrowth, decided, widens}
-use Rattle.widening.specs.SheetDecision.{Answer, malformed, decision, answerFor, widensSheets, reasonNumber, numbersOf}
+use Rattle.widening.specs.SheetDecision.{SheetAnswer, malformed, decision, answerFor, widensSheets, reasonNumber, decisionNumbers}
 
-unfoldable answer : (first second : List ℕ) → Answer
+unfoldable answer : (first second : List ℕ) → SheetAnswer
 unfolding computing ascii entryOf breachIf sameTag sameItemsMark closes ownDifferences added allAdded missing sought fieldDifferences itemsDifferences membersDifferences argumentsMarks argumentsDifferences differences withGrowth decided widens answerFor widensSheets
 answer s s′ = widensSheets s s′
 
@@ -126,6 +126,6 @@ unfolding answer mill
 second-malformed = refl
 
 -- the numbers of a refutation
-refuted-numbers : numbersOf (answer (ascii "H,0,1,-,0\nF,7,1,0,0,1,-,o\n") (ascii "H,0,2,-,0\nF,2,0,0,0,1,-,a\nF,7,0,0,0,1,-,o\n")) ≡ record { number = 0; answer = 3; reason = 5; first = 2; second = 3 }
-unfolding answer numbersOf reasonNumber
+refuted-numbers : decisionNumbers (answer (ascii "H,0,1,-,0\nF,7,1,0,0,1,-,o\n") (ascii "H,0,2,-,0\nF,2,0,0,0,1,-,a\nF,7,0,0,0,1,-,o\n")) ≡ record { number = 0; answer = 3; reason = 5; first = 2; second = 3 }
+unfolding answer decisionNumbers reasonNumber
 refuted-numbers = refl

@@ -7,17 +7,17 @@ use Rattle.definition.specs.Decode.{decodeSchema}
 use Rattle.widening.specs.Widening.{marks, anything}
 use Rattle.widening.specs.Decision.{Reason, fieldMissing, kindDiffers, itemsDiffer, tagDiffers, markCloses, fieldAdded, argumentsGo, Decision, widening, refuted, widens}
 
-pub data Answer : Type 0 where
+pub data SheetAnswer : Type 0 where
   -- which sheet is not well formed: 1 the first, 2 the second
-  malformed : (which : ℕ) → Answer
-  decision : Decision → Answer
+  malformed : (which : ℕ) → SheetAnswer
+  decision : Decision → SheetAnswer
 
-unfoldable pub answerFor : Option Schema → Option Schema → Answer
+unfoldable pub answerFor : Option Schema → Option Schema → SheetAnswer
 answerFor none x′ = malformed 1
 answerFor (some s) none = malformed 2
 answerFor (some s) (some s′) = decision (widens s s′)
 
-unfoldable pub widensSheets : (first second : List ℕ) → Answer
+unfoldable pub widensSheets : (first second : List ℕ) → SheetAnswer
 widensSheets first second = answerFor (decodeSchema first) (decodeSchema second)
 
 unfoldable pub reasonNumber : Reason → ℕ
@@ -29,7 +29,7 @@ reasonNumber markCloses = 5
 reasonNumber fieldAdded = 6
 reasonNumber argumentsGo = 7
 
-pub record Numbers : Type 0 where
+pub record DecisionNumbers : Type 0 where
   -- 0, or refusal 4
   pub number : ℕ
   -- 1 only open marks differ, 2 a widening, 3 none; with refusal 4, which sheet it is
@@ -38,8 +38,8 @@ pub record Numbers : Type 0 where
   pub first : ℕ
   pub second : ℕ
 
-unfoldable pub numbersOf : Answer → Numbers
-numbersOf (malformed which) = record { number = 4; answer = which; reason = 0; first = 0; second = 0 }
-numbersOf (decision (widening marks)) = record { number = 0; answer = 1; reason = 0; first = 0; second = 0 }
-numbersOf (decision (widening anything)) = record { number = 0; answer = 2; reason = 0; first = 0; second = 0 }
-numbersOf (decision (refuted why e e′)) = record { number = 0; answer = 3; reason = reasonNumber why; first = e; second = e′ }
+unfoldable pub decisionNumbers : SheetAnswer → DecisionNumbers
+decisionNumbers (malformed which) = record { number = 4; answer = which; reason = 0; first = 0; second = 0 }
+decisionNumbers (decision (widening marks)) = record { number = 0; answer = 1; reason = 0; first = 0; second = 0 }
+decisionNumbers (decision (widening anything)) = record { number = 0; answer = 2; reason = 0; first = 0; second = 0 }
+decisionNumbers (decision (refuted why e e′)) = record { number = 0; answer = 3; reason = reasonNumber why; first = e; second = e′ }
