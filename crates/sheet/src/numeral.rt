@@ -1,20 +1,15 @@
 // Numerals: decimal, without leading zeros.
+use text::is_digit;
 ghost use mathlib.Core.Path.{_≡_};
 ghost use Prim.Native.Nat.{_≤_};
 ghost use lib.ListN.{length};
-ghost use Rattle.sheet.specs.Numeral.{isDigit, numeral};
+ghost use Rattle.sheet.specs.Numeral.{numeral};
 ghost use Rattle.sheet.specs.Places.{NumeralIs, DigitsAre, AtMostIs};
 
 pub enum NumeralRead {
     // The number, and the place after it.
     Is(usize, usize),
     Bad,
-}
-
-pub fn is_digit(b: u8) -> bool
-    ensures { λ r. ⌜ r ≡ isDigit b ⌝ }
-{
-    b'0' <= b && b <= b'9'
 }
 
 // A number of 32 bits as a place or a count.

@@ -9,8 +9,9 @@ use lib.ListN.{length}
 use Rattle.text.specs.Utf8.{between, decodeOne}
 use Rattle.text.specs.WhiteSpace.{isWhiteSpace}
 use Rattle.text.specs.Blank.{isBlank, startFrom, trimStartIn, trimStart, trimEnd, trim}
+use Rattle.text.specs.Decimal.{isDigit}
 use Rattle.text.proofs.Shape.{shape-shorter, decoded-shape}
-use Rattle.timestamp.specs.Instant.{isDigit, isTwo, isDate, isInstant, instantIn, instant}
+use Rattle.timestamp.specs.Instant.{isTwo, isDate, isInstant, instantIn, instant}
 
 start-shorter : (n : ℕ) (s : List ℕ) → length (trimStartIn n s) ≤ length s
 unfolding trimStartIn startFrom

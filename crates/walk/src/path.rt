@@ -1,6 +1,7 @@
 // Paths: segments separated by dots.
 use sheet::order::ByteOrder;
 use sheet::order::compare;
+use text::is_digit;
 ghost use mathlib.Core.Path.{_≡_};
 ghost use mathlib.Core.Bool.{true};
 ghost use Prim.Native.Nat.{_+_, _≤_};
@@ -120,14 +121,11 @@ fn is_digits(segment: &[u8]) -> bool
 {
     let mut i = 0;
     while i < segment.len() {
-        let b = segment[i];
-        if b < b'0' {
+        if is_digit(segment[i]) {
+            i += 1;
+        } else {
             return false;
         }
-        if b'9' < b {
-            return false;
-        }
-        i += 1;
     }
     true
 }

@@ -5,8 +5,8 @@ use mathlib.Core.Path.{_≡_, refl, sym, _∙_}
 use native.Mathlib.Omega.{arith}
 use borrow.Author.Needs.{needs}
 use lib.ListN.{length, drop}
+use Rattle.text.proofs.Decimal.{isDigit-range}
 use Rattle.sheet.specs.Numeral.{digits}
-use Rattle.sheet.specs.NumeralLaws.{isDigit-range}
 use Rattle.sheet.proofs.Numerals.{digits-end, digits-stop, digits-more, digits-above}
 use Rattle.sheet.proofs.numeral.digits.Statement.{statement}
 use Rattle.sheet.proofs.numeral.digits.Tie as tie
