@@ -13,7 +13,7 @@ pub enum NumeralRead {
 }
 
 // A number of 32 bits as a place or a count.
-pub fn wide(n: u32) -> usize
+pub fn to_size(n: u32) -> usize
     ensures { λ r. ⌜ r ≡ n ⌝ }
 {
     n as usize
@@ -24,7 +24,7 @@ fn digits(s: &[u8], at: usize, first: usize, high: u32) -> NumeralRead
     requires { ⌜ at ≤ length (now s) ⌝ }
     ensures { λ r. ⌜ DigitsAre first high (now (s .entry)) at r ⌝ }
 {
-    let most = wide(high);
+    let most = to_size(high);
     let mut value = first;
     let mut i = at;
     while value <= most {
@@ -65,7 +65,7 @@ pub fn numeral(s: &[u8], at: usize, low: u32, high: u32) -> NumeralRead
     let NumeralRead::Is(n, next) = at_most(s, at, high) else {
         return NumeralRead::Bad;
     };
-    if n < wide(low) {
+    if n < to_size(low) {
         return NumeralRead::Bad;
     }
     NumeralRead::Is(n, next)
