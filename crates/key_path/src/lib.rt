@@ -9,6 +9,7 @@ use single_check::finding::reference_detail;
 use single_check::outcome::Outcome;
 use single_check::outcome::accepted;
 use single_check::outcome::refused;
+use single_check::settings::SEMANTICS;
 use single_check::settings::is_within;
 use walk::answer::Readable;
 use walk::answer::Reader;
@@ -27,7 +28,7 @@ ghost use Rattle.key_path.specs.Keys.{KeyTold, keyRunOf};
 fn are_settings(semantics: u32, reader: u32) -> bool
     ensures { λ r. ⌜ r ≡ (between 1 4 semantics && between 1 2 reader) ⌝ }
 {
-    is_within(4, semantics) && is_within(2, reader)
+    is_within(SEMANTICS, semantics) && is_within(2, reader)
 }
 
 fn is_key(path: &[u8]) -> bool

@@ -3,6 +3,7 @@
 // begin with # may come before the first case.
 use libc::STDIN_FILENO;
 use libc::STDOUT_FILENO;
+use printed_answer::LINE_BYTES;
 use printed_answer::output;
 use text::is_digit;
 ghost use Prim.Native.Nat.{_≤_};
@@ -19,9 +20,6 @@ const CASE_BYTES: usize = 131072;
 
 // More than any list has.
 const MAX_CASES: u64 = 65536;
-
-// Room enough for every line that is printed.
-const LINE_BYTES: usize = 32835;
 
 // Larger numbers are read as this one.
 const TOO_LARGE: usize = 1000000;
