@@ -9,8 +9,9 @@ use native.Mathlib.Numerals.{add-one}
 use lib.ListN.{length, drop, getD, drop-of-length-le}
 use lib.Seq.{drop-cons}
 use borrow.Author.Tests.{eq-eqb, ne-eqb}
+use Rattle.text.specs.Decimal.{isDigit}
 use Rattle.sheet.specs.Reader.{_>>=_, _>>_, andThen, pure}
-use Rattle.sheet.specs.Numeral.{isDigit, digits, decimal}
+use Rattle.sheet.specs.Numeral.{digits, decimal}
 use Rattle.sheet.specs.Entries.{byte}
 use Rattle.check_file.specs.File.{field}
 use Rattle.check_file.specs.Places.{tooLarge, CappedTo, CappedIs, digitsBehind}

@@ -2,7 +2,7 @@
 use crate::numeral::CappedRead;
 use crate::numeral::{self};
 use definition::limits::MAX_FILE_BYTES;
-use sheet::numeral::wide;
+use sheet::numeral::to_size;
 ghost use Prim.Native.Nat.{_≤_};
 ghost use lib.ListN.{length};
 ghost use Rattle.check_file.specs.Places.{TextsAre, TakenIs};
@@ -39,9 +39,9 @@ fn texts(
     requires { ⌜ at ≤ length (now file) ⌝ }
     ensures { λ r. ⌜ TextsAre (now (file .entry)) at kind semantics label schema rule r ⌝ }
 {
-    let line = at + wide(label);
-    let middle = line + 1 + wide(schema);
-    let end = middle + wide(rule);
+    let line = at + to_size(label);
+    let middle = line + 1 + to_size(schema);
+    let end = middle + to_size(rule);
     if end != file.len() {
         return Taken::OtherForm;
     }

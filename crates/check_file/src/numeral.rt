@@ -1,6 +1,6 @@
 // Numerals of any length: decimal, without leading zeros. A number above the longest file's length is read as `TOO_LARGE`, so that nothing wraps.
 use definition::limits::MAX_FILE_BYTES;
-use sheet::numeral::is_digit;
+use text::is_digit;
 use text::wide;
 ghost use mathlib.Core.Path.{_≡_};
 ghost use Prim.Native.Nat.{min, _≤_};

@@ -16,14 +16,13 @@ use Rattle.sheet.specs.declared.part.Part.{Part}
 use Rattle.definition.specs.Tree.{Text, Schema, Value, string, Condition, literal, many, negation, one, two, comparison, quantifier, Conditions, noConditions, condition}
 use Rattle.definition.specs.Tree as Tree
 use Rattle.reference.specs.Setting.{Setting}
-use Rattle.reference.specs.Path.{Segments, cut, extend, split}
+use Rattle.reference.specs.Path.{cut, extend, split}
 use Rattle.reference.specs.Walk.{refused}
 use Rattle.reference.specs.Reference.{Environment, collection}
 use Rattle.definition.specs.Within.{conditionEntries, conditionsEntries}
 use Rattle.rule.specs.Index.{startOf, ValueAt}
 use Rattle.walk.specs.Answers.{collectionDetail, CollectedIs}
-use Rattle.walk.specs.Dots.{Cuts}
-use Rattle.walk.specs.declared.path.Dot.the-variants.{At, Nowhere}
+use Rattle.walk.specs.Dots.{isMore}
 use Rattle.walk.specs.declared.answer.Collected.{Collected}
 use Rattle.walk.specs.declared.answer.Collected.the-variants as Collected
 use Rattle.walk.specs.declared.answer.CollectionFault.the-variants.{NotAString}
@@ -114,12 +113,8 @@ entry-late {r = r} l p = record { between = r; operator = p; nonempty = nonempty
 
 -- Binds.
 
-abbrev isMore : List Text → Bool
-isMore [] = false
-isMore (s ∷ others) = true
-
 -- text has a dot exactly if a segment follows its first
-dot-parts : (t : Text) → hasDot t ≡ isMore (split t .others)
+pub dot-parts : (t : Text) → hasDot t ≡ isMore (split t .others)
 unfolding hasDot split cut extend
 dot-parts [] = refl
 dot-parts (b ∷ t) = by (eqb b 46) (dot-parts t)
@@ -127,12 +122,6 @@ dot-parts (b ∷ t) = by (eqb b 46) (dot-parts t)
     by : (d : Bool) → hasDot t ≡ isMore (split t .others) → (d || hasDot t) ≡ isMore (cond d (cut (split t)) (extend b (split t)) .others)
     by true h = refl
     by false h = h
-
-pub dot-at : (t : Text) (d : ℕ) → Cuts t (At d) → true ≡ hasDot t
-dot-at t d cuts = sym (dot-parts t ∙ ap (λ (s : Segments). isMore (s .others)) (cuts .1))
-
-pub dot-nowhere : (t : Text) → Cuts t Nowhere → false ≡ hasDot t
-dot-nowhere t cuts = sym (dot-parts t ∙ ap (λ (s : Segments). isMore (s .others)) cuts)
 
 unfoldable pub bindIn : ConditionHead → Option Text
 bindIn (literalHead truth) = none

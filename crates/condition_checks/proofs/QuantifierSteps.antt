@@ -14,7 +14,7 @@ use Rattle.sheet.specs.declared.part.Part.{Part}
 use Rattle.definition.specs.Tree.{Text, Field, Schema, Value, constant, number, string, array, object, Condition, noConditions, condition}
 use Rattle.reference.specs.Setting.{Setting}
 use Rattle.reference.specs.Walk.{Reached, refused, unknown, known}
-use Rattle.reference.specs.Reference.{Environment, reference, collectionText, collection}
+use Rattle.reference.specs.Reference.{Environment, reference, collectionText, collection, beginsWithDollar}
 use Rattle.reference.specs.CollectionLaws.{Reads, Listed, Explained, text-explained}
 use Rattle.definition.specs.Within.{conditionEntries, conditionsEntries, valueEntries}
 use Rattle.rule.specs.Index.{endOf, ValueAt, ConditionAt}
@@ -68,7 +68,7 @@ record Unread (setting : Setting) (tree : Schema) (env : Environment) (v : Value
   pub refuses : verdict (reference setting tree env behind) ≡ some detail
 
 dollar-reference : (t : Text) (b : ℕ) (u : Text) → t ≡ code "$" ∷ b ∷ u → (b ≡ code "$" → ⊥) → referenceText t ≡ some (b ∷ u)
-unfolding referenceText
+unfolding referenceText beginsWithDollar
 dollar-reference t b u e h = rw (e, ne-eqb b 36 h)
 
 explained-few : (x : Reached) (d at : ℕ) (left : List Text) → x ≡ refused d at left → Explained x → d ≤ 5

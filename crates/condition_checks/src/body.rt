@@ -29,8 +29,7 @@ use value_checks::verdict::pass;
 use value_checks::verdict::require;
 use walk::answer::Collected;
 use walk::answer::CollectionFault;
-use walk::path::Dot;
-use walk::path::first_dot;
+use walk::path::has_dot;
 ghost use mathlib.Core.Path.{_≡_};
 ghost use mathlib.Core.Bool.{_||_};
 ghost use Prim.Native.Nat.{_+_, _*_, _-_, _<_};
@@ -133,15 +132,6 @@ fn bind_of(rule: &[u8], words: &[u32], i: usize) -> BindRead
         ConditionHead::Two(_) => BindRead::Bad,
         ConditionHead::Comparison(_) => BindRead::Bad,
         ConditionHead::Quantifier(_, name) => BindRead::Is(name),
-    }
-}
-
-fn has_dot(text: &[u8]) -> bool
-    ensures { λ r. ⌜ r ≡ hasDot (now (text .entry)) ⌝ }
-{
-    match first_dot(text) {
-        Dot::At(_) => true,
-        Dot::Nowhere => false,
     }
 }
 

@@ -1,6 +1,7 @@
 // A whole rule or template.
 use crate::body::validate_condition_body;
 use crate::depth::condition_depth;
+use definition::limits::MAX_CONDITION_DEPTH;
 use rule::index::end_of;
 use rule::index::start_of;
 use scope::binder::Scope;
@@ -24,9 +25,6 @@ ghost use Rattle.sheet.specs.Parts.{optionalOf};
 ghost use Rattle.validation.specs.Check.{isBlankText};
 ghost use Rattle.value_checks.specs.Verdicts.{going, HasRoom};
 ghost use Rattle.condition_checks.specs.Rules.{PassJudged, DefinitionJudged, RuleJudged};
-
-// Conditions nest at most so deep.
-pub const MAX_CONDITION_DEPTH: usize = 32;
 
 // Whether a text is present but blank.
 fn is_blank_text(rule: &[u8], text: OptionalPart) -> bool

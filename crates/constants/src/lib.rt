@@ -3,6 +3,7 @@ use buffer::put_u32;
 use rule::index::end_of;
 use rule::index::start_of;
 use sheet::rule_heads::AFTER;
+use sheet::rule_heads::BEFORE;
 use sheet::rule_heads::EXISTS;
 use sheet::rule_heads::LITERAL;
 use sheet::rule_heads::RuleHead;
@@ -20,9 +21,6 @@ ghost use mathlib.Core.Path.{_≡_};
 ghost use Prim.Native.Nat.{_+_, _<_, _≤_};
 ghost use Rattle.validation.specs.Constant.{truthOf, markOf};
 ghost use Rattle.constants.specs.Marks.{truthBy, LiteralAt, PairIs, ConstantAt, MarkedOn, Plain, Unmarked, ConditionsMarked, RuleMarked};
-
-// The operator's number, as AFTER is.
-const BEFORE: usize = 6;
 
 // The instant that a value is by itself.
 pub enum Literal {

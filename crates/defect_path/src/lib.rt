@@ -11,7 +11,7 @@ use crate::defect::MESSAGE;
 use crate::value::put_value;
 use buffer::put;
 use rule::index::start_of;
-use sheet::numeral::wide;
+use sheet::numeral::to_size;
 use sheet::rule_heads::RuleHead;
 use sheet::rule_heads::RuleHeadRead;
 use sheet::rule_heads::rule_head;
@@ -55,7 +55,7 @@ fn put_rule(
     if place == 0 {
         return at;
     }
-    let target = wide(place - 1);
+    let target = to_size(place - 1);
     match head {
         RuleHead::Rule(_, _) => put_assert(rule, words, number, target, at, path),
         RuleHead::Template => put_value(rule, words, target, 1, at, path),

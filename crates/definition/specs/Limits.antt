@@ -19,3 +19,7 @@ maxConditionNesting = 256
 
 abbrev pub maxValueNesting : ℕ
 maxValueNesting = 64
+
+-- a word of an index is where an entry starts, times this, and the number of an entry, which is below it
+abbrev pub wordEntries : ℕ
+wordEntries = 4096

@@ -12,6 +12,12 @@ pub const MAX_CONDITION_NESTING: usize = 256;
 
 pub const MAX_VALUE_NESTING: usize = 64;
 
+// How deep conditions may nest where they are checked; deeper ones are a defect.
+pub const MAX_CONDITION_DEPTH: usize = 32;
+
+// The innermost condition is no quantifier.
+pub const MAX_BINDERS: usize = MAX_CONDITION_DEPTH - 1;
+
 // A word of an index is where an entry starts, times this, and the number of an entry, which is below it.
 pub const WORD_ENTRIES: usize = 4096;
 

@@ -9,14 +9,14 @@ use mathlib.Core.Path.{_≡_, refl, ap, sym, _∙_}
 use lib.Dec.{leb}
 use lib.ListN.{length}
 use borrow.Author.Tests.{leb-true, lt-leb}
-use Rattle.text.specs.Utf8.{isUtf8}
+use Rattle.text.specs.Utf8.{between, isUtf8}
 use Rattle.sheet.specs.ReaderLaws.{by-test}
 use Rattle.definition.specs.Tree.{Schema, Rule}
 use Rattle.definition.specs.Decode.{decodeSchema, decodeRule}
 use Rattle.reference.specs.Setting.{oneOf}
 use Rattle.widening.specs.Widening.{Level}
 use Rattle.validation.specs.Check.{IsDefect}
-use Rattle.validation.specs.Result.{Takes, any, Call, refused, refusalNumbers, IsRefusal, isWithin, maxLabelBytes, pathBytes, markBytes, ofSettings, early, Unrefused, resultOf, numbersOf, pathAfter, callOf, Meets}
+use Rattle.validation.specs.Result.{Takes, any, Call, refused, refusalNumbers, IsRefusal, maxLabelBytes, pathBytes, markBytes, ofSettings, early, Unrefused, resultOf, numbersOf, pathAfter, callOf, Meets}
 use Rattle.validation.specs.RefusalLaws.{refusal-no-defect, is-set, none-due, none-of-either}
 use Rattle.validation.specs.Growth.{Widens}
 use Rattle.validation.specs.DemandLaws.{heard}
@@ -109,7 +109,7 @@ module _ (e : Exchange) (a : ExchangeAnswered e) where
   short few =
       let is-refused = short-result-refused (e .takes) (e .kind) (e .semantics) (e .label) (e .table) (e .schema) (e .rule) (e .need) (length (e .pathBefore)) (e .marksLent) (length (e .resultBefore)) few in
       let refusal : IsRefusal (e .returned) = rw (a .number, is-refused)
-      (refusal-123 (isWithin 1 8 (e .kind) && isWithin 1 4 (e .semantics)) (leb (length (e .label)) maxLabelBytes && isUtf8 (e .label)))
+      (refusal-123 (between 1 8 (e .kind) && between 1 4 (e .semantics)) (leb (length (e .label)) maxLabelBytes && isUtf8 (e .label)))
       in
       (refusal, keeps (λ d. refusal-no-defect (e .returned) refusal d), a .unwritten few)
 

@@ -10,10 +10,10 @@ use lib.Dec.{leb}
 use lib.ListN.{length, getD, length-replicate}
 use lib.Seq.{sets}
 use borrow.Author.Tests.{le-leb, lt-leb}
-use Rattle.text.specs.Utf8.{isUtf8}
+use Rattle.text.specs.Utf8.{between, isUtf8}
 use Rattle.buffer.specs.Bytes.{bytesOf, InFourBytes, fieldAt}
 use Rattle.buffer.specs.BytesLaws.{field-written}
-use Rattle.validation.specs.Result.{Takes, Call, Answer, refused, Numbers, numbersOf, isWithin, maxLabelBytes, scratchWords, markBytes, resultOf, ofSettings, early, refusals, firstRefusal, refusedOr, pathAfter, callOf, Meets}
+use Rattle.validation.specs.Result.{Takes, Call, Answer, refused, Numbers, numbersOf, maxLabelBytes, scratchWords, markBytes, resultOf, ofSettings, early, refusals, firstRefusal, refusedOr, pathAfter, callOf, Meets}
 use Rattle.validation.specs.RefusalLaws.{kind-refused, semantics-refused}
 use Rattle.entity_rules.specs.Entry.{resultBytes, fieldsOf, resultAfter, pathLent, entryCall, entryAnswer, EntryAnswered, numbersIn, entryRun}
 
@@ -99,11 +99,11 @@ refused-first false b rest = refl
 
 no-path-refused : (c : Call) → c .lent .widths .path ≡ 0
     → resultOf c
-    ≡ refused (cond (isWithin 1 8 (c .asked .kind) && isWithin 1 4 (c .asked .semantics)) (cond (leb (length (c .asked .label)) maxLabelBytes && isUtf8 (c .asked .label)) 3 2) 1)
+    ≡ refused (cond (between 1 8 (c .asked .kind) && between 1 4 (c .asked .semantics)) (cond (leb (length (c .asked .label)) maxLabelBytes && isUtf8 (c .asked .label)) 3 2) 1)
 unfolding resultOf refusals early ofSettings firstRefusal
 no-path-refused c e =
     rw e
-    (refused-first (isWithin 1 8 (c .asked .kind) && isWithin 1 4 (c .asked .semantics)) (leb (length (c .asked .label)) maxLabelBytes && isUtf8 (c .asked .label)) _)
+    (refused-first (between 1 8 (c .asked .kind) && between 1 4 (c .asked .semantics)) (leb (length (c .asked .label)) maxLabelBytes && isUtf8 (c .asked .label)) _)
 
 module _ (takes : Takes) (kind semantics : ℕ) (label table schema rule : List ℕ) (need pathLength marksLength resultLength : ℕ) where
   abbrev call : Call
@@ -120,6 +120,6 @@ module _ (takes : Takes) (kind semantics : ℕ) (label table schema rule : List 
 
   -- a short result buffer is refused as 3, after 1 and 2 and before the mark list
   pub short-result-refused : resultLength < need
-      → resultOf call ≡ refused (cond (isWithin 1 8 kind && isWithin 1 4 semantics) (cond (leb (length label) maxLabelBytes && isUtf8 label) 3 2) 1)
+      → resultOf call ≡ refused (cond (between 1 8 kind && between 1 4 semantics) (cond (leb (length label) maxLabelBytes && isUtf8 label) 3 2) 1)
   unfolding entryCall pathLent
   short-result-refused short = no-path-refused call (rw (lt-leb need resultLength short))

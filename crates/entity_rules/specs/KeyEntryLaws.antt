@@ -6,8 +6,8 @@ use mathlib.Core.Path.{_≡_, refl, ap, sym, _∙_}
 use lib.Dec.{leb}
 use lib.ListN.{length, length-replicate}
 use borrow.Author.Tests.{le-leb, lt-leb}
-use Rattle.text.specs.Utf8.{isUtf8}
-use Rattle.validation.specs.Result.{Numbers, refused, isWithin, scratchWords, firstRefusal, numbersOf}
+use Rattle.text.specs.Utf8.{between, isUtf8}
+use Rattle.validation.specs.Result.{Numbers, refused, scratchWords, firstRefusal, numbersOf}
 use Rattle.validation.specs.KeyPath.{KeyCall, maxKeyBytes, keyEarly, keyRefusals, keyResultOf, keyCallOf, MeetsKey}
 use Rattle.validation.specs.KeyLaws.{key-semantics-refused, key-reader-refused}
 use Rattle.entity_rules.specs.Entry.{resultBytes, pathLent, EntryAnswered}
@@ -53,8 +53,8 @@ module _ (semantics reader : ℕ) (path schema : List ℕ) (resultLength : ℕ) 
   -- a short result buffer is refused as 3, after 1 and 2 and before the schema
   pub short-result-refused : resultLength < resultBytes
       → keyEntryAnswer semantics reader path schema resultLength
-      ≡ refused (cond (isWithin 1 4 semantics && isWithin 1 2 reader) (cond (leb (length path) maxKeyBytes && isUtf8 path) 3 2) 1)
+      ≡ refused (cond (between 1 4 semantics && between 1 2 reader) (cond (leb (length path) maxKeyBytes && isUtf8 path) 3 2) 1)
   unfolding keyEntryAnswer keyEntryCall pathLent keyResultOf keyRefusals keyEarly firstRefusal
   short-result-refused short =
       rw (lt-leb resultBytes resultLength short)
-      (refused-first (isWithin 1 4 semantics && isWithin 1 2 reader) (leb (length path) maxKeyBytes && isUtf8 path) _)
+      (refused-first (between 1 4 semantics && between 1 2 reader) (leb (length path) maxKeyBytes && isUtf8 path) _)

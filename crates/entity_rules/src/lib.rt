@@ -15,6 +15,7 @@ use host_numbers::finite_number;
 use host_numbers::instant_fields;
 use key_path::validate_path;
 use name_table::load;
+use name_table::read::KINDS;
 use single_check::sheets::Takes;
 use single_check::validate_under;
 ghost use mathlib.Core.Path.{_≡_};
@@ -33,11 +34,15 @@ ghost use Rattle.entity_rules.specs.Entry.{pathLent, entryAnswer, EntryA
 ghost use Rattle.entity_rules.specs.KeyEntry.{keyEntryAnswer};
 ghost use Rattle.entity_rules.specs.WidensEntry.{WidensAnswered};
 
-// Kinds end at 8 and semantics at 4, so 9 stands for all that is too large for either.
+const LAST_KIND: u64 = KINDS as u64;
+
+// Semantics end before kinds do, so one number stands for all that is too large for either.
+const TOO_LARGE: u32 = KINDS + 1;
+
 fn setting(n: u64) -> u32
     ensures { λ r. ⌜ r ≡ min n 9 ⌝ }
 {
-    if 8 < n { 9 } else { n as u32 }
+    if LAST_KIND < n { TOO_LARGE } else { n as u32 }
 }
 
 // How much of a buffer is lent: nothing where the result would have no room, so that both are refused as width.

@@ -8,7 +8,7 @@ use mathlib.Core.Path.{_≡_, refl, ap, sym, _∙_}
 use lib.Dec.{leb, eqb}
 use lib.ListN.{length}
 use borrow.Author.Tests.{eq-eqb, ne-eqb, le-leb, lt-leb, leb-true}
-use Rattle.text.specs.Utf8.{isUtf8}
+use Rattle.text.specs.Utf8.{between, isUtf8}
 use Rattle.definition.specs.Tree as Tree
 use Rattle.definition.specs.Decode.{decodeSchema}
 use Rattle.reference.specs.Setting.{Reader}
@@ -28,7 +28,7 @@ use Rattle.walk.specs.declared.answer.Readable.the-variants.{Yes, No}
 use Rattle.scope.specs.References.{RootWalks}
 use Rattle.validation.specs.Check.{isNone}
 use Rattle.validation.specs.Result as Result
-use Rattle.validation.specs.Result.{Answer, accepted, defect, isOfSheets, isWithin, scratchWords, firstRefusal, numberIn, refusedOr, numbersOf, keptScratch, ScratchAfter}
+use Rattle.validation.specs.Result.{Answer, accepted, defect, isOfSheets, scratchWords, firstRefusal, numberIn, refusedOr, numbersOf, keptScratch, ScratchAfter}
 use Rattle.validation.specs.RefusalLaws.{every, first-append, none-due, number-due, number-later, none-left, number-some, number-none, of-first}
 use Rattle.validation.specs.KeyPath.{KeyCall, readerOf, maxKeyBytes, keyEarly, keyRefusals, keyDefect, keyAnswer, keyChecked, keyJudged, keyResultOf, keyCallOf, MeetsKey}
 use Rattle.single_check.specs.Outcomes.{numbersBy}
@@ -44,7 +44,7 @@ module _ (semantics reader : ℕ) (path : List ℕ) (scratch : ℕ) where
   abbrev early : ℕ
   early = numberIn (firstRefusal (keyEarly semantics reader path scratch))
 
-  module _ {x : Bool} (settings : x ≡ (isWithin 1 4 semantics && isWithin 1 2 reader)) where
+  module _ {x : Bool} (settings : x ≡ (between 1 4 semantics && between 1 2 reader)) where
     pub refusal-1 : not x ≡ true → 1 ≡ early
     unfolding keyEarly
     refusal-1 f = number-due _ _ (turned settings f)

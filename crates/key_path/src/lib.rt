@@ -9,6 +9,7 @@ use single_check::finding::reference_detail;
 use single_check::outcome::Outcome;
 use single_check::outcome::accepted;
 use single_check::outcome::refused;
+use single_check::settings::SEMANTICS;
 use single_check::settings::is_within;
 use walk::answer::Readable;
 use walk::answer::Reader;
@@ -17,17 +18,17 @@ ghost use mathlib.Core.Bool.{_&&_};
 ghost use mathlib.Core.Path.{_≡_};
 ghost use lib.Dec.{leb};
 ghost use lib.ListN.{length};
-ghost use Rattle.text.specs.Utf8.{isUtf8};
+ghost use Rattle.text.specs.Utf8.{between, isUtf8};
 ghost use Rattle.walk.specs.Answers.{readerIs, referenceDetail};
-ghost use Rattle.validation.specs.Result.{defect, isWithin, firstRefusal, numberIn, numbersOf};
+ghost use Rattle.validation.specs.Result.{defect, firstRefusal, numberIn, numbersOf};
 ghost use Rattle.validation.specs.KeyPath.{readerOf, maxKeyBytes, keyEarly, keyDefect, MeetsKey};
 ghost use Rattle.single_check.specs.Outcomes.{numbersBy};
 ghost use Rattle.key_path.specs.Keys.{KeyTold, keyRunOf};
 
 fn are_settings(semantics: u32, reader: u32) -> bool
-    ensures { λ r. ⌜ r ≡ (isWithin 1 4 semantics && isWithin 1 2 reader) ⌝ }
+    ensures { λ r. ⌜ r ≡ (between 1 4 semantics && between 1 2 reader) ⌝ }
 {
-    is_within(4, semantics) && is_within(2, reader)
+    is_within(SEMANTICS, semantics) && is_within(2, reader)
 }
 
 fn is_key(path: &[u8]) -> bool

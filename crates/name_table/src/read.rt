@@ -13,7 +13,8 @@ ghost use Rattle.name_table.specs.Tables.{MarksAre, RowIs, TableIs, Lent
 // How long a table is.
 pub const TABLE_BYTES: usize = 176;
 
-const KINDS: u32 = 8;
+// How many kinds of rules and templates there are.
+pub const KINDS: u32 = 8;
 
 pub enum RowRead {
     // The row, and the place after its entry.

@@ -7,8 +7,9 @@ use mathlib.Core.Bool.{Bool, true, false}
 use mathlib.Core.List as List
 use mathlib.Core.Option.{bind}
 use lib.ListN.{take}
+use Rattle.text.specs.Decimal.{isDigit}
 use Rattle.number.specs.Bound.{bound}
-use Rattle.number.specs.Grammar.{isDigit, run, past, someDigits, digits, leads, int, frac, isEmpty, last, power, exp, unsigned, number}
+use Rattle.number.specs.Grammar.{run, past, someDigits, digits, leads, int, frac, isEmpty, last, power, exp, unsigned, number}
 use Rattle.number.specs.Finite.{numeralFrom, numeral, value, isBelow, isBelowAt, finite, finiteIf, isFinite}
 use Rattle.number.specs.FirstDigit.{zeros, significant, order, levelOf, levelBy, digitsIn, levelIn, matched, comparedAt, comparedIn, compared}
 

@@ -5,8 +5,9 @@ use mathlib.Core.Bool.{Bool, true, false}
 use mathlib.Core.List.{List, [], _∷_, _++_, map}
 use mathlib.Core.Option.{bind}
 use lib.ListN.{take, replicate}
+use Rattle.text.specs.Decimal.{isDigit}
 use Rattle.number.specs.Bound.{bound}
-use Rattle.number.specs.Grammar.{isDigit, run, past, someDigits, digits, leads, int, frac, isEmpty, last, power, exp, unsigned, number, isSome, isNumber}
+use Rattle.number.specs.Grammar.{run, past, someDigits, digits, leads, int, frac, isEmpty, last, power, exp, unsigned, number, isSome, isNumber}
 use Rattle.number.specs.Finite.{numeralFrom, numeral, value, isBelow, isBelowAt, finite, finiteIf, isFinite}
 use Rattle.number.specs.FirstDigit.{zeros, significant, order, levelOf, levelBy, digitsIn, levelIn, isLess, decided}
 use Rattle.number.proofs.Decides.{finite-decided}

@@ -1,13 +1,14 @@
 -- What rows of digits write: bounds by their length, and the digit by digit comparison of two rows.
 use Prim.Native.Nat.{ℕ, suc, _+_, _*_, _<_, _≤_, _^_}
 use mathlib.Core.Path.{_≡_, refl, sym, ap, _∙_}
-use mathlib.Core.Bool.{Bool, true, false, cond, _&&_, false≢true}
+use mathlib.Core.Bool.{Bool, true, false, cond, _&&_}
 use mathlib.Core.List.{List, [], _∷_}
 use native.Mathlib.Omega.{arith}
 use native.Mathlib.Nat.{mul-one, mul-assoc, mul-right-comm, le-trans, le-of-lt, lt-of-lt-of-le, mul-le-mul-right, mul-lt-mul-of-pos-right, le-of-mul-le-mul-right, lt-of-mul-lt-mul-right, pow-succ', one-le-pow}
 use lib.ListN.{length, drop}
 use lib.Dec.{eqb, ltb}
 use borrow.Author.Tests.{ltb-true, ltb-false, eqb-true, lt-ltb, le-ltb}
+use Rattle.text.proofs.Bools.{and-true-0, and-true-1}
 use Rattle.number.specs.Finite.{numeralFrom, numeral}
 use Rattle.number.specs.FirstDigit.{zeros, significant, isLess}
 
@@ -16,22 +17,14 @@ unfoldable pub tens : List ℕ → Bool
 tens [] = true
 tens (d ∷ ds) = ltb d 10 && tens ds
 
-pub both-left : (a b : Bool) → (a && b) ≡ true → a ≡ true
-both-left true b e = refl
-both-left false b e = e
-
-pub both-right : (a b : Bool) → (a && b) ≡ true → b ≡ true
-both-right true b e = e
-both-right false b e = absurd (false≢true e)
-
 module _ (d : ℕ) (ds : List ℕ) (t : tens (d ∷ ds) ≡ true) where
   pub tens-head : d < 10
   unfolding tens
-  tens-head = ltb-true d 10 (both-left (ltb d 10) (tens ds) t)
+  tens-head = ltb-true d 10 (and-true-0 (ltb d 10) (tens ds) t)
 
   pub tens-tail : tens ds ≡ true
   unfolding tens
-  tens-tail = both-right (ltb d 10) (tens ds) t
+  tens-tail = and-true-1 (ltb d 10) (tens ds) t
 
 pub ten-pos : (n : ℕ) → 0 < 10 ^ n
 ten-pos n = one-le-pow n 10 (omega arith)

@@ -10,7 +10,8 @@ use native.Mathlib.Numerals.{add-one}
 use lib.ListN.{length, take, drop, getD, length-drop, drop-of-length-le}
 use lib.Seq.{drop-cons, drop-drop, take-all}
 use borrow.Author.Tests.{eq-eqb, ne-eqb}
-use Rattle.number.specs.Grammar.{Read, isDigit, run, past, someDigits, digits, leads, int, frac, isEmpty, last, power, exp, unsigned, number}
+use Rattle.text.specs.Decimal.{isDigit}
+use Rattle.number.specs.Grammar.{Read, run, past, someDigits, digits, leads, int, frac, isEmpty, last, power, exp, unsigned, number}
 use Rattle.number.specs.Parts.{part, Ends}
 use Rattle.number.specs.declared.grammar.Run.the-variants.{To}
 

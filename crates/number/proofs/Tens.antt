@@ -1,21 +1,21 @@
 -- What the grammar reads as digits are digits: each stands for a number below ten.
-use Prim.Native.Nat.{ℕ, _≤_}
+use Prim.Native.Nat.{ℕ}
 use mathlib.Core.Path.{_≡_, refl, subst}
 use mathlib.Core.Bool.{Bool, true, false, cond}
 use mathlib.Core.List.{List, [], _∷_, _++_, map, map-append}
 use mathlib.Core.Option.{Option, none, some, bind}
 use native.Mathlib.Omega.{arith}
-use lib.Dec.{leb, ltb, eqb}
-use borrow.Author.Tests.{lt-ltb, leb-true}
-use Rattle.number.specs.Grammar.{Number, Read, isDigit, run, past, someDigits, digits, leads, int, frac, exp, unsigned, number}
+use lib.Dec.{ltb, eqb}
+use borrow.Author.Tests.{lt-ltb}
+use Rattle.text.specs.Decimal.{isDigit}
+use Rattle.text.proofs.Bools.{and-true-0, and-true-1}
+use Rattle.text.proofs.Decimal.{isDigit-range}
+use Rattle.number.specs.Grammar.{Number, Read, run, past, someDigits, digits, leads, int, frac, exp, unsigned, number}
 use Rattle.number.specs.Finite.{digit}
-use Rattle.number.proofs.Numeral.{tens, both-left, both-right}
+use Rattle.number.proofs.Numeral.{tens}
 
 digit-tens : (b : ℕ) → isDigit b ≡ true → ltb (digit b) 10 ≡ true
-unfolding isDigit
-digit-tens b e =
-    let h : b ≤ 0x39 = leb-true b 0x39 (both-right (leb 0x30 b) (leb b 0x39) e) in
-    lt-ltb (digit b) 10 (omega (arith, h))
+digit-tens b e = lt-ltb (digit b) 10 (omega (arith, isDigit-range b e .1))
 
 run-tens : (s : List ℕ) → tens (map digit (run s)) ≡ true
 unfolding tens run
@@ -29,7 +29,7 @@ run-tens (b ∷ s) = go (isDigit b) refl (run-tens s)
 tens-append : (a b : List ℕ) → tens a ≡ true → tens b ≡ true → tens (a ++ b) ≡ true
 unfolding tens
 tens-append [] b p q = q
-tens-append (d ∷ a) b p q = rw (both-left (ltb d 10) (tens a) p) (tens-append a b (both-right (ltb d 10) (tens a) p) q)
+tens-append (d ∷ a) b p q = rw (and-true-0 (ltb d 10) (tens a) p) (tens-append a b (and-true-1 (ltb d 10) (tens a) p) q)
 
 -- of what a rule answers, if it does
 abbrev ReadsTens : Option Read → Type 0

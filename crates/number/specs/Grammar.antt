@@ -1,10 +1,11 @@
 -- Number text as RFC 8259, section 6 has it: one function for each rule of its grammar, named after the rule.
 -- A digit is kept as its byte.
 use Prim.Native.Nat.{ℕ}
-use mathlib.Core.Bool.{Bool, true, false, cond, not, _&&_, _||_}
+use mathlib.Core.Bool.{Bool, true, false, cond, not, _||_}
 use mathlib.Core.List.{List, [], _∷_}
 use mathlib.Core.Option.{Option, none, some, bind}
-use lib.Dec.{leb, eqb}
+use lib.Dec.{eqb}
+use Rattle.text.specs.Decimal.{isDigit}
 
 -- what a number text says but for its sign: the digits before and after the point, and the exponent, which is negative where it is lowered.
 -- What is left out has no digits
@@ -18,10 +19,6 @@ pub record Number : Type 0 where
 pub record Read : Type 0 where
   pub digits : List ℕ
   pub rest : List ℕ
-
--- DIGIT
-unfoldable pub isDigit : ℕ → Bool
-isDigit b = leb 0x30 b && leb b 0x39
 
 -- *DIGIT: the digits that a text begins with, and what follows them
 unfoldable pub run : List ℕ → List ℕ

@@ -1,8 +1,9 @@
 // Takes a number text apart, rule by rule of RFC 8259, section 6.
+use text::is_digit;
 ghost use mathlib.Core.Path.{_≡_};
 ghost use Prim.Native.Nat.{_+_, _≤_};
 ghost use lib.ListN.{length, drop};
-ghost use Rattle.number.specs.Grammar.{isDigit, run, digits, int, frac, last, power, exp, unsigned, number};
+ghost use Rattle.number.specs.Grammar.{run, digits, int, frac, last, power, exp, unsigned, number};
 ghost use Rattle.number.specs.Parts.{Ends, Spans, Raises, Splits};
 
 // Where a run of digits ends.
@@ -40,12 +41,6 @@ pub enum Found {
     Number(Parts),
     // Not a number text.
     Other,
-}
-
-fn is_digit(b: u8) -> bool
-    ensures { λ r. ⌜ r ≡ isDigit b ⌝ }
-{
-    b'0' <= b && b <= b'9'
 }
 
 fn run_end(s: &[u8], at: usize) -> usize

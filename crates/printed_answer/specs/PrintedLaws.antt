@@ -8,6 +8,7 @@ use native.Mathlib.Omega.{arith}
 use lib.ListN.{length, take}
 use lib.Dec.{leb}
 use borrow.Author.Tests.{leb-true}
+use Rattle.text.specs.Utf8.{between}
 use Rattle.sheet.specs.ReaderLaws.{by-test}
 use Rattle.definition.specs.Tree.{Text, Schema, Rule}
 use Rattle.definition.specs.Decode.{decodeSchema, decodeRule}
@@ -16,7 +17,7 @@ use Rattle.definition.specs.RoundTrip.{rule-round-trip}
 use Rattle.reference.specs.Setting.{Setting}
 use Rattle.validation.specs.Check.{checks}
 use Rattle.validation.specs.Judge.{Verdict, allPass, failsAt, judge}
-use Rattle.validation.specs.Result.{Call, Answer, maxLabelBytes, pathBytes, settingFor, isWithin, ofSettings, early, refusals, firstRefusal, answerOf, checked, judged, refusedOr, resultOf}
+use Rattle.validation.specs.Result.{Call, Answer, maxLabelBytes, pathBytes, settingFor, ofSettings, early, refusals, firstRefusal, answerOf, checked, judged, refusedOr, resultOf}
 use Rattle.buffer.specs.WroteLaws.{wrote-front}
 use Rattle.defect_path.specs.LengthLaws.{path-length}
 use Rattle.check_file.specs.Output.{pathIn}
@@ -62,4 +63,4 @@ path-fits c =
     refused-fits (firstRefusal (refusals c)) verdict
     (judged-fits (settingFor c) (c .asked .label) (decodeSchema (c .schema)) (decodeRule (c .asked .rule)) (leb-true (length (c .asked .label)) maxLabelBytes e)
     (λ t read. rule-round-trip (c .asked .rule) t .0 read .1)))
-    (λ e. rw e (first-refused (not (isWithin 1 8 (c .asked .kind) && isWithin 1 4 (c .asked .semantics))) verdict))
+    (λ e. rw e (first-refused (not (between 1 8 (c .asked .kind) && between 1 4 (c .asked .semantics))) verdict))

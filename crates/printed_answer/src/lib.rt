@@ -12,6 +12,9 @@ ghost use Rattle.check_file.specs.Output.{callFor, answered, outputOf};
 ghost use Rattle.check_file.specs.Places.{Lies, partOf};
 ghost use Rattle.printed_answer.specs.Printed.{Printed};
 
+// Room enough for every line: six numbers of ten digits with a comma after each, the longest path, and the line's end.
+pub const LINE_BYTES: usize = 6 * 11 + PATH_BYTES + 1;
+
 fn part(file: &[u8], span: Span) -> &[u8]
     requires { ⌜ Lies (now file) span ⌝ }
     ensures { λ r. ⌜ now r ≡ partOf (now (file .entry)) span ⌝ }

@@ -3,7 +3,8 @@ use Prim.Native.Nat.{ℕ}
 use Prim.Native.Char.{code}
 use mathlib.Core.Bool.{Bool, true, false, not, cond, _&&_, _||_}
 use mathlib.Core.List.{List, [], _∷_}
-use lib.Dec.{leb, eqb}
+use lib.Dec.{eqb}
+use Rattle.text.specs.Decimal.{isDigit}
 use Rattle.definition.specs.Tree.{Text}
 use Rattle.sheet.specs.Ascii.{ascii}
 use Rattle.sheet.specs.Order.{sameBytes}
@@ -25,7 +26,7 @@ split (b ∷ t) = cond (eqb b (code ".")) (cut (split t)) (extend b (split t))
 
 unfoldable pub isDigits : Text → Bool
 isDigits [] = true
-isDigits (b ∷ t) = leb 48 b && leb b 57 && isDigits t
+isDigits (b ∷ t) = isDigit b && isDigits t
 
 -- `0`, or digits without a leading zero, any number of them
 unfoldable pub isOrdinal : Text → Bool

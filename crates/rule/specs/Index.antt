@@ -8,15 +8,16 @@ use lib.ListN.{getD, drop}
 use Rattle.sheet.specs.Reader.{Reader}
 use Rattle.sheet.specs.Entries.{literalHead, manyHead, negationHead, oneHead, twoHead, comparisonHead, quantifierHead, conditionHead, constantHead, numberHead, stringHead, arrayHead, objectHead, valueHead, keyHead, ruleHead}
 use Rattle.sheet.specs.Entries as Entries
+use Rattle.definition.specs.Limits.{wordEntries}
 use Rattle.definition.specs.Within.{valueEntries, valuesEntries, pairsEntries, conditionEntries, conditionsEntries}
 use Rattle.definition.specs.Write.{countOfValues, countOfPairs, countOfConditions}
 use Rattle.definition.specs.Tree.{Value, constant, number, string, array, object, Values, noValues, value, Pairs, noPairs, pair, Condition, literal, many, negation, one, two, comparison, quantifier, Conditions, noConditions, condition, Rule, rule, template}
 
 abbrev pub startOf : List ℕ → ℕ → ℕ
-startOf words i = getD words i 0 / 4096
+startOf words i = getD words i 0 / wordEntries
 
 abbrev pub endOf : List ℕ → ℕ → ℕ
-endOf words i = getD words i 0 % 4096
+endOf words i = getD words i 0 % wordEntries
 
 -- word `i` is that of an entry with that number and that head, with a subtree of `size` entries
 pub record EntryAt {H : Type 0} (reader : Reader (List ℕ) H) (sheet words : List ℕ) (i size e : ℕ) (h : H) : Type 0 where

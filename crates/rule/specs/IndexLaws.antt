@@ -6,6 +6,7 @@ use native.Mathlib.Omega.{arith}
 use lib.ListN.{getD}
 use Rattle.sheet.specs.Reader.{Reader}
 use Rattle.definition.specs.Tree.{Value, constant, number, string, array, object, Values, noValues, value, Pairs, noPairs, pair, Condition, literal, many, negation, one, two, comparison, quantifier, Conditions, noConditions, condition}
+use Rattle.definition.specs.Limits.{wordEntries}
 use Rattle.definition.specs.Within.{conditionEntries, conditionsEntries, pairsEntries, valueEntries, valuesEntries}
 use Rattle.rule.specs.Index.{endOf, EntryAt, ValueAt, ValuesAt, PairsAt, ConditionAt, ConditionsAt}
 
@@ -30,7 +31,7 @@ pub entry-frame : {H : Type 0} {reader : Reader (List ℕ) H} {sheet words later
     → EntryAt reader sheet later i size e h
 entry-frame {i} at agree l r =
     let same = agree .same i l r in
-    record { isEntry = at .isEntry; ends = ap (λ (w : ℕ). w % 4096) same ∙ at .ends; rest = at .rest; reads = rw same (at .reads) }
+    record { isEntry = at .isEntry; ends = ap (λ (w : ℕ). w % wordEntries) same ∙ at .ends; rest = at .rest; reads = rw same (at .reads) }
 
 module _ (sheet words later : List ℕ) where
   mutual

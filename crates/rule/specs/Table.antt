@@ -16,7 +16,7 @@ use Rattle.rule.specs.Index.{startOf}
 abbrev pub slots : ℕ
 slots = 512
 
--- a key's bytes, stirred to 32 bits; the upper 8 of them are its slot
+-- a key's bytes, stirred to 32 bits; the upper 9 of them are its slot
 unfoldable pub stirred : ℕ → Text → ℕ
 stirred h [] = h
 stirred h (b ∷ key) = stirred ((h + b) * 2654435761 % 4294967296) key

@@ -22,7 +22,8 @@ const FEW_KEYS: usize = 12;
 // The table lies in the frame of a value, and values nest, so it is kept small.
 const SLOTS: usize = 512;
 
-const LINKS: usize = 1024;
+// A key and its value are two entries at least.
+const LINKS: usize = MAX_RULE_ENTRIES / 2;
 
 // Whether the bytes of a part are at another place too. An entry's bytes and its key say the same, so keys need not be read again.
 fn stands_at(s: &[u8], part: Part, at: usize) -> bool

@@ -9,8 +9,9 @@ use native.Mathlib.Numerals.{add-one}
 use lib.ListN.{length, drop, getD, length-drop, drop-of-length-le}
 use lib.Seq.{drop-cons, drop-drop}
 use borrow.Author.Tests.{le-leb, lt-leb, ne-eqb}
+use Rattle.text.specs.Decimal.{isDigit}
 use Rattle.sheet.specs.Reader.{_>>=_, _>>_, andThen}
-use Rattle.sheet.specs.Numeral.{isDigit, digits, decimal}
+use Rattle.sheet.specs.Numeral.{digits, decimal}
 use Rattle.sheet.specs.Entries.{byte, bytes}
 use Rattle.sheet.specs.Parts.{partOf}
 use Rattle.sheet.specs.Places.{ReadsTo, Refuses}

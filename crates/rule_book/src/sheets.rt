@@ -1,8 +1,8 @@
 // The sheets of a rule book, one after the other, each after its length.
 use sheet::entry::starts_with;
 use sheet::numeral::NumeralRead;
-use sheet::numeral::is_digit;
 use sheet::part::Part;
+use text::is_digit;
 ghost use Prim.Native.Nat.{_≤_};
 ghost use lib.ListN.{length};
 ghost use Rattle.rule_book.specs.Places.{DigitsAre, LengthIs, SheetIs, CountIs};

@@ -1,6 +1,7 @@
 // Checks the rule of the file `check.in` against its schema, and prints the answer (docs/FORMAT.md, "The program `rulecheck`").
 use definition::limits::MAX_FILE_BYTES;
 use libc::STDOUT_FILENO;
+use printed_answer::LINE_BYTES;
 use printed_answer::output;
 ghost use Prim.Native.Nat.{_≤_};
 ghost use lib.ListN.{length, take};
@@ -9,9 +10,6 @@ ghost use Rattle.check_file.specs.Output.{outputOf};
 
 // One byte more than the longest file that is taken, so that a longer one shows.
 const FILE_BYTES: usize = MAX_FILE_BYTES + 1;
-
-// Room enough for every line.
-const LINE_BYTES: usize = 32835;
 
 // Writes what is printed for a file's bytes to the start of `line`, all of it, and returns how many bytes that is.
 fn answer_line(file: &[u8], line: &mut [u8; LINE_BYTES]) -> usize

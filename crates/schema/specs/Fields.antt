@@ -7,7 +7,7 @@ use mathlib.Core.Path.{_≡_}
 use lib.ListN.{length, drop}
 use Rattle.definition.specs.Tree.{Text, Field, Items, Members}
 use Rattle.definition.specs.Decode.{Ahead, toCount, fieldIn, elementOf, membersOf}
-use Rattle.definition.specs.Limits.{maxSheetBytes}
+use Rattle.definition.specs.Limits.{maxSheetBytes, wordEntries}
 use Rattle.definition.specs.Write.{hasItems, countOfMembers}
 use Rattle.schema.specs.Index.{indexEnd, maxSlots, placeWord, childSlot, slotName, below, belowItems, belowMembers, FieldAt, ItemsAt, MembersAt}
 use Rattle.schema.specs.Kept.{Kept, OthersKept}
@@ -26,13 +26,13 @@ pub record SlotFits (words : List ℕ) (k start entry child : ℕ) (name : Part)
   pub slot : k < maxSlots
   pub scratch : indexEnd ≤ length words
   pub place : start ≤ maxSheetBytes
-  pub number : entry < 4096
+  pub number : entry < wordEntries
   pub childAt : child ≤ maxSlots
   pub named : NamePlaced start maxPrefix name
 
 pub record SlotPut (before after : List ℕ) (k start entry child : ℕ) (name : Part) : Type 0 where
   pub kept : Kept before after
-  pub place : placeWord after k ≡ start * 4096 + entry
+  pub place : placeWord after k ≡ start * wordEntries + entry
   pub childAt : childSlot after k ≡ child
   pub named : slotName after k ≡ name
   pub others : OthersKept before after k 1 0 0

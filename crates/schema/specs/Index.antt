@@ -9,12 +9,12 @@ use Rattle.sheet.specs.Entries.{FieldHead, fieldHead}
 use Rattle.sheet.specs.Parts.{partOf}
 use Rattle.sheet.specs.declared.part.Part.{Part}
 use Rattle.definition.specs.Tree.{Text, Field, field, Items, absent, element, Members, noMembers, member}
-use Rattle.definition.specs.Limits.{maxSchemaEntries}
+use Rattle.definition.specs.Limits.{maxSchemaEntries, maxRuleEntries, wordEntries}
 use Rattle.definition.specs.Write.{hasItems, countOfMembers}
 
 -- the words before this one are a rule's
 abbrev pub firstWord : ℕ
-firstWord = 2048
+firstWord = maxRuleEntries
 
 -- every entry but the sheet's head is a field's
 abbrev pub maxSlots : ℕ
@@ -34,11 +34,11 @@ abbrev pub nameWord : List ℕ → ℕ → ℕ
 nameWord words k = getD words (firstWord + 2 * k + 1) 0
 
 abbrev pub childSlot : List ℕ → ℕ → ℕ
-childSlot words k = nameWord words k % 4096
+childSlot words k = nameWord words k % wordEntries
 
 -- where its name is: less than 32 bytes after the start of its entry
 abbrev pub slotName : List ℕ → ℕ → Part
-slotName words k = record { start = placeWord words k / 4096 + nameWord words k / 4096 % 32; len = nameWord words k / 131072 }
+slotName words k = record { start = placeWord words k / wordEntries + nameWord words k / wordEntries % 32; len = nameWord words k / 131072 }
 
 unfoldable pub elements : Items → ℕ
 elements absent = 0
@@ -66,8 +66,8 @@ pub record HeadAt (sheet : List ℕ) (start : ℕ) (h : FieldHead) : Type 0 wher
 abbrev mutual
   pub FieldAt : (sheet words : List ℕ) (k low : ℕ) → Text → Field → Type 0
   FieldAt sheet words k low name (field e kind o tag items members) =
-      (placeWord words k % 4096 ≡ e)
-      × HeadAt sheet (placeWord words k / 4096)
+      (placeWord words k % wordEntries ≡ e)
+      × HeadAt sheet (placeWord words k / wordEntries)
       (record { kind = kind; isOpen = o; hasItems = hasItems items; count = countOfMembers members; name = name; tag = tag })
       × (partOf sheet (slotName words k) ≡ name)
       × (childSlot words k ≡ low)

@@ -8,6 +8,7 @@ use sheet::schema_heads::KnownField;
 ghost use mathlib.Core.Path.{_≡_};
 ghost use Prim.Native.Nat.{_/_};
 ghost use lib.ListN.{getD};
+ghost use Rattle.definition.specs.Limits.{wordEntries};
 ghost use Rattle.definition.specs.Decode.{toCount};
 ghost use Rattle.schema.specs.Index.{placeWord, nameWord, slotName};
 ghost use Rattle.schema.specs.Fields.{SlotFits, SlotPut};
@@ -100,7 +101,7 @@ pub fn put_slot(words: &mut [u32], k: usize, start: usize, entry: usize, child: 
 
 // The head of slot `k`, read again.
 fn head_of(sheet: &[u8], words: &[u32], k: usize) -> KnownField
-    ensures { λ r. ⌜ KnownFieldIs (now (sheet .entry)) (placeWord (now (words .entry)) k / 4096) r ⌝ }
+    ensures { λ r. ⌜ KnownFieldIs (now (sheet .entry)) (placeWord (now (words .entry)) k / wordEntries) r ⌝ }
 {
     let start = place_word(words, k) as usize / WORD_ENTRIES;
     sheet::schema_heads::known_field(sheet, start)

@@ -4,6 +4,7 @@ use mathlib.Core.Bool.{Bool, true, false, not, cond}
 use mathlib.Core.List.{List, _++_}
 use lib.Dec.{eqb, ltb}
 use Rattle.sheet.specs.Parts.{optionalOf}
+use Rattle.definition.specs.Limits.{wordEntries}
 use Rattle.widening.specs.Decision.{kindDiffers, itemsDiffer, tagDiffers, markCloses, Difference, breachIf, sameTag, closes}
 use Rattle.schema.specs.declared.index.ElementSlot.{ElementSlot}
 use Rattle.schema.specs.declared.index.ElementSlot.the-variants.{At, Absent}
@@ -11,7 +12,7 @@ use Rattle.schema.specs.declared.index.IndexedField.{IndexedField}
 
 -- the number of an entry, as the index has it, in 32 bits
 unfoldable pub entryNumber : ℕ → ℕ
-entryNumber e = cond (ltb e 4096) e 0
+entryNumber e = cond (ltb e wordEntries) e 0
 
 unfoldable pub sameSlots : ElementSlot → ElementSlot → Bool
 sameSlots (At k) (At l) = true

@@ -1,5 +1,6 @@
 // The binders in scope.
 use crate::name::Row;
+use definition::limits::MAX_BINDERS;
 use schema::read::Schema;
 use sheet::part::Part;
 use sheet::part::bytes_of;
@@ -9,9 +10,6 @@ ghost use mathlib.Core.Path.{_≡_};
 ghost use Prim.Native.Nat.{_<_};
 ghost use Rattle.scope.specs.Binders.{capped, lengthUnit, elementNumber, binderNumber, binderName, binderElement};
 ghost use Rattle.scope.specs.Scopes.{Unbound, Binds, BoundIs};
-
-// Conditions nest 32 deep, and the innermost is not a quantifier.
-pub const MAX_BINDERS: usize = 31;
 
 // No sheet has more bytes, and no index more slots.
 const MOST: usize = 65535;
@@ -36,7 +34,7 @@ pub struct Scope {
     pub service: bool,
     pub reader: Reader,
     pub schema: Schema,
-    pub binders: [u64; 31],
+    pub binders: [u64; MAX_BINDERS],
     pub count: usize,
 }
 
@@ -89,7 +87,7 @@ fn element_in(binder: u64) -> Element
 pub fn unbound(row: Row, service: bool, reader: Reader, schema: Schema) -> Scope
     ensures { λ r. ⌜ Unbound row service reader schema r ⌝ }
 {
-    let binders = [0u64; 31];
+    let binders = [0u64; MAX_BINDERS];
     Scope {
         row,
         service,

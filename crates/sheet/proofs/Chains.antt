@@ -11,10 +11,11 @@ use lib.Seq.{drop-cons, drop-drop, drop-length, take-nil, take-all}
 use lib.Dec.{leb, eqb}
 use borrow.Author.Tests.{le-leb, lt-leb, eqb-true, ne-eqb}
 use Rattle.text.specs.Utf8.{isUtf8}
+use Rattle.text.specs.Decimal.{isDigit}
 use Rattle.text.proofs.Points.{utf8-empty}
 use Rattle.sheet.specs.Reader.{Reader, _>>=_, _>>_, andThen, ensure, pure, either, orElse}
 use Rattle.sheet.specs.ReaderLaws.{by-test}
-use Rattle.sheet.specs.Numeral.{decimal, numeral, isDigit}
+use Rattle.sheet.specs.Numeral.{decimal, numeral}
 use Rattle.sheet.specs.Entries.{maxText, byte, comma, dash, item, mark, textLength, bytes, text, optionalText}
 use Rattle.sheet.specs.Parts.{partOf, optionalOf}
 use Rattle.sheet.specs.Pieces.{first, dashed, lastText}

@@ -7,8 +7,9 @@ use native.Mathlib.Omega.{arith}
 use lib.ListN.{length, take, drop, getD}
 use lib.Dec.{leb, eqb}
 use borrow.Author.Tests.{le-leb, eq-eqb, leb-true, leb-false}
+use Rattle.text.specs.Decimal.{isDigit}
 use Rattle.number.specs.Grammar.{isNumber}
-use Rattle.sheet.specs.Numeral.{isDigit, numeral}
+use Rattle.sheet.specs.Numeral.{numeral}
 use Rattle.sheet.specs.ReaderLaws.{by-test}
 use Rattle.sheet.specs.Entries.{maxText, byte, comma, item}
 use Rattle.sheet.specs.Parts.{partOf}

@@ -9,8 +9,9 @@ use native.Mathlib.Numerals.{add-one}
 use lib.ListN.{length, drop, getD, drop-of-length-le}
 use lib.Seq.{drop-cons}
 use borrow.Author.Tests.{le-leb, lt-leb, eq-eqb, ne-eqb}
+use Rattle.text.specs.Decimal.{isDigit}
 use Rattle.sheet.specs.Reader.{_>>=_, _>>_, andThen, ensure, pure}
-use Rattle.sheet.specs.Numeral.{isDigit, digits, decimal, numeral}
+use Rattle.sheet.specs.Numeral.{digits, decimal, numeral}
 use Rattle.sheet.specs.Places.{ReadsTo, Refuses, DigitsAre, AtMostIs}
 use Rattle.sheet.specs.declared.numeral.NumeralRead.{NumeralRead}
 use Rattle.sheet.specs.declared.numeral.NumeralRead.the-variants.{Is, Bad}

@@ -7,10 +7,11 @@ use mathlib.Core.Logic.{⊎-elim}
 use mathlib.Core.Path.{_≡_, refl}
 use native.Mathlib.Omega.{arith}
 use lib.ListN.{length}
+use Rattle.text.specs.Decimal.{isDigit}
 use Rattle.sheet.specs.Ascii.{ascii}
 use Rattle.sheet.specs.Reader.{Reader, _>>_, pure}
 use Rattle.sheet.specs.ReaderLaws.{Reads, bind-inv, then-inv, bind-reads, then-reads, pure-inv, either-inv, either-first, either-second}
-use Rattle.sheet.specs.Numeral.{isDigit, decimalOf, decimalIn}
+use Rattle.sheet.specs.Numeral.{decimalOf, decimalIn}
 use Rattle.sheet.specs.NumeralLaws.{beginsWithoutDigit}
 use Rattle.sheet.specs.Entries.{maxText, maxCount, comma, dash, HolderHead, holderHead, argumentsHead, SchemaHead, schemaHead, FieldHead, fieldHead}
 use Rattle.sheet.specs.Write.{writeItem, writeMark, writeLength, writeText, writeEnd, writeHolderHead, writeArgumentsHead, writeSchemaHead, writeFieldHead}

@@ -11,11 +11,13 @@ use lib.ListN.{length, take, drop, take-append-drop, length-append}
 use lib.Seq.{length-take-le, take-append-seam, drop-append-seam}
 use borrow.Author.Tests.{leb-true, eqb-true, eqb-false, le-leb, eq-eqb, ne-eqb}
 use Rattle.text.specs.Utf8.{isUtf8}
+use Rattle.text.specs.Decimal.{isDigit}
+use Rattle.text.proofs.Decimal.{isDigit-range}
 use Rattle.sheet.specs.Ascii.{ascii}
 use Rattle.sheet.specs.Reader.{Reader, _>>=_, _>>_, andThen, pure}
 use Rattle.sheet.specs.ReaderLaws.{Reads, by-test, bind-inv, then-inv, bind-reads, then-reads, pure-inv, ensure-inv, ensure-reads, either-inv, either-first, either-second}
-use Rattle.sheet.specs.Numeral.{isDigit, numeral}
-use Rattle.sheet.specs.NumeralLaws.{beginsWithoutDigit, decimal-sound, decimal-complete, decimalOf-begins, isDigit-range}
+use Rattle.sheet.specs.Numeral.{numeral}
+use Rattle.sheet.specs.NumeralLaws.{beginsWithoutDigit, decimal-sound, decimal-complete, decimalOf-begins}
 use Rattle.sheet.specs.Entries.{maxText, byte, comma, dash, item, mark, textLength, bytes, text, optionalText}
 use Rattle.sheet.specs.Write.{writeItem, writeMark, markOf, writeLength, writeText}
 use Rattle.sheet.specs.Within.{OptionWithin}

@@ -1,13 +1,11 @@
 -- Numerals: decimal, without leading zeros.
 use Prim.Native.Nat.{ℕ, zero, suc, _+_, _*_, _-_, _/_, _%_}
-use mathlib.Core.Bool.{Bool, cond, _&&_}
+use mathlib.Core.Bool.{cond, _&&_}
 use mathlib.Core.List.{List, [], _∷_}
 use mathlib.Core.Option.{none, some}
 use lib.Dec.{leb, ltb, eqb}
+use Rattle.text.specs.Decimal.{isDigit}
 use Rattle.sheet.specs.Reader.{Reader, _>>=_, _>>_, ensure, pure}
-
-unfoldable pub isDigit : ℕ → Bool
-isDigit b = leb 48 b && leb b 57
 
 -- the digits that lie ahead, after those whose value is `value`
 unfoldable pub digits : ℕ → List ℕ → ℕ × List ℕ

@@ -1,13 +1,15 @@
 -- A numeral is read back as it was written, and what is read as a numeral is one as it is written.
 use Prim.Native.Nat.{ℕ, zero, suc, _+_, _*_, _-_, _/_, _%_, _≤_, _<_}
-use mathlib.Core.Bool.{Bool, true, false, not, and-eq-true-iff}
+use mathlib.Core.Bool.{Bool, true, false, not}
 use mathlib.Core.List.{List, [], _∷_, _++_, append-assoc}
 use mathlib.Core.Option.{some, Option·none-ne-some, Option·some-injective}
 use mathlib.Core.Path.{_≡_, refl, sym, ap, _∙_}
 use native.Mathlib.Omega.{arith}
-use lib.Dec.{leb, ltb, eqb}
-use borrow.Author.Tests.{ltb-true, ltb-false, leb-true, eqb-true, eqb-false, lt-ltb, le-ltb, le-leb, ne-eqb, not-true}
-use Rattle.sheet.specs.Numeral.{isDigit, digits, decimal, decimalIn, decimalOf}
+use lib.Dec.{ltb, eqb}
+use borrow.Author.Tests.{ltb-true, ltb-false, eqb-true, eqb-false, lt-ltb, le-ltb, ne-eqb, not-true}
+use Rattle.text.specs.Decimal.{isDigit}
+use Rattle.text.proofs.Decimal.{isDigit-range, isDigit-of}
+use Rattle.sheet.specs.Numeral.{digits, decimal, decimalIn, decimalOf}
 use Rattle.sheet.specs.ReaderLaws.{Reads, by-test}
 
 -- what follows a numeral that is read to its end
@@ -64,16 +66,6 @@ decimalOf-last n h =
 pub decimalOf-one : (d : ℕ) → d < 10 → decimalOf d ≡ (48 + d) ∷ []
 unfolding decimalOf
 decimalOf-one d h = decimalIn-small d d [] (lt-ltb d 10 h)
-
-pub isDigit-range : (b : ℕ) → isDigit b ≡ true → (48 ≤ b) × (b ≤ 57)
-unfolding isDigit
-isDigit-range b e =
-    let h = and-eq-true-iff (leb 48 b) (leb b 57) .0 e in
-    (leb-true 48 b (h .0), leb-true b 57 (h .1))
-
-isDigit-of : (d : ℕ) → d < 10 → isDigit (48 + d) ≡ true
-unfolding isDigit
-isDigit-of d h = and-eq-true-iff (leb 48 (48 + d)) (leb (48 + d) 57) .1 (le-leb 48 (48 + d) (omega arith), le-leb (48 + d) 57 (omega arith))
 
 -- digits that are read after a number make the numeral of a longer one
 digits-sound : (v : ℕ) (s : List ℕ) (n : ℕ) (t : List ℕ) → 0 < v → digits v s ≡ (n, t) → decimalOf v ++ s ≡ decimalOf n ++ t

@@ -1,8 +1,9 @@
 // Numerals: decimal, without leading zeros.
+use text::is_digit;
 ghost use mathlib.Core.Path.{_≡_};
 ghost use Prim.Native.Nat.{_≤_};
 ghost use lib.ListN.{length};
-ghost use Rattle.sheet.specs.Numeral.{isDigit, numeral};
+ghost use Rattle.sheet.specs.Numeral.{numeral};
 ghost use Rattle.sheet.specs.Places.{NumeralIs, DigitsAre, AtMostIs};
 
 pub enum NumeralRead {
@@ -11,14 +12,8 @@ pub enum NumeralRead {
     Bad,
 }
 
-pub fn is_digit(b: u8) -> bool
-    ensures { λ r. ⌜ r ≡ isDigit b ⌝ }
-{
-    b'0' <= b && b <= b'9'
-}
-
 // A number of 32 bits as a place or a count.
-pub fn wide(n: u32) -> usize
+pub fn to_size(n: u32) -> usize
     ensures { λ r. ⌜ r ≡ n ⌝ }
 {
     n as usize
@@ -29,7 +24,7 @@ fn digits(s: &[u8], at: usize, first: usize, high: u32) -> NumeralRead
     requires { ⌜ at ≤ length (now s) ⌝ }
     ensures { λ r. ⌜ DigitsAre first high (now (s .entry)) at r ⌝ }
 {
-    let most = wide(high);
+    let most = to_size(high);
     let mut value = first;
     let mut i = at;
     while value <= most {
@@ -70,7 +65,7 @@ pub fn numeral(s: &[u8], at: usize, low: u32, high: u32) -> NumeralRead
     let NumeralRead::Is(n, next) = at_most(s, at, high) else {
         return NumeralRead::Bad;
     };
-    if n < wide(low) {
+    if n < to_size(low) {
         return NumeralRead::Bad;
     }
     NumeralRead::Is(n, next)

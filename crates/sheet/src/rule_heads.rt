@@ -17,12 +17,16 @@ ghost use Rattle.sheet.specs.Entries.{maxText, shapeOf};
 ghost use Rattle.sheet.specs.Pieces.{shapeFor, conditionRow, conditionFrom, valuesAfter, kindOf, valueRow, valueFrom};
 ghost use Rattle.sheet.specs.Places.{RuleTextsAre, RuleIs, ConditionIs, PlainIs, ValueIs, LeafTypeIs, LeafEnds, KeyIs};
 
-// Operators that the checks tell apart, by their numbers (docs/FORMAT.md, "The rule sheet").
+// Operators that are told apart, by their numbers (docs/FORMAT.md, "The rule sheet").
 pub const LITERAL: usize = 1;
+
+const ANY: usize = 3;
 
 pub const NOT: usize = 4;
 
 pub const EXISTS: usize = 5;
+
+pub const BEFORE: usize = 6;
 
 pub const AFTER: usize = 7;
 
@@ -32,9 +36,24 @@ pub const CONTAINS: usize = 15;
 
 pub const STARTS_WITH: usize = 16;
 
+const ENDS_WITH: usize = 17;
+
 pub const COMPARE: usize = 18;
 
 pub const TRUTHY: usize = 19;
+
+const FOR_ANY: u32 = 21;
+
+// Types of values that are told apart, by their numbers; those up to TRUE are constants.
+const TRUE: usize = 3;
+
+pub const NUMBER: usize = 4;
+
+pub const STRING: usize = 5;
+
+const ARRAY: usize = 6;
+
+const OBJECT: u32 = 7;
 
 // The furthest place that is handed on four times over: no sheet is as long.
 const FURTHEST: usize = 1000000000;
@@ -170,25 +189,25 @@ pub fn rule_head(s: &[u8], at: usize) -> RuleHeadRead
 fn shape_of(op: usize) -> Shape
     ensures { λ r. ⌜ shapeFor r ≡ shapeOf op ⌝ }
 {
-    if op <= 1 {
+    if op <= LITERAL {
         return Shape::Literal;
     }
-    if op <= 3 {
+    if op <= ANY {
         return Shape::Many;
     }
-    if op <= 4 {
+    if op <= NOT {
         return Shape::Negation;
     }
-    if op <= 5 {
+    if op <= EXISTS {
         return Shape::One;
     }
-    if op <= 17 {
+    if op <= ENDS_WITH {
         return Shape::Two;
     }
-    if op <= 18 {
+    if op <= COMPARE {
         return Shape::Comparison;
     }
-    if op <= 19 {
+    if op <= TRUTHY {
         return Shape::One;
     }
     Shape::Quantifier
@@ -261,7 +280,7 @@ fn condition_from(shape: Shape, op: usize, n: usize, bind: Part) -> ConditionHea
 pub fn condition_head(s: &[u8], at: usize) -> ConditionRead
     ensures { λ r. ⌜ ConditionIs (now (s .entry)) at r ⌝ }
 {
-    let NumeralRead::Is(op, behind) = entry::first(s, at, b'C', 1, 21) else {
+    let NumeralRead::Is(op, behind) = entry::first(s, at, b'C', 1, FOR_ANY) else {
         return ConditionRead::Bad;
     };
     let shape = shape_of(op);
@@ -316,7 +335,7 @@ pub fn plain_condition(s: &[u8], at: usize) -> usize
     if seems_to_hold(s, at) {
         return 0;
     }
-    let NumeralRead::Is(op, behind) = entry::first(s, at, b'C', 1, 21) else {
+    let NumeralRead::Is(op, behind) = entry::first(s, at, b'C', 1, FOR_ANY) else {
         return 0;
     };
     let shape = shape_of(op);
@@ -341,16 +360,16 @@ pub fn plain_condition(s: &[u8], at: usize) -> usize
 fn kind_of(number: usize) -> ValueKind
     ensures { λ r. ⌜ r ≡ kindOf number ⌝ }
 {
-    if number <= 3 {
+    if number <= TRUE {
         return ValueKind::Constant;
     }
-    if number <= 4 {
+    if number <= NUMBER {
         return ValueKind::Number;
     }
-    if number <= 5 {
+    if number <= STRING {
         return ValueKind::Text;
     }
-    if number <= 6 {
+    if number <= ARRAY {
         return ValueKind::Array;
     }
     ValueKind::Object
@@ -415,7 +434,7 @@ fn value_from(kind: ValueKind, number: usize, n: usize, text: Part) -> ValueHead
 pub fn value_head(s: &[u8], at: usize) -> ValueRead
     ensures { λ r. ⌜ ValueIs (now (s .entry)) at r ⌝ }
 {
-    let NumeralRead::Is(number, behind) = entry::first(s, at, b'V', 1, 7) else {
+    let NumeralRead::Is(number, behind) = entry::first(s, at, b'V', 1, OBJECT) else {
         return ValueRead::Bad;
     };
     let kind = kind_of(number);
@@ -467,7 +486,7 @@ fn leaf_type(s: &[u8], at: usize) -> usize
 fn leaf_most(number: usize) -> u32
     ensures { λ r. ⌜ r ≡ cond (leb number 3) 0 maxText ⌝ }
 {
-    if number <= 3 { 0 } else { MAX_TEXT }
+    if number <= TRUE { 0 } else { MAX_TEXT }
 }
 
 // The place after the entry of a value that holds no others, or 0. Most values are such, and a number is handed on sooner than a head.
@@ -484,7 +503,7 @@ pub fn leaf_end(s: &[u8], at: usize) -> usize
     };
     if entry::is_last_text(s, end, len) {
         let start = end + 1;
-        if is_right(number == 4, part::bytes_of(s, Part { start, len })) {
+        if is_right(number == NUMBER, part::bytes_of(s, Part { start, len })) {
             return start + len + 1;
         }
     }

@@ -7,14 +7,14 @@ use mathlib.Core.Path.{_≡_, refl, sym, ap, _∙_}
 use lib.Dec.{leb, eqb}
 use lib.ListN.{length}
 use borrow.Author.Tests.{le-leb, lt-leb}
-use Rattle.text.specs.Utf8.{isUtf8}
+use Rattle.text.specs.Utf8.{between, isUtf8}
 use Rattle.reference.specs.Setting as Reference
 use Rattle.reference.specs.Setting.{oneOf, kernel}
 use Rattle.reference.specs.Table.{tableIn, settingUnder, orStock, isSoundTable}
 use Rattle.scope.specs.Names.{mayReadBy}
 use Rattle.scope.specs.declared.name.Row.{Row}
 use Rattle.validation.specs.Check.{isNone}
-use Rattle.validation.specs.Result.{isWithin, maxLabelBytes, pathBytes, scratchWords, ofTable, ofSettings, firstRefusal}
+use Rattle.validation.specs.Result.{maxLabelBytes, pathBytes, scratchWords, ofTable, ofSettings, firstRefusal}
 use Rattle.validation.specs.RefusalLaws.{number-due, number-later, none-left}
 use Rattle.name_table.specs.Tables.{HasRow}
 use Rattle.single_check.specs.Settings.{EarlyIs, settingBy, settingIn}
@@ -28,7 +28,7 @@ and-lt {a} {b} q h = rw (lt-leb a b h)
 pub turned : {x y b : Bool} → x ≡ y → not x ≡ b → not y ≡ b
 turned e f = ap not (sym e) ∙ f
 
-module _ (kind semantics : ℕ) (label : List ℕ) (path scratch : ℕ) {x : Bool} (settings : x ≡ (isWithin 1 8 kind && isWithin 1 4 semantics)) where
+module _ (kind semantics : ℕ) (label : List ℕ) (path scratch : ℕ) {x : Bool} (settings : x ≡ (between 1 8 kind && between 1 4 semantics)) where
   pub refusal-1 : not x ≡ true → EarlyIs kind semantics label path scratch 1
   unfolding ofSettings
   refusal-1 f = record { first = λ takes rule. number-due _ _ (turned settings f) }

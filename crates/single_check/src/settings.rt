@@ -2,6 +2,7 @@
 use definition::limits::MAX_LABEL_BYTES;
 use definition::limits::PATH_BYTES;
 use definition::limits::SCRATCH_WORDS;
+use name_table::read::KINDS;
 use name_table::read::TableRead;
 use name_table::read::lent_table;
 use scope::name::Row;
@@ -11,21 +12,24 @@ ghost use mathlib.Core.List.{[], _∷_};
 ghost use mathlib.Core.Path.{_≡_};
 ghost use lib.Dec.{leb};
 ghost use lib.ListN.{length};
-ghost use Rattle.text.specs.Utf8.{isUtf8};
+ghost use Rattle.text.specs.Utf8.{between, isUtf8};
 ghost use Rattle.reference.specs.Setting.{oneOf};
-ghost use Rattle.validation.specs.Result.{isWithin, maxLabelBytes, pathBytes, scratchWords};
+ghost use Rattle.validation.specs.Result.{maxLabelBytes, pathBytes, scratchWords};
 ghost use Rattle.single_check.specs.Settings.{settingBy, settingIn, EarlyIs, SettledIs};
 
+// How many semantics there are.
+pub const SEMANTICS: u32 = 4;
+
 pub fn is_within(high: u32, n: u32) -> bool
-    ensures { λ r. ⌜ r ≡ isWithin 1 high n ⌝ }
+    ensures { λ r. ⌜ r ≡ between 1 high n ⌝ }
 {
     1 <= n && n <= high
 }
 
 fn are_settings(kind: u32, semantics: u32) -> bool
-    ensures { λ r. ⌜ r ≡ (isWithin 1 8 kind && isWithin 1 4 semantics) ⌝ }
+    ensures { λ r. ⌜ r ≡ (between 1 8 kind && between 1 4 semantics) ⌝ }
 {
-    is_within(8, kind) && is_within(4, semantics)
+    is_within(KINDS, kind) && is_within(SEMANTICS, semantics)
 }
 
 fn is_label(label: &[u8]) -> bool

@@ -1,6 +1,7 @@
 pub mod Below
 pub mod Bools
 pub mod Bytes
+pub mod Decimal
 pub mod White
 pub mod Decode
 pub mod Shape

@@ -3,3 +3,4 @@ pub mod WhiteSpace
 pub mod Blank
 pub mod Decodes
 pub mod Digits
+pub mod Decimal

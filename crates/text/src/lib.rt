@@ -1,4 +1,4 @@
-// Text as bytes: UTF-8, White_Space, blank text, and text trimmed at both ends. Every function takes any bytes.
+// Text as bytes: UTF-8, digits, White_Space, blank text, and text trimmed at both ends. Every function takes any bytes.
 ghost use mathlib.Core.Path.{_≡_};
 ghost use mathlib.Core.Bool.{true};
 ghost use Prim.Native.Nat.{_+_, _*_, _≤_, _<_};
@@ -9,6 +9,7 @@ ghost use Rattle.text.specs.WhiteSpace.{isWhiteSpace};
 ghost use Rattle.text.specs.Blank.{isBlank, trim};
 ghost use Rattle.text.specs.Decodes.{Decodes, AsciiAt, PassedTo, BehindPoint, StartsAt, EndsAt};
 ghost use Rattle.text.specs.Digits.{Digits};
+ghost use Rattle.text.specs.Decimal.{isDigit};
 
 // What is at an offset of a text.
 pub enum Decoded {
@@ -22,6 +23,12 @@ fn is_between(low: u8, high: u8, b: u8) -> bool
     ensures { λ r. ⌜ r ≡ between low high b ⌝ }
 {
     low <= b && b <= high
+}
+
+pub fn is_digit(b: u8) -> bool
+    ensures { λ r. ⌜ r ≡ isDigit b ⌝ }
+{
+    is_between(b'0', b'9', b)
 }
 
 fn is_tail(b: u8) -> bool

@@ -1,18 +1,17 @@
 -- The tests on characters and months, at each arm of the code.
 use Prim.Native.Nat.{ℕ, suc, _+_, _-_, _≤_, _<_}
 use mathlib.Core.Path.{_≡_, refl, sym, ap, _∙_}
-use mathlib.Core.Bool.{Bool, true, false, cond, _&&_}
+use mathlib.Core.Bool.{Bool, true, false, cond}
 use mathlib.Core.List.{List}
 use mathlib.Core.Option.{none, some}
 use mathlib.Core.Logic.{_⊎_, inl, inr}
 use native.Mathlib.Omega.{arith}
-use lib.Dec.{leb, ltb, eqb}
+use lib.Dec.{ltb, eqb}
 use lib.ListN.{getD}
-use borrow.Author.Tests.{eqb-true, le-ltb, ne-eqb, leb-true}
-use Rattle.text.specs.Utf8.{between}
+use borrow.Author.Tests.{eqb-true, le-ltb, ne-eqb}
 use Rattle.text.specs.Blank.{trim}
-use Rattle.text.proofs.Bools.{and-true-0, and-true-1}
-use Rattle.timestamp.specs.Instant.{isDigit, digitValue, isSeparator, isZone, isLeap, daysIn, skipDigits, fieldsOf, isInstant, instantIn, instant}
+use Rattle.text.specs.Decimal.{isDigit}
+use Rattle.timestamp.specs.Instant.{digitValue, isSeparator, isZone, isLeap, daysIn, skipDigits, fieldsOf, isInstant, instantIn, instant}
 use Rattle.timestamp.specs.declared.Fields.{Fields}
 
 pub separator-yes : (b : ℕ) → (b ≡ 0x20) ⊎ (b ≡ 0x54) ⊎ (b ≡ 0x74) → true ≡ isSeparator b
@@ -60,13 +59,6 @@ days-others year month f n =
       ne-eqb month 9 (λ e. n (inr (inr (inl e)))),
       ne-eqb month 11 (λ e. n (inr (inr (inr e)))),
     )
-
--- a digit's value is below ten
-pub digit-range : (b : ℕ) {r : Bool} → r ≡ isDigit b → r ≡ true → (0x30 ≤ b) × (b ≤ 0x39)
-unfolding isDigit between
-digit-range b q t =
-    let e : (leb 0x30 b && leb b 0x39) ≡ true = sym q ∙ t in
-    (leb-true 0x30 b (and-true-0 _ _ e), leb-true b 0x39 (and-true-1 (leb 0x30 b) _ e))
 
 pub digit-worth : (b : ℕ) {r : Bool} → r ≡ isDigit b → r ≡ true → b - 0x30 ≡ digitValue b
 unfolding digitValue

@@ -7,7 +7,8 @@ use mathlib.Core.Option.{Option, none, some}
 use Rattle.text.specs.Utf8.{between, isTail, utf8-1, isUtf8-2, utf8-2, isSecondOf3, isUtf8-3, utf8-3, isSecondOf4, isUtf8-4, utf8-4, orElse, decodeOne, pointsFrom, codePointsIn, codePoints}
 use Rattle.text.specs.WhiteSpace.{isWhiteSpace}
 use Rattle.text.specs.Blank.{allWhiteSpace, blankPoints, isBlank, startFrom, trimStartIn, trimStart, trimEnd, trim}
-use Rattle.timestamp.specs.Instant.{isDigit, digitValue, isTwo, two, three, isMarkedTwo, fieldsOf, isLeap, daysIn, isDate, isDay, isSeparator, isTime, isClock, isZone, isEnd, skipDigits, isFraction, isTimeEnd, isTimed, isInstant, instantIn, instant}
+use Rattle.text.specs.Decimal.{isDigit}
+use Rattle.timestamp.specs.Instant.{digitValue, isTwo, two, three, isMarkedTwo, fieldsOf, isLeap, daysIn, isDate, isDay, isSeparator, isTime, isClock, isZone, isEnd, skipDigits, isFraction, isTimeEnd, isTimed, isInstant, instantIn, instant}
 use Rattle.timestamp.specs.Order.{listOf, isBelow, isEarlier}
 use Rattle.timestamp.specs.declared.Fields.{Fields}
 

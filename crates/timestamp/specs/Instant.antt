@@ -12,10 +12,8 @@ use lib.Dec.{leb, eqb}
 use lib.ListN.{length, getD}
 use Rattle.text.specs.Utf8.{between}
 use Rattle.text.specs.Blank.{trim}
+use Rattle.text.specs.Decimal.{isDigit}
 use Rattle.timestamp.specs.declared.Fields.{Fields}
-
-unfoldable pub isDigit : ℕ → Bool
-isDigit b = between 0x30 0x39 b
 
 -- what is not a digit counts as 0, and so does a digit that the text leaves out
 unfoldable pub digitValue : ℕ → ℕ

@@ -2,4 +2,3 @@ pub mod Instant
 pub mod Parses
 pub mod Order
 pub mod OrderLaws
-pub mod InstantLaws

@@ -1,9 +1,10 @@
 // Instants as text: a date, alone or with a time of day (docs/FORMAT.md, "Instants").
+use text::is_digit;
 ghost use mathlib.Core.Path.{_≡_};
 ghost use Prim.Native.Nat.{_<_, _≤_};
 ghost use lib.ListN.{getD};
 ghost use Rattle.text.specs.Utf8.{between};
-ghost use Rattle.timestamp.specs.Instant.{isDigit, digitValue, isTwo, two, three, isMarkedTwo, fieldsOf};
+ghost use Rattle.timestamp.specs.Instant.{digitValue, isTwo, two, three, isMarkedTwo, fieldsOf};
 ghost use Rattle.timestamp.specs.Instant.{isLeap, daysIn, isDate, isDay, isSeparator, isTime, isClock, isZone, isEnd, skipDigits, isFraction, isTimeEnd, isTimed, isInstant};
 ghost use Rattle.timestamp.specs.Parses.{Parses};
 ghost use Rattle.timestamp.specs.Order.{isEarlier};
@@ -37,12 +38,6 @@ fn is_between(low: u32, high: u32, x: u32) -> bool
     ensures { λ r. ⌜ r ≡ between low high x ⌝ }
 {
     low <= x && x <= high
-}
-
-fn is_digit(b: u8) -> bool
-    ensures { λ r. ⌜ r ≡ isDigit b ⌝ }
-{
-    is_between(0x30, 0x39, b as u32)
 }
 
 fn digit_value(b: u8) -> u32

@@ -10,6 +10,7 @@ use Rattle.number.specs.Finite.{isFinite}
 use Rattle.timestamp.specs.Instant.{instant}
 use Rattle.definition.specs.Tree.{Text, Value, constant, number, string, array, object, Values, noValues, value, Pairs, noPairs, pair, Condition, literal, many, negation, one, two, comparison, quantifier, Conditions, noConditions, condition, Rule, rule, template}
 use Rattle.reference.specs.Setting.{Setting}
+use Rattle.reference.specs.Reference.{beginsWithDollar}
 
 -- an enclosing quantifier: its bind and its `in` value
 pub record Binder : Type 0 where
@@ -51,8 +52,7 @@ check n p bs q = record { number = n; place = p; binders = bs; question = q }
 
 unfoldable pub referenceText : Text → Option Text
 referenceText [] = none
-referenceText (a ∷ []) = cond (eqb a (code "$")) (some []) none
-referenceText (a ∷ b ∷ t) = cond (eqb a (code "$") && not (eqb b (code "$"))) (some (b ∷ t)) none
+referenceText (a ∷ t) = cond (beginsWithDollar (a ∷ t) && not (beginsWithDollar t)) (some t) none
 
 unfoldable pub referenceCheck : List Binder → ℕ → Option Text → List Check
 referenceCheck binders e none = []
@@ -138,10 +138,7 @@ isHolder (object e pairs) = true
 
 -- `$$` text is not an instant, any other `$` text a reference
 unfoldable pub instantText : Text → Question
-instantText [] = settled (some 2)
-instantText (a ∷ []) = failsIf (not (eqb a (code "$"))) 2
-instantText (a ∷ b ∷ t) =
-    cond (eqb a (code "$")) (failsIf (eqb b (code "$")) 1) (failsIf (isNone (instant (a ∷ b ∷ t))) 2)
+instantText t = cond (beginsWithDollar t) (failsIf (isNone (referenceText t)) 1) (failsIf (isNone (instant t)) 2)
 
 unfoldable pub instantForm : Value → Question
 instantForm (constant e type) = settled (some 2)

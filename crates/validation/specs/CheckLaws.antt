@@ -12,7 +12,7 @@ use borrow.Author.Tests.{ne-eqb}
 use Rattle.definition.specs.Tree.{Text, Schema, Value, constant, number, string, array, object, Values, noValues, value, Pairs, noPairs, pair, Condition, literal, many, negation, one, two, comparison, quantifier, Conditions, noConditions, condition, Rule, rule, template}
 use Rattle.reference.specs.Setting.{Setting}
 use Rattle.reference.specs.Walk.{Reached, refused, unknown, known}
-use Rattle.reference.specs.Reference.{Environment, reference, collectionText, collection}
+use Rattle.reference.specs.Reference.{Environment, reference, collectionText, collection, beginsWithDollar}
 use Rattle.reference.specs.CollectionLaws.{Reads, Listed, Explained, text-explained}
 use Rattle.validation.specs.Check.{Binder, Question, settled, readable, walkable, IsDefect, failsIf, Check, check, referenceText, referenceCheck, references, referencesOfValues, referencesOfPairs, Literal, literals, literalCheck, entryOf, isString, isHolder, instantForm, instantOperand, affixOperand, compareSide, operand, operatorCheck, body, bodies, literalChecks, checks}
 use Rattle.validation.specs.Judge.{CheckOutcome, verdict, extend, enter, environment, answer, answerIn, outcome}
@@ -176,7 +176,7 @@ explained-verdict unknown h = tt
 explained-verdict (known f) h = tt
 
 single-dollar : (b : ℕ) (t : Text) → (b ≡ code "$" → ⊥) → referenceText (code "$" ∷ b ∷ t) ≡ some (b ∷ t)
-unfolding referenceText
+unfolding referenceText beginsWithDollar
 single-dollar b t h = rw (ne-eqb b (code "$") h)
 
 module _ (setting : Setting) (schema : Schema) where

@@ -1,7 +1,6 @@
 -- Constant conditions (docs/FORMAT.md, "Constant marks"): exactly `before` and `after` with two literal instants, with their truth. They come from
 -- the rule sheet alone.
 use Prim.Native.Nat.{ℕ, _+_, _*_}
-use Prim.Native.Char.{code}
 use mathlib.Core.Bool.{Bool, cond}
 use mathlib.Core.List.{List, [], _∷_, _++_}
 use mathlib.Core.Option.{Option, none, some}
@@ -10,12 +9,12 @@ use Rattle.timestamp.specs.Instant.{instant}
 use Rattle.timestamp.specs.Order.{isEarlier}
 use Rattle.timestamp.specs.declared.Fields.{Fields}
 use Rattle.definition.specs.Tree.{Text, Value, constant, number, string, array, object, Condition, literal, many, negation, one, two, comparison, quantifier, Conditions, noConditions, condition, Rule, rule, template}
+use Rattle.reference.specs.Reference.{beginsWithDollar}
 use Rattle.validation.specs.Result.{Answer, refused, accepted, defect}
 
 -- text that begins with `$` is a reference, or not an instant
 unfoldable pub literalText : Text → Option Fields
-literalText [] = none
-literalText (a ∷ t) = cond (eqb a (code "$")) none (instant (a ∷ t))
+literalText t = cond (beginsWithDollar t) none (instant t)
 
 unfoldable pub literalInstant : Value → Option Fields
 literalInstant (constant e type) = none

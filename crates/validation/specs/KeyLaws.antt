@@ -7,6 +7,7 @@ use mathlib.Core.Option.{Option, none, some}
 use mathlib.Core.Path.{_≡_, refl, sym, _∙_}
 use lib.Dec.{leb}
 use borrow.Author.Tests.{leb-true, leb-false}
+use Rattle.text.specs.Utf8.{between}
 use Rattle.sheet.specs.ReaderLaws.{by-test}
 use Rattle.definition.specs.Tree.{Schema}
 use Rattle.definition.specs.Decode.{decodeSchema}
@@ -14,7 +15,7 @@ use Rattle.reference.specs.Setting.{Reader, oneOf}
 use Rattle.reference.specs.Walk as Walk
 use Rattle.reference.specs.Walk.{Reached, unknown, known}
 use Rattle.reference.specs.DetailLaws.{Has, WalkDetail, key-detail}
-use Rattle.validation.specs.Result.{Answer, refusalNumbers, Heard, isWithin, firstRefusal, refusedOr}
+use Rattle.validation.specs.Result.{Answer, refusalNumbers, Heard, firstRefusal, refusedOr}
 use Rattle.validation.specs.Result as Result
 use Rattle.validation.specs.RefusalLaws.{every, of-first, of-listed, outside}
 use Rattle.validation.specs.KeyPath.{KeyCall, keyNumbers, KeyHeard, refusal, acceptance, finding, readerOf, keyEarly, keyRefusals, KeyUnrefused, keyDefect, keyAnswer, keyChecked, keyJudged, keyResultOf}
@@ -66,7 +67,7 @@ answers-by-walk c s e n = rw (n, e)
 
 -- Semantics or a reader beyond its range is refusal 1, whatever else the call holds.
 
-settings-refused : (c : KeyCall) → (isWithin 1 4 (c .semantics) && isWithin 1 2 (c .reader)) ≡ false → keyResultOf c ≡ Result.refused 1
+settings-refused : (c : KeyCall) → (between 1 4 (c .semantics) && between 1 2 (c .reader)) ≡ false → keyResultOf c ≡ Result.refused 1
 unfolding keyResultOf keyRefusals keyEarly firstRefusal refusedOr
 settings-refused c e = rw e
 

@@ -6,7 +6,7 @@ use mathlib.Core.Option.{Option, none, some}
 use mathlib.Core.Path.{_≡_}
 use lib.Dec.{leb, eqb}
 use lib.ListN.{length}
-use Rattle.text.specs.Utf8.{isUtf8}
+use Rattle.text.specs.Utf8.{between, isUtf8}
 use Rattle.definition.specs.Tree.{Schema}
 use Rattle.definition.specs.Decode.{decodeSchema}
 use Rattle.reference.specs.Setting.{Reader, kernel, projection, oneOf}
@@ -15,7 +15,7 @@ use Rattle.reference.specs.Walk.{Reached, unknown, known}
 use Rattle.reference.specs.Reference.{keyWalk}
 use Rattle.reference.specs.DetailLaws.{WalkDetail}
 use Rattle.validation.specs.Check.{isNone}
-use Rattle.validation.specs.Result.{Defect, Answer, refused, accepted, defect, isWithin, scratchWords, Refusal, firstRefusal, refusedOr, Numbers, numbersOf, ScratchAfter}
+use Rattle.validation.specs.Result.{Defect, Answer, refused, accepted, defect, scratchWords, Refusal, firstRefusal, refusedOr, Numbers, numbersOf, ScratchAfter}
 
 pub record KeyCall : Type 0 where
   pub semantics : ℕ
@@ -34,7 +34,7 @@ maxKeyBytes = 512
 -- tried before the schema is read
 unfoldable pub keyEarly : (semantics reader : ℕ) (path : List ℕ) (scratchLength : ℕ) → List Refusal
 keyEarly semantics reader path scratchLength =
-    record { number = 1; isDue = not (isWithin 1 4 semantics && isWithin 1 2 reader) }
+    record { number = 1; isDue = not (between 1 4 semantics && between 1 2 reader) }
     ∷ record { number = 2; isDue = not (leb (length path) maxKeyBytes && isUtf8 path) }
     ∷ record { number = 3; isDue = not (leb scratchWords scratchLength) }
     ∷ []

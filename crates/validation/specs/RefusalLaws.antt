@@ -7,11 +7,12 @@ use mathlib.Core.Option.{Option, none, some, orElse, Option·some-injective, Opt
 use mathlib.Core.Path.{_≡_, refl, ap, sym, _∙_}
 use lib.Dec.{leb, eqb}
 use borrow.Author.Tests.{eqb-true, eqb-false, leb-true, leb-false, le-leb, lt-leb}
+use Rattle.text.specs.Utf8.{between}
 use Rattle.text.proofs.Bools.{and-true-0, and-true-1, or-true-cases}
 use Rattle.sheet.specs.ReaderLaws.{by-test}
 use Rattle.reference.specs.Setting.{oneOf}
 use Rattle.validation.specs.Check.{isNone, IsDefect}
-use Rattle.validation.specs.Result.{Asked, Widths, Call, refused, refusalNumbers, IsRefusal, isOfSheets, isWithin, markBytes, Refusal, ofMarks, ofTable, ofSettings, early, ofSheets, refusals, firstRefusal, numberIn, refusedOr, resultOf}
+use Rattle.validation.specs.Result.{Asked, Widths, Call, refused, refusalNumbers, IsRefusal, isOfSheets, markBytes, Refusal, ofMarks, ofTable, ofSettings, early, ofSheets, refusals, firstRefusal, numberIn, refusedOr, resultOf}
 
 -- What a test says.
 
@@ -211,11 +212,11 @@ sheet-refused c n s e =
 
 -- A kind or semantics beyond its range is refusal 1, whatever else the call holds.
 
-pub outside : (high n : ℕ) → high < n → isWithin 1 high n ≡ false
-unfolding isWithin
+pub outside : (high n : ℕ) → high < n → between 1 high n ≡ false
+unfolding between
 outside high n more = rw (lt-leb n high more, and-false)
 
-outside-refused : (c : Call) → (isWithin 1 8 (c .asked .kind) && isWithin 1 4 (c .asked .semantics)) ≡ false → resultOf c ≡ refused 1
+outside-refused : (c : Call) → (between 1 8 (c .asked .kind) && between 1 4 (c .asked .semantics)) ≡ false → resultOf c ≡ refused 1
 unfolding resultOf refusals early ofSettings firstRefusal refusedOr
 outside-refused c e = rw e
 

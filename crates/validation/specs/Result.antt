@@ -7,7 +7,7 @@ use lib.ListN.{length, drop}
 use lib.Seq.{sets}
 use lib.Dec.{leb, eqb}
 use mathlib.Core.Path.{_≡_}
-use Rattle.text.specs.Utf8.{isUtf8}
+use Rattle.text.specs.Utf8.{between, isUtf8}
 use Rattle.definition.specs.Tree.{Text, Schema, Rule, rule, template}
 use Rattle.definition.specs.Decode.{decodeSchema, decodeRule}
 use Rattle.reference.specs.Setting.{Setting, oneOf}
@@ -132,9 +132,6 @@ scratchWords = 4096
 abbrev pub markBytes : ℕ
 markBytes = 8192
 
-unfoldable pub isWithin : ℕ → ℕ → ℕ → Bool
-isWithin low high n = leb low n && leb n high
-
 unfoldable pub isTaken : Takes → Option Rule → Bool
 isTaken takes none = false
 isTaken any (some r) = true
@@ -173,7 +170,7 @@ ofTable table =
 -- of settings, label and widths
 unfoldable pub ofSettings : Asked → Widths → List Refusal
 ofSettings a w =
-    record { number = 1; isDue = not (isWithin 1 8 (a .kind) && isWithin 1 4 (a .semantics)) }
+    record { number = 1; isDue = not (between 1 8 (a .kind) && between 1 4 (a .semantics)) }
     ∷ record { number = 2; isDue = not (leb (length (a .label)) maxLabelBytes && isUtf8 (a .label)) }
     ∷ ofWidths w
     ∷ []

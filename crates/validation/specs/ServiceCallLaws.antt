@@ -7,6 +7,7 @@ use mathlib.Core.Option.{Option, none, some, orElse}
 use mathlib.Core.Path.{_≡_, refl, ap, sym, subst, _∙_}
 use lib.ListN.{length}
 use borrow.Author.Tests.{le-leb, ne-eqb}
+use Rattle.text.specs.Utf8.{between}
 use Rattle.text.proofs.Bools.{and-true-0}
 use Rattle.definition.specs.Tree.{Text, Rule}
 use Rattle.definition.specs.Decode.{decodeSchema, decodeRule}
@@ -14,7 +15,7 @@ use Rattle.reference.specs.Setting.{Setting, oneOf, kernel as kernelReader}
 use Rattle.reference.specs.Table.{mayReadBy, rowOf, tableIn, settingUnder, orStock}
 use Rattle.validation.specs.Check.{checks}
 use Rattle.validation.specs.Judge.{Verdict, allPass, failsAt, judge}
-use Rattle.validation.specs.Result.{Lent, Call, Answer, accepted, isWithin, answerOf, settingFor, ofBuffers, ofSettings, early, ofSheets, refusals, firstRefusal, Unrefused, refusedOr, checked, resultOf}
+use Rattle.validation.specs.Result.{Lent, Call, Answer, accepted, answerOf, settingFor, ofBuffers, ofSettings, early, ofSheets, refusals, firstRefusal, Unrefused, refusedOr, checked, resultOf}
 use Rattle.validation.specs.RefusalLaws.{is-set, present, none-due, first-none, first-append, none-of-either}
 use Rattle.validation.specs.DemandLaws.{answers-by-checks}
 use Rattle.validation.specs.Service.{literalsIn, AllFinite, under}
@@ -34,8 +35,8 @@ unfolding answerOf
 all-pass setting label r (allPass m) n e = cc
 all-pass setting label r (failsAt m c d) n e = let z : _≡_ {A = ℕ} 0 1 = cc in absurd (omega arith)
 
-service-semantics : (n : ℕ) → 2 ≤ n → n ≤ 4 → isWithin 1 4 n ≡ true
-unfolding isWithin
+service-semantics : (n : ℕ) → 2 ≤ n → n ≤ 4 → between 1 4 n ≡ true
+unfolding between
 service-semantics n low high = rw (le-leb 1 n (omega arith), le-leb n 4 high)
 
 -- with the buffers of the second call long enough, none of its refusals is due
@@ -44,8 +45,8 @@ unfolding under refusals early ofSettings ofSheets orElse
 unrefused-moved c semantics table lent low high n same room =
     let (before, after) = none-of-either c n in
     let settings = none-due (early c) before in
-    let kind = and-true-0 (isWithin 1 8 (c .asked .kind)) (isWithin 1 4 (c .asked .semantics)) (is-set _ (settings .0)) in
-    let both : (isWithin 1 8 (c .asked .kind) && isWithin 1 4 semantics) ≡ true = rw (kind, service-semantics semantics low high) in
+    let kind = and-true-0 (between 1 8 (c .asked .kind)) (between 1 4 (c .asked .semantics)) (is-set _ (settings .0)) in
+    let both : (between 1 8 (c .asked .kind) && between 1 4 semantics) ≡ true = rw (kind, service-semantics semantics low high) in
     let lends = none-due (ofBuffers lent) room in
     let now = first-none (early (under c semantics table lent)) (ap not both, (settings .1 .0, (lends .0, (lends .1 .0, rw same at (settings .1 .1 .1 .1))))) in
     first-append (early (under c semantics table lent)) (ofSheets c) ∙ rw now after

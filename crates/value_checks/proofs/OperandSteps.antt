@@ -2,16 +2,15 @@
 use Prim.Native.Nat.{ℕ, _+_, _*_, _-_, _≤_, _<_}
 use native.Mathlib.Omega.{arith}
 use native.Mathlib.Nat.{eq-zero-or-pos}
-use mathlib.Core.Bool.{Bool, true, false, not, cond, _&&_, false≢true}
+use mathlib.Core.Bool.{Bool, true, false, false≢true}
 use mathlib.Core.List.{List, [], _∷_, append-nil}
 use mathlib.Core.Logic.{_⊎_, inl, inr, ⊎-elim}
-use mathlib.Core.Option.{Option, none, some, Option·none-ne-some}
+use mathlib.Core.Option.{none, some}
 use mathlib.Core.Path.{_≡_, refl, sym, ap, _∙_}
 use lib.ListN.{drop}
-use lib.Dec.{ltb, eqb}
+use lib.Dec.{ltb}
 use borrow.Author.Tests.{eq-eqb, ne-eqb, le-leb, lt-leb, le-ltb, lt-ltb}
 use Rattle.timestamp.specs.Instant.{instant}
-use Rattle.timestamp.specs.InstantLaws.{short-instant}
 use Rattle.timestamp.specs.declared.Fields.{Fields}
 use Rattle.sheet.specs.Entries.{ValueHead, valueHead}
 use Rattle.sheet.specs.RuleHeadLaws.{ValueHeadFits, valueHead-exact}
@@ -20,7 +19,7 @@ use Rattle.definition.specs.Tree.{Text, Schema, Value, constant, number, string
 use Rattle.reference.specs.Setting.{Setting}
 use Rattle.reference.specs.Reference.{Environment, beginsWithDollar}
 use Rattle.rule.specs.Index.{startOf, EntryAt, ValueAt}
-use Rattle.validation.specs.Check.{Binder, Question, settled, Check, check, failsIf, isNone, entryOf, isString, isHolder, referenceText, references, instantText, instantForm, instantOperand, affixOperand, compareSide, operand}
+use Rattle.validation.specs.Check.{Binder, Question, settled, Check, check, failsIf, isNone, entryOf, isString, isHolder, references, instantText, instantForm, instantOperand, affixOperand, compareSide, operand}
 use Rattle.validation.specs.Constant.{literalText, literalInstant}
 use Rattle.validation.specs.Judge.{CheckOutcome, outcome, environment, answer, answerIn}
 use Rattle.scope.specs.declared.binder.Scope.{Scope}
@@ -45,7 +44,7 @@ use Rattle.value_checks.specs.declared.verdict.Progress.{Progress}
 use Rattle.value_checks.proofs.Going.{goes-nothing, goes-then, goes-stopped}
 use Rattle.value_checks.proofs.NodeSteps.{othersOf, value-stands, others-stand, no-values-left, no-values-end}
 use Rattle.value_checks.proofs.LiteralSteps.{settled-outcome}
-use Rattle.value_checks.proofs.ReferenceSteps.{references-judged}
+use Rattle.value_checks.proofs.ReferenceSteps.{references-judged, reference-begins}
 
 -- What a value's head says of its form.
 
@@ -113,44 +112,21 @@ abbrev TextReadAs : Text → InstantRead → Type 0
 TextReadAs t r = ReadAs (instantText t) (literalText t) r
 
 pub instant-reference : (t : Text) → IsReference t true → TextReadAs t InstantRead.Reference
-unfolding referenceText instantText literalText formOf literalBy failsIf
-instant-reference [] h = absurd (Option·none-ne-some _ h)
-instant-reference (a ∷ []) h = by (eqb a 36) h
-  where
-    by : (d : Bool) → _≡_ {A = Option Text} (cond d (some []) none) (some []) → ReadAs (failsIf (not d) 2) (cond d none (instant (a ∷ []))) InstantRead.Reference
-    by true h = record { form = refl; fields = refl }
-    by false h = absurd (Option·none-ne-some _ h)
-instant-reference (a ∷ b ∷ t) h = by (eqb a 36) (eqb b 36) h
-  where
-    by : (d e : Bool) → _≡_ {A = Option Text} (cond (d && not e) (some (b ∷ t)) none) (some (b ∷ t))
-        → ReadAs (cond d (failsIf e 1) (failsIf (isNone (instant (a ∷ b ∷ t))) 2)) (cond d none (instant (a ∷ b ∷ t))) InstantRead.Reference
-    by true true h = absurd (Option·none-ne-some _ h)
-    by true false h = record { form = refl; fields = refl }
-    by false e h = absurd (Option·none-ne-some _ h)
+unfolding instantText literalText formOf literalBy failsIf isNone
+instant-reference t h = let dollar = reference-begins t h in record { form = rw (dollar, h); fields = rw dollar }
 
 -- text that begins with `$` and is no reference begins with `$$`
 pub instant-dollars : (t : Text) → IsReference t false → beginsWithDollar t ≡ true → TextReadAs t (Bad Escaped)
-unfolding referenceText beginsWithDollar instantText literalText formOf literalBy instantDetail failsIf
-instant-dollars [] h dollar = absurd (false≢true dollar)
-instant-dollars (a ∷ []) h dollar = absurd (Option·none-ne-some _ (sym (rw dollar at h)))
-instant-dollars (a ∷ b ∷ t) h dollar = by (eqb b 36) (rw dollar at h)
-  where
-    by : (e : Bool) → _≡_ {A = Option Text} (cond (not e) (some (b ∷ t)) none) none
-        → ReadAs (cond (eqb a 36) (failsIf e 1) (failsIf (isNone (instant (a ∷ b ∷ t))) 2)) (cond (eqb a 36) none (instant (a ∷ b ∷ t))) (Bad Escaped)
-    by true h = record { form = rw dollar; fields = rw dollar }
-    by false h = absurd (Option·none-ne-some _ (sym h))
+unfolding instantText literalText formOf literalBy instantDetail failsIf isNone
+instant-dollars t h dollar = record { form = rw (dollar, h); fields = rw dollar }
 
 pub instant-unread : (t : Text) → beginsWithDollar t ≡ false → instant t ≡ none → TextReadAs t (Bad Unreadable)
-unfolding beginsWithDollar instantText literalText formOf literalBy instantDetail failsIf isNone
-instant-unread [] e r = record { form = refl; fields = refl }
-instant-unread (a ∷ []) e r = record { form = rw e; fields = rw (e, r) }
-instant-unread (a ∷ b ∷ t) e r = record { form = rw (e, r); fields = rw (e, r) }
+unfolding instantText literalText formOf literalBy instantDetail failsIf isNone
+instant-unread t e r = record { form = rw (e, r); fields = rw (e, r) }
 
 pub instant-read : (t : Text) {f : Fields} → beginsWithDollar t ≡ false → instant t ≡ some f → TextReadAs t (InstantRead.Literal f)
-unfolding beginsWithDollar instantText literalText formOf literalBy failsIf isNone
-instant-read [] {f} e r = absurd (Option·none-ne-some f (sym (short-instant [] (omega arith)) ∙ r))
-instant-read (a ∷ []) {f} e r = absurd (Option·none-ne-some f (sym (short-instant (a ∷ []) (omega arith)) ∙ r))
-instant-read (a ∷ b ∷ t) e r = record { form = rw (e, r); fields = rw (e, r) }
+unfolding instantText literalText formOf literalBy failsIf isNone
+instant-read t e r = record { form = rw (e, r); fields = rw (e, r) }
 
 pub form-instant : {e : ℕ} {t text : Text} {r : InstantRead} (v : Value) → v ≡ string e t → text ≡ t → TextReadAs text r
     → ReadAs (instantForm v) (literalInstant v) r

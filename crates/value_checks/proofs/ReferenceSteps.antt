@@ -1,13 +1,12 @@
 -- The references of a value, step by step.
 use Prim.Native.Nat.{ℕ, _+_, _-_, _≤_, _<_}
 use native.Mathlib.Omega.{arith}
-use mathlib.Core.Bool.{Bool, true, false}
+use mathlib.Core.Bool.{Bool, true, false, not, cond, _&&_, false≢true}
 use mathlib.Core.List.{List, [], _∷_, _++_}
-use mathlib.Core.Option.{Option, none, some}
+use mathlib.Core.Option.{Option, none, some, Option·none-ne-some}
 use mathlib.Core.Path.{_≡_, refl, sym, ap, ap₂, subst, _∙_}
-use lib.ListN.{length, getD, take, drop, length-drop}
+use lib.ListN.{length, take, drop, length-drop}
 use lib.Seq.{take-all}
-use borrow.Author.Tests.{eq-eqb, ne-eqb}
 use Rattle.sheet.specs.Entries.{ValueHead, constantHead, numberHead, stringHead, arrayHead, objectHead, valueHead}
 use Rattle.sheet.specs.Parts.{partOf}
 use Rattle.sheet.specs.RuleHeadLaws.{valueHead-exact}
@@ -15,7 +14,7 @@ use Rattle.sheet.specs.declared.part.Part.{Part}
 use Rattle.definition.specs.Tree.{Text, Schema, Value, constant, number, string, array, object, Values, noValues, value, Pairs, noPairs, pair}
 use Rattle.reference.specs.Setting.{Setting}
 use Rattle.reference.specs.Walk.{Reached, refused, unknown, known}
-use Rattle.reference.specs.Reference.{Environment, reference}
+use Rattle.reference.specs.Reference.{Environment, reference, beginsWithDollar}
 use Rattle.definition.specs.Within.{valueEntries}
 use Rattle.rule.specs.Index.{startOf}
 use Rattle.walk.specs.Answers.{IsReached, ReadableIs}
@@ -41,37 +40,36 @@ use Rattle.value_checks.proofs.LiteralSteps.{says-other, says-typed}
 
 -- Texts.
 
-pub empty-none : (t : Text) → length t ≡ 0 → referenceText t ≡ none
-unfolding referenceText
-empty-none [] h = refl
-empty-none (b ∷ t) h = absurd (omega arith)
-
-pub dollar-alone : (t : Text) → getD t 0 0 ≡ 36 → length t ≡ 1 → referenceText t ≡ some (drop 1 t)
-unfolding referenceText
-dollar-alone [] e h = absurd (omega arith)
-dollar-alone (a ∷ []) e h = rw (eq-eqb a 36 e)
-dollar-alone (a ∷ b ∷ t) e h = absurd (omega arith)
-
-pub dollars-none : (t : Text) → getD t 0 0 ≡ 36 → (length t ≡ 0 → ⊥) → (length t ≡ 1 → ⊥) → getD t 1 0 ≡ 36 → referenceText t ≡ none
-unfolding referenceText
-dollars-none [] e h k f = absurd (h refl)
-dollars-none (a ∷ []) e h k f = absurd (k refl)
-dollars-none (a ∷ b ∷ t) e h k f = rw (eq-eqb a 36 e, eq-eqb b 36 f)
-
-pub dollar-some : (t : Text) → getD t 0 0 ≡ 36 → (length t ≡ 0 → ⊥) → (length t ≡ 1 → ⊥) → (getD t 1 0 ≡ 36 → ⊥) → referenceText t ≡ some (drop 1 t)
-unfolding referenceText
-dollar-some [] e h k f = absurd (h refl)
-dollar-some (a ∷ []) e h k f = absurd (k refl)
-dollar-some (a ∷ b ∷ t) e h k f = rw (eq-eqb a 36 e, ne-eqb b 36 f)
-
-pub other-none : (t : Text) → (getD t 0 0 ≡ 36 → ⊥) → (length t ≡ 0 → ⊥) → referenceText t ≡ none
-unfolding referenceText
-other-none [] e h = absurd (h refl)
-other-none (a ∷ []) e h = rw (ne-eqb a 36 e)
-other-none (a ∷ b ∷ t) e h = rw (ne-eqb a 36 e)
-
 pub behind-dollar : (t : Text) → take (length t - 1) (drop 1 t) ≡ drop 1 t
 behind-dollar t = take-all (length t - 1) (drop 1 t) (omega (arith, length-drop 1 t))
+
+pub dollar-long : (t : Text) → beginsWithDollar t ≡ true → 0 < length t
+unfolding beginsWithDollar
+dollar-long [] e = absurd (false≢true e)
+dollar-long (a ∷ t) e = omega arith
+
+pub other-none : (t : Text) {first : Bool} → first ≡ beginsWithDollar t → first ≡ false → IsReference t false
+unfolding referenceText
+other-none [] e f = refl
+other-none (a ∷ t) e f = rw (← e, f)
+
+pub dollar-then : (t : Text) {first : Bool} (second : Bool) → first ≡ beginsWithDollar t → first ≡ true → second ≡ beginsWithDollar (take (length t - 1) (drop 1 t)) → IsReference t (not second)
+unfolding referenceText beginsWithDollar
+dollar-then [] second e f q = absurd (false≢true (sym e ∙ f))
+dollar-then (a ∷ t) second e f q = by second (q ∙ ap beginsWithDollar (behind-dollar (a ∷ t)))
+  where
+    by : (d : Bool) → d ≡ beginsWithDollar t → IsReference (a ∷ t) (not d)
+    by true p = rw (← e, f, ← p)
+    by false p = rw (← e, f, ← p)
+
+pub reference-begins : (t : Text) {u : Text} → referenceText t ≡ some u → beginsWithDollar t ≡ true
+unfolding referenceText
+reference-begins [] {u} h = absurd (Option·none-ne-some u h)
+reference-begins (a ∷ t) {u} h = by (beginsWithDollar (a ∷ t)) (beginsWithDollar t) h
+  where
+    by : (d e : Bool) → cond (d && not e) (some t) none ≡ some u → d ≡ true
+    by true e h = refl
+    by false e h = absurd (Option·none-ne-some u h)
 
 -- One reference.
 
@@ -88,9 +86,7 @@ reached-verdict unknown h = refl
 reached-verdict (known f) h = refl
 
 pub reference-long : (t : Text) → IsReference t true → 1 ≤ length t
-unfolding referenceText
-reference-long [] e = let z : _≡_ {A = Option Text} none (some (drop 1 [])) = e in let y : _≡_ {A = ℕ} 0 1 = cc in omega arith
-reference-long (b ∷ t) e = omega arith
+reference-long t e = dollar-long t (reference-begins t e)
 
 no-string : (binders : List Binder) (e : ℕ) (h : ValueHead) → (53 ≡ 48 + typeIn h → ⊥) → referenceSays binders e h ≡ []
 unfolding referenceSays typeIn

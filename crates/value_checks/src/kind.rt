@@ -9,9 +9,9 @@ ghost use lib.ListN.{getD};
 ghost use Rattle.value_checks.specs.Kinds.{OperatorAt, TypeAt, HasType, TextAt};
 
 // The type's digits that the checks tell apart (docs/FORMAT.md, "The rule sheet").
-pub const NUMBER: u8 = b'4';
+pub const NUMBER: u8 = b'0' + sheet::rule_heads::NUMBER as u8;
 
-pub const STRING: u8 = b'5';
+pub const STRING: u8 = b'0' + sheet::rule_heads::STRING as u8;
 
 // The byte `n` places after place `at`, 0 where there is none.
 fn byte_after(s: &[u8], at: usize, n: usize) -> u8

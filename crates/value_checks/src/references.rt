@@ -11,6 +11,7 @@ use crate::verdict::going;
 use crate::verdict::pass;
 use rule::index::start_of;
 use scope::binder::Scope;
+use scope::collections::begins_with_dollar;
 use scope::references::validate_reference;
 use sheet::part::bytes_of;
 use walk::answer::Readable;
@@ -21,17 +22,8 @@ ghost use Rattle.value_checks.specs.Frames.{frame, IsReference, Referenc
 pub fn is_reference(text: &[u8]) -> bool
     ensures { λ r. ⌜ IsReference (now (text .entry)) r ⌝ }
 {
-    if text.len() == 0 {
-        return false;
-    }
-    if text[0] == b'$' {
-        if text.len() == 1 {
-            return true;
-        }
-        if text[1] == b'$' {
-            return false;
-        }
-        return true;
+    if begins_with_dollar(text) {
+        return !begins_with_dollar(&text[1..]);
     }
     false
 }

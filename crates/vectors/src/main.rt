@@ -3,7 +3,9 @@
 // begin with # may come before the first case.
 use libc::STDIN_FILENO;
 use libc::STDOUT_FILENO;
+use printed_answer::LINE_BYTES;
 use printed_answer::output;
+use text::is_digit;
 ghost use Prim.Native.Nat.{_≤_};
 ghost use mathlib.Core.Bool.{cond};
 ghost use mathlib.Core.Path.{_≡_};
@@ -18,9 +20,6 @@ const CASE_BYTES: usize = 131072;
 
 // More than any list has.
 const MAX_CASES: u64 = 65536;
-
-// Room enough for every line that is printed.
-const LINE_BYTES: usize = 32835;
 
 // Larger numbers are read as this one.
 const TOO_LARGE: usize = 1000000;
@@ -88,15 +87,13 @@ fn grown(value: usize, b: u8) -> usize
     requires { ⌜ value ≤ 1000000 ⌝ }
     ensures { λ r. ⌜ r ≤ 1000000 ⌝ }
 {
-    if b < b'0' {
-        return TOO_LARGE;
+    if is_digit(b) {
+        let next = value * 10 + (b as usize - 48);
+        if next < TOO_LARGE {
+            return next;
+        }
     }
-    let digit = (b - b'0') as usize;
-    if 9 < digit {
-        return TOO_LARGE;
-    }
-    let next = value * 10 + digit;
-    if next < TOO_LARGE { next } else { TOO_LARGE }
+    TOO_LARGE
 }
 
 // The number from `at` on up to the byte `stop`.

@@ -8,7 +8,8 @@ use mathlib.Core.Path.{_≡_, refl, sym, _∙_}
 use lib.Dec.{eqb}
 use lib.ListN.{length, drop, getD, drop-of-length-le}
 use lib.Seq.{drop-cons}
-use borrow.Author.Tests.{ne-eqb, le-leb, lt-leb}
+use borrow.Author.Tests.{ne-eqb}
+use Rattle.text.specs.Decimal.{isDigit}
 use Rattle.reference.specs.Path.{isDigits, isOrdinal}
 use Rattle.sheet.specs.Order.{sameBytes}
 use Rattle.sheet.specs.Ascii.{ascii}
@@ -16,17 +17,13 @@ use Rattle.sheet.specs.Ascii.{ascii}
 abbrev pub SoFar : List ℕ → ℕ → Type 0
 SoFar s i = isDigits s ≡ isDigits (drop i s)
 
-pub digit-passed : (s : List ℕ) (i : ℕ) → SoFar s i → i < length s → 48 ≤ getD s i 0 → getD s i 0 ≤ 57 → SoFar s (i + 1)
+pub digit-passed : (s : List ℕ) (i : ℕ) {r : Bool} → SoFar s i → i < length s → r ≡ isDigit (getD s i 0) → r ≡ true → SoFar s (i + 1)
 unfolding isDigits
-digit-passed s i h less low high = h ∙ rw (add-one, drop-cons s i 0, le-leb 48 (getD s i 0) low, le-leb (getD s i 0) 57 high)
+digit-passed s i h less q t = h ∙ rw (add-one, drop-cons s i 0, ← q, t)
 
-pub below-digits : (s : List ℕ) (i : ℕ) → SoFar s i → i < length s → getD s i 0 < 48 → false ≡ isDigits s
+pub digits-broken : (s : List ℕ) (i : ℕ) {r : Bool} → SoFar s i → i < length s → r ≡ isDigit (getD s i 0) → r ≡ false → false ≡ isDigits s
 unfolding isDigits
-below-digits s i h less low = sym (h ∙ rw (drop-cons s i 0, lt-leb 48 (getD s i 0) low))
-
-pub above-digits : (s : List ℕ) (i : ℕ) → SoFar s i → i < length s → 48 ≤ getD s i 0 → 57 < getD s i 0 → false ≡ isDigits s
-unfolding isDigits
-above-digits s i h less low high = sym (h ∙ rw (drop-cons s i 0, le-leb 48 (getD s i 0) low, lt-leb (getD s i 0) 57 high))
+digits-broken s i h less q f = sym (h ∙ rw (drop-cons s i 0, ← q, f))
 
 pub digits-ended : (s : List ℕ) (i : ℕ) → SoFar s i → length s ≤ i → true ≡ isDigits s
 unfolding isDigits

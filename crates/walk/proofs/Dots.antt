@@ -7,13 +7,12 @@ use mathlib.Core.List.{List, [], _∷_, _++_, append-nil, append-assoc}
 use mathlib.Core.Path.{_≡_, refl, ap, sym, _∙_}
 use lib.ListN.{length, take, drop, getD, drop-of-length-le}
 use lib.Seq.{drop-cons, take-suc, take-all}
-use lib.Dec.{eqb}
-use mathlib.Core.Bool.{Bool, true, not, _&&_, and-eq-true-iff}
-use borrow.Author.Tests.{eq-eqb, ne-eqb, eqb-false, not-true}
+use lib.Dec.{eqb, ltb}
+use mathlib.Core.Bool.{Bool, true, false, not, _&&_, and-eq-true-iff}
+use borrow.Author.Tests.{eq-eqb, ne-eqb, eqb-false, ltb-true, ltb-false, not-true}
 use Rattle.reference.specs.Path.{Segments, split, cut, extend}
 use Rattle.text.proofs.Below.{below-more, reached}
-use Rattle.walk.specs.Dots.{Cuts, Ends, DotlessAt, DotlessStart}
-use Rattle.walk.specs.declared.path.Dot.the-variants.{At, Nowhere}
+use Rattle.walk.specs.Dots.{isMore, Ends, DotlessAt, DotlessStart}
 
 -- a segment's beginning, in front of what is left to split
 unfoldable pub behind : List ℕ → Segments → Segments
@@ -120,10 +119,9 @@ ends-all path i h within end =
 pub segments-are : (p : Segments) {x : List ℕ} {y : List (List ℕ)} → p .first ≡ x → p .others ≡ y → p ≡ record { first = x; others = y }
 segments-are p e f = rw (← e, ← f)
 
-pub cuts-at : (path : List ℕ) (n : ℕ) → Ends path n → n < length path → Cuts path (At n)
-cuts-at path n ends less = (less, segments-are (split path) (ends .first) (ends .more less))
-
-pub cuts-nowhere : (path : List ℕ) (n : ℕ) → Ends path n → length path ≤ n → Cuts path Nowhere
-cuts-nowhere path n ends end =
-    let e : n ≡ length path = omega (arith, ends .within) in
-    segments-are (split path) (ends .first ∙ take-all n path end) (ends .last e)
+pub ends-more : (path : List ℕ) (n : ℕ) → Ends path n → ltb n (length path) ≡ isMore (split path .others)
+ends-more path n ends = by (ltb n (length path)) refl
+  where
+    by : (b : Bool) → ltb n (length path) ≡ b → b ≡ isMore (split path .others)
+    by true e = rw (ends .more (ltb-true n (length path) e))
+    by false e = let f : n ≡ length path = omega (arith, ltb-false n (length path) e, ends .within) in rw (ends .last f)

@@ -1,18 +1,17 @@
 -- What the first dot of a path separates.
 use Prim.Native.Nat.{ℕ, _+_, _≤_, _<_}
 use Prim.Native.Char.{code}
+use mathlib.Core.Bool.{Bool, true, false}
 use mathlib.Core.List.{List, [], _∷_}
 use mathlib.Core.Path.{_≡_}
 use lib.ListN.{length, take, drop, getD}
+use Rattle.definition.specs.Tree.{Text}
 use Rattle.reference.specs.Path.{split}
-use Rattle.walk.specs.declared.path.Dot.{Dot}
-use Rattle.walk.specs.declared.path.Dot.the-variants.{At, Nowhere}
 
-abbrev pub Cuts : List ℕ → Dot → Type 0
-Cuts path (At d) =
-    (d < length path)
-    × (split path ≡ record { first = take d path; others = split (drop (d + 1) path) .first ∷ split (drop (d + 1) path) .others })
-Cuts path Nowhere = split path ≡ record { first = path; others = [] }
+-- a segment follows the first
+abbrev pub isMore : List Text → Bool
+isMore [] = false
+isMore (s ∷ others) = true
 
 -- the first segment is the first `n` bytes, and what is left follows the dot after it
 pub record Ends (path : List ℕ) (n : ℕ) : Type 0 where

@@ -1,20 +1,14 @@
 // Paths: segments separated by dots.
 use sheet::order::ByteOrder;
 use sheet::order::compare;
+use text::is_digit;
 ghost use mathlib.Core.Path.{_≡_};
 ghost use mathlib.Core.Bool.{true};
 ghost use Prim.Native.Nat.{_+_, _≤_};
 ghost use lib.ListN.{length};
-ghost use Rattle.reference.specs.Path.{isDigits, isOrdinal, isCount};
+ghost use Rattle.reference.specs.Path.{split, isDigits, isOrdinal, isCount};
 ghost use Rattle.sheet.specs.Order.{sameBytes};
-ghost use Rattle.walk.specs.Dots.{Cuts, Ends, DotlessAt, DotlessStart};
-
-// Where a path is cut.
-pub enum Dot {
-    At(usize),
-    // The path is one segment.
-    Nowhere,
-}
+ghost use Rattle.walk.specs.Dots.{isMore, Ends, DotlessAt, DotlessStart};
 
 // Whether eight bytes have no dot. `&` leaves none of them out, so that the compiler compares them at once.
 fn is_dotless_8(path: &[u8], i: usize) -> bool
@@ -42,8 +36,8 @@ fn is_dotless_32(path: &[u8], i: usize) -> bool
         & is_dotless_8(path, i + 24)
 }
 
-// How many bytes at the start are passed over by pieces of 32 bytes that have no dot. Both callers ask for long paths only: with two of them it
-// stays a call, and the search of a short path is built into its callers.
+// How many bytes at the start are passed over by pieces of 32 bytes that have no dot. With two callers it stays a call, and the
+// search of a short path is built into the callers of `first_end`.
 fn dotless_start_32(path: &[u8]) -> usize
     ensures { λ r. ⌜ DotlessStart (now (path .entry)) r ⌝ }
 {
@@ -100,19 +94,11 @@ pub fn first_end(path: &[u8]) -> usize
     end_after(path, known)
 }
 
-// The first dot of a path.
-pub fn first_dot(path: &[u8]) -> Dot
-    ensures { λ r. ⌜ Cuts (now (path .entry)) r ⌝ }
+// Whether a path has a dot, and so more than one segment.
+pub fn has_dot(path: &[u8]) -> bool
+    ensures { λ r. ⌜ r ≡ isMore (split (now (path .entry)) .others) ⌝ }
 {
-    let mut known = 0;
-    if 32 <= path.len() {
-        known = dotless_start_32(path);
-    }
-    let end = end_after(path, known);
-    if end < path.len() {
-        return Dot::At(end);
-    }
-    Dot::Nowhere
+    end_after(path, dotless_start_32(path)) < path.len()
 }
 
 fn is_digits(segment: &[u8]) -> bool
@@ -120,14 +106,11 @@ fn is_digits(segment: &[u8]) -> bool
 {
     let mut i = 0;
     while i < segment.len() {
-        let b = segment[i];
-        if b < b'0' {
+        if is_digit(segment[i]) {
+            i += 1;
+        } else {
             return false;
         }
-        if b'9' < b {
-            return false;
-        }
-        i += 1;
     }
     true
 }

@@ -8,10 +8,10 @@ use mathlib.Core.Path.{_≡_, _∙_}
 use lib.ListN.{length, take, getD, length-append, length-map, replicate-append-replicate, length-take}
 use lib.Seq.{take-suc, take-all}
 use borrow.Author.Tests.{le-leb, lt-leb}
+use Rattle.text.specs.Utf8.{between}
 use Rattle.sheet.specs.Ascii.{ascii}
 use Rattle.buffer.specs.Wrote.{Wrote}
 use Rattle.buffer.specs.WroteLaws.{wrote-nothing, wrote-then}
-use Rattle.validation.specs.Result.{isWithin}
 use Rattle.wall.specs.Pages.{width, blanks, column, inColumns, shown, cut, lineOf, line, blankLine, heading, foot}
 use Rattle.wall.specs.LineLaws.{column-none, column-one, column-last, column-size, cut-size, front-size}
 use Rattle.wall.specs.Writing.{field, lineEnd, pathEnd}
@@ -70,15 +70,15 @@ line-ended missing u w = wrote-then u w
 -- The path.
 
 pub shown-below : (b : ℕ) → b < 32 → 63 ≡ shown b
-unfolding shown isWithin
+unfolding shown between
 shown-below b low = rw (lt-leb 32 b low)
 
 pub shown-above : (b : ℕ) → 126 < b → 63 ≡ shown b
-unfolding shown isWithin
+unfolding shown between
 shown-above b high = rw (lt-leb b 126 high, and-false)
 
 pub shown-same : (b : ℕ) → 32 ≤ b → b ≤ 126 → b ≡ shown b
-unfolding shown isWithin
+unfolding shown between
 shown-same b low high = rw (le-leb 32 b low, le-leb b 126 high)
 
 pub more-shown : (bytes : List ℕ) (i : ℕ) {before middle after : List ℕ} {at m next : ℕ} {b : ℕ} → i < length bytes
@@ -100,7 +100,7 @@ pub path-cut : (path : List ℕ) {before middle later after : List ℕ} {at m n 
     → Wrote middle later m (62 ∷ []) n
     → Wrote later after n (lineEnd 0) next
     → Wrote before after at (pathEnd path) next
-unfolding pathEnd cut ascii shown isWithin
+unfolding pathEnd cut ascii shown between
 path-cut path more u v w =
     let size : length (take 54 path) ≡ 54 = length-take 54 path ∙ omega arith in
     let full : 55 - length (take 54 path ++ (62 ∷ [])) ≡ 0 = rw (length-append (take 54 path) (62 ∷ [])) (omega arith) in

@@ -4,9 +4,10 @@ use mathlib.Core.Bool.{cond}
 use mathlib.Core.List.{List, [], _∷_, _++_, map, flatten}
 use lib.Dec.{leb}
 use lib.ListN.{length, take, drop, replicate}
+use Rattle.text.specs.Utf8.{between}
 use Rattle.sheet.specs.Ascii.{ascii}
 use Rattle.sheet.specs.Numeral.{decimalOf}
-use Rattle.validation.specs.Result.{Answer, refused, accepted, defect, isWithin}
+use Rattle.validation.specs.Result.{Answer, refused, accepted, defect}
 use Rattle.rule_book.specs.Tally.{countOf}
 
 -- columns of a line
@@ -35,7 +36,7 @@ inColumns ((columns, n) ∷ more) = column columns n ++ (ascii " " ++ inColumns 
 
 -- a byte as it is printed
 unfoldable pub shown : ℕ → ℕ
-shown b = cond (isWithin 32 126 b) b 63
+shown b = cond (between 32 126 b) b 63
 
 -- a text in so many columns: a longer one is cut, with `>` in the last of them
 unfoldable pub cut : (columns : ℕ) → List ℕ → List ℕ

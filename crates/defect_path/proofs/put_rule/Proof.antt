@@ -22,11 +22,11 @@ returns c = root-refused (c .before .before .before .start-of .ensures) (rw (c .
 returns-2 : tie.Need-returns-2
 returns-2 c = root-nowhere (c .if1 .taken)
 
-sub-wide : tie.Need-sub-wide
-sub-wide c = search needs
+sub-to-size : tie.Need-sub-to-size
+sub-to-size c = search needs
 
-wide-requires : tie.Need-wide-requires
-wide-requires c κs = search needs
+to-size-requires : tie.Need-to-size-requires
+to-size-requires c κs = search needs
 
 enum-told-2 : tie.Need-enum-told-2
 enum-told-2 c = search needs
@@ -45,14 +45,14 @@ same-length c = search needs
 
 returns-3 : tie.Need-returns-3
 unfolding ruleOf
-returns-3 c = root-rule (c .before .before .before .before .before .before .before .before .before .before .before .before .start-of .ensures) (c .before .before .before .before .before .before .wide .ensures) (c .before .before .before .before .before .before .before .if1 .left) ((rw (c .before .before .before .before .enum-told2 .given .1) at (rw (c .before .before .before .before .before .before .before .before .before .head .given .1) at (c .before .before .before .before .before .before .before .before .before .before .before .rule-head .ensures))) .reads) (c .before .before .put-assert .ensures)
+returns-3 c = root-rule (c .before .before .before .before .before .before .before .before .before .before .before .before .start-of .ensures) (c .before .before .before .before .before .before .to-size .ensures) (c .before .before .before .before .before .before .before .if1 .left) ((rw (c .before .before .before .before .enum-told2 .given .1) at (rw (c .before .before .before .before .before .before .before .before .before .head .given .1) at (c .before .before .before .before .before .before .before .before .before .before .before .rule-head .ensures))) .reads) (c .before .before .put-assert .ensures)
 
 same-length-2 : tie.Need-same-length-2
 same-length-2 c = search needs
 
 returns-4 : tie.Need-returns-4
 unfolding ruleOf
-returns-4 c = root-template (c .before .before .before .before .before .before .before .before .before .before .before .before .start-of .ensures) (c .before .before .before .before .before .before .wide .ensures) (c .before .before .before .before .before .before .before .if1 .left) ((rw (c .before .before .before .before .enum-told3 .given .1) at (rw (c .before .before .before .before .before .before .before .before .before .head .given .1) at (c .before .before .before .before .before .before .before .before .before .before .before .rule-head .ensures))) .reads) (c .before .before .put-value .ensures)
+returns-4 c = root-template (c .before .before .before .before .before .before .before .before .before .before .before .before .start-of .ensures) (c .before .before .before .before .before .before .to-size .ensures) (c .before .before .before .before .before .before .before .if1 .left) ((rw (c .before .before .before .before .enum-told3 .given .1) at (rw (c .before .before .before .before .before .before .before .before .before .head .given .1) at (c .before .before .before .before .before .before .before .before .before .before .before .rule-head .ensures))) .reads) (c .before .before .put-value .ensures)
 
 pub put-rule-spec : {M : Type 1} → statement M
 put-rule-spec =
@@ -64,8 +64,8 @@ put-rule-spec =
     enum-told
     returns
     returns-2
-    sub-wide
-    wide-requires
+    sub-to-size
+    to-size-requires
     enum-told-2
     put-assert-requires
     enum-told-3

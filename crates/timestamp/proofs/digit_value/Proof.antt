@@ -1,7 +1,9 @@
 -- `timestamp::digit_value` meets its contract.
 use native.Mathlib.Omega.{arith}
+use mathlib.Core.Path.{sym, _∙_}
 use borrow.Author.Needs.{needs}
-use Rattle.timestamp.proofs.Laws.{digit-range, digit-worth, digit-none}
+use Rattle.text.proofs.Decimal.{isDigit-range}
+use Rattle.timestamp.proofs.Laws.{digit-worth, digit-none}
 use Rattle.timestamp.proofs.digit_value.Statement.{statement}
 use Rattle.timestamp.proofs.digit_value.Tie as tie
 
@@ -9,11 +11,11 @@ is-digit-requires : tie.Need-is-digit-requires
 is-digit-requires c κs = search needs
 
 sub-result : tie.Need-sub-result
-sub-result c = let r = digit-range (c .before .before .args .b) (c .before .is-digit .ensures) (c .if1 .taken) in omega arith
+sub-result c = let r = isDigit-range (c .before .before .args .b) (sym (c .before .is-digit .ensures) ∙ c .if1 .taken) in omega arith
 
 returns : tie.Need-returns
 returns c =
-    let r = digit-range (c .before .before .args .b) (c .before .is-digit .ensures) (c .if1 .taken) in
+    let r = isDigit-range (c .before .before .args .b) (sym (c .before .is-digit .ensures) ∙ c .if1 .taken) in
     (digit-worth (c .before .before .args .b) (c .before .is-digit .ensures) (c .if1 .taken), omega arith)
 
 returns-2 : tie.Need-returns-2

@@ -3,7 +3,8 @@ use native.Mathlib.Omega.{arith}
 use borrow.Author.Needs.{needs}
 use mathlib.Core.Path.{_≡_, refl, sym, ap, _∙_}
 use Prim.Native.Nat.{_+_}
-use Rattle.timestamp.specs.Instant.{isDigit, skipDigits}
+use Rattle.text.specs.Decimal.{isDigit}
+use Rattle.timestamp.specs.Instant.{skipDigits}
 use Rattle.timestamp.proofs.Laws.{skip-digit, skip-stop, skip-none}
 use Rattle.timestamp.proofs.fraction_end.Statement.{statement}
 use Rattle.timestamp.proofs.fraction_end.Tie as tie

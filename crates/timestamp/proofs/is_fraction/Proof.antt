@@ -3,7 +3,8 @@ use borrow.Author.Needs.{needs}
 use mathlib.Core.Path.{ap, _∙_}
 use lib.Dec.{eqb}
 use borrow.Author.Tests.{eq-eqb, ne-eqb}
-use Rattle.timestamp.specs.Instant.{isDigit, isEnd, isFraction}
+use Rattle.text.specs.Decimal.{isDigit}
+use Rattle.timestamp.specs.Instant.{isEnd, isFraction}
 use Rattle.text.proofs.Bools.{and-taken, and-none}
 use Rattle.timestamp.proofs.is_fraction.Statement.{statement}
 use Rattle.timestamp.proofs.is_fraction.Tie as tie

@@ -1,7 +1,8 @@
 -- `timestamp::is_two` meets its contract.
 use borrow.Author.Needs.{needs}
 use mathlib.Core.Path.{ap, _∙_}
-use Rattle.timestamp.specs.Instant.{isDigit, isTwo}
+use Rattle.text.specs.Decimal.{isDigit}
+use Rattle.timestamp.specs.Instant.{isTwo}
 use Rattle.text.proofs.Bools.{and-taken, and-left}
 use Rattle.timestamp.proofs.is_two.Statement.{statement}
 use Rattle.timestamp.proofs.is_two.Tie as tie

@@ -5,8 +5,8 @@ use mathlib.Core.Path.{_≡_, refl, sym, _∙_}
 use native.Mathlib.Omega.{arith}
 use borrow.Author.Needs.{needs}
 use lib.ListN.{length, drop}
+use Rattle.text.proofs.Decimal.{isDigit-range}
 use Rattle.sheet.specs.Numeral.{digits}
-use Rattle.sheet.specs.NumeralLaws.{isDigit-range}
 use Rattle.sheet.proofs.Numerals.{digits-end, digits-stop, digits-more}
 use Rattle.rule_book.proofs.SheetSteps.{digits-beyond}
 use Rattle.rule_book.proofs.sheets.digits.Statement.{statement}

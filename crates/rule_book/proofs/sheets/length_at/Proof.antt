@@ -1,6 +1,6 @@
 -- `rule_book::sheets::length_at` meets its contract: a numeral by its first byte.
 use mathlib.Core.Path.{sym, _∙_}
-use Rattle.sheet.specs.NumeralLaws.{isDigit-range}
+use Rattle.text.proofs.Decimal.{isDigit-range}
 use Rattle.sheet.proofs.Numerals.{decimal-zero}
 use Rattle.rule_book.proofs.SheetSteps.{length-end, length-none, length-some}
 use native.Mathlib.Omega.{arith}

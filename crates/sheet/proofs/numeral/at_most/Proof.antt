@@ -2,7 +2,7 @@
 use native.Mathlib.Omega.{arith}
 use borrow.Author.Needs.{needs}
 use mathlib.Core.Path.{sym, _∙_}
-use Rattle.sheet.specs.NumeralLaws.{isDigit-range}
+use Rattle.text.proofs.Decimal.{isDigit-range}
 use Rattle.sheet.proofs.Numerals.{decimal-end, decimal-zero, decimal-none, decimal-some}
 use Rattle.sheet.proofs.numeral.at_most.Statement.{statement}
 use Rattle.sheet.proofs.numeral.at_most.Tie as tie

@@ -5,8 +5,8 @@ use mathlib.Core.Path.{_≡_, refl, sym, _∙_}
 use native.Mathlib.Omega.{arith}
 use borrow.Author.Needs.{needs}
 use lib.ListN.{length, drop}
+use Rattle.text.proofs.Decimal.{isDigit-range}
 use Rattle.sheet.specs.Numeral.{digits}
-use Rattle.sheet.specs.NumeralLaws.{isDigit-range}
 use Rattle.sheet.proofs.Numerals.{digits-end, digits-stop, digits-more, digits-above}
 use Rattle.sheet.proofs.numeral.digits.Statement.{statement}
 use Rattle.sheet.proofs.numeral.digits.Tie as tie
@@ -17,8 +17,8 @@ Inv-loop s at first high most value₀ i₀ value i = (digits value (drop i s) �
 abbrev μ-loop : tie.MeasureT-loop
 μ-loop s at first high most value₀ i₀ value i = length s - i
 
-wide-requires : tie.Need-wide-requires Inv-loop μ-loop
-wide-requires c κs = search needs
+to-size-requires : tie.Need-to-size-requires Inv-loop μ-loop
+to-size-requires c κs = search needs
 
 loop-holds : tie.Need-loop-holds Inv-loop μ-loop
 loop-holds c = (refl, omega arith, omega arith)
@@ -75,7 +75,7 @@ digits-spec =
     (tie.spec
     Inv-loop
     μ-loop
-    wide-requires
+    to-size-requires
     loop-holds
     returns
     shared-slice-read-b

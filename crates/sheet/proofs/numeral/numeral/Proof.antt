@@ -17,8 +17,8 @@ enum-told c = search needs
 returns : tie.Need-returns
 returns c = let e = rw (c .enum-told .given .1) at (c .before .before .at-most .ensures) in e (c .before .before .before .before .args .low)
 
-wide-requires : tie.Need-wide-requires
-wide-requires c κs = search needs
+to-size-requires : tie.Need-to-size-requires
+to-size-requires c κs = search needs
 
 returns-2 : tie.Need-returns-2
 returns-2 c =
@@ -32,4 +32,4 @@ returns-3 c =
 
 pub numeral-spec : {M : Type 1} → statement M
 numeral-spec =
-    tie.close (tie.spec at-most-requires enum-known-n enum-told returns wide-requires returns-2 returns-3)
+    tie.close (tie.spec at-most-requires enum-known-n enum-told returns to-size-requires returns-2 returns-3)

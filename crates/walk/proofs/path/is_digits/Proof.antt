@@ -1,7 +1,7 @@
 -- `walk::path::is_digits` meets its contract.
 use Prim.Native.Nat.{_≤_, _-_}
 use lib.ListN.{length}
-use Rattle.walk.proofs.Digits.{SoFar, digit-passed, below-digits, above-digits, digits-ended}
+use Rattle.walk.proofs.Digits.{SoFar, digit-passed, digits-broken, digits-ended}
 use borrow.Author.Needs.{needs}
 use Rattle.walk.proofs.path.is_digits.Statement.{statement}
 use Rattle.walk.proofs.path.is_digits.Tie as tie
@@ -15,14 +15,11 @@ abbrev μ-loop : tie.MeasureT-loop
 loop-holds : tie.Need-loop-holds Inv-loop μ-loop
 loop-holds c = search needs
 
-shared-slice-read-b : tie.Need-shared-slice-read-b Inv-loop μ-loop
-shared-slice-read-b c = search needs
+shared-slice-read-is-digit : tie.Need-shared-slice-read-is-digit Inv-loop μ-loop
+shared-slice-read-is-digit c = search needs
 
-returns : tie.Need-returns Inv-loop μ-loop
-returns c = search (below-digits, needs)
-
-returns-2 : tie.Need-returns-2 Inv-loop μ-loop
-returns-2 c = search (above-digits, needs)
+is-digit-requires : tie.Need-is-digit-requires Inv-loop μ-loop
+is-digit-requires c κs = search needs
 
 add-i : tie.Need-add-i Inv-loop μ-loop
 add-i c = search needs
@@ -33,8 +30,11 @@ loop-less c = search needs
 loop-again : tie.Need-loop-again Inv-loop μ-loop
 loop-again c = search (digit-passed, needs)
 
-returns-3 : tie.Need-returns-3 Inv-loop μ-loop
-returns-3 c = search (digits-ended, needs)
+returns : tie.Need-returns Inv-loop μ-loop
+returns c = search (digits-broken, needs)
+
+returns-2 : tie.Need-returns-2 Inv-loop μ-loop
+returns-2 c = search (digits-ended, needs)
 
 pub is-digits-spec : {M : Type 1} → statement M
 is-digits-spec =
@@ -43,10 +43,10 @@ is-digits-spec =
     Inv-loop
     μ-loop
     loop-holds
-    shared-slice-read-b
-    returns
-    returns-2
+    shared-slice-read-is-digit
+    is-digit-requires
     add-i
     loop-less
     loop-again
-    returns-3)
+    returns
+    returns-2)
