@@ -1,11 +1,11 @@
 -- What is found in two lists one after the other, and what each function that hands it on finds.
 use Prim.Native.Nat.{ℕ}
-use mathlib.Core.Bool.{Bool, true, false}
+use mathlib.Core.Bool.{Bool, true, false, cond}
 use mathlib.Core.List.{List, [], _∷_, _++_}
 use mathlib.Core.Path.{_≡_, refl, ap, sym, _∙_}
 use native.Mathlib.Omega.{arith}
 use Rattle.widening.specs.Widening.{marks, anything}
-use Rattle.widening.specs.Decision.{Difference, growth, breach, breachIf, Decision, widening, refuted, withGrowth, decided}
+use Rattle.widening.specs.Decision.{fieldAdded, Difference, growth, breach, breachIf, Decision, widening, refuted, withGrowth, decided}
 use Rattle.widening.specs.Decision as Decision
 use Rattle.schema_change.specs.declared.answer.Reason.{Reason}
 use Rattle.schema_change.specs.declared.answer.Change.{Change}
@@ -63,6 +63,9 @@ goes-closed Marks ds h = let z : _≡_ {A = ℕ} 0 1 = cc in absurd (omega arith
 goes-closed Anything ds h = let z : _≡_ {A = ℕ} 0 1 = cc in absurd (omega arith)
 goes-closed (Refuted why e e′) ds h = record { is = refl }
 
+pub open-or-closed : {a : Bool} → a ≡ true → a ≡ false → ⊥
+open-or-closed e f = let z : _≡_ {A = ℕ} 0 1 = cc in omega arith
+
 -- after a breach nothing counts
 pub goes-breach : {a b : Change} {why : Decision.Reason} {e e′ : ℕ} {ds : List Difference} → Goes a (breach why e e′ ∷ []) b → Goes a (breach why e e′ ∷ ds) b
 unfolding decided
@@ -96,6 +99,13 @@ pub refute-if-not : {a : Change} {b : Bool} (why : Reason) (e e′ : ℕ) → b 
 unfolding breachIf
 refute-if-not why e e′ h = rw h goes-nothing
 
+-- a field that the first schema lacks
+pub added-breach : {a r : Change} {o : Bool} {e : ℕ} → o ≡ true → Goes a (breach fieldAdded 0 e ∷ []) r → Goes a (cond o (breach fieldAdded 0 e) growth ∷ []) r
+added-breach h g = rw h g
+
+pub added-grows : {a r : Change} {o : Bool} (e : ℕ) → o ≡ false → Goes a (growth ∷ []) r → Goes a (cond o (breach fieldAdded 0 e) growth ∷ []) r
+added-grows e h g = rw h g
+
 pub open-marks : {a : Change} → a ≡ Marks → true ≡ isOpenYet a
 unfolding isOpenYet
 open-marks h = rw h
@@ -107,3 +117,48 @@ open-anything h = rw h
 pub shut-refuted : {a : Change} {why : Reason} {e e′ : ℕ} → a ≡ Refuted why e e′ → false ≡ isOpenYet a
 unfolding isOpenYet
 shut-refuted h = rw h
+
+-- Where no breach was found, there is none in what was gone through
+
+unfoldable pub isWidening : Decision → Bool
+isWidening (widening l) = true
+isWidening (refuted why e e′) = false
+
+abbrev pub Breachless : List Difference → Type 0
+Breachless ds = isWidening (decided ds) ≡ true
+
+open-widening : (a : Change) → isOpenYet a ≡ isWidening (decisionOf a)
+unfolding isOpenYet isWidening
+open-widening Marks = refl
+open-widening Anything = refl
+open-widening (Refuted why e e′) = refl
+
+joined-behind : (a b : Decision) → isWidening (joined a b) ≡ true → isWidening b ≡ true
+unfolding joined withGrowth isWidening
+joined-behind (widening marks) b e = e
+joined-behind (widening anything) (widening l) e = refl
+joined-behind (widening anything) (refuted why k k′) e = e
+joined-behind (refuted why k k′) b e = let z : _≡_ {A = ℕ} 0 1 = cc in absurd (omega arith)
+
+joined-before : (a b : Decision) → isWidening (joined a b) ≡ true → isWidening a ≡ true
+unfolding joined isWidening
+joined-before (widening l) b e = refl
+joined-before (refuted why k k′) b e = e
+
+pub open-found : {a r : Change} {ds : List Difference} → Goes a ds r → isOpenYet r ≡ true → Breachless ds
+open-found {a} {r} {ds} g o = joined-behind (decisionOf a) (decided ds) (rw (g .is) at (sym (open-widening r) ∙ o))
+
+pub open-before : (xs ys : List Difference) → Breachless (xs ++ ys) → Breachless xs
+open-before xs ys e = joined-before (decided xs) (decided ys) (rw (decided-append xs ys) at e)
+
+pub open-behind : (xs ys : List Difference) → Breachless (xs ++ ys) → Breachless ys
+open-behind xs ys e = joined-behind (decided xs) (decided ys) (rw (decided-append xs ys) at e)
+
+pub open-breachless : (b : Bool) (why : Decision.Reason) (e e′ : ℕ) → Breachless (breachIf b why e e′) → b ≡ false
+unfolding breachIf decided isWidening
+open-breachless true why e e′ h = let z : _≡_ {A = ℕ} 0 1 = cc in absurd (omega arith)
+open-breachless false why e e′ h = refl
+
+pub breach-closes : {a r : Change} {why : Decision.Reason} {e e′ : ℕ} {ds : List Difference} → Goes a (breach why e e′ ∷ ds) r → isOpenYet r ≡ true → ⊥
+unfolding decided isWidening
+breach-closes g o = let h = open-found g o in let z : _≡_ {A = ℕ} 0 1 = cc in omega arith

@@ -1,5 +1,9 @@
 mod Joins
 mod EntryLaws
-mod PairLaws
-mod FieldLaws
+mod KnownLaws
+mod Behind
+mod Skipping
+mod PlaceLaws
 mod SchemaLaws
+mod FieldLaws
+mod MemberLaws

@@ -1,32 +1,53 @@
--- What is found in two fields, elements or holders, whichever the two indexes hold there.
-use Prim.Native.Nat.{ℕ, _≤_}
-use mathlib.Core.Bool.{Bool}
-use mathlib.Core.List.{List, [], _∷_}
-use Rattle.definition.specs.Tree as Tree
-use Rattle.definition.specs.Tree.{Field, Items}
-use Rattle.definition.specs.Within.{fieldNesting, itemsNesting, membersNesting}
-use Rattle.widening.specs.Decision.{missing, added, fieldDifferences, itemsDifferences, membersDifferences}
-use Rattle.schema.specs.Slot.{SlotHolds, HolderAt, ElementAt}
-use Rattle.schema.specs.declared.index.Holder.{Holder}
-use Rattle.schema.specs.declared.index.ElementSlot.{ElementSlot}
+-- What is found in two fields, elements or holders, and where reading is then, whatever trees the definition reads from these places on.
+use Prim.Native.Nat.{ℕ}
+use mathlib.Core.Bool.{Bool, true}
+use mathlib.Core.List.{List}
+use mathlib.Core.Option.{Option, some}
+use mathlib.Core.Path.{_≡_}
+use Rattle.definition.specs.Tree.{Text, Field, Items, Members}
+use Rattle.definition.specs.Decode.{Ahead, elementOf, membersOf, fieldIn}
+use Rattle.widening.specs.Decision.{Difference, fieldDifferences, itemsDifferences, membersDifferences}
+use Rattle.sheet.specs.declared.schema_heads.HolderHead.{HolderHead}
 use Rattle.schema_change.specs.declared.answer.Change.{Change}
-use Rattle.schema_change.specs.Answers.{Goes}
+use Rattle.schema_change.specs.declared.place.Place.{Place}
+use Rattle.schema_change.specs.declared.place.FieldEntry.{FieldEntry}
+use Rattle.schema_change.specs.declared.pairing.Members as Left
+use Rattle.schema_change.specs.declared.field.Going.{Going}
+use Rattle.schema_change.specs.Answers.{Goes, isOpenYet}
+use Rattle.schema_change.specs.Places.{Within, Arrived, Reads}
 
--- the first member is missing in the second schema, or added there
-pub record MissingGoes (first words : List ℕ) (x : Holder) (found r : Change) : Type 0 where
-  pub goes : (f : Field) → SlotHolds first words (x .first) f → Goes found (missing f ∷ []) r
+abbrev pub goingAt : Change → Left.Members → Left.Members → Going
+goingAt found xs ys = record { found = found; x = xs .place; y = ys .place }
 
-pub record AddedGoes (second others : List ℕ) (opened : Bool) (y : Holder) (found r : Change) : Type 0 where
-  pub goes : (f′ : Field) → SlotHolds second others (y .first) f′ → Goes found (added opened f′ ∷ []) r
+-- as long as no breach was found, reading is there
+pub record At (first : List ℕ) (a : Ahead) (second : List ℕ) (a′ : Ahead) (r : Going) : Type 0 where
+  pub first-at : isOpenYet (r .found) ≡ true → Arrived first (r .x) a
+  pub second-at : isOpenYet (r .found) ≡ true → Arrived second (r .y) a′
 
--- the depth bounds how deep the first nests
+-- from what was found before some differences to what is found with them, and to what lies ahead then
+pub record Ends (first : List ℕ) (b : Ahead) (second : List ℕ) (b′ : Ahead) (found : Change) (ds : List Difference) (r : Going) : Type 0 where
+  pub goes : Goes found ds (r .found)
+  pub at : At first b second b′ r
 
-pub record FieldsGo (first words : List ℕ) (k : ℕ) (second others : List ℕ) (l : ℕ) (depth : ℕ) (found r : Change) : Type 0 where
-  pub goes : (f f′ : Field) → SlotHolds first words k f → SlotHolds second others l f′ → fieldNesting f ≤ depth → Goes found (fieldDifferences f f′) r
+-- The depth bounds how deep the fields nest.
 
-pub record ElementsGo (first words : List ℕ) (x : ElementSlot) (second others : List ℕ) (y : ElementSlot) (depth : ℕ) (found r : Change) : Type 0 where
-  pub goes : (i i′ : Items) → ElementAt first words x i → ElementAt second others y i′ → itemsNesting i ≤ depth → Goes found (itemsDifferences i i′) r
+pub record FieldsGo (first : List ℕ) (x : FieldEntry) (second : List ℕ) (y : FieldEntry) (depth : ℕ) (found : Change) (r : Going) : Type 0 where
+  pub first-within : Within first (r .x)
+  pub second-within : Within second (r .y)
+  pub go : (f f′ : Field) (b b′ : Ahead) → Reads first x depth f b → Reads second y depth f′ b′ → Ends first b second b′ found (fieldDifferences f f′) r
 
-pub record MembersGo (first words : List ℕ) (x : Holder) (second others : List ℕ) (y : Holder) (depth : ℕ) (found r : Change) : Type 0 where
-  pub goes : (t t′ : Tree.Holder) → HolderAt first words x t → HolderAt second others y t′ → membersNesting (t .members) ≤ depth
-      → Goes found (membersDifferences (t .isOpen) (t .members) (t′ .members)) r
+pub record ElementsGo (first : List ℕ) (x : Place) (second : List ℕ) (y : Place) (has : Bool) (depth : ℕ) (found : Change) (r : Going) : Type 0 where
+  pub first-within : Within first (r .x)
+  pub second-within : Within second (r .y)
+  pub go : (a a′ : Ahead) (items items′ : Items) (b b′ : Ahead) → Arrived first x a → Arrived second y a′
+      → elementOf has (fieldIn depth) a ≡ some (items, b)
+      → elementOf has (fieldIn depth) a′ ≡ some (items′, b′)
+      → Ends first b second b′ found (itemsDifferences items items′) r
+
+pub record MembersGo (first : List ℕ) (x : HolderHead) (second : List ℕ) (y : HolderHead) (depth : ℕ) (from r : Going) : Type 0 where
+  pub first-within : Within first (r .x)
+  pub second-within : Within second (r .y)
+  pub go : (before before′ : Option Text) (a a′ : Ahead) (m m′ : Members) (b b′ : Ahead) → At first a second a′ from
+      → membersOf (x .count) before (fieldIn depth) a ≡ some (m, b)
+      → membersOf (y .count) before′ (fieldIn depth) a′ ≡ some (m′, b′)
+      → Ends first b second b′ (from .found) (membersDifferences (x .opened) m m′) r

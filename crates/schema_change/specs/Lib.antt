@@ -1,4 +1,6 @@
 pub mod Answers
+pub mod Known
+pub mod Places
 pub mod Entries
 pub mod Pairs
 pub mod Fields

@@ -1,36 +1,39 @@
 -- Which of two members comes next, in two holders whose names rise.
-use Prim.Native.Nat.{ℕ, _+_, _-_, _<_}
+use Prim.Native.Nat.{ℕ, _<_}
 use mathlib.Core.Bool.{cond}
 use mathlib.Core.List.{List}
 use mathlib.Core.Path.{_≡_}
 use Rattle.sheet.specs.Order.{precedes, sameBytes}
-use Rattle.definition.specs.Tree as Tree
-use Rattle.definition.specs.Tree.{Members, noMembers, member}
-use Rattle.schema.specs.Index.{maxSlots}
-use Rattle.schema.specs.Slot.{HolderAt}
-use Rattle.schema.specs.declared.index.Holder.{Holder}
+use Rattle.sheet.specs.Parts.{partOf}
+use Rattle.schema_change.specs.Known.{Unread}
+use Rattle.schema_change.specs.Places.{Within, Enters}
+use Rattle.schema_change.specs.declared.place.Place.{Place}
+use Rattle.schema_change.specs.declared.place.FieldEntry.{FieldEntry}
+use Rattle.schema_change.specs.declared.place.Entered.{Entered}
+use Rattle.schema_change.specs.declared.place.Entered.the-variants.{Is, Bad}
+use Rattle.schema_change.specs.declared.pairing.Members.{Members}
 use Rattle.schema_change.specs.declared.pairing.Pairing.{Pairing}
 use Rattle.schema_change.specs.declared.pairing.Pairing.the-variants.{Neither, Missing, Added, Both}
 
--- what is left of a holder after its first member
-pub record Rest (h r : Holder) : Type 0 where
-  pub opened : r .opened ≡ h .opened
-  pub first : h .first < maxSlots → 0 < h .count → r .first ≡ h .first + 1
-  pub count : r .count ≡ h .count - 1
+-- what is there, where so many members are left
+abbrev pub NextIs : List ℕ → Place → ℕ → Entered → Type 0
+NextIs s p left (Is x) = (0 < left) × Enters s p x
+NextIs s p left Bad = 0 < left → Unread s (p .at)
 
-unfoldable pub pairingOf : Members → Members → Pairing
-pairingOf noMembers noMembers = Neither
-pairingOf noMembers (member name′ f′ others′) = Added
-pairingOf (member name f others) noMembers = Missing
-pairingOf (member name f others) (member name′ f′ others′) = cond (precedes name′ name) Added (cond (sameBytes name name′) Both Missing)
+pub record MembersFrom (s : List ℕ) (p : Place) (left : ℕ) (r : Members) : Type 0 where
+  pub place : r .place ≡ p
+  pub count : r .left ≡ left
+  pub within : Within s p
+  pub next : NextIs s p left (r .next)
 
--- the members that are next are there
-abbrev pub Counted : Pairing → Holder → Holder → Type 0
-Counted Neither x y = Unit {0}
-Counted Missing x y = 0 < x .count
-Counted Added x y = 0 < y .count
-Counted Both x y = (0 < x .count) × (0 < y .count)
+unfoldable pub pairOf : (first : List ℕ) → FieldEntry → (second : List ℕ) → FieldEntry → Pairing
+pairOf first x second y =
+    let name = partOf first (x .head .name) in
+    let name′ = partOf second (y .head .name) in
+    cond (precedes name′ name) (Added y) (cond (sameBytes name name′) (Both x y) (Missing x))
 
-pub record PairedBy (first words : List ℕ) (x : Holder) (second others : List ℕ) (y : Holder) (r : Pairing) : Type 0 where
-  pub counted : Counted r x y
-  pub is : (t t′ : Tree.Holder) → HolderAt first words x t → HolderAt second others y t′ → r ≡ pairingOf (t .members) (t′ .members)
+unfoldable pub pairingOf : (first : List ℕ) → Entered → (second : List ℕ) → Entered → Pairing
+pairingOf first Bad second Bad = Neither
+pairingOf first Bad second (Is y) = Added y
+pairingOf first (Is x) second Bad = Missing x
+pairingOf first (Is x) second (Is y) = pairOf first x second y

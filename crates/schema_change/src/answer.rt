@@ -1,7 +1,8 @@
 // What is answered about two sheets. What was found so far is handed from part to part, so that the first breach stays.
 ghost use mathlib.Core.List.{[], _∷_};
+ghost use mathlib.Core.Path.{_≡_};
 ghost use Rattle.widening.specs.Decision.{growth, breach, breachIf};
-ghost use Rattle.schema_change.specs.Answers.{reasonOf, Goes};
+ghost use Rattle.schema_change.specs.Answers.{reasonOf, Goes, isOpenYet};
 
 // Why a schema is not a widening; docs/FORMAT.md, "Is it a widening?", in its order.
 pub enum Reason {
@@ -57,5 +58,16 @@ pub fn grow(found: Change) -> Change
         Change::Marks => Change::Anything,
         Change::Anything => Change::Anything,
         Change::Refuted(earlier, a, b) => Change::Refuted(earlier, a, b),
+    }
+}
+
+// Whether no breach was found.
+pub fn is_open_yet(found: Change) -> bool
+    ensures { λ r. ⌜ r ≡ isOpenYet found ⌝ }
+{
+    match found {
+        Change::Marks => true,
+        Change::Anything => true,
+        Change::Refuted(_, _, _) => false,
     }
 }

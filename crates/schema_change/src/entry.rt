@@ -2,9 +2,7 @@
 use crate::answer::Change;
 use crate::answer::Reason;
 use crate::answer::refute_if;
-use definition::limits::WORD_ENTRIES;
-use schema::index::ElementSlot;
-use schema::index::IndexedField;
+use crate::place::FieldEntry;
 use sheet::part::OptionalPart;
 use sheet::part::bytes_of;
 use walk::path::same_bytes;
@@ -12,18 +10,7 @@ ghost use mathlib.Core.Path.{_≡_};
 ghost use Rattle.sheet.specs.Parts.{optionalOf};
 ghost use Rattle.widening.specs.Decision.{closes, sameTag};
 ghost use Rattle.schema_change.specs.Answers.{Goes};
-ghost use Rattle.schema_change.specs.Entries.{entryNumber, sameSlots, entryDifferences};
-
-// An entry as the answer has it: the number that the index has for it is below 4,096.
-pub fn entry_number(entry: usize) -> u32
-    ensures { λ r. ⌜ r ≡ entryNumber entry ⌝ }
-{
-    if entry < WORD_ENTRIES {
-        entry as u32
-    } else {
-        0
-    }
-}
+ghost use Rattle.schema_change.specs.Entries.{sameMark, entryDifferences};
 
 // Whether an open mark goes from 1 to 0.
 pub fn mark_closes(first: bool, second: bool) -> bool
@@ -33,19 +20,10 @@ pub fn mark_closes(first: bool, second: bool) -> bool
 }
 
 // Whether both have an element, or neither.
-fn is_same_mark(x: ElementSlot, y: ElementSlot) -> bool
-    ensures { λ r. ⌜ r ≡ sameSlots x y ⌝ }
+fn is_same_mark(first: bool, second: bool) -> bool
+    ensures { λ r. ⌜ r ≡ sameMark first second ⌝ }
 {
-    match x {
-        ElementSlot::At(_) => match y {
-            ElementSlot::At(_) => true,
-            ElementSlot::Absent => false,
-        },
-        ElementSlot::Absent => match y {
-            ElementSlot::At(_) => false,
-            ElementSlot::Absent => true,
-        },
-    }
+    if first { second } else { !second }
 }
 
 // An absent tag and one without bytes are not the same.
@@ -66,30 +44,34 @@ fn is_same_tag(first: &[u8], x: OptionalPart, second: &[u8], y: OptionalPart) ->
 
 pub fn compare_entries(
     first: &[u8],
-    x: IndexedField,
+    x: FieldEntry,
     second: &[u8],
-    y: IndexedField,
+    y: FieldEntry,
     found: Change,
 ) -> Change
     ensures { λ r. ⌜ Goes found (entryDifferences (now (first .entry)) x (now (second .entry)) y) r ⌝ }
 {
-    let e = entry_number(x.entry);
-    let f = entry_number(y.entry);
-    let xs = x.members;
-    let ys = y.members;
-    let xi = x.element;
-    let yi = y.element;
-    let xt = x.tag;
-    let yt = y.tag;
-    let kinds = refute_if(found, x.kind != y.kind, Reason::KindDiffers, e, f);
+    let e = x.number;
+    let f = y.number;
+    let g = x.head;
+    let h = y.head;
+    let xt = g.tag;
+    let yt = h.tag;
+    let kinds = refute_if(found, g.kind != h.kind, Reason::KindDiffers, e, f);
     let marks = refute_if(
         kinds,
-        mark_closes(xs.opened, ys.opened),
+        mark_closes(g.opened, h.opened),
         Reason::MarkCloses,
         e,
         f,
     );
-    let items = refute_if(marks, !is_same_mark(xi, yi), Reason::ItemsDiffer, e, f);
+    let items = refute_if(
+        marks,
+        !is_same_mark(g.items, h.items),
+        Reason::ItemsDiffer,
+        e,
+        f,
+    );
     refute_if(
         items,
         !is_same_tag(first, xt, second, yt),

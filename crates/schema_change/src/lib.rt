@@ -1,6 +1,8 @@
 // Whether the second of two schema sheets is a widening of the first (docs/FORMAT.md, "Is it a widening?"). Each sheet is read once, which
-// says whether it is well formed and leaves an index; then both are gone through side by side.
+// says whether it is well formed; then both are gone through side by side, entry by entry.
 pub mod answer; // answer.rt: what is answered, and what was found so far
+mod known; // known.rt: entries that were read before
+mod place; // place.rt: where reading is in a sheet
 mod entry; // entry.rt: what the entries of two fields say
 mod pairing; // pairing.rt: which of two members comes first
 mod field; // field.rt: fields, with what lies below them
@@ -15,18 +17,17 @@ ghost use mathlib.Core.Path.{_≡_};
 ghost use Rattle.widening.specs.SheetDecision.{widensSheets};
 ghost use Rattle.schema_change.specs.Answers.{answerOf};
 
-// Brings a scratch for the index of each sheet.
+// Brings a scratch, which reading needs; what it leaves there is not looked at.
 pub fn widens(first: &[u8], second: &[u8]) -> Answer
     ensures { λ r. ⌜ answerOf r ≡ widensSheets (now (first .entry)) (now (second .entry)) ⌝ }
 {
-    let mut words = [0u32; SCRATCH_WORDS];
-    let mut others = [0u32; SCRATCH_WORDS];
-    let SchemaRead::Good(x) = read_schema(first, &mut words) else {
+    let mut scratch = [0u32; SCRATCH_WORDS];
+    let SchemaRead::Good(_) = read_schema(first, &mut scratch) else {
         return Answer::Malformed(1);
     };
-    let SchemaRead::Good(y) = read_schema(second, &mut others) else {
+    let SchemaRead::Good(_) = read_schema(second, &mut scratch) else {
         return Answer::Malformed(2);
     };
-    let change = compare_schemas(first, &words, x, second, &others, y);
+    let change = compare_schemas(first, second);
     Answer::Is(change)
 }

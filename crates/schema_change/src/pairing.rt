@@ -1,71 +1,72 @@
 // Which of two members comes next: names rise in both holders.
-use schema::index::Holder;
-use schema::index::MAX_SLOTS;
-use schema::index::name_of_slot;
+use crate::place::Entered;
+use crate::place::FieldEntry;
+use crate::place::Place;
+use crate::place::enter;
 use sheet::order::ByteOrder;
 use sheet::order::compare;
 use sheet::part::bytes_of;
-ghost use Rattle.schema_change.specs.Pairs.{Rest, PairedBy};
+ghost use mathlib.Core.Path.{_≡_};
+ghost use Rattle.schema_change.specs.Places.{Within};
+ghost use Rattle.schema_change.specs.Pairs.{MembersFrom, pairOf, pairingOf};
+
+// The members of a holder that are left.
+pub struct Members {
+    pub left: usize,
+    // The place of the first of them, and what is there.
+    pub place: Place,
+    pub next: Entered,
+}
+
+// An entry is read only where a member is left.
+pub fn members_from(s: &[u8], place: Place, left: usize) -> Members
+    requires { ⌜ Within (now s) place ⌝ }
+    ensures { λ r. ⌜ MembersFrom (now (s .entry)) place left r ⌝ }
+{
+    if left == 0 {
+        let next = Entered::Bad;
+        return Members { left, place, next };
+    }
+    let next = enter(s, place);
+    Members { left, place, next }
+}
 
 pub enum Pairing {
-    // Both holders are at their end.
+    // No member is left.
     Neither,
     // The first's next member is missing in the second.
-    Missing,
+    Missing(FieldEntry),
     // The second's next member is not in the first.
-    Added,
+    Added(FieldEntry),
     // The next member of both is the same.
-    Both,
+    Both(FieldEntry, FieldEntry),
 }
 
-// What is left after the first member.
-pub fn rest_of(holder: Holder) -> Holder
-    ensures { λ r. ⌜ Rest holder r ⌝ }
+fn pair_entries(first: &[u8], x: FieldEntry, second: &[u8], y: FieldEntry) -> Pairing
+    ensures { λ r. ⌜ r ≡ pairOf (now (first .entry)) x (now (second .entry)) y ⌝ }
 {
-    if holder.count == 0 {
-        return holder;
-    }
-    let opened = holder.opened;
-    let first = holder.first;
-    let count = holder.count - 1;
-    if first < MAX_SLOTS {
-        return Holder {
-            opened,
-            first: first + 1,
-            count,
-        };
-    }
-    Holder {
-        opened,
-        first,
-        count,
-    }
-}
-
-pub fn pair(
-    first: &[u8],
-    words: &[u32],
-    x: Holder,
-    second: &[u8],
-    others: &[u32],
-    y: Holder,
-) -> Pairing
-    ensures { λ r. ⌜ PairedBy (now (first .entry)) (now (words .entry)) x (now (second .entry)) (now (others .entry)) y r ⌝ }
-{
-    if x.count == 0 {
-        if y.count == 0 {
-            return Pairing::Neither;
-        }
-        return Pairing::Added;
-    }
-    if y.count == 0 {
-        return Pairing::Missing;
-    }
-    let name = name_of_slot(words, x.first);
-    let next = name_of_slot(others, y.first);
+    let g = x.head;
+    let h = y.head;
+    let name = g.name;
+    let next = h.name;
     match compare(bytes_of(first, name), bytes_of(second, next)) {
-        ByteOrder::Less => Pairing::Missing,
-        ByteOrder::Same => Pairing::Both,
-        ByteOrder::Greater => Pairing::Added,
+        ByteOrder::Less => Pairing::Missing(x),
+        ByteOrder::Same => Pairing::Both(x, y),
+        ByteOrder::Greater => Pairing::Added(y),
+    }
+}
+
+pub fn pair(first: &[u8], x: Entered, second: &[u8], y: Entered) -> Pairing
+    ensures { λ r. ⌜ r ≡ pairingOf (now (first .entry)) x (now (second .entry)) y ⌝ }
+{
+    match x {
+        Entered::Is(g) => match y {
+            Entered::Is(h) => pair_entries(first, g, second, h),
+            Entered::Bad => Pairing::Missing(g),
+        },
+        Entered::Bad => match y {
+            Entered::Is(h) => Pairing::Added(h),
+            Entered::Bad => Pairing::Neither,
+        },
     }
 }

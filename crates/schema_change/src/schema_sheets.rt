@@ -5,68 +5,77 @@ use crate::answer::grow;
 use crate::answer::refute;
 use crate::answer::refute_if;
 use crate::entry::mark_closes;
+use crate::field::Going;
 use crate::field::compare_members;
+use crate::place::Place;
 use definition::limits::MAX_FIELD_NESTING;
-use schema::read::Arguments;
-use schema::read::Schema;
-ghost use Rattle.schema_change.specs.Schemas.{ArgumentsMarksGo, ArgumentsGo, SchemasGo};
+use sheet::schema_heads::ArgumentsHead;
+use sheet::schema_heads::SchemaHeadRead;
+use sheet::schema_heads::schema_head;
+ghost use Prim.Native.Nat.{_≤_};
+ghost use lib.ListN.{length};
+ghost use Rattle.definition.specs.Limits.{maxSheetBytes};
+ghost use Rattle.schema_change.specs.Answers.{Goes};
+ghost use Rattle.schema_change.specs.Places.{Within};
+ghost use Rattle.schema_change.specs.Schemas.{argumentsHeadMarks, ArgumentsGo, SchemasGo};
 
-fn compare_arguments_marks(x: Arguments, y: Arguments, found: Change) -> Change
-    ensures { λ r. ⌜ ArgumentsMarksGo x y found r ⌝ }
+fn compare_arguments_marks(x: ArgumentsHead, y: ArgumentsHead, found: Change) -> Change
+    ensures { λ r. ⌜ Goes found (argumentsHeadMarks x y) r ⌝ }
 {
     match x {
-        Arguments::Are(h) => match y {
-            Arguments::Are(g) => refute_if(
+        ArgumentsHead::Are(h) => match y {
+            ArgumentsHead::Are(g) => refute_if(
                 found,
                 mark_closes(h.opened, g.opened),
                 Reason::MarkCloses,
                 1,
                 1,
             ),
-            Arguments::Absent => refute(found, Reason::ArgumentsGo, 1, 0),
+            ArgumentsHead::Absent => refute(found, Reason::ArgumentsGo, 1, 0),
         },
-        Arguments::Absent => match y {
-            Arguments::Are(_) => grow(found),
-            Arguments::Absent => found,
+        ArgumentsHead::Absent => match y {
+            ArgumentsHead::Are(_) => grow(found),
+            ArgumentsHead::Absent => found,
         },
     }
 }
 
 fn compare_arguments(
     first: &[u8],
-    words: &[u32],
-    x: Arguments,
+    x: ArgumentsHead,
     second: &[u8],
-    others: &[u32],
-    y: Arguments,
-    found: Change,
+    y: ArgumentsHead,
+    from: Going,
 ) -> Change
-    ensures { λ r. ⌜ ArgumentsGo (now (first .entry)) (now (words .entry)) x (now (second .entry)) (now (others .entry)) y found r ⌝ }
+    requires { ⌜ Within (now first) (from .x) × Within (now second) (from .y) ⌝ }
+    ensures { λ r. ⌜ ArgumentsGo (now (first .entry)) x (now (second .entry)) y from r ⌝ }
 {
-    let Arguments::Are(h) = x else {
+    let found = from.found;
+    let ArgumentsHead::Are(h) = x else {
         return found;
     };
-    let Arguments::Are(g) = y else {
+    let ArgumentsHead::Are(g) = y else {
         return found;
     };
-    compare_members(first, words, h, second, others, g, MAX_FIELD_NESTING, found)
+    let going = compare_members(first, h, second, g, MAX_FIELD_NESTING, from);
+    going.found
 }
 
-pub fn compare_schemas(
-    first: &[u8],
-    words: &[u32],
-    x: Schema,
-    second: &[u8],
-    others: &[u32],
-    y: Schema,
-) -> Change
-    ensures { λ r. ⌜ SchemasGo (now (first .entry)) (now (words .entry)) x (now (second .entry)) (now (others .entry)) y r ⌝ }
+pub fn compare_schemas(first: &[u8], second: &[u8]) -> Change
+    requires { ⌜ (length (now first) ≤ maxSheetBytes) × (length (now second) ≤ maxSheetBytes) ⌝ }
+    ensures { λ r. ⌜ SchemasGo (now (first .entry)) (now (second .entry)) r ⌝ }
 {
-    let xs = x.fields;
-    let ys = y.fields;
-    let xa = x.arguments;
-    let ya = y.arguments;
     let start = Change::Marks;
+    let SchemaHeadRead::Is(g, at) = schema_head(first, 0) else {
+        return start;
+    };
+    let SchemaHeadRead::Is(h, next) = schema_head(second, 0) else {
+        return start;
+    };
+    let xs = g.fields;
+    let ys = h.fields;
+    let xa = g.arguments;
+    let ya = h.arguments;
     let mark = refute_if(
         start,
         mark_closes(xs.opened, ys.opened),
@@ -74,16 +83,16 @@ pub fn compare_schemas(
         1,
         1,
     );
-    let head = compare_arguments_marks(xa, ya, mark);
+    let found = compare_arguments_marks(xa, ya, mark);
+    let x = Place { entry: 2, at };
+    let y = Place { entry: 2, at: next };
     let fields = compare_members(
         first,
-        words,
         xs,
         second,
-        others,
         ys,
         MAX_FIELD_NESTING,
-        head,
+        Going { found, x, y },
     );
-    compare_arguments(first, words, xa, second, others, ya, fields)
+    compare_arguments(first, xa, second, ya, fields)
 }

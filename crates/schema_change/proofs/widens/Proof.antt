@@ -1,6 +1,6 @@
--- `schema_change::widens` meets its contract: each sheet is refused exactly if it is not well formed, and both trees are compared over their indexes.
+-- `schema_change::widens` meets its contract: each sheet is refused exactly if it is not well formed, and both are compared entry by entry.
 use borrow.Author.Needs.{needs}
-use Rattle.schema_change.proofs.SchemaLaws.{first-malformed, second-malformed, both-decided}
+use Rattle.schema_change.proofs.SchemaLaws.{good-short, first-malformed, second-malformed, both-decided}
 use Rattle.schema_change.proofs.widens.Statement.{statement}
 use Rattle.schema_change.proofs.widens.Tie as tie
 
@@ -10,11 +10,11 @@ slice-aggregate-read-schema c = search needs
 read-schema-requires : tie.Need-read-schema-requires
 read-schema-requires c κs = search needs
 
-enum-known-x : tie.Need-enum-known-x
-enum-known-x c = search needs
-
 enum-told : tie.Need-enum-told
 enum-told c = search needs
+
+enum-told-2 : tie.Need-enum-told-2
+enum-told-2 c = search needs
 
 returns : tie.Need-returns
 returns c = search (first-malformed, needs)
@@ -25,23 +25,17 @@ slice-aggregate-read-schema-2 c = search needs
 read-schema-requires-2 : tie.Need-read-schema-requires-2
 read-schema-requires-2 c κs = search needs
 
-enum-known-y : tie.Need-enum-known-y
-enum-known-y c = search needs
+enum-told-3 : tie.Need-enum-told-3
+enum-told-3 c = search needs
 
-enum-told-2 : tie.Need-enum-told-2
-enum-told-2 c = search needs
+enum-told-4 : tie.Need-enum-told-4
+enum-told-4 c = search needs
 
 returns-2 : tie.Need-returns-2
 returns-2 c = search (second-malformed, needs)
 
-slice-aggregate-compare-schemas : tie.Need-slice-aggregate-compare-schemas
-slice-aggregate-compare-schemas c = search needs
-
-slice-aggregate-compare-schemas-2 : tie.Need-slice-aggregate-compare-schemas-2
-slice-aggregate-compare-schemas-2 c = search needs
-
 compare-schemas-requires : tie.Need-compare-schemas-requires
-compare-schemas-requires c κs = search needs
+compare-schemas-requires c κs = search (good-short, needs)
 
 returns-3 : tie.Need-returns-3
 returns-3 c = search (both-decided, needs)
@@ -52,15 +46,13 @@ widens-spec =
     (tie.spec
     slice-aggregate-read-schema
     read-schema-requires
-    enum-known-x
     enum-told
+    enum-told-2
     returns
     slice-aggregate-read-schema-2
     read-schema-requires-2
-    enum-known-y
-    enum-told-2
+    enum-told-3
+    enum-told-4
     returns-2
-    slice-aggregate-compare-schemas
-    slice-aggregate-compare-schemas-2
     compare-schemas-requires
     returns-3)

@@ -4,12 +4,6 @@ use Rattle.schema_change.proofs.EntryLaws.{entries-go}
 use Rattle.schema_change.proofs.entry.compare_entries.Statement.{statement}
 use Rattle.schema_change.proofs.entry.compare_entries.Tie as tie
 
-entry-number-requires : tie.Need-entry-number-requires
-entry-number-requires c κs = search needs
-
-entry-number-requires-2 : tie.Need-entry-number-requires-2
-entry-number-requires-2 c κs = search needs
-
 refute-if-requires : tie.Need-refute-if-requires
 refute-if-requires c κs = search needs
 
@@ -38,8 +32,6 @@ pub compare-entries-spec : {M : Type 1} → statement M
 compare-entries-spec =
     tie.close
     (tie.spec
-    entry-number-requires
-    entry-number-requires-2
     refute-if-requires
     mark-closes-requires
     refute-if-requires-2

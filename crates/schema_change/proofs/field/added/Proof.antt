@@ -1,14 +1,8 @@
 -- `schema_change::field::added` meets its contract.
 use borrow.Author.Needs.{needs}
-use Rattle.schema_change.proofs.FieldLaws.{added-breach, added-grows}
+use Rattle.schema_change.proofs.Joins.{added-breach, added-grows}
 use Rattle.schema_change.proofs.field.added.Statement.{statement}
 use Rattle.schema_change.proofs.field.added.Tie as tie
-
-indexed-field-requires : tie.Need-indexed-field-requires
-indexed-field-requires c κs = search needs
-
-entry-number-requires : tie.Need-entry-number-requires
-entry-number-requires c κs = search needs
 
 refute-requires : tie.Need-refute-requires
 refute-requires c κs = search needs
@@ -23,5 +17,4 @@ returns-2 : tie.Need-returns-2
 returns-2 c = search (added-grows, needs)
 
 pub added-spec : {M : Type 1} → statement M
-added-spec =
-    tie.close (tie.spec indexed-field-requires entry-number-requires refute-requires returns grow-requires returns-2)
+added-spec = tie.close (tie.spec refute-requires returns grow-requires returns-2)

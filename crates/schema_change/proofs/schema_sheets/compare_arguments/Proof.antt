@@ -1,6 +1,6 @@
 -- `schema_change::schema_sheets::compare_arguments` meets its contract.
 use borrow.Author.Needs.{needs}
-use Rattle.schema_change.proofs.SchemaLaws.{arguments-first, arguments-second, arguments-both}
+use Rattle.schema_change.proofs.SchemaLaws.{arguments-first, arguments-second, arguments-fields}
 use Rattle.schema_change.proofs.schema_sheets.compare_arguments.Statement.{statement}
 use Rattle.schema_change.proofs.schema_sheets.compare_arguments.Tie as tie
 
@@ -26,7 +26,7 @@ compare-members-requires : tie.Need-compare-members-requires
 compare-members-requires c κs = search needs
 
 returns-3 : tie.Need-returns-3
-returns-3 c = search (arguments-both, needs)
+returns-3 c = search (arguments-fields, needs)
 
 pub compare-arguments-spec : {M : Type 1} → statement M
 compare-arguments-spec =

@@ -1,6 +1,6 @@
 -- `schema_change::schema_sheets::compare_arguments_marks` meets its contract.
 use borrow.Author.Needs.{needs}
-use Rattle.schema_change.proofs.SchemaLaws.{arguments-marks-both, arguments-marks-gone, arguments-marks-appear, arguments-marks-neither}
+use Rattle.schema_change.proofs.SchemaLaws.{arguments-both, arguments-gone, arguments-appear, arguments-neither}
 use Rattle.schema_change.proofs.schema_sheets.compare_arguments_marks.Statement.{statement}
 use Rattle.schema_change.proofs.schema_sheets.compare_arguments_marks.Tie as tie
 
@@ -35,16 +35,16 @@ enum-told-4 : tie.Need-enum-told-4
 enum-told-4 c = search needs
 
 returns : tie.Need-returns
-returns c = search (arguments-marks-both, needs)
+returns c = search (arguments-both, needs)
 
 returns-2 : tie.Need-returns-2
-returns-2 c = search (arguments-marks-gone, needs)
+returns-2 c = search (arguments-gone, needs)
 
 returns-3 : tie.Need-returns-3
-returns-3 c = search (arguments-marks-appear, needs)
+returns-3 c = search (arguments-appear, needs)
 
 returns-4 : tie.Need-returns-4
-returns-4 c = search (arguments-marks-neither, needs)
+returns-4 c = search (arguments-neither, needs)
 
 pub compare-arguments-marks-spec : {M : Type 1} → statement M
 compare-arguments-marks-spec =

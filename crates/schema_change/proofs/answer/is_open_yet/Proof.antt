@@ -1,8 +1,8 @@
--- `schema_change::field::is_open_yet` meets its contract.
+-- `schema_change::answer::is_open_yet` meets its contract.
 use borrow.Author.Needs.{needs}
 use Rattle.schema_change.proofs.Joins.{open-marks, open-anything, shut-refuted}
-use Rattle.schema_change.proofs.field.is_open_yet.Statement.{statement}
-use Rattle.schema_change.proofs.field.is_open_yet.Tie as tie
+use Rattle.schema_change.proofs.answer.is_open_yet.Statement.{statement}
+use Rattle.schema_change.proofs.answer.is_open_yet.Tie as tie
 
 enum-told : tie.Need-enum-told
 enum-told c = search needs
