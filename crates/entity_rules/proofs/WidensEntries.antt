@@ -8,7 +8,7 @@ use borrow.Author.Tests.{le-leb, lt-leb}
 use Rattle.validation.specs.Result.{Numbers}
 use Rattle.single_check.specs.Outcomes.{numbersBy}
 use Rattle.single_check.specs.declared.outcome.Outcome.{Outcome}
-use Rattle.widening.specs.SheetDecision.{SheetAnswer, decision, widensSheets, reasonNumber, decisionNumbers}
+use Rattle.widening.specs.SheetDecision.{DecisionAnswer, decision, widensSheets, reasonNumber, decisionNumbers}
 use Rattle.schema_change.specs.Answers.{reasonOf, decisionOf, answerOf}
 use Rattle.schema_change.specs.declared.answer.Reason.{Reason}
 use Rattle.schema_change.specs.declared.answer.Change.{Change}
@@ -62,7 +62,7 @@ pub widens-answered : {first second result resultNow : List ℕ} (x : Answer) (r
     → WidensAnswered first second result resultNow (r .number)
 unfolding widensNumbers
 widens-answered {first} {second} {result} x r room e h w =
-    let numbers : numbersBy r ≡ widensNumbers first second = h ∙ ap (λ (a : SheetAnswer). inPlaces (decisionNumbers a)) e in
+    let numbers : numbersBy r ≡ widensNumbers first second = h ∙ ap (λ (a : DecisionAnswer). inPlaces (decisionNumbers a)) e in
     record {
       number = ap (λ (n : Numbers). n .number) numbers ∙ rw (le-leb resultBytes (length result) room) refl;
       result = w .stands ∙ ap (λ (n : Numbers). resultAfter n result) numbers;

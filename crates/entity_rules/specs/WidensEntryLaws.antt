@@ -9,7 +9,7 @@ use lib.ListN.{length, getD}
 use borrow.Author.Tests.{le-leb}
 use Rattle.widening.specs.Widening.{Level, marks, anything}
 use Rattle.widening.specs.Decision.{widening, refuted}
-use Rattle.widening.specs.SheetDecision.{SheetAnswer, malformed, decision, widensSheets, decisionNumbers}
+use Rattle.widening.specs.SheetDecision.{DecisionAnswer, malformed, decision, widensSheets, decisionNumbers}
 use Rattle.validation.specs.Result.{early, firstRefusal, Unrefused, Run, callOf, Meets}
 use Rattle.validation.specs.Demands.{SameButSchema, Demand3}
 use Rattle.validation.specs.Upgrade.{upgrade}
@@ -32,7 +32,7 @@ unfoldable pub yesAt : Level → ℕ
 yesAt marks = 1
 yesAt anything = 2
 
-says-yes : (l : Level) (x : SheetAnswer) → decisionNumbers x .number ≡ 0 → decisionNumbers x .answer ≡ yesAt l → x ≡ decision (widening l)
+says-yes : (l : Level) (x : DecisionAnswer) → decisionNumbers x .number ≡ 0 → decisionNumbers x .answer ≡ yesAt l → x ≡ decision (widening l)
 unfolding decisionNumbers yesAt
 says-yes l (malformed which) n y = absurd (omega arith)
 says-yes marks (decision (widening marks)) n y = refl

@@ -4,7 +4,7 @@ use definition::limits::MAX_SCHEMA_ENTRIES;
 use definition::limits::WORD_ENTRIES;
 use sheet::part::OptionalPart;
 use sheet::part::Part;
-use sheet::schema_heads::KnownField;
+use sheet::schema_heads::FieldRead;
 ghost use mathlib.Core.Path.{_≡_};
 ghost use Prim.Native.Nat.{_/_};
 ghost use lib.ListN.{getD};
@@ -99,8 +99,8 @@ pub fn put_slot(words: &mut [u32], k: usize, start: usize, entry: usize, child: 
     words[i + 1] = (name.len * LENGTH_UNIT + prefix * WORD_ENTRIES + child) as u32;
 }
 
-// The head of slot `k`, read again.
-fn head_of(sheet: &[u8], words: &[u32], k: usize) -> KnownField
+// The entry of slot `k`, read again.
+fn head_of(sheet: &[u8], words: &[u32], k: usize) -> FieldRead
     ensures { λ r. ⌜ KnownFieldIs (now (sheet .entry)) (placeWord (now (words .entry)) k / wordEntries) r ⌝ }
 {
     let start = place_word(words, k) as usize / WORD_ENTRIES;
@@ -145,7 +145,7 @@ fn no_field() -> IndexedField {
 pub fn indexed_field(sheet: &[u8], words: &[u32], k: usize) -> IndexedField
     ensures { λ r. ⌜ IndexedIs (now (sheet .entry)) (now (words .entry)) k r ⌝ }
 {
-    let KnownField::Is(head) = head_of(sheet, words, k) else {
+    let FieldRead::Is(head, _) = head_of(sheet, words, k) else {
         return no_field();
     };
     let first = name_word(words, k) as usize % WORD_ENTRIES;

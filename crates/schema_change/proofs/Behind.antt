@@ -11,14 +11,13 @@ use Rattle.sheet.specs.ReaderLaws.{bind-inv, then-inv, bind-reads, pure-inv, en
 use Rattle.sheet.specs.ReaderLaws as Chain
 use Rattle.sheet.specs.Entries.{FieldHead, fieldHead}
 use Rattle.sheet.specs.Parts.{partOf}
-use Rattle.sheet.specs.Places.{fieldOf}
+use Rattle.sheet.specs.Places.{fieldOf, KnownTo, Unread}
 use Rattle.sheet.specs.declared.schema_heads.FieldHead as Head
 use Rattle.definition.specs.Tree.{Text, Field, Items, absent, element, Members, noMembers, member}
 use Rattle.definition.specs.Decode.{Ahead, entered, entry, elementOf, membersOf, fieldIn}
 use Rattle.definition.specs.TreeLaws.{announcing}
 use Rattle.schema_change.specs.declared.place.Place.{Place}
 use Rattle.schema_change.specs.declared.place.FieldEntry.{FieldEntry}
-use Rattle.schema_change.specs.Known.{KnownTo, Unread}
 use Rattle.schema_change.specs.Places.{Arrived, Enters, behindHead, Reads}
 
 -- Fields

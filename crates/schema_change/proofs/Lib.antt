@@ -1,6 +1,5 @@
 mod Joins
 mod EntryLaws
-mod KnownLaws
 mod Behind
 mod Skipping
 mod PlaceLaws

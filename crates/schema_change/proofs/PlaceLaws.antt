@@ -16,13 +16,13 @@ use Rattle.schema_change.specs.declared.place.Entered.{Entered}
 use Rattle.schema_change.specs.declared.place.Entered.the-variants.{Is, Bad}
 use Rattle.schema_change.specs.declared.pairing.Pairing.{Pairing}
 use Rattle.schema_change.specs.declared.pairing.Pairing.the-variants.{Neither, Missing, Added, Both}
-use Rattle.schema_change.specs.Known.{KnownTo, Unread, KnownIs}
+use Rattle.sheet.specs.Places.{KnownTo, Unread, KnownFieldIs}
 use Rattle.schema_change.specs.Places.{Within, Enters, EnteredIs}
 use Rattle.schema_change.specs.Pairs.{NextIs, MembersFrom, pairOf, pairingOf}
 
 -- An entry
 
-module _ (s : List ℕ) (p : Place) {r : FieldRead} (read : KnownIs s (p .at) r) where
+module _ (s : List ℕ) (p : Place) {r : FieldRead} (read : KnownFieldIs s (p .at) r) where
   pub enter-bad : r ≡ Field.Bad → Unread s (p .at)
   enter-bad e = rw e at read
 

@@ -9,7 +9,7 @@ use lib.ListN.{drop, length}
 use Rattle.sheet.specs.Reader.{Reader}
 use Rattle.sheet.specs.ReaderLaws.{bind-inv, then-inv, pure-inv, ensure-inv, refuse-inv}
 use Rattle.sheet.specs.Entries.{maxCount, FieldHead, fieldHead}
-use Rattle.sheet.specs.Places.{fieldOf}
+use Rattle.sheet.specs.Places.{fieldOf, Unread}
 use Rattle.definition.specs.Tree.{Text, Field, Items, Members}
 use Rattle.definition.specs.Decode.{Ahead, toCount, elementOf, membersOf, fieldIn}
 use Rattle.definition.specs.TreeLaws.{announcing}
@@ -17,7 +17,6 @@ use Rattle.schema_change.specs.declared.place.Place.{Place}
 use Rattle.schema_change.specs.declared.place.FieldEntry.{FieldEntry}
 use Rattle.schema_change.specs.declared.place.Entered.{Entered}
 use Rattle.schema_change.specs.declared.place.Entered.the-variants.{Is, Bad}
-use Rattle.schema_change.specs.Known.{Unread}
 use Rattle.schema_change.specs.Places.{Within, Arrived, Enters, EnteredIs, behindHead, Reads, SkipsTo}
 use Rattle.schema_change.proofs.Behind.{entry-inv, element-absent, element-inv}
 

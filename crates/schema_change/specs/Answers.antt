@@ -5,7 +5,7 @@ use mathlib.Core.Path.{_≡_}
 use Rattle.widening.specs.Widening.{marks, anything}
 use Rattle.widening.specs.Decision.{fieldMissing, kindDiffers, itemsDiffer, tagDiffers, markCloses, fieldAdded, argumentsGo, Difference, Decision, widening, refuted, withGrowth, decided}
 use Rattle.widening.specs.Decision as Decision
-use Rattle.widening.specs.SheetDecision.{SheetAnswer, malformed, decision}
+use Rattle.widening.specs.SheetDecision.{DecisionAnswer, malformed, decision}
 use Rattle.schema_change.specs.declared.answer.Reason.{Reason}
 use Rattle.schema_change.specs.declared.answer.Reason.the-variants.{FieldMissing, KindDiffers, ItemsDiffer, TagDiffers, MarkCloses, FieldAdded, ArgumentsGo}
 use Rattle.schema_change.specs.declared.answer.Change.{Change}
@@ -27,7 +27,7 @@ decisionOf Marks = widening marks
 decisionOf Anything = widening anything
 decisionOf (Refuted why e e′) = refuted (reasonOf why) e e′
 
-abbrev pub answerOf : Answer → SheetAnswer
+abbrev pub answerOf : Answer → DecisionAnswer
 answerOf (Malformed which) = malformed which
 answerOf (Is change) = decision (decisionOf change)
 

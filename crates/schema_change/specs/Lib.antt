@@ -1,5 +1,4 @@
 pub mod Answers
-pub mod Known
 pub mod Places
 pub mod Entries
 pub mod Pairs

@@ -5,7 +5,7 @@ use mathlib.Core.List.{List}
 use mathlib.Core.Path.{_≡_}
 use Rattle.sheet.specs.Order.{precedes, sameBytes}
 use Rattle.sheet.specs.Parts.{partOf}
-use Rattle.schema_change.specs.Known.{Unread}
+use Rattle.sheet.specs.Places.{Unread}
 use Rattle.schema_change.specs.Places.{Within, Enters}
 use Rattle.schema_change.specs.declared.place.Place.{Place}
 use Rattle.schema_change.specs.declared.place.FieldEntry.{FieldEntry}

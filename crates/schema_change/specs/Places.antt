@@ -6,11 +6,10 @@ use mathlib.Core.Path.{_≡_}
 use lib.ListN.{length, drop}
 use Rattle.sheet.specs.Reader.{Reader, _>>=_, pure, refuse}
 use Rattle.sheet.specs.Entries.{FieldHead}
-use Rattle.sheet.specs.Places.{fieldOf}
+use Rattle.sheet.specs.Places.{fieldOf, KnownTo, Unread}
 use Rattle.definition.specs.Tree.{Field, field}
 use Rattle.definition.specs.Limits.{maxSheetBytes}
 use Rattle.definition.specs.Decode.{Ahead, elementOf, membersOf, fieldIn}
-use Rattle.schema_change.specs.Known.{KnownTo, Unread}
 use Rattle.schema_change.specs.declared.place.Place.{Place}
 use Rattle.schema_change.specs.declared.place.FieldEntry.{FieldEntry}
 use Rattle.schema_change.specs.declared.place.Entered.{Entered}

@@ -1,7 +1,7 @@
 // Going through a sheet entry by entry.
-use crate::known::known_head;
 use sheet::schema_heads::FieldHead;
 use sheet::schema_heads::FieldRead;
+use sheet::schema_heads::known_field;
 ghost use Prim.Native.Nat.{_+_, _≤_};
 ghost use mathlib.Core.Path.{_≡_};
 ghost use Rattle.sheet.specs.Entries.{maxCount};
@@ -31,7 +31,7 @@ pub fn enter(s: &[u8], p: Place) -> Entered
     requires { ⌜ Within (now s) p ⌝ }
     ensures { λ r. ⌜ EnteredIs (now (s .entry)) p r ⌝ }
 {
-    let FieldRead::Is(head, at) = known_head(s, p.at) else {
+    let FieldRead::Is(head, at) = known_field(s, p.at) else {
         return Entered::Bad;
     };
     let number = p.entry;

@@ -37,8 +37,6 @@ use Rattle.sheet.specs.declared.schema_heads.FieldTextsRead.the-variants
 use Rattle.sheet.specs.declared.schema_heads.FieldHead.{FieldHead}
 use Rattle.sheet.specs.declared.schema_heads.FieldRead.{FieldRead}
 use Rattle.sheet.specs.declared.schema_heads.FieldRead.the-variants as field
-use Rattle.sheet.specs.declared.schema_heads.KnownField.{KnownField}
-use Rattle.sheet.specs.declared.schema_heads.KnownField.the-variants as known-field
 use Rattle.sheet.specs.declared.part.Part.{Part}
 use Rattle.sheet.specs.declared.part.OptionalPart.{OptionalPart}
 use Rattle.sheet.specs.declared.part.OptionalPart.the-variants as part
@@ -66,10 +64,6 @@ pub record ReadsTo {A : Type 0} (p : Reader (List ℕ) A) (s : List ℕ) (at : �
 -- `p` reads nothing from place `at` on
 abbrev pub Refuses : {A : Type 0} → Reader (List ℕ) A → List ℕ → ℕ → Type 0
 Refuses p s at = p (drop at s) ≡ none
-
--- if `p` reads anything from place `at` on, it reads `a`
-pub record Knows {A : Type 0} (p : Reader (List ℕ) A) (s : List ℕ) (at : ℕ) (a : A) : Type 0 where
-  pub reads : (b : A) (t : List ℕ) → p (drop at s) ≡ some (b, t) → a ≡ b
 
 -- What entries are made of.
 
@@ -191,9 +185,24 @@ unfoldable pub tagAt : ℕ → Length → OptionalPart
 tagAt at (length-of.Of n) = part.Is (record { start = at; len = n })
 tagAt at length-of.Absent = part.Absent
 
-abbrev pub KnownFieldIs : List ℕ → ℕ → KnownField → Type 0
-KnownFieldIs s at (known-field.Is h) = Knows entries.fieldHead s at (fieldOf s h)
-KnownFieldIs s at known-field.Bad = Refuses entries.fieldHead s at
+unfoldable pub tagBytes : Length → ℕ
+tagBytes (length-of.Of n) = n
+tagBytes length-of.Absent = 0
+
+-- if a field's entry is read there, it has that head, and `next` is the place after it
+pub record KnownTo (s : List ℕ) (at : ℕ) (h : FieldHead) (next : ℕ) : Type 0 where
+  pub reads : (g : entries.FieldHead) (t : List ℕ) → entries.fieldHead (drop at s) ≡ some (g, t) → (fieldOf s h ≡ g) × (drop next s ≡ t)
+  pub count : h .count ≤ entries.maxCount
+  pub past : at < next
+  pub within : next ≤ length s
+
+-- no field's entry is read there
+abbrev pub Unread : List ℕ → ℕ → Type 0
+Unread s at = (g : entries.FieldHead) (t : List ℕ) → entries.fieldHead (drop at s) ≡ some (g, t) → ⊥
+
+abbrev pub KnownFieldIs : List ℕ → ℕ → FieldRead → Type 0
+KnownFieldIs s at (field.Is h next) = KnownTo s at h next
+KnownFieldIs s at field.Bad = Unread s at
 
 -- The entries of a rule sheet.
 

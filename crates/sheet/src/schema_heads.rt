@@ -10,7 +10,7 @@ use crate::numeral::NumeralRead;
 use crate::part::OptionalPart;
 use crate::part::Part;
 ghost use mathlib.Core.Path.{_≡_};
-ghost use Rattle.sheet.specs.Places.{HolderIs, ArgumentsAre, SchemaIs, FieldMarksAre, FieldTextsAre, FieldIs, tagAt, KnownFieldIs};
+ghost use Rattle.sheet.specs.Places.{HolderIs, ArgumentsAre, SchemaIs, FieldMarksAre, FieldTextsAre, FieldIs, tagAt, tagBytes, KnownFieldIs};
 
 // The kinds of fields that a walk tells apart; docs/FORMAT.md, "The schema sheet".
 pub const STRING: usize = 1;
@@ -99,12 +99,6 @@ pub struct FieldHead {
 pub enum FieldRead {
     // The head, and the place after it.
     Is(FieldHead, usize),
-    Bad,
-}
-
-pub enum KnownField {
-    Is(FieldHead),
-    // The entry is not a field's.
     Bad,
 }
 
@@ -248,28 +242,47 @@ fn tag_at(at: usize, len: Length) -> OptionalPart
     }
 }
 
-// The head of an entry that was read before: its texts are known to be UTF-8 and are not looked at again.
-pub fn known_field(s: &[u8], at: usize) -> KnownField
+// How many bytes a tag of that length takes.
+fn tag_bytes(len: Length) -> usize
+    ensures { λ r. ⌜ r ≡ tagBytes len ⌝ }
+{
+    match len {
+        Length::Of(n) => n,
+        Length::Absent => 0,
+    }
+}
+
+// An entry that was read before: its texts are known to be UTF-8 and are not looked at again.
+pub fn known_field(s: &[u8], at: usize) -> FieldRead
     ensures { λ r. ⌜ KnownFieldIs (now (s .entry)) at r ⌝ }
 {
-    let FieldMarksRead::Are(marks, behind) = field_marks(s, at) else {
-        return KnownField::Bad;
+    let FieldMarksRead::Are(marks, a) = field_marks(s, at) else {
+        return FieldRead::Bad;
     };
-    let NumeralRead::Is(len, a) = entry::item(s, behind, 0, MAX_TEXT) else {
-        return KnownField::Bad;
+    let NumeralRead::Is(len, b) = entry::item(s, a, 0, MAX_TEXT) else {
+        return FieldRead::Bad;
     };
-    let LengthRead::Is(tag_len, b) = entry::text_length(s, a) else {
-        return KnownField::Bad;
+    let LengthRead::Is(tag_len, c) = entry::text_length(s, b) else {
+        return FieldRead::Bad;
     };
-    let start = b + 1;
+    let start = c + 1;
+    let end = start + len;
+    let bytes = tag_bytes(tag_len);
+    if s.len() <= end {
+        return FieldRead::Bad;
+    }
+    if s.len() - end <= bytes {
+        return FieldRead::Bad;
+    }
     let name = Part { start, len };
-    let tag = tag_at(start + len, tag_len);
-    KnownField::Is(FieldHead {
+    let tag = tag_at(end, tag_len);
+    let head = FieldHead {
         kind: marks.kind,
         opened: marks.opened,
         items: marks.items,
         count: marks.count,
         name,
         tag,
-    })
+    };
+    FieldRead::Is(head, end + bytes + 1)
 }

@@ -7,9 +7,9 @@ use Rattle.definition.specs.Computing.{computing}
 use Rattle.reference.specs.Walk.{entryOf}
 use Rattle.widening.specs.Widening.{marks, anything}
 use Rattle.widening.specs.Decision.{fieldMissing, kindDiffers, itemsDiffer, tagDiffers, markCloses, fieldAdded, argumentsGo, breachIf, sameTag, sameItemsMark, closes, ownDifferences, added, allAdded, missing, sought, fieldDifferences, itemsDifferences, membersDifferences, argumentsMarks, argumentsDifferences, differences, widening, refuted, withGrowth, decided, widens}
-use Rattle.widening.specs.SheetDecision.{SheetAnswer, malformed, decision, answerFor, widensSheets, reasonNumber, decisionNumbers}
+use Rattle.widening.specs.SheetDecision.{DecisionAnswer, malformed, decision, answerFor, widensSheets, reasonNumber, decisionNumbers}
 
-unfoldable answer : (first second : List ℕ) → SheetAnswer
+unfoldable answer : (first second : List ℕ) → DecisionAnswer
 unfolding computing ascii entryOf breachIf sameTag sameItemsMark closes ownDifferences added allAdded missing sought fieldDifferences itemsDifferences membersDifferences argumentsMarks argumentsDifferences differences withGrowth decided widens answerFor widensSheets
 answer s s′ = widensSheets s s′
 

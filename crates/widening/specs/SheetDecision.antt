@@ -7,17 +7,17 @@ use Rattle.definition.specs.Decode.{decodeSchema}
 use Rattle.widening.specs.Widening.{marks, anything}
 use Rattle.widening.specs.Decision.{Reason, fieldMissing, kindDiffers, itemsDiffer, tagDiffers, markCloses, fieldAdded, argumentsGo, Decision, widening, refuted, widens}
 
-pub data SheetAnswer : Type 0 where
+pub data DecisionAnswer : Type 0 where
   -- which sheet is not well formed: 1 the first, 2 the second
-  malformed : (which : ℕ) → SheetAnswer
-  decision : Decision → SheetAnswer
+  malformed : (which : ℕ) → DecisionAnswer
+  decision : Decision → DecisionAnswer
 
-unfoldable pub answerFor : Option Schema → Option Schema → SheetAnswer
+unfoldable pub answerFor : Option Schema → Option Schema → DecisionAnswer
 answerFor none x′ = malformed 1
 answerFor (some s) none = malformed 2
 answerFor (some s) (some s′) = decision (widens s s′)
 
-unfoldable pub widensSheets : (first second : List ℕ) → SheetAnswer
+unfoldable pub widensSheets : (first second : List ℕ) → DecisionAnswer
 widensSheets first second = answerFor (decodeSchema first) (decodeSchema second)
 
 unfoldable pub reasonNumber : Reason → ℕ
@@ -38,7 +38,7 @@ pub record DecisionNumbers : Type 0 where
   pub first : ℕ
   pub second : ℕ
 
-unfoldable pub decisionNumbers : SheetAnswer → DecisionNumbers
+unfoldable pub decisionNumbers : DecisionAnswer → DecisionNumbers
 decisionNumbers (malformed which) = record { number = 4; answer = which; reason = 0; first = 0; second = 0 }
 decisionNumbers (decision (widening marks)) = record { number = 0; answer = 1; reason = 0; first = 0; second = 0 }
 decisionNumbers (decision (widening anything)) = record { number = 0; answer = 2; reason = 0; first = 0; second = 0 }

@@ -56,7 +56,7 @@ returns-2 c =
     let c7 = c5 .before .before in
     let c10 = c7 .before .before .before in
     let e = rw (c5 .head .given .1) at (c7 .head-of .ensures) in
-    indexed-parts (c10 .args .sheet .now) (c10 .args .words .now) (c10 .args .k) (c5 .head .given .0 .0) (c .place-word .result) (c3 .name-word .result % 4096) (c1 .to-count .result) (c2 .element-at .result) e (c .place-word .ensures) (rw (c3 .name-word .ensures)) (c1 .to-count .ensures) (c2 .element-at .ensures)
+    indexed-parts (c10 .args .sheet .now) (c10 .args .words .now) (c10 .args .k) (c5 .head .given .0 .0) (c5 .head .given .0 .1 .0) (c .place-word .result) (c3 .name-word .result % 4096) (c1 .to-count .result) (c2 .element-at .result) e (c .place-word .ensures) (rw (c3 .name-word .ensures)) (c1 .to-count .ensures) (c2 .element-at .ensures)
 
 pub indexed-field-spec : {M : Type 1} → statement M
 indexed-field-spec =

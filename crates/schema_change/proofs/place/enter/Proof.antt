@@ -4,8 +4,8 @@ use Rattle.schema_change.proofs.PlaceLaws.{enter-bad, enter-good}
 use Rattle.schema_change.proofs.place.enter.Statement.{statement}
 use Rattle.schema_change.proofs.place.enter.Tie as tie
 
-known-head-requires : tie.Need-known-head-requires
-known-head-requires c κs = search needs
+known-field-requires : tie.Need-known-field-requires
+known-field-requires c κs = search needs
 
 enum-known-head : tie.Need-enum-known-head
 enum-known-head c = search needs
@@ -24,4 +24,4 @@ returns-2 c = search (enter-good, needs)
 
 pub enter-spec : {M : Type 1} → statement M
 enter-spec =
-    tie.close (tie.spec known-head-requires enum-known-head enum-told returns add-entry returns-2)
+    tie.close (tie.spec known-field-requires enum-known-head enum-told returns add-entry returns-2)

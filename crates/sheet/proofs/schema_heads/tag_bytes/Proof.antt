@@ -1,8 +1,8 @@
--- `schema_change::known::tag_bytes` meets its contract.
+-- `sheet::schema_heads::tag_bytes` meets its contract.
 use borrow.Author.Needs.{needs}
-use Rattle.schema_change.specs.Known.{tagBytes}
-use Rattle.schema_change.proofs.known.tag_bytes.Statement.{statement}
-use Rattle.schema_change.proofs.known.tag_bytes.Tie as tie
+use Rattle.sheet.specs.Places.{tagBytes}
+use Rattle.sheet.proofs.schema_heads.tag_bytes.Statement.{statement}
+use Rattle.sheet.proofs.schema_heads.tag_bytes.Tie as tie
 
 enum-known-len : tie.Need-enum-known-len
 enum-known-len c = search needs
