@@ -1,5 +1,6 @@
 //! Times and instruction counts of one call.
 
+use std::collections::HashSet;
 use std::hint::black_box;
 use std::process::Command;
 use std::time::{Duration, Instant};
@@ -41,13 +42,40 @@ pub fn counted_call(call: &mut dyn FnMut() -> bool) {
 /// does not count: valgrind has one instruction for each byte, where the processor clears many at once.
 pub fn instructions(words: &[&str]) -> Option<u64> {
     let program = std::env::current_exe().ok()?;
+    let profile = std::env::temp_dir().join(format!("bench-{}.callgrind", std::process::id()));
     let output = Command::new("valgrind")
-        .args(["--tool=callgrind", "--toggle-collect=counted_call", "--toggle-collect=*memset*", "--callgrind-out-file=/dev/null"])
+        .args(["--tool=callgrind", "--toggle-collect=counted_call"])
+        .arg(format!("--callgrind-out-file={}", profile.display()))
         .arg(program)
         .args(words)
         .output()
         .ok()?;
+    let costs = std::fs::read_to_string(&profile).ok()?;
+    std::fs::remove_file(&profile).ok()?;
     let log = String::from_utf8_lossy(&output.stderr).into_owned();
     let line = log.lines().find(|line| line.contains("Collected :"))?;
-    line.rsplit(' ').next()?.parse().ok()
+    let all: u64 = line.rsplit(' ').next()?.parse().ok()?;
+    Some(all - clearing(&costs))
+}
+
+/// What a profile of callgrind has for the functions that clear memory. A function's name comes with its number where it is first met, as a caller
+/// or called; a caller's costs follow, a line each: a place and a count.
+fn clearing(costs: &str) -> u64 {
+    let mut numbers = HashSet::new();
+    let mut is_clearing = false;
+    let mut sum = 0;
+    for line in costs.lines() {
+        if let Some(function) = line.strip_prefix("fn=").or(line.strip_prefix("cfn=")) {
+            let number = function.split(')').next().unwrap_or_default();
+            if function.contains("memset") {
+                numbers.insert(number);
+            }
+            if line.starts_with("fn=") {
+                is_clearing = numbers.contains(number);
+            }
+        } else if is_clearing && line.starts_with(|first: char| first.is_ascii_digit() || "+-*".contains(first)) {
+            sum += line.split(' ').nth(1).and_then(|count| count.parse::<u64>().ok()).unwrap_or_default();
+        }
+    }
+    sum
 }
