@@ -9,12 +9,12 @@ use Rattle.validation.specs.Result.{Numbers}
 use Rattle.single_check.specs.Outcomes.{numbersBy}
 use Rattle.single_check.specs.declared.outcome.Outcome.{Outcome}
 use Rattle.widening.specs.SheetDecision.{DecisionAnswer, decision, widensSheets, reasonNumber, decisionNumbers}
-use Rattle.schema_change.specs.Answers.{reasonOf, decisionOf, answerOf}
+use Rattle.schema_change.specs.Answers.{reasonOf, decisionOf, widensAnswerOf}
 use Rattle.schema_change.specs.declared.answer.Reason.{Reason}
 use Rattle.schema_change.specs.declared.answer.Change.{Change}
 use Rattle.schema_change.specs.declared.answer.Change.the-variants.{Marks, Anything, Refuted}
-use Rattle.schema_change.specs.declared.answer.Answer.{Answer}
-use Rattle.schema_change.specs.declared.answer.Answer.the-variants.{Malformed, Is}
+use Rattle.schema_change.specs.declared.answer.WidensAnswer.{WidensAnswer}
+use Rattle.schema_change.specs.declared.answer.WidensAnswer.the-variants.{Malformed, Is}
 use Rattle.entity_rules.specs.Entry.{resultBytes, resultAfter, Written}
 use Rattle.entity_rules.specs.WidensEntry.{inPlaces, widensNumbers, WidensAnswered}
 
@@ -38,14 +38,14 @@ module _ {x : Change} {r : Outcome} where
   unfolding decisionNumbers
   refuted-told q n h = rw (q, ← n) h
 
-module _ {x : Answer} {r : Outcome} where
+module _ {x : WidensAnswer} {r : Outcome} where
   pub malformed-told : {which : ℕ} → x ≡ Malformed which
       → numbersBy r ≡ inPlaces (record { number = 4; answer = which; reason = 0; first = 0; second = 0 })
-      → numbersBy r ≡ inPlaces (decisionNumbers (answerOf x))
+      → numbersBy r ≡ inPlaces (decisionNumbers (widensAnswerOf x))
   unfolding decisionNumbers
   malformed-told e h = rw e h
 
-  pub change-told : {c : Change} → x ≡ Is c → numbersBy r ≡ inPlaces (decisionNumbers (decision (decisionOf c))) → numbersBy r ≡ inPlaces (decisionNumbers (answerOf x))
+  pub change-told : {c : Change} → x ≡ Is c → numbersBy r ≡ inPlaces (decisionNumbers (decision (decisionOf c))) → numbersBy r ≡ inPlaces (decisionNumbers (widensAnswerOf x))
   change-told e h = rw e h
 
 pub short-answered : {first second result : List ℕ} → length result < resultBytes → WidensAnswered first second result result 3
@@ -54,10 +54,10 @@ short-answered {result = result} short =
     let no-room = lt-leb resultBytes (length result) short in
     record { number = rw no-room refl; result = rw no-room refl; small = λ room. absurd (omega arith) }
 
-pub widens-answered : {first second result resultNow : List ℕ} (x : Answer) (r : Outcome)
+pub widens-answered : {first second result resultNow : List ℕ} (x : WidensAnswer) (r : Outcome)
     → resultBytes ≤ length result
-    → answerOf x ≡ widensSheets first second
-    → numbersBy r ≡ inPlaces (decisionNumbers (answerOf x))
+    → widensAnswerOf x ≡ widensSheets first second
+    → numbersBy r ≡ inPlaces (decisionNumbers (widensAnswerOf x))
     → Written r result resultNow
     → WidensAnswered first second result resultNow (r .number)
 unfolding widensNumbers

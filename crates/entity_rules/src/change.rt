@@ -1,10 +1,10 @@
 // What is answered about two schema sheets, as the numbers of a result.
-use schema_change::answer::Answer;
 use schema_change::answer::Change;
 use schema_change::answer::Reason;
+use schema_change::answer::WidensAnswer;
 use single_check::outcome::Outcome;
 ghost use mathlib.Core.Path.{_≡_};
-ghost use Rattle.schema_change.specs.Answers.{reasonOf, decisionOf, answerOf};
+ghost use Rattle.schema_change.specs.Answers.{reasonOf, decisionOf, widensAnswerOf};
 ghost use Rattle.single_check.specs.Outcomes.{numbersBy};
 ghost use Rattle.widening.specs.SheetDecision.{decision, reasonNumber, decisionNumbers};
 ghost use Rattle.entity_rules.specs.WidensEntry.{inPlaces};
@@ -50,11 +50,11 @@ fn told_change(change: Change) -> Outcome
     }
 }
 
-pub fn told(answer: Answer) -> Outcome
-    ensures { λ r. ⌜ numbersBy r ≡ inPlaces (decisionNumbers (answerOf answer)) ⌝ }
+pub fn told(answer: WidensAnswer) -> Outcome
+    ensures { λ r. ⌜ numbersBy r ≡ inPlaces (decisionNumbers (widensAnswerOf answer)) ⌝ }
 {
     match answer {
-        Answer::Malformed(which) => in_places(4, which, 0, 0, 0),
-        Answer::Is(change) => told_change(change),
+        WidensAnswer::Malformed(which) => in_places(4, which, 0, 0, 0),
+        WidensAnswer::Is(change) => told_change(change),
     }
 }

@@ -10,8 +10,8 @@ use Rattle.schema_change.specs.declared.answer.Reason.{Reason}
 use Rattle.schema_change.specs.declared.answer.Reason.the-variants.{FieldMissing, KindDiffers, ItemsDiffer, TagDiffers, MarkCloses, FieldAdded, ArgumentsGo}
 use Rattle.schema_change.specs.declared.answer.Change.{Change}
 use Rattle.schema_change.specs.declared.answer.Change.the-variants.{Marks, Anything, Refuted}
-use Rattle.schema_change.specs.declared.answer.Answer.{Answer}
-use Rattle.schema_change.specs.declared.answer.Answer.the-variants.{Malformed, Is}
+use Rattle.schema_change.specs.declared.answer.WidensAnswer.{WidensAnswer}
+use Rattle.schema_change.specs.declared.answer.WidensAnswer.the-variants.{Malformed, Is}
 
 abbrev pub reasonOf : Reason → Decision.Reason
 reasonOf FieldMissing = fieldMissing
@@ -27,9 +27,9 @@ decisionOf Marks = widening marks
 decisionOf Anything = widening anything
 decisionOf (Refuted why e e′) = refuted (reasonOf why) e e′
 
-abbrev pub answerOf : Answer → DecisionAnswer
-answerOf (Malformed which) = malformed which
-answerOf (Is change) = decision (decisionOf change)
+abbrev pub widensAnswerOf : WidensAnswer → DecisionAnswer
+widensAnswerOf (Malformed which) = malformed which
+widensAnswerOf (Is change) = decision (decisionOf change)
 
 -- what two parts of the list decide together
 unfoldable pub joined : Decision → Decision → Decision

@@ -25,7 +25,7 @@ pub enum Change {
     Refuted(Reason, u32, u32),
 }
 
-pub enum Answer {
+pub enum WidensAnswer {
     // The first sheet (1) or the second (2) is not well formed.
     Malformed(u32),
     Is(Change),

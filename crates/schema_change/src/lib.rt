@@ -7,26 +7,26 @@ mod pairing; // pairing.rt: which of two members comes first
 mod field; // field.rt: fields, with what lies below them
 mod schema_sheets; // schema_sheets.rt: two schemas as a whole
 
-use crate::answer::Answer;
+use crate::answer::WidensAnswer;
 use crate::schema_sheets::compare_schemas;
 use definition::limits::SCRATCH_WORDS;
 use schema::read::SchemaRead;
 use schema::read::read_schema;
 ghost use mathlib.Core.Path.{_≡_};
 ghost use Rattle.widening.specs.SheetDecision.{widensSheets};
-ghost use Rattle.schema_change.specs.Answers.{answerOf};
+ghost use Rattle.schema_change.specs.Answers.{widensAnswerOf};
 
 // Brings a scratch, which reading needs; what it leaves there is not looked at.
-pub fn widens(first: &[u8], second: &[u8]) -> Answer
-    ensures { λ r. ⌜ answerOf r ≡ widensSheets (now (first .entry)) (now (second .entry)) ⌝ }
+pub fn widens(first: &[u8], second: &[u8]) -> WidensAnswer
+    ensures { λ r. ⌜ widensAnswerOf r ≡ widensSheets (now (first .entry)) (now (second .entry)) ⌝ }
 {
     let mut scratch = [0u32; SCRATCH_WORDS];
     let SchemaRead::Good(_) = read_schema(first, &mut scratch) else {
-        return Answer::Malformed(1);
+        return WidensAnswer::Malformed(1);
     };
     let SchemaRead::Good(_) = read_schema(second, &mut scratch) else {
-        return Answer::Malformed(2);
+        return WidensAnswer::Malformed(2);
     };
     let change = compare_schemas(first, second);
-    Answer::Is(change)
+    WidensAnswer::Is(change)
 }
