@@ -16,7 +16,6 @@ use Rattle.sheet.specs.Places.{ReadsTo}
 use Rattle.sheet.specs.Parts.{partOf}
 use Rattle.sheet.specs.RuleHeadLaws.{keyHead-exact}
 use Rattle.sheet.specs.Write.{writeKeyHead}
-use Rattle.sheet.specs.Compares.{Stand}
 use Rattle.sheet.specs.declared.part.Part.{Part}
 use Rattle.definition.specs.Tree.{Text, Value, Pairs, noPairs, pair}
 use Rattle.definition.specs.Decode.{keysOf}
@@ -65,9 +64,6 @@ module _ (s : List ℕ) (entry : Part) (at : ℕ) {key other : Text} {rest : Lis
         by-test (sameBytes a b)
         (λ t. absurd (false≢true (sym q ∙ equal-sameBytes key other (same-key (sym (sameBytes-equal a b t) ∙ entry-here)))))
         (λ t. t ∙ sym q))
-
-pub parts-same : (s : List ℕ) (p q : Part) {a b : List ℕ} {less same greater : Bool} → a ≡ partOf s p → b ≡ partOf s q → Stand a b less same greater → same ≡ sameBytes (partOf s p) (partOf s q)
-parts-same s p q e f stand = rw (← e, ← f) (sym (stand .same-is))
 
 -- Whether a key is one of those whose words begin at `i`: none is left, this one is it, or one further on.
 module _ (s words : List ℕ) (entry : Part) (i n : ℕ) where

@@ -3,7 +3,7 @@ use crate::index::end_of;
 use crate::index::start_of;
 use definition::limits::MAX_RULE_ENTRIES;
 use lines::rule_sheet::key_head;
-use sheet::order::ByteOrder;
+use sheet::order::same_bytes;
 use sheet::part::Part;
 use sheet::part::bytes_of;
 use sheet::rule_heads::KeyRead;
@@ -33,11 +33,7 @@ fn stands_at(s: &[u8], part: Part, at: usize) -> bool
         start: at,
         len: part.len,
     };
-    match sheet::order::compare(bytes_of(s, part), bytes_of(s, there)) {
-        ByteOrder::Less => false,
-        ByteOrder::Same => true,
-        ByteOrder::Greater => false,
-    }
+    same_bytes(bytes_of(s, part), bytes_of(s, there))
 }
 
 // Whether the key of an entry is among `count` keys, whose words begin at `first`.

@@ -2,10 +2,10 @@
 use crate::name::Row;
 use definition::limits::MAX_BINDERS;
 use schema::read::Schema;
+use sheet::order::same_bytes;
 use sheet::part::Part;
 use sheet::part::bytes_of;
 use walk::answer::Reader;
-use walk::path::same_bytes;
 ghost use mathlib.Core.Path.{_≡_};
 ghost use Prim.Native.Nat.{_<_};
 ghost use Rattle.scope.specs.Binders.{capped, lengthUnit, elementNumber, binderNumber, binderName, binderElement};

@@ -3,6 +3,7 @@ ghost use mathlib.Core.Path.{_≡_};
 ghost use mathlib.Core.Bool.{true};
 ghost use Prim.Native.Nat.{_+_, _≤_, min};
 ghost use lib.ListN.{length};
+ghost use Rattle.sheet.specs.Order.{sameBytes};
 ghost use Rattle.sheet.specs.Compares.{Compares, SameAt, SameStart};
 
 pub enum ByteOrder {
@@ -40,11 +41,13 @@ fn same_start(a: &[u8], b: &[u8]) -> usize
     i
 }
 
-pub fn compare(a: &[u8], b: &[u8]) -> ByteOrder
+// How two texts compare that start with the same `from` bytes: byte by byte, then by their lengths.
+fn compare_from(a: &[u8], b: &[u8], from: usize) -> ByteOrder
+    requires { ⌜ SameStart (now a) (now b) from ⌝ }
     ensures { λ r. ⌜ Compares (now (a .entry)) (now (b .entry)) r ⌝ }
 {
     let n = shorter(a, b);
-    let mut i = same_start(a, b);
+    let mut i = from;
     while i < n {
         let x = a[i];
         let y = b[i];
@@ -63,4 +66,40 @@ pub fn compare(a: &[u8], b: &[u8]) -> ByteOrder
         return ByteOrder::Greater;
     }
     ByteOrder::Same
+}
+
+// Four bytes as one number decide more often than one byte does, so that fewer branches are guessed wrong.
+pub fn compare(a: &[u8], b: &[u8]) -> ByteOrder
+    ensures { λ r. ⌜ Compares (now (a .entry)) (now (b .entry)) r ⌝ }
+{
+    let n = shorter(a, b);
+    let mut i = same_start(a, b);
+    while 4 <= n - i {
+        let first = text::four_big_endian(a, i);
+        let second = text::four_big_endian(b, i);
+        if first < second {
+            return ByteOrder::Less;
+        }
+        if second < first {
+            return ByteOrder::Greater;
+        }
+        i += 4;
+    }
+    compare_from(a, b, i)
+}
+
+pub fn same_bytes(a: &[u8], b: &[u8]) -> bool
+    ensures { λ r. ⌜ r ≡ sameBytes (now (a .entry)) (now (b .entry)) ⌝ }
+{
+    if a.len() != b.len() {
+        return false;
+    }
+    let mut i = same_start(a, b);
+    while i < a.len() {
+        if a[i] != b[i] {
+            return false;
+        }
+        i += 1;
+    }
+    true
 }

@@ -1,12 +1,15 @@
 -- Numbers whose digits are the bytes of a text: how they are put together, and what one of them says of its bytes.
 use Prim.Native.Nat.{ℕ, zero, suc, _+_, _*_, _/_, _%_, _≤_, _<_}
-use mathlib.Core.Path.{_≡_, ap, ap₂, sym, _∙_}
+use mathlib.Core.Bool.{Bool, true, false}
+use mathlib.Core.Path.{_≡_, refl, ap, ap₂, sym, _∙_}
 use mathlib.Core.List.{List}
 use native.Mathlib.Omega.{arith}
 use lib.Bits.{bitAnd, and-block, and-shr, and-mask}
+use lib.Dec.{ltb}
 use lib.ListN.{getD}
+use borrow.Author.Tests.{ltb-true, ltb-false}
 use Rattle.text.specs.Decodes.{AsciiAt}
-use Rattle.text.specs.Digits.{number, highBits, Digits}
+use Rattle.text.specs.Digits.{number, highBits, Digits, bigEndian, BigEndian}
 
 module _ (s : List ℕ) (at : ℕ) where
   pub four-digits
@@ -18,6 +21,20 @@ module _ (s : List ℕ) (at : ℕ) where
   four-digits r below e =
       let here : at + 0 ≡ at = omega arith in
       record { value-is = omega (arith, ap (λ (i : ℕ). getD s i 0) here); below = below }
+
+  pub four-big-endian
+      : (r : ℕ)
+      → ((i : ℕ) → getD s i 0 < 256)
+      → r ≡ getD s (at + 3) 0 + getD s (at + 2) 0 * 256 + getD s (at + 1) 0 * 65536 + getD s at 0 * 16777216
+      → BigEndian 4 s at r
+  unfolding bigEndian
+  four-big-endian r below e =
+      let third : at + 1 + 1 ≡ at + 2 = omega arith in
+      let fourth : at + 1 + 1 + 1 ≡ at + 3 = omega arith in
+      record {
+        value-is = omega (arith, ap (λ (i : ℕ). getD s i 0) third, ap (λ (i : ℕ). getD s i 0) fourth);
+        below = below;
+      }
 
   behind : (k : ℕ) → getD s (at + 4 + k) 0 ≡ getD s (at + (4 + k)) 0
   behind k = let e : at + 4 + k ≡ at + (4 + k) = omega arith in ap (λ (i : ℕ). getD s i 0) e
@@ -95,3 +112,40 @@ pub digits-ascii
 unfolding highBits
 digits-ascii m n s at few d high e =
     number-ascii m n (λ k. getD s (at + k) 0) few (λ k. d .below (at + k)) (sym (ap₂ bitAnd (d .value-is) high) ∙ e)
+
+module _ (s t : List ℕ) (below : (i : ℕ) → getD s i 0 < 256) (below′ : (i : ℕ) → getD t i 0 < 256) where
+  -- a number that is the lower one so far stays so
+  pub stays-below : (n at at′ x y : ℕ) → x < y → bigEndian n s at x < bigEndian n t at′ y
+  unfolding bigEndian
+  stays-below zero at at′ x y h = h
+  stays-below (suc n) at at′ x y h = stays-below n (at + 1) (at′ + 1) _ _ (omega (arith, below at, below′ at′))
+
+module _ (s t : List ℕ) (below : (i : ℕ) → getD s i 0 < 256) (below′ : (i : ℕ) → getD t i 0 < 256) where
+  same-so-far : (n at x y : ℕ) → bigEndian n s at x ≡ bigEndian n t at y → x ≡ y
+  same-so-far n at x y e = go (ltb x y) refl (ltb y x) refl
+    where
+      go : (p : Bool) → ltb x y ≡ p → (q : Bool) → ltb y x ≡ q → x ≡ y
+      go true h q h′ = absurd (omega (arith, stays-below s t below below′ n at at x y (ltb-true x y h)))
+      go false h true h′ = absurd (omega (arith, stays-below t s below′ below n at at y x (ltb-true y x h′)))
+      go false h false h′ = omega (arith, ltb-false x y h, ltb-false y x h′)
+
+  same-digits-on : (n at x y : ℕ) → bigEndian n s at x ≡ bigEndian n t at y → (k : ℕ) → k < n → getD s (at + k) 0 ≡ getD t (at + k) 0
+  unfolding bigEndian
+  same-digits-on zero at x y e k h = absurd (omega arith)
+  same-digits-on (suc n) at x y e zero h =
+      let so-far = same-so-far n (at + 1) _ _ e in
+      let here : at + 0 ≡ at = omega arith in
+      rw here (omega (arith, below at, below′ at))
+  same-digits-on (suc n) at x y e (suc k) h =
+      let here : at + suc k ≡ at + 1 + k = omega arith in
+      rw here (same-digits-on n (at + 1) _ _ e k (omega arith))
+
+  pub same-big-endian
+      : (n at : ℕ) {v w : ℕ}
+      → v ≡ bigEndian n s at 0
+      → w ≡ bigEndian n t at 0
+      → v ≡ w
+      → (k : ℕ)
+      → k < n
+      → getD s (at + k) 0 ≡ getD t (at + k) 0
+  same-big-endian n at x y e = same-digits-on n at 0 0 (sym x ∙ e ∙ y)

@@ -17,3 +17,13 @@ highBits n = number n (λ k. 0x80)
 pub record Digits (n : ℕ) (s : List ℕ) (at value : ℕ) : Type 0 where
   pub value-is : value ≡ number n (λ k. getD s (at + k) 0)
   pub below : (i : ℕ) → getD s i 0 < 256
+
+-- the number to base 256 whose digits are those of `so-far`, then `n` bytes of a text from a place on: the first is the highest
+unfoldable pub bigEndian : ℕ → List ℕ → ℕ → ℕ → ℕ
+bigEndian zero s at so-far = so-far
+bigEndian (suc n) s at so-far = bigEndian n s (at + 1) (so-far * 256 + getD s at 0)
+
+-- `n` bytes of a text, from a place on, are the digits of a number, the highest first
+pub record BigEndian (n : ℕ) (s : List ℕ) (at value : ℕ) : Type 0 where
+  pub value-is : value ≡ bigEndian n s at 0
+  pub below : (i : ℕ) → getD s i 0 < 256

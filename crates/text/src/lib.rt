@@ -8,7 +8,7 @@ ghost use Rattle.text.specs.Utf8.{codeOf2, codeOf3, codeOf4};
 ghost use Rattle.text.specs.WhiteSpace.{isWhiteSpace};
 ghost use Rattle.text.specs.Blank.{isBlank, trim};
 ghost use Rattle.text.specs.Decodes.{Decodes, AsciiAt, PassedTo, BehindPoint, StartsAt, EndsAt};
-ghost use Rattle.text.specs.Digits.{Digits};
+ghost use Rattle.text.specs.Digits.{Digits, BigEndian};
 ghost use Rattle.text.specs.Decimal.{isDigit};
 
 // What is at an offset of a text.
@@ -120,6 +120,14 @@ fn four_at(s: &[u8], at: usize) -> u32
     ensures { λ r. ⌜ Digits 4 (now (s .entry)) at r ⌝ }
 {
     four(s[at], s[at + 1], s[at + 2], s[at + 3])
+}
+
+// Four bytes as one number, the first its highest digit, so that such numbers are in the order of the bytes.
+pub fn four_big_endian(s: &[u8], at: usize) -> u32
+    requires { ⌜ at + 4 ≤ length (now s) ⌝ }
+    ensures { λ r. ⌜ BigEndian 4 (now (s .entry)) at r ⌝ }
+{
+    four(s[at + 3], s[at + 2], s[at + 1], s[at])
 }
 
 fn wider(n: u32) -> u64

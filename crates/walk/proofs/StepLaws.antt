@@ -3,7 +3,7 @@ use Prim.Native.Nat.{ℕ}
 use mathlib.Core.Bool.{Bool, true, false, cond, _&&_}
 use mathlib.Core.List.{List, [], _∷_}
 use mathlib.Core.Option.{Option, none}
-use mathlib.Core.Path.{_≡_, refl, sym, ap, _∙_}
+use mathlib.Core.Path.{_≡_, refl, sym, _∙_}
 use lib.Dec.{eqb}
 use lib.ListN.{length}
 use borrow.Author.Tests.{ne-eqb}
@@ -11,13 +11,10 @@ use Rattle.definition.specs.Tree as Tree
 use Rattle.definition.specs.Tree.{Text, Field, field, Items, absent, element, Members}
 use Rattle.sheet.specs.Ascii.{ascii}
 use Rattle.sheet.specs.Order.{sameBytes}
-use Rattle.sheet.specs.OrderLaws.{sameBytes-equal}
-use Rattle.sheet.specs.ReaderLaws.{by-test}
 use Rattle.reference.specs.Path.{isCount, isOrdinal}
 use Rattle.reference.specs.Setting.{Reader}
 use Rattle.reference.specs.Walk.{Step, refuse, free, lookup, memberStep, itemStep, isEmpty, arrayStep, mapStep, isTag, contentKey, unionStep, textCount, walkStep}
 use Rattle.sheet.specs.Parts.{partOf, optionalOf}
-use Rattle.sheet.specs.Compares.{Stand, Compares}
 use Rattle.schema.specs.Slot.{HolderAt, ElementAt, FieldParts, PartsOf}
 use Rattle.schema.specs.Lookup.{FoundAt, LookedUp}
 use Rattle.walk.specs.DotLaws.{segment-empty, segment-full}
@@ -26,8 +23,6 @@ use Rattle.walk.specs.Steps.{ItemSteps, ArraySteps, MapSteps, UnionSteps
 use Rattle.sheet.specs.declared.part.Part.{Part}
 use Rattle.sheet.specs.declared.part.OptionalPart.{OptionalPart}
 use Rattle.sheet.specs.declared.part.OptionalPart.the-variants as O
-use Rattle.sheet.specs.declared.order.ByteOrder.{ByteOrder}
-use Rattle.sheet.specs.declared.order.ByteOrder.the-variants as ByteOrder
 use Rattle.schema.specs.declared.index.Holder.{Holder}
 use Rattle.schema.specs.declared.index.ElementSlot.{ElementSlot}
 use Rattle.schema.specs.declared.index.ElementSlot.the-variants as ElementSlot
@@ -41,18 +36,6 @@ use Rattle.walk.specs.declared.answer.WalkStep.{WalkStep}
 use Rattle.walk.specs.declared.answer.WalkStep.the-variants.{Refuse, Leaf, Free, Into}
 
 -- Texts
-
-pub same-apart : (a b : List ℕ) → (length a ≡ length b → ⊥) → false ≡ sameBytes a b
-same-apart a b h = sym (by-test (sameBytes a b) (λ e. absurd (h (ap length (sameBytes-equal a b e)))) (λ e. e))
-
-pub same-less : (a b : List ℕ) (o : ByteOrder) → Compares a b o → o ≡ ByteOrder.Less → false ≡ sameBytes a b
-same-less a b o p e = let q : Stand a b true false false = rw e at p in sym (q .same-is)
-
-pub same-same : (a b : List ℕ) (o : ByteOrder) → Compares a b o → o ≡ ByteOrder.Same → true ≡ sameBytes a b
-same-same a b o p e = let q : Stand a b false true false = rw e at p in sym (q .same-is)
-
-pub same-greater : (a b : List ℕ) (o : ByteOrder) → Compares a b o → o ≡ ByteOrder.Greater → false ≡ sameBytes a b
-same-greater a b o p e = let q : Stand a b false false true = rw e at p in sym (q .same-is)
 
 pub count-spelt : (r : Bool) (s : List ℕ) → r ≡ sameBytes s (99 ∷ 111 ∷ 117 ∷ 110 ∷ 116 ∷ []) → r ≡ isCount s
 unfolding isCount ascii

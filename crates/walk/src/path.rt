@@ -1,13 +1,11 @@
 // Paths: segments separated by dots.
-use sheet::order::ByteOrder;
-use sheet::order::compare;
+use sheet::order::same_bytes;
 use text::is_digit;
 ghost use mathlib.Core.Path.{_≡_};
 ghost use mathlib.Core.Bool.{true};
 ghost use Prim.Native.Nat.{_+_, _≤_};
 ghost use lib.ListN.{length};
 ghost use Rattle.reference.specs.Path.{split, isDigits, isOrdinal, isCount};
-ghost use Rattle.sheet.specs.Order.{sameBytes};
 ghost use Rattle.walk.specs.Dots.{isMore, Ends, DotlessAt, DotlessStart};
 
 // Whether eight bytes have no dot. `&` leaves none of them out, so that the compiler compares them at once.
@@ -126,19 +124,6 @@ pub fn is_ordinal(segment: &[u8]) -> bool
         return segment.len() == 1;
     }
     is_digits(segment)
-}
-
-pub fn same_bytes(a: &[u8], b: &[u8]) -> bool
-    ensures { λ r. ⌜ r ≡ sameBytes (now (a .entry)) (now (b .entry)) ⌝ }
-{
-    if a.len() != b.len() {
-        return false;
-    }
-    match compare(a, b) {
-        ByteOrder::Less => false,
-        ByteOrder::Same => true,
-        ByteOrder::Greater => false,
-    }
 }
 
 pub fn is_count(segment: &[u8]) -> bool

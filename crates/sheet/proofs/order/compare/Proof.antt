@@ -1,14 +1,15 @@
--- `sheet::order::compare` meets its contract. However the bytes from `i` on compare, so do the texts.
+-- `sheet::order::compare` meets its contract. Both texts start with the same bytes up to `i`.
 -- The measure is what is left of the shorter text.
 use Prim.Native.Nat.{_≤_, _-_}
 use native.Mathlib.Omega.{arith}
 use borrow.Author.Needs.{needs}
-use Rattle.sheet.proofs.Comparing.{Goes, both-end, first-ends, second-ends, is-less, is-greater, goes-on, goes-start}
+use Rattle.sheet.specs.Compares.{SameStart}
+use Rattle.sheet.proofs.Comparing.{number-less, number-greater, number-same}
 use Rattle.sheet.proofs.order.compare.Statement.{statement}
 use Rattle.sheet.proofs.order.compare.Tie as tie
 
 abbrev Inv-loop : tie.InvT-loop
-Inv-loop a b n i₀ i = (i ≤ n) × Goes a b i
+Inv-loop a b n i₀ i = (i ≤ n) × SameStart a b i
 
 abbrev μ-loop : tie.MeasureT-loop
 μ-loop a b n i₀ i = n - i
@@ -20,24 +21,24 @@ same-start-requires : tie.Need-same-start-requires Inv-loop μ-loop
 same-start-requires c κs = search needs
 
 loop-holds : tie.Need-loop-holds Inv-loop μ-loop
-loop-holds c = (
-  omega (arith, c .before .shorter .ensures, c .same-start .ensures .in-first, c .same-start .ensures .in-second),
-  goes-start (c .before .before .before .before .args .a .now) (c .before .before .before .before .args .b .now) (c .same-start .result) (c .same-start .ensures),
-)
+loop-holds c = search needs
 
-shared-slice-read-x : tie.Need-shared-slice-read-x Inv-loop μ-loop
-shared-slice-read-x c = omega (arith, c .before .before .before .before .shorter .ensures)
+sub-loop : tie.Need-sub-loop Inv-loop μ-loop
+sub-loop c = search needs
 
-shared-slice-read-y : tie.Need-shared-slice-read-y Inv-loop μ-loop
-shared-slice-read-y c = omega (arith, c .before .before .before .before .before .shorter .ensures)
+four-big-endian-requires : tie.Need-four-big-endian-requires Inv-loop μ-loop
+four-big-endian-requires c κs = search needs
+
+four-big-endian-requires-2 : tie.Need-four-big-endian-requires-2 Inv-loop μ-loop
+four-big-endian-requires-2 c κs = search needs
 
 returns : tie.Need-returns Inv-loop μ-loop
 returns c =
-    is-less (c .before .before .before .before .before .before .before .before .before .args .a .now) (c .before .before .before .before .before .before .before .before .before .args .b .now) (c .before .before .before .before .loop .i) (c .before .before .before .before .loop .inv .1) (omega (arith, c .before .before .before .before .before .before .shorter .ensures, c .before .before .before .before .loop .inv .0)) (omega (arith, c .before .before .before .before .before .before .shorter .ensures, c .before .before .before .before .loop .inv .0)) (c .if1 .taken)
+    number-less (c .before .before .before .before .before .before .before .before .before .args .a .now) (c .before .before .before .before .before .before .before .before .before .args .b .now) 4 (c .before .before .before .before .loop .i) (c .before .before .four-big-endian .result) (c .before .four-big-endian2 .result) (c .before .before .before .before .loop .inv .1) (omega (arith, c .before .before .before .before .before .before .shorter .ensures)) (omega (arith, c .before .before .before .before .before .before .shorter .ensures)) (c .before .before .four-big-endian .ensures) (c .before .four-big-endian2 .ensures) (c .if1 .taken)
 
 returns-2 : tie.Need-returns-2 Inv-loop μ-loop
 returns-2 c =
-    is-greater (c .before .before .before .before .before .before .before .before .before .before .args .a .now) (c .before .before .before .before .before .before .before .before .before .before .args .b .now) (c .before .before .before .before .before .loop .i) (c .before .before .before .before .before .loop .inv .1) (omega (arith, c .before .before .before .before .before .before .before .shorter .ensures, c .before .before .before .before .before .loop .inv .0)) (omega (arith, c .before .before .before .before .before .before .before .shorter .ensures, c .before .before .before .before .before .loop .inv .0)) (c .if2 .taken)
+    number-greater (c .before .before .before .before .before .before .before .before .before .before .args .a .now) (c .before .before .before .before .before .before .before .before .before .before .args .b .now) 4 (c .before .before .before .before .before .loop .i) (c .before .before .before .four-big-endian .result) (c .before .before .four-big-endian2 .result) (c .before .before .before .before .before .loop .inv .1) (omega (arith, c .before .before .before .before .before .before .before .shorter .ensures)) (omega (arith, c .before .before .before .before .before .before .before .shorter .ensures)) (c .before .before .before .four-big-endian .ensures) (c .before .before .four-big-endian2 .ensures) (c .if2 .taken)
 
 add-i : tie.Need-add-i Inv-loop μ-loop
 add-i c = search needs
@@ -48,20 +49,14 @@ loop-less c = search needs
 loop-again : tie.Need-loop-again Inv-loop μ-loop
 loop-again c = (
   omega arith,
-  goes-on (c .before .before .before .before .before .before .before .before .before .before .args .a .now) (c .before .before .before .before .before .before .before .before .before .before .args .b .now) (c .before .before .before .before .before .loop .i) (c .before .before .before .before .before .loop .inv .1) (omega (arith, c .before .before .before .before .before .before .before .shorter .ensures, c .before .before .before .before .before .loop .inv .0)) (omega (arith, c .before .before .before .before .before .before .before .shorter .ensures, c .before .before .before .before .before .loop .inv .0)) (omega arith),
+  number-same (c .before .before .before .before .before .before .before .before .before .before .args .a .now) (c .before .before .before .before .before .before .before .before .before .before .args .b .now) 4 (c .before .before .before .before .before .loop .i) (c .before .before .before .four-big-endian .result) (c .before .before .four-big-endian2 .result) (c .before .before .before .before .before .loop .inv .1) (omega (arith, c .before .before .before .before .before .before .before .shorter .ensures)) (omega (arith, c .before .before .before .before .before .before .before .shorter .ensures)) (c .before .before .before .four-big-endian .ensures) (c .before .before .four-big-endian2 .ensures) (omega arith),
 )
 
+compare-from-requires : tie.Need-compare-from-requires Inv-loop μ-loop
+compare-from-requires c κs = search needs
+
 returns-3 : tie.Need-returns-3 Inv-loop μ-loop
-returns-3 c =
-    first-ends (c .before .before .before .before .before .before .before .args .a .now) (c .before .before .before .before .before .before .before .args .b .now) (c .before .before .loop .i) (c .before .before .loop .inv .1) (omega (arith, c .before .before .before .before .shorter .ensures, c .before .before .loop .inv .0)) (omega (arith, c .before .before .before .before .shorter .ensures, c .before .before .loop .inv .0))
-
-returns-4 : tie.Need-returns-4 Inv-loop μ-loop
-returns-4 c =
-    second-ends (c .before .before .before .before .before .before .before .before .args .a .now) (c .before .before .before .before .before .before .before .before .args .b .now) (c .before .before .before .loop .i) (c .before .before .before .loop .inv .1) (omega (arith, c .before .before .before .before .before .shorter .ensures, c .before .before .before .loop .inv .0)) (omega (arith, c .before .before .before .before .before .shorter .ensures, c .before .before .before .loop .inv .0))
-
-returns-5 : tie.Need-returns-5 Inv-loop μ-loop
-returns-5 c =
-    both-end (c .before .before .before .before .before .before .before .before .args .a .now) (c .before .before .before .before .before .before .before .before .args .b .now) (c .before .before .before .loop .i) (c .before .before .before .loop .inv .1) (omega (arith, c .before .before .before .before .before .shorter .ensures, c .before .before .before .loop .inv .0)) (omega (arith, c .before .before .before .before .before .shorter .ensures, c .before .before .before .loop .inv .0))
+returns-3 c = search needs
 
 pub compare-spec : {M : Type 1} → statement M
 compare-spec =
@@ -72,13 +67,13 @@ compare-spec =
     shorter-requires
     same-start-requires
     loop-holds
-    shared-slice-read-x
-    shared-slice-read-y
+    sub-loop
+    four-big-endian-requires
+    four-big-endian-requires-2
     returns
     returns-2
     add-i
     loop-less
     loop-again
-    returns-3
-    returns-4
-    returns-5)
+    compare-from-requires
+    returns-3)

@@ -34,7 +34,7 @@ loop-less c = search needs
 loop-again : tie.Need-loop-again Inv-loop μ-loop
 loop-again c = (
   omega arith,
-  same-more (c .before .before .before .before .before .before .before .args .a .now) (c .before .before .before .before .before .before .before .args .b .now) (c .before .before .before .loop .i) (c .before .before .before .loop .inv .1) (omega (arith, c .before .before .before .before .shorter .ensures)) (omega (arith, c .before .before .before .before .shorter .ensures)) (c .before .is-same-8 .ensures (c .if1 .taken)),
+  same-more (c .before .before .before .before .before .before .before .args .a .now) (c .before .before .before .before .before .before .before .args .b .now) (c .before .before .before .loop .i) 8 (c .before .before .before .loop .inv .1) (omega (arith, c .before .before .before .before .shorter .ensures)) (omega (arith, c .before .before .before .before .shorter .ensures)) (c .before .is-same-8 .ensures (c .if1 .taken)),
 )
 
 returns : tie.Need-returns Inv-loop μ-loop
