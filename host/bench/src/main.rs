@@ -68,7 +68,8 @@ fn main() -> ExitCode {
         ["marks"] => marks(),
         ["files", folder] => files(Path::new(folder)).map_err(|problem| problem.to_string()),
         ["plain"] => all(false).map(|figures| println!("{}", figures.tables())),
-        [document] => all(true).and_then(|figures| figures.write(document)),
+        // A document that is not there is told before anything is measured.
+        [document] if Path::new(document).is_file() => all(true).and_then(|figures| figures.write(document)),
         _ => Err(USAGE.to_owned()),
     };
     match done {
