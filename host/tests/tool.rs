@@ -876,7 +876,7 @@ fn any_one_file_of_an_upgrade_is_standard_input() {
 fn bad_usage_goes_to_standard_error() {
     let (status, out, err) = run_check(&mill(), "pattern.schema release.rule --sematics kernel/1");
     assert_eq!((status, out.as_str()), (Some(2), ""));
-    let expected = "entity-rules: unknown option \"--sematics\"\nTry `entity-rules --help`.\n";
+    let expected = "entity-rules: unknown option \"--sematics\"; did you mean `--semantics`?\nTry `entity-rules --help`.\n";
     assert_eq!(err, expected);
 }
 

@@ -1,7 +1,8 @@
 //! The command line.
 
 use crate::meaning;
-use entity_rules::{Kind, Reader, Semantics};
+use crate::near::{meant, unknown};
+use entity_rules::{Kind, Reader, Semantics, UnknownName};
 use std::ffi::OsString;
 use std::path::PathBuf;
 use std::str::FromStr;
@@ -100,7 +101,23 @@ Colours and a progress bar appear on a terminal only. NO_COLOR, set to anything 
 switches the colours off; TERM=dumb switches off both.
 ";
 
-const COMMANDS: &str = "the command `check`, `tally`, `wall`, `book`, `path`, `widens`, `upgrade`, `instant`, `show`, `explain` or `table`";
+const COMMANDS: [&str; 11] = [
+    "check", "tally", "wall", "book", "path", "widens", "upgrade", "instant", "show", "explain",
+    "table",
+];
+
+const FLAGS: [&str; 4] = ["--json", "--quiet", "--sarif", "--constants"];
+
+/// The options that take a value, and those that are asked before any command.
+const OTHERS: [&str; 7] = [
+    "--kind",
+    "--semantics",
+    "--reader",
+    "--label",
+    "--table",
+    "--help",
+    "--version",
+];
 
 /// What the command line asks for.
 #[derive(Debug, PartialEq)]
@@ -256,8 +273,11 @@ pub fn parse(words: impl IntoIterator<Item = OsString>) -> Result<Command, Strin
             None => Ok(Command::Table),
             Some(word) => Err(format!("table: expected nothing after it, not {word:?}")),
         },
-        Some(other) => Err(format!("expected {COMMANDS}, not {other:?}")),
-        None => Err(format!("expected {COMMANDS}")),
+        Some(other) => {
+            let meant = meant(&other.to_string_lossy(), COMMANDS);
+            Err(format!("{}, not {other:?}{meant}", expected_command()))
+        }
+        None => Err(expected_command()),
     }
 }
 
@@ -289,7 +309,7 @@ impl Options {
             Some((name, value)) => (name, Some(OsString::from(value))),
             None => (word, None),
         };
-        let is_flag = matches!(name, "--json" | "--quiet" | "--sarif" | "--constants");
+        let is_flag = FLAGS.contains(&name);
         if is_flag && given.is_some() {
             return Err(format!("{name} takes no value"));
         }
@@ -307,7 +327,10 @@ impl Options {
                 let file = word().ok_or_else(|| after(name))?;
                 self.table = Some(file.into());
             }
-            _ => return Err(format!("unknown option {name:?}")),
+            _ => {
+                let meant = meant(name, FLAGS.into_iter().chain(OTHERS));
+                return Err(format!("unknown option {name:?}{meant}"));
+            }
         }
         Ok(())
     }
@@ -537,11 +560,14 @@ fn text(option: &str, value: Option<OsString>) -> Result<String, String> {
         .map_err(|value| format!("{option}: expected text, not {value:?}"))
 }
 
-fn named<T: FromStr>(option: &str, value: &str) -> Result<T, String>
-where
-    T::Err: std::fmt::Display,
-{
-    value.parse().map_err(|error| format!("{option}: {error}"))
+fn named<T: FromStr<Err = UnknownName>>(option: &str, value: &str) -> Result<T, String> {
+    let named = value.parse();
+    named.map_err(|error| format!("{option}: {}", unknown(&error)))
+}
+
+fn expected_command() -> String {
+    let names = COMMANDS.map(|name| format!("`{name}`")).join(", ");
+    format!("expected a command, one of {names}")
 }
 
 #[cfg(test)]
@@ -758,9 +784,13 @@ mod tests {
 
     #[test]
     fn errors_say_what_was_expected() {
-        let commands = format!("expected {COMMANDS}");
+        let commands = "expected a command, one of `check`, `tally`, `wall`, `book`, `path`, `widens`, `upgrade`, `instant`, `show`, `explain`, `table`";
         assert_eq!(error(""), commands);
-        assert_eq!(error("chekc"), format!("{commands}, not \"chekc\""));
+        assert_eq!(
+            error("chekc"),
+            format!("{commands}, not \"chekc\"; did you mean `check`?")
+        );
+        assert_eq!(error("lace"), format!("{commands}, not \"lace\""));
         assert_eq!(
             error("table --json"),
             "table: expected nothing after it, not \"--json\""
@@ -780,6 +810,11 @@ mod tests {
             error("check s r --colour=no"),
             "unknown option \"--colour\""
         );
+        assert_eq!(
+            error("check s r --semantic kernel/1"),
+            "unknown option \"--semantic\"; did you mean `--semantics`?"
+        );
+        assert!(error("check s r --kind preconditon").ends_with("; did you mean `precondition`?"));
         assert!(
             error("check s r --kind rule")
                 .starts_with("--kind: \"rule\" is not a known kind; expected one of invariant,")

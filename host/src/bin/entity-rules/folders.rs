@@ -1,5 +1,6 @@
 //! Folders of rules, and the list in a folder that gives the kind and the label of its files.
 
+use crate::near::unknown;
 use crate::printed::name;
 use entity_rules::Kind;
 use std::collections::{BTreeMap, btree_map};
@@ -144,7 +145,7 @@ fn listed(text: &str) -> Result<BTreeMap<OsString, Settings>, (usize, String)> {
             "" => Err(format!(
                 "expected `FILE KIND` or `FILE KIND LABEL`, not {line:?}"
             )),
-            kind => kind.parse::<Kind>().map_err(|error| error.to_string()),
+            kind => kind.parse::<Kind>().map_err(|error| unknown(&error)),
         };
         let settings = Settings {
             kind: kind.map_err(|expected| (number, expected))?,
