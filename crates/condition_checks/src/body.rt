@@ -35,6 +35,7 @@ ghost use mathlib.Core.Bool.{_||_};
 ghost use Prim.Native.Nat.{_+_, _*_, _-_, _<_};
 ghost use Rattle.text.specs.Blank.{isBlank};
 ghost use Rattle.sheet.specs.Parts.{partOf};
+ghost use Rattle.definition.specs.Limits.{wordEntries};
 ghost use Rattle.validation.specs.Check.{hasDot};
 ghost use Rattle.value_checks.specs.Verdicts.{going, HasRoom};
 ghost use Rattle.value_checks.specs.Frames.{frame};
@@ -48,7 +49,7 @@ pub enum BindRead {
 
 // `all` and `any` hold a condition: at word `i` they do not end right after their own entry.
 fn validate_nonempty(passed: usize, over: Over, op: usize, i: usize, end: usize) -> Progress
-    requires { ⌜ HasRoom (going passed) 1 × (i < 4096) ⌝ }
+    requires { ⌜ HasRoom (going passed) 1 × (i < wordEntries) ⌝ }
     ensures { λ r. ⌜ NonemptyJudged over op i end (going passed) r ⌝ }
 {
     if op <= LITERAL {
@@ -69,7 +70,7 @@ fn validate_entry(
     i: usize,
     end: usize,
 ) -> Progress
-    requires { ⌜ HasRoom (going passed) 2 × (i < 4096) ⌝ }
+    requires { ⌜ HasRoom (going passed) 2 × (i < wordEntries) ⌝ }
     ensures { λ r. ⌜ EntryJudged scope over op i end (going passed) r ⌝ }
 {
     if op < COMPARE {
@@ -106,7 +107,7 @@ fn validate_leaf(
     i: usize,
     end: usize,
 ) -> Progress
-    requires { ⌜ HasRoom (going passed) (8 * (end - i)) × (i < end) × (end < 4096) ⌝ }
+    requires { ⌜ HasRoom (going passed) (8 * (end - i)) × (i < end) × (end < wordEntries) ⌝ }
     ensures { λ r. ⌜ LeafJudged (frame (now (schema .entry)) (now (rule .entry)) (now (words .entry)) scope over) op i end (going passed) r ⌝ }
 {
     let r = validate_entry(passed, scope, over, op, i, end);
@@ -167,7 +168,7 @@ pub fn validate_condition_body(
     end: usize,
     left: usize,
 ) -> Progress
-    requires { ⌜ HasRoom (going passed) (8 * (end - i)) × (i < end) × (end < 4096) ⌝ }
+    requires { ⌜ HasRoom (going passed) (8 * (end - i)) × (i < end) × (end < wordEntries) ⌝ }
     ensures { λ r. ⌜ BodyJudged (frame (now (schema .entry)) (now (rule .entry)) (now (words .entry)) scope over) i end left (going passed) r ⌝ }
 {
     if left == 0 {
@@ -204,7 +205,7 @@ fn validate_conditions(
     end: usize,
     left: usize,
 ) -> Progress
-    requires { ⌜ HasRoom (going passed) (8 * (end - start)) × (end < 4096) ⌝ }
+    requires { ⌜ HasRoom (going passed) (8 * (end - start)) × (end < wordEntries) ⌝ }
     ensures { λ r. ⌜ BodiesJudged (frame (now (schema .entry)) (now (rule .entry)) (now (words .entry)) scope over) start end left (going passed) r ⌝ }
 {
     let mut so_far = passed;
@@ -257,7 +258,7 @@ fn validate_quantifier(
     end: usize,
     left: usize,
 ) -> Progress
-    requires { ⌜ HasRoom (going passed) (2 + 8 * (end - (i + 1))) × (i < end) × (end < 4096) ⌝ }
+    requires { ⌜ HasRoom (going passed) (2 + 8 * (end - (i + 1))) × (i < end) × (end < wordEntries) ⌝ }
     ensures { λ r. ⌜ QuantifierJudged (frame (now (schema .entry)) (now (rule .entry)) (now (words .entry)) scope over) (partOf (now (rule .entry)) name) i end left (going passed) r ⌝ }
 {
     let start = i + 1;

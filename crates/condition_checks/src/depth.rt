@@ -5,6 +5,7 @@ use value_checks::node::behind;
 use value_checks::node::children_from;
 ghost use mathlib.Core.Path.{_≡_};
 ghost use Prim.Native.Nat.{_<_, _≤_, max};
+ghost use Rattle.definition.specs.Limits.{wordEntries};
 ghost use Rattle.condition_checks.specs.Depth.{DepthIs, DepthsAre};
 
 fn greater(a: usize, b: usize) -> usize
@@ -18,7 +19,7 @@ fn greater(a: usize, b: usize) -> usize
 
 // The depth of the condition at word `i`, or `left` where it is deeper.
 pub fn condition_depth(rule: &[u8], words: &[u32], i: usize, end: usize, left: usize) -> usize
-    requires { ⌜ (i < end) × (end ≤ 4096) ⌝ }
+    requires { ⌜ (i < end) × (end ≤ wordEntries) ⌝ }
     ensures { λ r. ⌜ DepthIs (now (rule .entry)) (now (words .entry)) i end left r ⌝ }
 {
     if left == 0 {
@@ -31,7 +32,7 @@ pub fn condition_depth(rule: &[u8], words: &[u32], i: usize, end: usize, left: u
 
 // The greatest depth of the conditions from word `start` on, which end at `end`.
 fn conditions_depth(rule: &[u8], words: &[u32], start: usize, end: usize, left: usize) -> usize
-    requires { ⌜ end ≤ 4096 ⌝ }
+    requires { ⌜ end ≤ wordEntries ⌝ }
     ensures { λ r. ⌜ DepthsAre (now (rule .entry)) (now (words .entry)) start end left r ⌝ }
 {
     let mut most = 0;

@@ -22,6 +22,7 @@ use value_checks::verdict::going;
 ghost use mathlib.Core.Path.{_≡_};
 ghost use Prim.Native.Nat.{_-_, _<_, _≤_};
 ghost use Rattle.sheet.specs.Parts.{optionalOf};
+ghost use Rattle.definition.specs.Limits.{wordEntries};
 ghost use Rattle.validation.specs.Check.{isBlankText};
 ghost use Rattle.value_checks.specs.Verdicts.{going, HasRoom};
 ghost use Rattle.condition_checks.specs.Rules.{PassJudged, DefinitionJudged, RuleJudged};
@@ -44,7 +45,7 @@ fn validate_condition_literals(
     service: bool,
     end: usize,
 ) -> Progress
-    requires { ⌜ HasRoom (going passed) (end - 1) × (end ≤ 4096) ⌝ }
+    requires { ⌜ HasRoom (going passed) (end - 1) × (end ≤ wordEntries) ⌝ }
     ensures { λ r. ⌜ PassJudged (now (rule .entry)) (now (words .entry)) service end (going passed) r ⌝ }
 {
     if service {
@@ -63,7 +64,7 @@ fn validate_rule_definition(
     message: OptionalPart,
     end: usize,
 ) -> Progress
-    requires { ⌜ end < 4096 ⌝ }
+    requires { ⌜ end < wordEntries ⌝ }
     ensures { λ r. ⌜ DefinitionJudged (now (schema .entry)) (now (rule .entry)) (now (words .entry)) scope name message end r ⌝ }
 {
     let outside = Over::Outside;

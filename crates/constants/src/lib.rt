@@ -19,6 +19,7 @@ use value_checks::operand::InstantRead;
 use value_checks::operand::instant_form;
 ghost use mathlib.Core.Path.{_≡_};
 ghost use Prim.Native.Nat.{_+_, _<_, _≤_};
+ghost use Rattle.definition.specs.Limits.{wordEntries};
 ghost use Rattle.validation.specs.Constant.{truthOf, markOf};
 ghost use Rattle.constants.specs.Marks.{truthBy, LiteralAt, PairIs, ConstantAt, MarkedOn, Plain, Unmarked, ConditionsMarked, RuleMarked};
 
@@ -58,7 +59,7 @@ fn truth_of(op: usize, left: Fields, right: Fields) -> Constant
 
 // A condition with two operands, the first at word `start`. A literal instant is one entry.
 fn constant_pair(rule: &[u8], words: &[u32], op: usize, start: usize) -> Constant
-    requires { ⌜ start < 4096 ⌝ }
+    requires { ⌜ start < wordEntries ⌝ }
     ensures { λ r. ⌜ PairIs (now (rule .entry)) (now (words .entry)) op start r ⌝ }
 {
     let Literal::Is(left) = literal_at(rule, words, start) else {
@@ -72,7 +73,7 @@ fn constant_pair(rule: &[u8], words: &[u32], op: usize, start: usize) -> Constan
 
 // The condition of word `i`, by its operator.
 fn constant_at(rule: &[u8], words: &[u32], op: usize, i: usize) -> Constant
-    requires { ⌜ i + 1 < 4096 ⌝ }
+    requires { ⌜ i + 1 < wordEntries ⌝ }
     ensures { λ r. ⌜ ConstantAt (now (rule .entry)) (now (words .entry)) op i r ⌝ }
 {
     if op < BEFORE {
@@ -85,7 +86,7 @@ fn constant_at(rule: &[u8], words: &[u32], op: usize, i: usize) -> Constant
 }
 
 fn mark_of(entry: usize, truth: bool) -> u32
-    requires { ⌜ entry ≤ 4096 ⌝ }
+    requires { ⌜ entry ≤ wordEntries ⌝ }
     ensures { λ r. ⌜ r ≡ markOf entry truth ⌝ }
 {
     let twice = 2 * entry as u32;
@@ -94,7 +95,7 @@ fn mark_of(entry: usize, truth: bool) -> u32
 
 // Writes the mark of an entry after `count` others, if its condition is constant; how many there are then.
 fn mark(count: usize, entry: usize, constant: Constant, marks: &mut [u8]) -> usize
-    requires { ⌜ (count ≤ 4096) × (entry ≤ 4096) ⌝ }
+    requires { ⌜ (count ≤ wordEntries) × (entry ≤ wordEntries) ⌝ }
     ensures { λ r. ⌜ MarkedOn count entry constant (now (marks .entry)) (now (marks .exit)) r ⌝ }
 {
     let Constant::Is(truth) = constant else {
@@ -134,7 +135,7 @@ fn behind_plain(rule: &[u8], words: &[u32], start: usize, end: usize) -> usize
 
 // The conditions from word `start` up to word `end`, and all that these hold, in the order of the sheet.
 fn mark_conditions(rule: &[u8], words: &[u32], start: usize, end: usize, marks: &mut [u8]) -> usize
-    requires { ⌜ end < 4096 ⌝ }
+    requires { ⌜ end < wordEntries ⌝ }
     ensures { λ r. ⌜ ConditionsMarked (now (rule .entry)) (now (words .entry)) start end (now (marks .entry)) (now (marks .exit)) r ⌝ }
 {
     let mut count = 0;

@@ -19,12 +19,13 @@ use sheet::rule_heads::EQ;
 use sheet::rule_heads::TRUTHY;
 ghost use mathlib.Core.Path.{_≡_};
 ghost use Prim.Native.Nat.{_-_, _<_, _≤_};
+ghost use Rattle.definition.specs.Limits.{wordEntries};
 ghost use Rattle.value_checks.specs.Verdicts.{going, HasRoom};
 ghost use Rattle.value_checks.specs.Literals.{isObserved, LiteralsJudged, ObservedJudged, ConditionLiterals};
 
 // The entry of word `i`, if it is a number.
 fn validate_literal(passed: usize, rule: &[u8], words: &[u32], i: usize) -> Progress
-    requires { ⌜ HasRoom (going passed) 1 × (i < 4096) ⌝ }
+    requires { ⌜ HasRoom (going passed) 1 × (i < wordEntries) ⌝ }
     ensures { λ r. ⌜ LiteralsJudged (now (rule .entry)) (now (words .entry)) i 1 (going passed) r ⌝ }
 {
     let at = start_of(words, i);
@@ -43,7 +44,7 @@ fn validate_literals(
     start: usize,
     end: usize,
 ) -> Progress
-    requires { ⌜ HasRoom (going passed) (end - start) × (end ≤ 4096) ⌝ }
+    requires { ⌜ HasRoom (going passed) (end - start) × (end ≤ wordEntries) ⌝ }
     ensures { λ r. ⌜ LiteralsJudged (now (rule .entry)) (now (words .entry)) start (end - start) (going passed) r ⌝ }
 {
     let mut so_far = passed;
@@ -82,7 +83,7 @@ fn validate_observed(
     start: usize,
     end: usize,
 ) -> Progress
-    requires { ⌜ HasRoom (going passed) (end - start) × (end ≤ 4096) ⌝ }
+    requires { ⌜ HasRoom (going passed) (end - start) × (end ≤ wordEntries) ⌝ }
     ensures { λ r. ⌜ ObservedJudged (now (rule .entry)) (now (words .entry)) op start end (going passed) r ⌝ }
 {
     if is_observed(op) {
@@ -100,7 +101,7 @@ pub fn unobservable_condition_literals(
     start: usize,
     end: usize,
 ) -> Progress
-    requires { ⌜ HasRoom (going passed) (end - start) × (end ≤ 4096) ⌝ }
+    requires { ⌜ HasRoom (going passed) (end - start) × (end ≤ wordEntries) ⌝ }
     ensures { λ r. ⌜ ConditionLiterals (now (rule .entry)) (now (words .entry)) start end (going passed) r ⌝ }
 {
     let mut so_far = passed;

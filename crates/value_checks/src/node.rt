@@ -4,6 +4,7 @@ use sheet::rule_heads::LITERAL;
 use sheet::rule_heads::NOT;
 use sheet::rule_heads::TRUTHY;
 ghost use Prim.Native.Nat.{_<_, _≤_};
+ghost use Rattle.definition.specs.Limits.{wordEntries};
 ghost use Rattle.value_checks.specs.Nodes.{Behind, ChildrenFrom};
 
 // The word after the subtree of word `i`, `end` at most.
@@ -21,7 +22,7 @@ pub fn behind(words: &[u32], i: usize, end: usize) -> usize
 
 // The first word of the conditions that a condition at word `i` holds, by its operator; they end where it ends.
 pub fn children_from(words: &[u32], op: usize, i: usize, end: usize) -> usize
-    requires { ⌜ (i < end) × (end ≤ 4096) ⌝ }
+    requires { ⌜ (i < end) × (end ≤ wordEntries) ⌝ }
     ensures { λ r. ⌜ ChildrenFrom (now (words .entry)) op i end r ⌝ }
 {
     if op <= LITERAL {

@@ -27,6 +27,7 @@ use sheet::rule_heads::STARTS_WITH;
 use timestamp::Fields;
 use timestamp::Parsed;
 ghost use Prim.Native.Nat.{_*_, _-_, _<_, _≤_};
+ghost use Rattle.definition.specs.Limits.{wordEntries};
 ghost use Rattle.definition.specs.Tree.{Value};
 ghost use Rattle.rule.specs.Index.{ValueAt};
 ghost use Rattle.validation.specs.Check.{instantText, instantForm};
@@ -92,7 +93,7 @@ pub fn instant_form(rule: &[u8], words: &[u32], i: usize) -> InstantRead
 
 // The value of word `i` as an operand of `before` or `after`.
 fn validate_instant(passed: usize, rule: &[u8], words: &[u32], over: Over, i: usize) -> Progress
-    requires { ⌜ HasRoom (going passed) 1 × (i < 4096) ⌝ }
+    requires { ⌜ HasRoom (going passed) 1 × (i < wordEntries) ⌝ }
     ensures { λ r. ⌜ ValueJudged (now (rule .entry)) (now (words .entry)) over instantCheck i (going passed) r ⌝ }
 {
     match instant_form(rule, words, i) {
@@ -104,7 +105,7 @@ fn validate_instant(passed: usize, rule: &[u8], words: &[u32], over: Over, i: us
 
 // The value of word `i` as an operand of `starts_with` or `ends_with`.
 fn validate_affix(passed: usize, rule: &[u8], words: &[u32], over: Over, i: usize) -> Progress
-    requires { ⌜ HasRoom (going passed) 1 × (i < 4096) ⌝ }
+    requires { ⌜ HasRoom (going passed) 1 × (i < wordEntries) ⌝ }
     ensures { λ r. ⌜ ValueJudged (now (rule .entry)) (now (words .entry)) over affixCheck i (going passed) r ⌝ }
 {
     if type_at(rule, start_of(words, i)) == STRING {
@@ -123,7 +124,7 @@ fn validate_side(
     which: Side,
     i: usize,
 ) -> Progress
-    requires { ⌜ HasRoom (going passed) 1 × (i < 4096) ⌝ }
+    requires { ⌜ HasRoom (going passed) 1 × (i < wordEntries) ⌝ }
     ensures { λ r. ⌜ ValueJudged (now (rule .entry)) (now (words .entry)) over (askedBefore op which) i (going passed) r ⌝ }
 {
     if op == COMPARE {
@@ -142,7 +143,7 @@ fn validate_form(
     op: usize,
     i: usize,
 ) -> Progress
-    requires { ⌜ HasRoom (going passed) 1 × (i < 4096) ⌝ }
+    requires { ⌜ HasRoom (going passed) 1 × (i < wordEntries) ⌝ }
     ensures { λ r. ⌜ ValueJudged (now (rule .entry)) (now (words .entry)) over (askedAfter op) i (going passed) r ⌝ }
 {
     if op <= EXISTS {
@@ -174,7 +175,7 @@ fn validate_operand(
     start: usize,
     end: usize,
 ) -> Progress
-    requires { ⌜ HasRoom (going passed) (3 * (end - start)) × (start < end) × (end ≤ 4096) ⌝ }
+    requires { ⌜ HasRoom (going passed) (3 * (end - start)) × (start < end) × (end ≤ wordEntries) ⌝ }
     ensures { λ r. ⌜ OperandJudged (frame (now (schema .entry)) (now (rule .entry)) (now (words .entry)) scope over) op which start end (going passed) r ⌝ }
 {
     let a = validate_side(passed, rule, words, over, op, which, start);
@@ -202,7 +203,7 @@ pub fn validate_operands(
     start: usize,
     end: usize,
 ) -> Progress
-    requires { ⌜ HasRoom (going passed) (3 * (end - start)) × (end ≤ 4096) ⌝ }
+    requires { ⌜ HasRoom (going passed) (3 * (end - start)) × (end ≤ wordEntries) ⌝ }
     ensures { λ r. ⌜ OperandsJudged (frame (now (schema .entry)) (now (rule .entry)) (now (words .entry)) scope over) op start end (going passed) r ⌝ }
 {
     let mut so_far = passed;

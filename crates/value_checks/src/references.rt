@@ -16,6 +16,7 @@ use scope::references::validate_reference;
 use sheet::part::bytes_of;
 use walk::answer::Readable;
 ghost use Prim.Native.Nat.{_-_, _<_, _≤_};
+ghost use Rattle.definition.specs.Limits.{wordEntries};
 ghost use Rattle.value_checks.specs.Verdicts.{going, HasRoom};
 ghost use Rattle.value_checks.specs.Frames.{frame, IsReference, ReferencesIn};
 
@@ -38,7 +39,7 @@ fn validate_value_reference(
     over: Over,
     i: usize,
 ) -> Progress
-    requires { ⌜ HasRoom (going passed) 1 × (i < 4096) ⌝ }
+    requires { ⌜ HasRoom (going passed) 1 × (i < wordEntries) ⌝ }
     ensures { λ r. ⌜ ReferencesIn (frame (now (schema .entry)) (now (rule .entry)) (now (words .entry)) scope over) i 1 (going passed) r ⌝ }
 {
     let at = start_of(words, i);
@@ -67,7 +68,7 @@ pub fn validate_references(
     start: usize,
     end: usize,
 ) -> Progress
-    requires { ⌜ HasRoom (going passed) (end - start) × (end ≤ 4096) ⌝ }
+    requires { ⌜ HasRoom (going passed) (end - start) × (end ≤ wordEntries) ⌝ }
     ensures { λ r. ⌜ ReferencesIn (frame (now (schema .entry)) (now (rule .entry)) (now (words .entry)) scope over) start (end - start) (going passed) r ⌝ }
 {
     let mut so_far = passed;
