@@ -162,12 +162,14 @@ module _ (a b : List ℕ) (n i v w : ℕ) (same : SameStart a b i) (p : i + n �
 
 -- Texts that are the same, or not
 
+apart : (f : List ℕ → ℕ) (a b : List ℕ) → (f a ≡ f b → ⊥) → false ≡ sameBytes a b
+apart f a b h = sym (by-test (sameBytes a b) (λ e. absurd (h (ap f (sameBytes-equal a b e)))) (λ e. e))
+
 pub same-apart : (a b : List ℕ) → (length a ≡ length b → ⊥) → false ≡ sameBytes a b
-same-apart a b h = sym (by-test (sameBytes a b) (λ e. absurd (h (ap length (sameBytes-equal a b e)))) (λ e. e))
+same-apart = apart length
 
 pub same-apart-at : (a b : List ℕ) (i : ℕ) → (getD a i 0 ≡ getD b i 0 → ⊥) → false ≡ sameBytes a b
-same-apart-at a b i h =
-    sym (by-test (sameBytes a b) (λ e. absurd (h (ap (λ (s : List ℕ). getD s i 0) (sameBytes-equal a b e)))) (λ e. e))
+same-apart-at a b i = apart (λ s. getD s i 0) a b
 
 pub same-to-the-end : (a b : List ℕ) (i : ℕ) → Goes a b i → length a ≡ length b → length a ≤ i → true ≡ sameBytes a b
 same-to-the-end a b i goes e h = sym (both-end a b i goes h (omega arith) .same-is)
