@@ -68,7 +68,7 @@ fn main() -> ExitCode {
         ["marks"] => marks(),
         ["files", folder] => files(Path::new(folder)).map_err(|problem| problem.to_string()),
         ["plain"] => all(false).map(|figures| println!("{}", figures.tables())),
-        // A document that is not there is told before anything is measured.
+        // A word that is no file is answered by the usage, before anything is measured.
         [document] if Path::new(document).is_file() => all(true).and_then(|figures| figures.write(document)),
         _ => Err(USAGE.to_owned()),
     };

@@ -783,6 +783,20 @@ mod tests {
     }
 
     #[test]
+    fn every_listed_name_is_taken() {
+        for command in COMMANDS {
+            let told = parsed(command).err().unwrap_or_default();
+            assert!(!told.contains("expected a command"), "{command}");
+        }
+        for option in FLAGS.into_iter().chain(OTHERS) {
+            let told = parsed(&format!("check s r {option}"))
+                .err()
+                .unwrap_or_default();
+            assert!(!told.contains("unknown option"), "{option}");
+        }
+    }
+
+    #[test]
     fn errors_say_what_was_expected() {
         let commands = "expected a command, one of `check`, `tally`, `wall`, `book`, `path`, `widens`, `upgrade`, `instant`, `show`, `explain`, `table`";
         assert_eq!(error(""), commands);
