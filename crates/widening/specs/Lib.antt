@@ -7,3 +7,4 @@ pub mod Decision
 pub mod DecisionLaws
 pub mod DecisionOrderLaws
 pub mod SheetDecision
+pub mod Opening
