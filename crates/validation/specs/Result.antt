@@ -118,7 +118,8 @@ defectOf setting label r passed number place over d =
 
 unfoldable pub answerOf : Setting → (label : Text) → Rule → Verdict → Answer
 answerOf setting label r (allPass passed) = accepted passed
-answerOf setting label r (failsAt passed c d) = defect (defectOf setting label r passed (c .number) (c .place) (overOf (c .binders)) d)
+answerOf setting label r (failsAt passed c why) =
+    defect (defectOf setting label r passed (c .number) (c .place) (overOf (c .binders)) (why .detail))
 
 abbrev pub maxLabelBytes : ℕ
 maxLabelBytes = 256
