@@ -26,3 +26,4 @@ pub mod Marked
 pub mod ConstantLaws
 pub mod Marking
 pub mod MarkingLaws
+pub mod Openings
