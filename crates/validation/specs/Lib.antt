@@ -27,3 +27,4 @@ pub mod ConstantLaws
 pub mod Marking
 pub mod MarkingLaws
 pub mod Openings
+pub mod OpeningLaws
