@@ -26,3 +26,5 @@ pub mod Marked
 pub mod ConstantLaws
 pub mod Marking
 pub mod MarkingLaws
+pub mod Openings
+pub mod OpeningLaws

@@ -8,3 +8,4 @@ pub mod DecisionLaws
 pub mod DecisionOrderLaws
 pub mod SheetDecision
 pub mod Opening
+pub mod OpeningLaws

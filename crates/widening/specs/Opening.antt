@@ -1,6 +1,6 @@
 -- Open marks gone from 0 to 1 (docs/FORMAT.md, "The fewest marks to open").
 use Prim.Native.Nat.{ℕ}
-use mathlib.Core.Bool.{Bool, false, _||_}
+use mathlib.Core.Bool.{Bool, false, not, _&&_, _||_}
 use mathlib.Core.List.{List, [], _∷_}
 use mathlib.Core.Option.{Option, none, some}
 use lib.Dec.{eqb}
@@ -34,3 +34,27 @@ openedArguments may (some h) = some (openedHolder may 0 h)
 -- 1 is the record's entry, and 0 stands for the arguments
 unfoldable pub opened : (ℕ → Bool) → Schema → Schema
 opened may t = record { fields = openedHolder may 1 (t .fields); arguments = openedArguments may (t .arguments) }
+
+-- whether the entry's open mark is there and is 0
+unfoldable mutual
+  pub closedInField : Field → ℕ → Bool
+  closedInField (field n kind isOpen tag items members) e =
+      (not isOpen && eqb n e) || (closedInItems items e || closedInMembers members e)
+
+  pub closedInItems : Items → ℕ → Bool
+  closedInItems absent e = false
+  closedInItems (element f) e = closedInField f e
+
+  pub closedInMembers : Members → ℕ → Bool
+  closedInMembers noMembers e = false
+  closedInMembers (member name f others) e = closedInField f e || closedInMembers others e
+
+unfoldable pub closedInHolder : (at : ℕ) → Holder → ℕ → Bool
+closedInHolder at h e = (not (h .isOpen) && eqb at e) || closedInMembers (h .members) e
+
+unfoldable pub closedInArguments : Option Holder → ℕ → Bool
+closedInArguments none e = false
+closedInArguments (some h) e = closedInHolder 0 h e
+
+unfoldable pub isClosed : Schema → ℕ → Bool
+isClosed t e = closedInHolder 1 (t .fields) e || closedInArguments (t .arguments) e
