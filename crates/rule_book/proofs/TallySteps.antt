@@ -14,7 +14,7 @@ use Rattle.sheet.specs.Places.{ReadsTo, Refuses}
 use Rattle.reference.specs.Setting.{Setting}
 use Rattle.schema.specs.Read.{SchemaIs}
 use Rattle.schema.specs.declared.read.SchemaRead.{SchemaRead}
-use Rattle.validation.specs.Result.{any, Answer, maxLabelBytes, pathBytes, Numbers, numbersOf}
+use Rattle.validation.specs.Result.{any, Answer, maxLabelBytes, pathBytes, Numbers, numbersOf, KeptFrom}
 use Rattle.single_check.specs.Answers.{Tells}
 use Rattle.single_check.specs.Sheets.{takesOf, sheetAnswer, FrontOnly, SheetChecked}
 use Rattle.single_check.specs.SheetLaws.{still-read, front-rule, front-both}
@@ -22,7 +22,7 @@ use Rattle.single_check.specs.declared.sheets.Takes.the-variants.{Any}
 use Rattle.single_check.specs.declared.outcome.Outcome.{Outcome}
 use Rattle.rule_book.specs.Book.{sheetIn, sheetsOf}
 use Rattle.rule_book.specs.BookLaws.{sheets-end, sheets-more, sheets-none, book-round-trip}
-use Rattle.rule_book.specs.Tally.{countOf, passedIn, sum, tallyOf, tallied, tallyNumbers, defectNumbers, KeptFrom}
+use Rattle.rule_book.specs.Tally.{countOf, passedIn, sum, tallyOf, tallied, tallyNumbers, defectNumbers}
 use Rattle.rule_book.specs.TallyLaws.{counts-within, tally-bytes}
 use Rattle.rule_book.specs.AnswerLaws.{sheet-number, sheet-passed, sheet-path}
 use Rattle.rule_book.specs.Tallying.{answersIn, numbersIn, Ready, SheetsTallied}

@@ -14,13 +14,12 @@ use Rattle.definition.specs.RoundTrip.{rule-round-trip}
 use Rattle.reference.specs.Setting.{Setting}
 use Rattle.validation.specs.Check.{Check, check, checks}
 use Rattle.validation.specs.Judge.{Verdict, allPass, failsAt, judge}
-use Rattle.validation.specs.Result.{Takes, Answer, refused, accepted, defect, maxLabelBytes, pathBytes, isTaken, answerOf, checked, judged, numbersOf, pathAfter}
+use Rattle.validation.specs.Result.{Takes, Answer, refused, accepted, defect, maxLabelBytes, pathBytes, isTaken, answerOf, checked, judged, numbersOf, pathAfter, KeptFrom}
 use Rattle.validation.specs.CheckLaws.{every-check}
 use Rattle.validation.specs.CountLaws.{VerdictIs, every-judged}
 use Rattle.defect_path.specs.LengthLaws.{path-length}
 use Rattle.single_check.specs.Sheets.{takenOf, sheetAnswer}
 use Rattle.rule_book.specs.ByteLaws.{judged-passed}
-use Rattle.rule_book.specs.Tally.{KeptFrom}
 
 -- a rule that is taken is the sheet's
 taken : (takes : Takes) (o : Option Rule) (x : Rule) → takenOf takes o ≡ some x → o ≡ some x

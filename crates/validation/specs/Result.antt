@@ -265,6 +265,11 @@ pub record ScratchAfter (a : Answer) (before after : List ℕ) : Type 0 where
   pub size : length after ≡ length before
   pub kept : drop (keptScratch a) after ≡ drop (keptScratch a) before
 
+-- only the first `free` elements may differ
+pub record KeptFrom (free : ℕ) (before after : List ℕ) : Type 0 where
+  pub size : length after ≡ length before
+  pub kept : drop free after ≡ drop free before
+
 -- what a caller hands over, and what it has after the call
 pub record Run : Type 0 where
   pub asked : Asked
