@@ -1,0 +1,4 @@
+pub mod Call
+pub mod Rounds
+pub mod Runs
+pub mod Stub
