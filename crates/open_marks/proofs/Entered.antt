@@ -14,9 +14,9 @@ use Rattle.sheet.specs.Write.{writeFieldHead}
 use Rattle.sheet.specs.Within.{TextWithin}
 use Rattle.sheet.specs.ItemLaws.{anything}
 use Rattle.sheet.specs.HeadLaws.{fieldHead-exact}
-use Rattle.definition.specs.Tree.{Text, Field, field, Items, absent, element, Members, noMembers, member, Holder}
+use Rattle.definition.specs.Tree.{Text, Field, field, Items, absent, element, Members, noMembers, member, Holder, Schema}
 use Rattle.definition.specs.Write.{hasItems, countOfMembers, writeField, writeItems, writeMembers, writeArguments}
-use Rattle.definition.specs.Within.{fieldEntries, itemsEntries, membersEntries, argumentsEntries, FieldFits, ItemsFit, MembersFit, ArgumentsFit, FieldFrom, ItemsFrom, MembersFrom, ArgumentsFrom}
+use Rattle.definition.specs.Within.{fieldEntries, itemsEntries, membersEntries, argumentsEntries, schemaEntries, FieldFits, ItemsFit, MembersFit, ArgumentsFit, FieldFrom, ItemsFrom, MembersFrom, ArgumentsFrom, SchemaWithin}
 use Rattle.definition.specs.FieldLaws.{members-take}
 use Rattle.widening.specs.Opening.{openedField, openedItems, openedMembers, openedHolder, openedArguments}
 use Rattle.open_marks.specs.Places.{openedHead, Opens, ended, entered}
@@ -81,9 +81,18 @@ module _ (entry : ℕ) where
         (field-opens n name f _ _ (fits .0) (fits .1) (from .0) (omega arith)
         (members-opens (n + fieldEntries f) others rest after (fits .2) (from .1) (omega arith) (opens-is (omega arith) o)))
 
-  pub arguments-open : (n : ℕ) (a : Option Holder) → ArgumentsFit a → ArgumentsFrom n a → argumentsEntries a ≤ maxCount
+  arguments-open : (n : ℕ) (a : Option Holder) → ArgumentsFit a → ArgumentsFrom n a → argumentsEntries a ≤ maxCount
       → Opens entry n (writeArguments a) (writeArguments (openedArguments (eqb entry) a))
   unfolding writeArguments openedArguments openedHolder argumentsEntries
   arguments-open n none fits from few = ended refl refl
   arguments-open n (some h) fits from few =
-      rw (append-nil, append-nil) at (members-opens n (h .members) [] [] fits from few (ended refl refl))
+      rw (append-nil (writeMembers (h .members)), append-nil (writeMembers (openedMembers (eqb entry) (h .members)))) at (members-opens n (h .members) [] [] fits from few (ended refl refl))
+
+  pub schema-opens : (t : Schema) → SchemaWithin t
+      → Opens entry 2 (writeMembers (t .fields .members) ++ writeArguments (t .arguments))
+      (writeMembers (openedMembers (eqb entry) (t .fields .members)) ++ writeArguments (openedArguments (eqb entry) (t .arguments)))
+  unfolding schemaEntries
+  schema-opens t w =
+      let few = w .entries in
+      members-opens 2 (t .fields .members) _ _ (w .fits .0) (w .numbers .0) (omega arith)
+      (arguments-open _ (t .arguments) (w .fits .1) (w .numbers .1) (omega arith))
