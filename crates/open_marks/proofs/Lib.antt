@@ -1,3 +1,6 @@
 mod Kept
 mod Entered
 mod Sheets
+mod Bytes
+mod FieldSteps
+mod HeadSteps
