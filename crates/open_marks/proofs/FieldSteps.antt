@@ -14,8 +14,10 @@ use Rattle.sheet.specs.NumeralLaws.{decimalOf-one, decimalOf-last}
 use Rattle.sheet.specs.Entries.{FieldHead, fieldHead}
 use Rattle.sheet.specs.Write.{markOf, writeItem, writeMark, writeLength, writeText, writeEnd, writeFieldHead}
 use Rattle.sheet.specs.HeadLaws.{fieldHead-exact}
-use Rattle.sheet.specs.Places.{fieldOf, KnownTo, Unread}
+use Rattle.sheet.specs.Places.{fieldOf, KnownTo, Unread, KnownFieldIs}
 use Rattle.sheet.specs.declared.schema_heads.FieldHead.{FieldHead as CodeHead}
+use Rattle.sheet.specs.declared.schema_heads.FieldRead.{FieldRead}
+use Rattle.sheet.specs.declared.schema_heads.FieldRead.the-variants.{Is, Bad}
 use Rattle.open_marks.specs.Places.{openedHead, Opens, ended, entered, FieldMarkAt}
 use Rattle.open_marks.proofs.Entered.{head-other, opens-past}
 use Rattle.open_marks.proofs.Bytes.{mark-written, front-length, set-mark, nothing-set}
@@ -60,7 +62,7 @@ unread-opens {s} u front rest after e l (ended p q) = nothing-set s front rest a
 unread-opens {s} {at} u front rest after e l (entered h others others′ reads q o) =
     absurd (u h others (ap fieldHead (ap (drop at) e ∙ drop-at front rest at l) ∙ reads))
 
-pub mark-unread : {s : List ℕ} {at entry number : ℕ} → Unread s at → FieldMarkAt s at number entry (length s)
+mark-unread : {s : List ℕ} {at entry number : ℕ} → Unread s at → FieldMarkAt s at number entry (length s)
 mark-unread u = record { opens = unread-opens u }
 
 -- What is known of an entry that is read.
@@ -104,7 +106,7 @@ module _ {s : List ℕ} {at next : ℕ} {known : CodeHead} (k : KnownTo s at kno
       ∙ append-assoc front (writeFieldHead h) others′
       ∙ ap (λ (x : List ℕ). front ++ x) (sym (q ∙ ap (λ (g : FieldHead). writeFieldHead g ++ others′) same))
 
-  pub mark-passed : {entry number place : ℕ} → number < entry → FieldMarkAt s next (number + 1) entry place → FieldMarkAt s at number entry place
+  mark-passed : {entry number place : ℕ} → number < entry → FieldMarkAt s next (number + 1) entry place → FieldMarkAt s at number entry place
   mark-passed less m = record { opens = passed-opens less m }
 
   -- the entry sought
@@ -125,10 +127,36 @@ module _ {s : List ℕ} {at next : ℕ} {known : CodeHead} (k : KnownTo s at kno
       ∙ append-assoc front (fieldFront (h .kind)) (49 ∷ behindMark h others)
       ∙ ap (λ (x : List ℕ). front ++ x) (sym written)
 
-  pub mark-one : {entry number : ℕ} → number ≡ entry → known .kind < 10 → FieldMarkAt s at number entry (at + 4)
-  mark-one this less =
+  mark-one : {entry number place : ℕ} → number ≡ entry → known .kind < 10 → place ≡ at + 4 → FieldMarkAt s at number entry place
+  mark-one this less is =
       record { opens = found-opens this (λ kind most same. omega (arith, front-one kind (omega arith))) }
 
-  pub mark-two : {entry number : ℕ} → number ≡ entry → 10 ≤ known .kind → FieldMarkAt s at number entry (at + 5)
-  mark-two this more =
+  mark-two : {entry number place : ℕ} → number ≡ entry → 10 ≤ known .kind → place ≡ at + 5 → FieldMarkAt s at number entry place
+  mark-two this more is =
       record { opens = found-opens this (λ kind most same. omega (arith, front-two kind (omega arith) (omega arith))) }
+
+-- The loop: the entry at `at` has that number, and a place that is right from there on is right from the start on
+
+pub record Sought (s : List ℕ) (start entry at number : ℕ) : Type 0 where
+  pub reached : number ≤ entry
+  pub leads : (place : ℕ) → FieldMarkAt s at number entry place → FieldMarkAt s start 2 entry place
+
+pub sought-start : {s : List ℕ} {start entry number : ℕ} → number ≡ 2 → 2 ≤ entry → Sought s start entry start number
+sought-start e l = rw e (record { reached = l; leads = λ place m. m })
+
+module _ {s : List ℕ} {start entry at number : ℕ} (before : Sought s start entry at number) {r : FieldRead} (read : KnownFieldIs s at r) where
+  pub sought-unread : r ≡ Bad → FieldMarkAt s start 2 entry (length s)
+  sought-unread e = before .leads (length s) (mark-unread (rw e at read))
+
+  module _ {h : CodeHead} {next : ℕ} (e : r ≡ Is h next) where
+    known : KnownTo s at h next
+    known = rw e at read
+
+    pub sought-more : number < entry → Sought s start entry next (number + 1)
+    sought-more less = record { reached = omega arith; leads = λ place m. before .leads place (mark-passed known less m) }
+
+    pub sought-one : {place : ℕ} → entry ≤ number → h .kind < 10 → place ≡ at + 4 → FieldMarkAt s start 2 entry place
+    sought-one {place} l k is = let reached = before .reached in before .leads place (mark-one known (omega arith) k is)
+
+    pub sought-two : {place : ℕ} → entry ≤ number → 10 ≤ h .kind → place ≡ at + 5 → FieldMarkAt s start 2 entry place
+    sought-two {place} l k is = let reached = before .reached in before .leads place (mark-two known (omega arith) k is)

@@ -17,7 +17,12 @@ use Rattle.sheet.specs.Pieces.{dashed}
 use Rattle.sheet.specs.Write.{markOf, writeItem, writeMark, writeEnd, writeHolderHead, writeArgumentsHead, writeSchemaHead}
 use Rattle.sheet.specs.ItemLaws.{anything, item-complete, mark-begins, comma-begins}
 use Rattle.sheet.specs.HeadLaws.{SchemaHeadFits, schemaHead-exact}
-use Rattle.sheet.specs.Places.{ReadsTo, Refuses}
+use Rattle.sheet.specs.Places.{ReadsTo, Refuses, NumeralIs, IsDashed, SchemaIs}
+use Rattle.sheet.specs.declared.numeral.NumeralRead.{NumeralRead}
+use Rattle.sheet.specs.declared.numeral.NumeralRead.the-variants.{Is, Bad}
+use Rattle.sheet.specs.declared.schema_heads.SchemaHead.{SchemaHead as CodeHead}
+use Rattle.sheet.specs.declared.schema_heads.SchemaHeadRead.{SchemaHeadRead}
+use Rattle.sheet.specs.declared.schema_heads.SchemaHeadRead.the-variants as schema
 use Rattle.open_marks.specs.Places.{Opens, MarkAt, FieldMarkAt}
 use Rattle.open_marks.proofs.Entered.{opens-past}
 use Rattle.open_marks.proofs.Sheets.{openedArgumentsHead, openedSchemaHead, SheetMarkAt, mark-at}
@@ -62,8 +67,8 @@ record-opens s h rest after fits e o =
     ∙ sym (record-opened h rest)
     ∙ ap (λ (x : List ℕ). writeSchemaHead (openedSchemaHead 1 h) ++ x) (opens-past (omega arith) o)
 
-pub mark-record : {s : List ℕ} {entry : ℕ} → entry ≡ 1 → MarkAt s entry 2
-mark-record {s} e = rw e (mark-at (record-opens s))
+pub place-record : (s : List ℕ) {entry place : ℕ} → entry ≡ 1 → place ≡ 2 → MarkAt s entry place
+place-record s e is = rw (e, is) (mark-at (record-opens s))
 
 -- The arguments' mark
 
@@ -125,7 +130,7 @@ module _ {s : List ℕ} (h : SchemaHead) (rest : List ℕ) (fits : SchemaHeadFit
       ap (λ (x : ℕ × List ℕ). x .1)
       (Option·some-injective (n, drop behind s) (h .fields .count, writeArgumentsHead (h .arguments) ++ (writeEnd ++ rest)) (sym (r .reads) ∙ count-read))
 
-pub mark-unnumbered : {s : List ℕ} → Refuses (item 0 maxCount) s 3 → MarkAt s 0 (length s)
+mark-unnumbered : {s : List ℕ} → Refuses (item 0 maxCount) s 3 → MarkAt s 0 (length s)
 mark-unnumbered e = mark-at (λ h rest after fits f o. absurd (Option·none-ne-some _ (sym e ∙ count-read h rest fits f)))
 
 module _ {s : List ℕ} {n behind : ℕ} (r : ReadsTo (item 0 maxCount) s 3 n behind) where
@@ -139,7 +144,7 @@ module _ {s : List ℕ} {n behind : ℕ} (r : ReadsTo (item 0 maxCount) s 3 n be
   absent-opens d fields (some g) rest after fits e o =
       absurd (Option·none-ne-some _ (sym (ap dashed (behind-count _ rest fits e r) ∙ dashed-present g _) ∙ d))
 
-  pub mark-absent : ReadsTo dashed s behind tt (behind + 2) → MarkAt s 0 (length s)
+  mark-absent : ReadsTo dashed s behind tt (behind + 2) → MarkAt s 0 (length s)
   mark-absent d = mark-at (λ h rest after fits e o. absent-opens (d .reads) (h .fields) (h .arguments) rest after fits e o)
 
   present-opens : dashed (drop behind s) ≡ none → (fields : HolderHead) (a : Option HolderHead) (rest after : List ℕ)
@@ -158,12 +163,23 @@ module _ {s : List ℕ} {n behind : ℕ} (r : ReadsTo (item 0 maxCount) s 3 n be
       ∙ sym (arguments-opened fields g rest)
       ∙ ap (λ (x : List ℕ). writeSchemaHead (openedSchemaHead 0 (record { fields = fields; arguments = some g })) ++ x) (opens-past (omega arith) o)
 
-  pub mark-present : Refuses dashed s behind → MarkAt s 0 (behind + 1)
-  mark-present d = mark-at (λ h rest after fits e o. present-opens d (h .fields) (h .arguments) rest after fits e o)
+  mark-present : {place : ℕ} → Refuses dashed s behind → place ≡ behind + 1 → MarkAt s 0 place
+  mark-present d is = rw is (mark-at (λ h rest after fits e o. present-opens d (h .fields) (h .arguments) rest after fits e o))
+
+module _ {s : List ℕ} {c : NumeralRead} (count : NumeralIs (item 0 maxCount) 0 maxCount s 3 c) where
+  pub arguments-uncounted : c ≡ Bad → MarkAt s 0 (length s)
+  arguments-uncounted e = mark-unnumbered (rw e at count)
+
+  module _ {n behind : ℕ} (e : c ≡ Is n behind) where
+    pub arguments-absent : {d : Bool} → IsDashed s behind d → d ≡ true → MarkAt s 0 (length s)
+    arguments-absent dash q = mark-absent ((rw e at count) .0) (rw q at dash)
+
+    pub arguments-present : {d : Bool} {place : ℕ} → IsDashed s behind d → d ≡ false → place ≡ behind + 1 → MarkAt s 0 place
+    arguments-present dash q is = mark-present ((rw e at count) .0) (rw q at dash) is
 
 -- The fields' marks
 
-pub mark-headless : {s : List ℕ} {entry : ℕ} → Refuses schemaHead s 0 → MarkAt s entry (length s)
+mark-headless : {s : List ℕ} {entry : ℕ} → Refuses schemaHead s 0 → MarkAt s entry (length s)
 unfolding anything
 mark-headless r =
     mark-at (λ h rest after fits e o. absurd (Option·none-ne-some _ (sym r ∙ ap schemaHead e ∙ schemaHead-exact .complete h rest fits refl)))
@@ -177,6 +193,12 @@ field-opens {s} {x} {entry} {start} r l m h rest after fits e o =
     (Option·some-injective (x, drop start s) (h, rest) (sym (r .reads) ∙ ap schemaHead e ∙ schemaHead-exact .complete h rest fits refl)) in
     rw (head-other entry h l) (m .opens (writeSchemaHead h) rest after e (front-length s (writeSchemaHead h) rest start e d (r .within)) o)
 
-pub mark-field : {s : List ℕ} {x : SchemaHead} {entry start place : ℕ} → ReadsTo schemaHead s 0 x start → 2 ≤ entry → FieldMarkAt s start 2 entry place
-    → MarkAt s entry place
-mark-field r l m = mark-at (field-opens r l m)
+module _ {s : List ℕ} {entry : ℕ} {r : SchemaHeadRead} (read : SchemaIs s 0 r) where
+  pub place-headless : r ≡ schema.Bad → MarkAt s entry (length s)
+  place-headless e = mark-headless (rw e at read)
+
+  pub place-field : {h : CodeHead} {start place : ℕ} → r ≡ schema.Is h start → (entry ≡ 0 → ⊥) → (entry ≡ 1 → ⊥) → FieldMarkAt s start 2 entry place → MarkAt s entry place
+  place-field e no-arguments no-record m = mark-at (field-opens ((rw e at read) .0) (omega arith) m)
+
+pub place-arguments : {s : List ℕ} {entry place : ℕ} → entry ≡ 0 → MarkAt s 0 place → MarkAt s entry place
+place-arguments e m = rw e m
