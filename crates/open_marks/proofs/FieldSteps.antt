@@ -152,8 +152,8 @@ module _ {s : List ℕ} {start entry at number : ℕ} (before : Sought s start e
     known : KnownTo s at h next
     known = rw e at read
 
-    pub sought-more : number < entry → Sought s start entry next (number + 1)
-    sought-more less = record { reached = omega arith; leads = λ place m. before .leads place (mark-passed known less m) }
+    pub sought-more : {more : ℕ} → number < entry → more ≡ number + 1 → Sought s start entry next more
+    sought-more less is = rw is (record { reached = omega arith; leads = λ place m. before .leads place (mark-passed known less m) })
 
     pub sought-one : {place : ℕ} → entry ≤ number → h .kind < 10 → place ≡ at + 4 → FieldMarkAt s start 2 entry place
     sought-one {place} l k is = let reached = before .reached in before .leads place (mark-one known (omega arith) k is)

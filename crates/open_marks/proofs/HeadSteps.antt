@@ -171,11 +171,11 @@ module _ {s : List ℕ} {c : NumeralRead} (count : NumeralIs (item 0 maxCount) 0
   arguments-uncounted e = mark-unnumbered (rw e at count)
 
   module _ {n behind : ℕ} (e : c ≡ Is n behind) where
-    pub arguments-absent : {d : Bool} → IsDashed s behind d → d ≡ true → MarkAt s 0 (length s)
-    arguments-absent dash q = mark-absent ((rw e at count) .0) (rw q at dash)
+    pub arguments-absent : (at : ℕ) {d : Bool} → IsDashed s at d → d ≡ true → at ≡ behind → MarkAt s 0 (length s)
+    arguments-absent at dash q is = mark-absent ((rw e at count) .0) (rw (q, is) at dash)
 
-    pub arguments-present : {d : Bool} {place : ℕ} → IsDashed s behind d → d ≡ false → place ≡ behind + 1 → MarkAt s 0 place
-    arguments-present dash q is = mark-present ((rw e at count) .0) (rw q at dash) is
+    pub arguments-present : (at : ℕ) {d : Bool} {place : ℕ} → IsDashed s at d → d ≡ false → at ≡ behind → place ≡ behind + 1 → MarkAt s 0 place
+    arguments-present at dash q is there = mark-present ((rw e at count) .0) (rw (q, is) at dash) there
 
 -- The fields' marks
 

@@ -78,14 +78,14 @@ mark-at {s} {entry} {place} m =
 
 -- What is written is read back
 
-pub mark-opened : {before after : List ℕ} {entry place next : ℕ} → MarkAt before entry place → Wrote before after place (49 ∷ []) next → MarkOpened before entry after
-mark-opened {before} {after} {entry} {place} {next} m w =
+pub mark-opened : {before after : List ℕ} {entry place byte next : ℕ} → MarkAt before entry place → byte ≡ 49 → Wrote before after place (byte ∷ []) next → MarkOpened before entry after
+mark-opened {before} {after} {entry} {place} m is w =
     let size : length after ≡ length before = wrote-kept w in
     record {
       size = size;
       opens = λ t e.
           let r = schema-round-trip before t .0 e in
-          let written : after ≡ writeSchema (opened (eqb entry) t) = w .stands ∙ m .opens t e in
+          let written : after ≡ writeSchema (opened (eqb entry) t) = w .stands ∙ ap (set before place) is ∙ m .opens t e in
           let bytes : length (writeSchema (opened (eqb entry) t)) ≤ maxSheetBytes = omega (arith, r .1 .bytes, ap length written, ap length (r .0)) in
           schema-round-trip after (opened (eqb entry) t) .1 (written, schema-kept (eqb entry) t bytes (r .1));
     }

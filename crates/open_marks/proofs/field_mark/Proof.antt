@@ -14,7 +14,7 @@ abbrev μ-loop : tie.MeasureT-loop
 μ-loop s start entry at₀ number₀ at number = entry - number
 
 loop-holds : tie.Need-loop-holds Inv-loop μ-loop
-loop-holds c = search (sought-start, needs)
+loop-holds c = sought-start (omega arith) (omega arith)
 
 known-field-requires : tie.Need-known-field-requires Inv-loop μ-loop
 known-field-requires c κs = search needs
@@ -35,7 +35,7 @@ loop-less : tie.Need-loop-less Inv-loop μ-loop
 loop-less c = search needs
 
 loop-again : tie.Need-loop-again Inv-loop μ-loop
-loop-again c = search (sought-more, needs)
+loop-again c = sought-more (c .before .before .before .before .before .loop .inv) (c .before .before .before .known-field .ensures) (c .before .next .given .1) (omega arith) (omega arith)
 
 known-field-requires-2 : tie.Need-known-field-requires-2 Inv-loop μ-loop
 known-field-requires-2 c κs = search needs
@@ -56,10 +56,10 @@ add-result-2 : tie.Need-add-result-2 Inv-loop μ-loop
 add-result-2 c = let known = rw (c .before .before .before .head .given .1) at (c .before .before .before .before .before .known-field2 .ensures) in omega (arith, known .past, known .within)
 
 returns-3 : tie.Need-returns-3 Inv-loop μ-loop
-returns-3 c = search (sought-one, needs)
+returns-3 c = sought-one (c .before .before .before .before .before .before .before .loop .inv) (c .before .before .before .before .before .known-field2 .ensures) (c .before .before .before .head .given .1) (omega arith) (omega arith) (omega arith)
 
 returns-4 : tie.Need-returns-4 Inv-loop μ-loop
-returns-4 c = search (sought-two, needs)
+returns-4 c = sought-two (c .before .before .before .before .before .before .before .loop .inv) (c .before .before .before .before .before .known-field2 .ensures) (c .before .before .before .head .given .1) (omega arith) (omega arith) (omega arith)
 
 pub field-mark-spec : {M : Type 1} → statement M
 field-mark-spec =

@@ -21,10 +21,10 @@ arguments-mark-requires : tie.Need-arguments-mark-requires
 arguments-mark-requires c κs = search needs
 
 returns-2 : tie.Need-returns-2
-returns-2 c = search (place-arguments, needs)
+returns-2 c = place-arguments (omega arith) (c .arguments-mark .ensures)
 
 returns-3 : tie.Need-returns-3
-returns-3 c = search (place-record, needs)
+returns-3 c = place-record _ (omega arith) (omega arith)
 
 field-mark-requires : tie.Need-field-mark-requires
 field-mark-requires c κs = search needs

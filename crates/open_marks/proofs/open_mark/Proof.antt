@@ -15,7 +15,7 @@ same-length : tie.Need-same-length
 same-length c = search needs
 
 returns : tie.Need-returns
-returns c = search (mark-opened, needs)
+returns c = mark-opened (c .before .before .before .before .mark-place .ensures) (omega arith) (c .before .before .push .ensures)
 
 pub open-mark-spec : {M : Type 1} → statement M
 open-mark-spec = tie.close (tie.spec mark-place-requires push-requires same-length returns)
