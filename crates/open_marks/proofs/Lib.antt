@@ -1,3 +1,4 @@
+mod Edges
 mod Kept
 mod Entered
 mod Sheets
