@@ -1,12 +1,11 @@
 -- A schema's writing, entry by entry: behind the sheet's head come the fields' entries, and those of the schema with a mark open differ in that mark.
 use Prim.Native.Nat.{ℕ, _+_, _≤_, _<_}
-use mathlib.Core.Bool.{Bool, true, false, _||_, or-false}
+use mathlib.Core.Bool.{or-false}
 use mathlib.Core.List.{List, [], _++_, append-assoc, append-nil}
 use mathlib.Core.Option.{Option, none, some}
 use mathlib.Core.Path.{_≡_, refl, sym, ap, _∙_}
 use native.Mathlib.Omega.{arith}
 use lib.Dec.{eqb}
-use lib.ListN.{length}
 use borrow.Author.Tests.{ne-eqb}
 use Rattle.text.proofs.Points.{utf8-empty}
 use Rattle.sheet.specs.Entries.{maxCount, FieldHead, fieldHead}
@@ -57,12 +56,13 @@ module _ (entry : ℕ) where
         let m = members-kept (eqb entry) members in
         let k = members-take members in
         let h : FieldHead = record { kind = kind; isOpen = isOpen; hasItems = hasItems items; count = countOfMembers members; name = name; tag = tag } in
-        entered {number = n} {after = writeField name (openedField (eqb entry) (field e kind isOpen tag items members)) ++ after} h
-        (writeItems items ++ (writeMembers members ++ rest))
-        (writeItems (openedItems (eqb entry) items) ++ (writeMembers (openedMembers (eqb entry) members) ++ after))
+        let g = openedField (eqb entry) (field e kind isOpen tag items members) in
+        let items′ = writeItems (openedItems (eqb entry) items) in
+        let members′ = writeMembers (openedMembers (eqb entry) members) in
+        entered {number = n} {after = writeField name g ++ after} h (writeItems items ++ (writeMembers members ++ rest)) (items′ ++ (members′ ++ after))
         (ap fieldHead (joined (writeFieldHead h) (writeItems items) (writeMembers members) rest)
         ∙ fieldHead-exact .complete h _ (record { kind = fits .0; count = omega arith; name = within; tag = fits .1 }) refl)
-        (rw (from .0, i .mark, m .count) (joined (writeFieldHead (openedHead (eqb entry n) h)) (writeItems (openedItems (eqb entry) items)) (writeMembers (openedMembers (eqb entry) members)) after))
+        (rw (from .0, i .mark, m .count) (joined (writeFieldHead (openedHead (eqb entry n) h)) items′ members′ after))
         (items-opens (n + 1) items _ _ (fits .2) (from .1) (omega arith)
         (members-opens (n + 1 + itemsEntries items) members rest after (fits .3) (from .2) (omega arith) (opens-is (omega arith) o)))
 
@@ -77,7 +77,8 @@ module _ (entry : ℕ) where
         → Opens entry n (writeMembers m ++ rest) (writeMembers (openedMembers (eqb entry) m) ++ after)
     members-opens n noMembers rest after fits from few o = opens-is (omega arith) o
     members-opens n (member name f others) rest after fits from few o =
-        rw (append-assoc (writeField name f) (writeMembers others) rest, append-assoc (writeField name (openedField (eqb entry) f)) (writeMembers (openedMembers (eqb entry) others)) after)
+        let others′ = writeMembers (openedMembers (eqb entry) others) in
+        rw (append-assoc (writeField name f) (writeMembers others) rest, append-assoc (writeField name (openedField (eqb entry) f)) others′ after)
         (field-opens n name f _ _ (fits .0) (fits .1) (from .0) (omega arith)
         (members-opens (n + fieldEntries f) others rest after (fits .2) (from .1) (omega arith) (opens-is (omega arith) o)))
 
@@ -86,7 +87,9 @@ module _ (entry : ℕ) where
   unfolding writeArguments openedArguments openedHolder argumentsEntries
   arguments-open n none fits from few = ended refl refl
   arguments-open n (some h) fits from few =
-      rw (append-nil (writeMembers (h .members)), append-nil (writeMembers (openedMembers (eqb entry) (h .members)))) at (members-opens n (h .members) [] [] fits from few (ended refl refl))
+      let opened = writeMembers (openedMembers (eqb entry) (h .members)) in
+      rw (append-nil (writeMembers (h .members)), append-nil opened) at
+      (members-opens n (h .members) [] [] fits from few (ended refl refl))
 
   pub schema-opens : (t : Schema) → SchemaWithin t
       → Opens entry 2 (writeMembers (t .fields .members) ++ writeArguments (t .arguments))

@@ -1,21 +1,19 @@
 -- The two marks of the sheet's head: each way through `arguments_mark` and `mark_place`, as a law.
-use Prim.Native.Nat.{ℕ, _+_, _≤_, _<_}
-use mathlib.Core.Bool.{Bool, true, false, _||_, or-true, or-false}
+use Prim.Native.Nat.{ℕ, _+_, _≤_}
+use mathlib.Core.Bool.{Bool, true, false, or-true, or-false}
 use mathlib.Core.List.{List, [], _∷_, _++_, append-assoc}
 use mathlib.Core.Option.{Option, none, some, Option·none-ne-some, Option·some-injective}
 use mathlib.Core.Path.{_≡_, refl, sym, ap, _∙_}
 use native.Mathlib.Omega.{arith}
-use lib.Dec.{eqb}
 use lib.ListN.{length, drop, set, length-append}
-use lib.Seq.{drop-at}
-use borrow.Author.Tests.{eq-eqb, ne-eqb}
+use borrow.Author.Tests.{ne-eqb}
 use Rattle.sheet.specs.Ascii.{ascii}
 use Rattle.sheet.specs.Reader.{_>>=_, _>>_, andThen}
 use Rattle.sheet.specs.NumeralLaws.{beginsWithoutDigit}
 use Rattle.sheet.specs.Entries.{maxCount, byte, item, HolderHead, SchemaHead, schemaHead}
 use Rattle.sheet.specs.Pieces.{dashed}
 use Rattle.sheet.specs.Write.{markOf, writeItem, writeMark, writeEnd, writeHolderHead, writeArgumentsHead, writeSchemaHead}
-use Rattle.sheet.specs.ItemLaws.{anything, item-complete, mark-begins, comma-begins}
+use Rattle.sheet.specs.ItemLaws.{anything, item-complete, comma-begins}
 use Rattle.sheet.specs.HeadLaws.{SchemaHeadFits, schemaHead-exact}
 use Rattle.sheet.specs.Places.{ReadsTo, Refuses, NumeralIs, IsDashed, SchemaIs}
 use Rattle.sheet.specs.declared.numeral.NumeralRead.{NumeralRead}

@@ -1,9 +1,9 @@
 -- A sheet as a whole: a mark opened in its writing is one opened in the schema that it holds.
 use Prim.Native.Nat.{ℕ, _≤_}
-use mathlib.Core.Bool.{Bool, _||_}
+use mathlib.Core.Bool.{_||_}
 use mathlib.Core.List.{List, [], _∷_, _++_}
 use mathlib.Core.Option.{Option, none, some}
-use mathlib.Core.Path.{_≡_, refl, sym, ap, _∙_}
+use mathlib.Core.Path.{_≡_, refl, ap, _∙_}
 use native.Mathlib.Omega.{arith}
 use lib.Dec.{eqb}
 use lib.ListN.{length, set}
@@ -15,7 +15,7 @@ use Rattle.buffer.specs.Wrote.{Wrote}
 use Rattle.buffer.specs.WroteLaws.{wrote-kept}
 use Rattle.definition.specs.Tree.{Holder, Schema}
 use Rattle.definition.specs.Limits.{maxSheetBytes}
-use Rattle.definition.specs.Write.{countOfMembers, headOf, headOfArguments, writeSchema}
+use Rattle.definition.specs.Write.{headOf, headOfArguments, writeSchema}
 use Rattle.definition.specs.Within.{argumentsEntries, schemaEntries, SchemaWithin}
 use Rattle.definition.specs.FieldLaws.{members-take}
 use Rattle.definition.specs.RoundTrip.{schema-round-trip}
@@ -78,7 +78,8 @@ mark-at {s} {entry} {place} m =
 
 -- What is written is read back
 
-pub mark-opened : {before after : List ℕ} {entry place byte next : ℕ} → MarkAt before entry place → byte ≡ 49 → Wrote before after place (byte ∷ []) next → MarkOpened before entry after
+pub mark-opened : {before after : List ℕ} {entry place byte next : ℕ} → MarkAt before entry place → byte ≡ 49 → Wrote before after place (byte ∷ []) next
+    → MarkOpened before entry after
 mark-opened {before} {after} {entry} {place} m is w =
     let size : length after ≡ length before = wrote-kept w in
     record {
@@ -86,6 +87,7 @@ mark-opened {before} {after} {entry} {place} m is w =
       opens = λ t e.
           let r = schema-round-trip before t .0 e in
           let written : after ≡ writeSchema (opened (eqb entry) t) = w .stands ∙ ap (set before place) is ∙ m .opens t e in
-          let bytes : length (writeSchema (opened (eqb entry) t)) ≤ maxSheetBytes = omega (arith, r .1 .bytes, ap length written, ap length (r .0)) in
+          let bytes : length (writeSchema (opened (eqb entry) t)) ≤ maxSheetBytes =
+          omega (arith, r .1 .bytes, ap length written, ap length (r .0)) in
           schema-round-trip after (opened (eqb entry) t) .1 (written, schema-kept (eqb entry) t bytes (r .1));
     }

@@ -21,13 +21,20 @@ is-dashed-requires : tie.Need-is-dashed-requires
 is-dashed-requires c κs = search needs
 
 returns-2 : tie.Need-returns-2
-returns-2 c = arguments-absent (c .before .before .before .before .before .item .ensures) (c .before .before .before .behind .given .1) _ (c .before .is-dashed .ensures) (c .if1 .taken) (omega arith)
+returns-2 c =
+    arguments-absent (c .before .before .before .before .before .item .ensures)
+    (c .before .before .before .behind .given .1) _ (c .before .is-dashed .ensures) (c .if1 .taken) (omega arith)
 
 add-result : tie.Need-add-result
-add-result c = let count = rw (c .before .before .before .behind .given .1) at (c .before .before .before .before .before .item .ensures) in omega (arith, count .0 .within)
+add-result c =
+    let count = rw (c .before .before .before .behind .given .1) at (c .before .before .before .before .before .item .ensures) in
+    omega (arith, count .0 .within)
 
 returns-3 : tie.Need-returns-3
-returns-3 c = arguments-present (c .before .before .before .before .before .item .ensures) (c .before .before .before .behind .given .1) _ (c .before .is-dashed .ensures) (c .if1 .left) (omega arith) (omega arith)
+returns-3 c =
+    arguments-present (c .before .before .before .before .before .item .ensures)
+    (c .before .before .before .behind .given .1) _ (c .before .is-dashed .ensures) (c .if1 .left) (omega arith)
+    (omega arith)
 
 pub arguments-mark-spec : {M : Type 1} → statement M
 arguments-mark-spec =

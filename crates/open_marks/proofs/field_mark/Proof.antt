@@ -35,7 +35,9 @@ loop-less : tie.Need-loop-less Inv-loop μ-loop
 loop-less c = search needs
 
 loop-again : tie.Need-loop-again Inv-loop μ-loop
-loop-again c = sought-more (c .before .before .before .before .before .loop .inv) (c .before .before .before .known-field .ensures) (c .before .next .given .1) (omega arith) (omega arith)
+loop-again c =
+    sought-more (c .before .before .before .before .before .loop .inv) (c .before .before .before .known-field .ensures)
+    (c .before .next .given .1) (omega arith) (omega arith)
 
 known-field-requires-2 : tie.Need-known-field-requires-2 Inv-loop μ-loop
 known-field-requires-2 c κs = search needs
@@ -50,16 +52,26 @@ returns-2 : tie.Need-returns-2 Inv-loop μ-loop
 returns-2 c = search (sought-unread, needs)
 
 add-result : tie.Need-add-result Inv-loop μ-loop
-add-result c = let known = rw (c .before .before .before .head .given .1) at (c .before .before .before .before .before .known-field2 .ensures) in omega (arith, known .past, known .within)
+add-result c =
+    let known = rw (c .before .before .before .head .given .1) at (c .before .before .before .before .before .known-field2 .ensures) in
+    omega (arith, known .past, known .within)
 
 add-result-2 : tie.Need-add-result-2 Inv-loop μ-loop
-add-result-2 c = let known = rw (c .before .before .before .head .given .1) at (c .before .before .before .before .before .known-field2 .ensures) in omega (arith, known .past, known .within)
+add-result-2 c =
+    let known = rw (c .before .before .before .head .given .1) at (c .before .before .before .before .before .known-field2 .ensures) in
+    omega (arith, known .past, known .within)
 
 returns-3 : tie.Need-returns-3 Inv-loop μ-loop
-returns-3 c = sought-one (c .before .before .before .before .before .before .before .loop .inv) (c .before .before .before .before .before .known-field2 .ensures) (c .before .before .before .head .given .1) (omega arith) (omega arith) (omega arith)
+returns-3 c =
+    sought-one (c .before .before .before .before .before .before .before .loop .inv)
+    (c .before .before .before .before .before .known-field2 .ensures) (c .before .before .before .head .given .1)
+    (omega arith) (omega arith) (omega arith)
 
 returns-4 : tie.Need-returns-4 Inv-loop μ-loop
-returns-4 c = sought-two (c .before .before .before .before .before .before .before .loop .inv) (c .before .before .before .before .before .known-field2 .ensures) (c .before .before .before .head .given .1) (omega arith) (omega arith) (omega arith)
+returns-4 c =
+    sought-two (c .before .before .before .before .before .before .before .loop .inv)
+    (c .before .before .before .before .before .known-field2 .ensures) (c .before .before .before .head .given .1)
+    (omega arith) (omega arith) (omega arith)
 
 pub field-mark-spec : {M : Type 1} → statement M
 field-mark-spec =
