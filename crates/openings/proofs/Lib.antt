@@ -1,1 +1,2 @@
 pub mod RoundSteps
+pub mod ListSteps

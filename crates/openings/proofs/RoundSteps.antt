@@ -6,8 +6,8 @@ use mathlib.Core.List.{List, [], _∷_}
 use mathlib.Core.Option.{Option, none, some, Option·some-injective, Option·none-ne-some}
 use mathlib.Core.Path.{_≡_, refl, sym, ap, _∙_}
 use lib.Dec.{eqb, leb}
-use lib.ListN.{length, getD, set}
-use lib.Seq.{getD-set-same, getD-set-other, length-set}
+use lib.ListN.{length, getD, set, length-set}
+use lib.Seq.{getD-set-same, getD-set-other}
 use borrow.Author.Tests.{eqb-true, eqb-false, ne-eqb, le-leb, lt-leb}
 use Rattle.definition.specs.Limits.{maxSheetBytes, maxSchemaEntries, maxRuleEntries}
 use Rattle.definition.specs.Tree as Tree
@@ -42,7 +42,7 @@ use Rattle.single_check.specs.Settings.{settingBy}
 use Rattle.single_check.specs.Sheets.{FrontOnly}
 use Rattle.single_check.specs.SheetLaws.{front-schema, front-both}
 use Rattle.single_check.specs.declared.settings.Setting as Code
-use Rattle.openings.specs.Stub.{MarkOpened}
+use Rattle.open_marks.specs.Marks.{MarkOpened}
 use Rattle.openings.specs.Rounds.{RoundIs, RoundJudged, isMarked, Stands, EndsIn, MarksFound}
 use Rattle.openings.specs.declared.rounds.Round.{Round}
 use Rattle.openings.specs.declared.rounds.Round.the-variants.{Passed, Refused}

@@ -1,4 +1,3 @@
 pub mod Call
 pub mod Rounds
 pub mod Runs
-pub mod Stub

@@ -21,8 +21,10 @@ pub fn put_marks(marks: &[u8], list: &mut [u8]) -> u32
         if marks[e as usize] != 0 {
             at = put_u32(list, at, e);
             count += 1;
+            e += 1;
+        } else {
+            e += 1;
         }
-        e += 1;
     }
     count
 }

@@ -1,7 +1,7 @@
 // The search for the marks: the rule is checked again and again, and each time the mark of the field that refused is opened.
 use condition_checks::rules::judge;
 use definition::limits::MAX_SCHEMA_ENTRIES;
-use crate::stub::open_mark;
+use open_marks::open_mark;
 use schema::read::Schema;
 use schema::read::SchemaRead;
 use schema::read::read_schema;

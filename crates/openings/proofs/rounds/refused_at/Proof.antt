@@ -92,7 +92,7 @@ returns-7 c = search needs
 -- src/rounds.rt:33:1
 returns-8 : tie.Need-returns-8
 unfolding refusedAt
-returns-8 c = search needs
+returns-8 c = rw (c .before .fault .given .1)
 
 -- src/rounds.rt:33:1
 returns-9 : tie.Need-returns-9
@@ -112,7 +112,7 @@ returns-11 c = search needs
 -- src/rounds.rt:33:1
 returns-12 : tie.Need-returns-12
 unfolding refusedAt
-returns-12 c = search needs
+returns-12 c = rw (c .before .fault2 .given .1)
 
 pub refused-at-spec : {M : Type 1} → statement M
 refused-at-spec =
