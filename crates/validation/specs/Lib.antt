@@ -28,3 +28,4 @@ pub mod Marking
 pub mod MarkingLaws
 pub mod Openings
 pub mod OpeningLaws
+pub mod RisingLaws
