@@ -29,3 +29,6 @@ pub mod MarkingLaws
 pub mod Openings
 pub mod OpeningLaws
 pub mod RisingLaws
+pub mod Fewest
+pub mod LeastLaws
+pub mod FewestLaws

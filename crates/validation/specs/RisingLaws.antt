@@ -1,7 +1,7 @@
 -- The numbers of a set below a bound, as a rising list: which they are, how many, and that no other rising list has the same.
 use Prim.Native.Nat.{ℕ, zero, suc, _+_, _≤_, _<_}
 use native.Mathlib.Omega.{arith}
-use mathlib.Core.Bool.{Bool, true, false, cond, _&&_, _||_, false≢true}
+use mathlib.Core.Bool.{Bool, true, false, cond, _&&_, _||_, false≢true, and-true, and-false, or-true, or-false}
 use mathlib.Core.List.{List, [], _∷_, _++_}
 use mathlib.Core.Path.{_≡_, refl, ap, _∙_}
 use lib.Dec.{ltb, eqb}
@@ -21,18 +21,6 @@ in-append (x ∷ xs) ys e = go (eqb x e) (in-append xs ys e)
     go : (b : Bool) → isIn (xs ++ ys) e ≡ (isIn xs e || isIn ys e) → (b || isIn (xs ++ ys) e) ≡ ((b || isIn xs e) || isIn ys e)
     go true h = refl
     go false h = h
-
-or-false : (b : Bool) → (b || false) ≡ b
-or-false true = refl
-or-false false = refl
-
-and-true : (b : Bool) → (b && true) ≡ b
-and-true true = refl
-and-true false = refl
-
-and-false : (b : Bool) → (b && false) ≡ false
-and-false true = refl
-and-false false = refl
 
 -- the last number, if it passes
 in-last : (b : Bool) (n e : ℕ) → isIn (cond b (n ∷ []) []) e ≡ (b && eqb n e)
@@ -165,10 +153,6 @@ in-here x xs = rw (eq-eqb x x refl) refl
 in-behind : (x : ℕ) (xs : List ℕ) (e : ℕ) → isIn xs e ≡ true → isIn (x ∷ xs) e ≡ true
 unfolding isIn
 in-behind x xs e h = rw h (or-true (eqb x e))
-  where
-    or-true : (b : Bool) → (b || true) ≡ true
-    or-true true = refl
-    or-true false = refl
 
 rises-least : (low : ℕ) (xs : List ℕ) (e : ℕ) → Rises low xs → isIn xs e ≡ true → low ≤ e
 unfolding isIn

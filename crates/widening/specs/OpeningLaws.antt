@@ -2,7 +2,7 @@
 -- entries.
 use Prim.Native.Nat.{ℕ, _+_, _≤_, _<_}
 use native.Mathlib.Omega.{arith}
-use mathlib.Core.Bool.{Bool, true, false, not, cond, _&&_, _||_, false≢true}
+use mathlib.Core.Bool.{Bool, true, false, not, cond, _&&_, _||_, false≢true, or-false, or-comm}
 use mathlib.Core.List.{List, [], _∷_}
 use mathlib.Core.Option.{Option, none, some}
 use mathlib.Core.Path.{_≡_, refl}
@@ -117,10 +117,6 @@ module _ (may : ℕ → Bool) where
 
 -- No mark more.
 
-or-false : (o : Bool) → (o || false) ≡ o
-or-false true = refl
-or-false false = refl
-
 mutual
   unfolding openedField isIn
 
@@ -152,10 +148,7 @@ opened-none t = λ i. record { fields = holder-none 1 (t .fields) i; arguments =
 
 or-again : (o less more : Bool) → ((o || less) || more) ≡ (o || (more || less))
 or-again true less more = refl
-or-again false true true = refl
-or-again false true false = refl
-or-again false false true = refl
-or-again false false false = refl
+or-again false less more = or-comm less more
 
 module _ (less more : ℕ → Bool) where
   abbrev either : ℕ → Bool
