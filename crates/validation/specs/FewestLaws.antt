@@ -1,29 +1,28 @@
 -- The marks that are found are the fewest: they are returned exactly when some set of openings gives acceptance, and every other set that does
 -- contains them.
-use Prim.Native.Nat.{ℕ, zero, suc, _+_, _≤_, _<_}
+use Prim.Native.Nat.{ℕ, _+_, _≤_}
 use native.Mathlib.Omega.{arith}
-use mathlib.Core.Bool.{Bool, true, false, not, cond, _&&_, false≢true}
-use mathlib.Core.List.{List, [], _∷_}
+use mathlib.Core.Bool.{Bool, true, false, _&&_, false≢true}
+use mathlib.Core.List.{List, []}
 use mathlib.Core.Logic.{_↔_}
-use mathlib.Core.Option.{Option, none, some, Option·map, map-eq-some-iff, map-eq-none-iff}
+use mathlib.Core.Option.{Option, none, some, map-eq-some-iff, map-eq-none-iff}
 use mathlib.Core.Path.{_≡_, refl, sym, ap, subst, _∙_}
-use lib.Dec.{leb, ltb}
+use lib.Dec.{ltb}
 use lib.ListN.{length}
-use borrow.Author.Tests.{ltb-true, lt-ltb, le-leb, lt-leb}
+use borrow.Author.Tests.{lt-ltb}
 use Rattle.text.proofs.Bools.{and-true-0, and-true-1}
 use Rattle.definition.specs.Tree.{Text, Schema, Rule}
-use Rattle.definition.specs.Limits.{maxSchemaEntries}
 use Rattle.definition.specs.Decode.{decodeSchema}
 use Rattle.reference.specs.Setting.{Setting}
 use Rattle.widening.specs.Opening.{isIn, opened, isClosed}
 use Rattle.widening.specs.OpeningLaws.{Among, beyond, opened-none, opened-agree, closed-entry}
-use Rattle.validation.specs.Check.{Check, checks}
-use Rattle.validation.specs.Judge.{Failure, Verdict, allPass, failsAt, judge}
+use Rattle.validation.specs.Check.{checks}
+use Rattle.validation.specs.Judge.{Verdict, allPass, failsAt, judge}
 use Rattle.validation.specs.CheckLaws.{sure-checks}
 use Rattle.validation.specs.Result.{Defect, accepted, defect, answerOf, checked}
 use Rattle.validation.specs.DemandLaws.{distinct-names}
 use Rattle.validation.specs.Marked.{Rises}
-use Rattle.validation.specs.Openings.{judgedOpen, afterRound, rounds, risingTo, maxMarks, fewestMarks}
+use Rattle.validation.specs.Openings.{rounds, risingTo, maxMarks, fewestMarks}
 use Rattle.validation.specs.RisingLaws.{rising-has, rising-few, rising-rises, rises-same}
 use Rattle.validation.specs.Fewest.{Passes, Accepts, IsFewest, Returned}
 use Rattle.validation.specs.LeastLaws.{toOpen, rounds-least, rounds-pass, rounds-enough}
@@ -46,16 +45,6 @@ accepts-answer setting label t r may = passes-answer setting label r (judge sett
 -- The set, from what the rounds find.
 
 module _ (setting : Setting) (t : Schema) (r : Rule) where
-  pub fewest-found : (found : List ℕ)
-      → rounds setting t (checks setting r) (maxMarks + 1) [] ≡ some found
-      → fewestMarks setting t r ≡ some (risingTo maxMarks (isIn found))
-  unfolding fewestMarks
-  fewest-found found e = ap (λ o. Option·map (λ found. risingTo maxMarks (isIn found)) o) e
-
-  pub fewest-missing : rounds setting t (checks setting r) (maxMarks + 1) [] ≡ none → fewestMarks setting t r ≡ none
-  unfolding fewestMarks
-  fewest-missing e = ap (λ o. Option·map (λ found. risingTo maxMarks (isIn found)) o) e
-
   found-of : (set : List ℕ)
       → fewestMarks setting t r ≡ some set
       → (found : List ℕ) × (rounds setting t (checks setting r) (maxMarks + 1) [] ≡ some found) × (risingTo maxMarks (isIn found) ≡ set)

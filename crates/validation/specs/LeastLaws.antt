@@ -104,12 +104,12 @@ module _ (setting : Setting) (t : Schema) (cs : List Check) (isDistinct : Distin
   PassesWith may = Passes (judge setting (opened may t) cs)
 
   -- where marks help that hold the ones open so far, the mark that refuses now is one of the others
-  round-opens : (may : ℕ → Bool) (marks : List ℕ)
+  next-mark : (may : ℕ → Bool) (marks : List ℕ)
       → Among (isIn marks) may
       → PassesWith may
       → OpensOne (beyond (isIn marks) may) (judgedOpen setting t cs marks)
   unfolding judgedOpen judge
-  round-opens may marks w p =
+  next-mark may marks w p =
       judge-from-opens setting 0 cs
       (record { isWider = opened-widens (isIn marks) may w t; isDistinct = opened-distinct may t isDistinct })
       (sure (opened (isIn marks) t))
@@ -141,7 +141,7 @@ module _ (setting : Setting) (t : Schema) (cs : List Check) (isDistinct : Distin
       after-least may (λ more. rounds setting t cs k more) marks found (judgedOpen setting t cs marks)
       (λ more h v. rounds-least k more found may h v p)
       w
-      (round-opens may marks w p)
+      (next-mark may marks w p)
       e
 
   -- With the marks that are found open, the list passes.
@@ -191,5 +191,5 @@ module _ (setting : Setting) (t : Schema) (cs : List Check) (isDistinct : Distin
   rounds-enough (suc k) marks may small enough w p e =
       after-enough may (λ more. rounds setting t cs k more) marks (judgedOpen setting t cs marks) small
       (λ x m b h. rounds-enough k (x ∷ marks) may small (omega (arith, fewer-to-open may marks x (small x m) b)) (more-among x marks may m w) p h)
-      (round-opens may marks w p)
+      (next-mark may marks w p)
       e

@@ -31,4 +31,5 @@ pub mod OpeningLaws
 pub mod RisingLaws
 pub mod Fewest
 pub mod LeastLaws
+pub mod RoundLaws
 pub mod FewestLaws

@@ -11,11 +11,11 @@ use borrow.Author.Tests.{eqb-true, eq-eqb}
 use Rattle.sheet.specs.Order.{sameBytes}
 use Rattle.definition.specs.Tree.{Text, Field, field, Items, absent, element, Members, noMembers, member, Holder, Schema}
 use Rattle.definition.specs.Limits.{maxSchemaEntries}
-use Rattle.definition.specs.Within.{fieldEntries, itemsEntries, membersEntries, argumentsEntries, schemaEntries, FieldFrom, ItemsFrom, MembersFrom, ArgumentsFrom, SchemaWithin}
+use Rattle.definition.specs.Within.{fieldEntries, itemsEntries, membersEntries, argumentsEntries, schemaEntries, FieldFrom, ItemsFrom, MembersFrom, ArgumentsFrom}
 use Rattle.definition.specs.Decode.{decodeSchema}
 use Rattle.definition.specs.RoundTrip.{schema-round-trip}
 use Rattle.reference.specs.Walk.{lookup}
-use Rattle.widening.specs.Widening.{Level, only, listed, Opened, kept, opened as openedNow, WiderField, wider, WiderItems, neither, both, WiderMembers, end, keep, WiderHolder, WiderArguments, without, stay, WiderSchema}
+use Rattle.widening.specs.Widening.{only, listed, Opened, kept, opened as openedNow, WiderField, wider, WiderItems, neither, both, WiderMembers, end, keep, WiderHolder, WiderArguments, without, stay, WiderSchema}
 use Rattle.widening.specs.Distinct.{DistinctField, DistinctItems, DistinctMembers, DistinctArguments, DistinctSchema}
 use Rattle.widening.specs.Opening.{isIn, openedField, openedItems, openedMembers, openedHolder, openedArguments, opened, closedInField, closedInItems, closedInMembers, closedInHolder, closedInArguments, isClosed}
 
