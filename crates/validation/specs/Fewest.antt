@@ -13,6 +13,7 @@ use Rattle.validation.specs.Judge.{Verdict, allPass, failsAt, judge}
 use Rattle.validation.specs.Marked.{Rises}
 use Rattle.validation.specs.Openings.{fewestMarks}
 
+-- all checks of a list passed
 abbrev pub Passes : Verdict → Type 0
 Passes (allPass n) = Unit {0}
 Passes (failsAt n c why) = ⊥
@@ -35,5 +36,5 @@ pub record IsFewest (setting : Setting) (t : Schema) (r : Rule) (set : List ℕ)
 pub record Returned (setting : Setting) (t : Schema) (r : Rule) : Type 0 where
   -- a set is returned exactly when some set of openings gives acceptance
   pub exactly : ((set : List ℕ) × (fewestMarks setting t r ≡ some set)) ↔ ((may : ℕ → Bool) × Accepts setting t r may)
-  -- and it is the fewest marks, which no other list is
-  pub set : (set : List ℕ) → (fewestMarks setting t r ≡ some set) ↔ IsFewest setting t r set
+  -- and every other set that does contains it; no other list is such a set
+  pub least : (set : List ℕ) → (fewestMarks setting t r ≡ some set) ↔ IsFewest setting t r set

@@ -29,7 +29,8 @@ use Rattle.validation.specs.LeastLaws.{toOpen, rounds-least, rounds-pass
 
 -- Acceptance is what a call with such a schema hears.
 
-passes-answer : (setting : Setting) (label : Text) (r : Rule) (v : Verdict) → Passes v ↔ ((n : ℕ) × (answerOf setting label r v ≡ accepted n))
+pub passes-answer : (setting : Setting) (label : Text) (r : Rule) (v : Verdict)
+    → Passes v ↔ ((n : ℕ) × (answerOf setting label r v ≡ accepted n))
 unfolding answerOf
 passes-answer setting label r (allPass n) = (λ p. (n, refl), λ h. tt)
 passes-answer setting label r (failsAt n c why) = (λ p. absurd p, λ h. not-accepted _ (h .0) (h .1))
@@ -157,7 +158,7 @@ module _ (setting : Setting) (t : Schema) (r : Rule) where
     fewest =
         record {
           exactly = (λ h. (isIn (h .0), fewest-accepts (h .0) (h .1)), λ h. exists (h .0) (h .1));
-          set = λ set. (returned-is set, is-returned set);
+          least = λ set. (returned-is set, is-returned set);
         }
 
     -- the empty set, exactly if it is accepted as it is

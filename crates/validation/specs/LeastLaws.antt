@@ -1,4 +1,5 @@
--- The rounds find marks that give acceptance and that every set of marks which does contains, and they find them in as many rounds as there are.
+-- The rounds find marks with which a check list passes, and every set of marks with which it does contains them. One round more than there are
+-- marks suffices, since each opens one that every such set has.
 use Prim.Native.Nat.{ℕ, zero, suc, _+_, _≤_, _<_}
 use native.Mathlib.Omega.{arith}
 use mathlib.Core.Bool.{Bool, true, false, not, cond, _&&_, _||_, false≢true, and-false}

@@ -2,12 +2,12 @@
 use Prim.Native.Nat.{ℕ, zero, suc, _+_, _≤_, _<_}
 use native.Mathlib.Omega.{arith}
 use mathlib.Core.Bool.{Bool, true, false, cond, _&&_, _||_, false≢true, and-true, and-false, or-true, or-false}
-use mathlib.Core.List.{List, [], _∷_, _++_}
-use mathlib.Core.Path.{_≡_, refl, ap, _∙_}
+use mathlib.Core.List.{List, [], _∷_, _++_, append-nil}
+use mathlib.Core.Path.{_≡_, refl, sym, ap, _∙_}
 use lib.Dec.{ltb, eqb}
 use lib.ListN.{length, length-append}
 use borrow.Author.Tests.{ltb-true, ltb-false, lt-ltb, le-ltb, eqb-true, eqb-false, eq-eqb}
-use Rattle.text.proofs.Bools.{or-true-cases}
+use Rattle.text.proofs.Bools.{and-true-0, or-true-cases}
 use Rattle.widening.specs.Opening.{isIn}
 use Rattle.widening.specs.OpeningLaws.{Among}
 use Rattle.validation.specs.Marked.{Rises}
@@ -49,6 +49,25 @@ rising-has (suc n) p e =
     go : (b : Bool) → eqb n e ≡ b → ((ltb e n && p e) || (p n && b)) ≡ (ltb e (suc n) && p e)
     go true same = rw (← (eqb-true n e same), le-ltb n n (omega arith), lt-ltb n (suc n) (omega arith)) (and-true (p n))
     go false other = rw (and-false (p n), or-false (ltb e n && p e), below-next e n other) refl
+
+pub rising-below : (n : ℕ) (p : ℕ → Bool) (e : ℕ) → isIn (risingTo n p) e ≡ true → e < n
+rising-below n p e h = ltb-true e n (and-true-0 (ltb e n) (p e) (sym (rising-has n p e) ∙ h))
+
+-- The list, number by number.
+
+pub rising-takes : (n : ℕ) (p : ℕ → Bool) → p n ≡ true → risingTo (suc n) p ≡ risingTo n p ++ (n ∷ [])
+unfolding risingTo
+rising-takes n p h = rw h refl
+
+pub rising-skips : (n : ℕ) (p : ℕ → Bool) → p n ≡ false → risingTo (suc n) p ≡ risingTo n p
+unfolding risingTo
+rising-skips n p h = rw h (append-nil (risingTo n p))
+
+pub rising-agree : (n : ℕ) (p q : ℕ → Bool) → ((e : ℕ) → e < n → p e ≡ q e) → risingTo n p ≡ risingTo n q
+unfolding risingTo
+rising-agree zero p q h = refl
+rising-agree (suc n) p q h =
+    λ i. rising-agree n p q (λ e below. h e (omega arith)) i ++ cond (h n (omega arith) i) (n ∷ []) []
 
 -- How many they are.
 
