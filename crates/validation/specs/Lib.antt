@@ -28,3 +28,8 @@ pub mod Marking
 pub mod MarkingLaws
 pub mod Openings
 pub mod OpeningLaws
+pub mod RisingLaws
+pub mod Fewest
+pub mod LeastLaws
+pub mod RoundLaws
+pub mod FewestLaws

@@ -35,7 +35,7 @@ openedArguments may (some h) = some (openedHolder may 0 h)
 unfoldable pub opened : (ℕ → Bool) → Schema → Schema
 opened may t = record { fields = openedHolder may 1 (t .fields); arguments = openedArguments may (t .arguments) }
 
--- whether the entry's open mark is there and is 0
+-- whether the entry has an open mark, and it is 0
 unfoldable mutual
   pub closedInField : Field → ℕ → Bool
   closedInField (field n kind isOpen tag items members) e =
@@ -56,5 +56,6 @@ unfoldable pub closedInArguments : Option Holder → ℕ → Bool
 closedInArguments none e = false
 closedInArguments (some h) e = closedInHolder 0 h e
 
+-- 1 and 0 as above
 unfoldable pub isClosed : Schema → ℕ → Bool
 isClosed t e = closedInHolder 1 (t .fields) e || closedInArguments (t .arguments) e

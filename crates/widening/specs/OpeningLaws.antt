@@ -2,7 +2,7 @@
 -- entries.
 use Prim.Native.Nat.{ℕ, _+_, _≤_, _<_}
 use native.Mathlib.Omega.{arith}
-use mathlib.Core.Bool.{Bool, true, false, not, cond, _&&_, _||_, false≢true}
+use mathlib.Core.Bool.{Bool, true, false, not, cond, _&&_, _||_, false≢true, or-false, or-comm}
 use mathlib.Core.List.{List, [], _∷_}
 use mathlib.Core.Option.{Option, none, some}
 use mathlib.Core.Path.{_≡_, refl}
@@ -11,11 +11,11 @@ use borrow.Author.Tests.{eqb-true, eq-eqb}
 use Rattle.sheet.specs.Order.{sameBytes}
 use Rattle.definition.specs.Tree.{Text, Field, field, Items, absent, element, Members, noMembers, member, Holder, Schema}
 use Rattle.definition.specs.Limits.{maxSchemaEntries}
-use Rattle.definition.specs.Within.{fieldEntries, itemsEntries, membersEntries, argumentsEntries, schemaEntries, FieldFrom, ItemsFrom, MembersFrom, ArgumentsFrom, SchemaWithin}
+use Rattle.definition.specs.Within.{fieldEntries, itemsEntries, membersEntries, argumentsEntries, schemaEntries, FieldFrom, ItemsFrom, MembersFrom, ArgumentsFrom}
 use Rattle.definition.specs.Decode.{decodeSchema}
 use Rattle.definition.specs.RoundTrip.{schema-round-trip}
 use Rattle.reference.specs.Walk.{lookup}
-use Rattle.widening.specs.Widening.{Level, only, listed, Opened, kept, opened as openedNow, WiderField, wider, WiderItems, neither, both, WiderMembers, end, keep, WiderHolder, WiderArguments, without, stay, WiderSchema}
+use Rattle.widening.specs.Widening.{only, listed, Opened, kept, opened as openedNow, WiderField, wider, WiderItems, neither, both, WiderMembers, end, keep, WiderHolder, WiderArguments, without, stay, WiderSchema}
 use Rattle.widening.specs.Distinct.{DistinctField, DistinctItems, DistinctMembers, DistinctArguments, DistinctSchema}
 use Rattle.widening.specs.Opening.{isIn, openedField, openedItems, openedMembers, openedHolder, openedArguments, opened, closedInField, closedInItems, closedInMembers, closedInHolder, closedInArguments, isClosed}
 
@@ -117,10 +117,6 @@ module _ (may : ℕ → Bool) where
 
 -- No mark more.
 
-or-false : (o : Bool) → (o || false) ≡ o
-or-false true = refl
-or-false false = refl
-
 mutual
   unfolding openedField isIn
 
@@ -152,10 +148,7 @@ opened-none t = λ i. record { fields = holder-none 1 (t .fields) i; arguments =
 
 or-again : (o less more : Bool) → ((o || less) || more) ≡ (o || (more || less))
 or-again true less more = refl
-or-again false true true = refl
-or-again false true false = refl
-or-again false false true = refl
-or-again false false false = refl
+or-again false less more = or-comm less more
 
 module _ (less more : ℕ → Bool) where
   abbrev either : ℕ → Bool
