@@ -1,2 +1,4 @@
 pub mod RoundSteps
 pub mod ListSteps
+pub mod SearchSteps
+pub mod CallSteps

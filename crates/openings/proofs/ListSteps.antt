@@ -1,18 +1,17 @@
 -- The list of marks: after each entry it has those that are marked so far.
-use Prim.Native.Nat.{ℕ, _+_, _≤_, _<_}
+use Prim.Native.Nat.{ℕ, suc, _+_, _≤_, _<_}
 use native.Mathlib.Omega.{arith}
-use mathlib.Core.Bool.{Bool, true, false, not, cond}
 use mathlib.Core.List.{List, [], _∷_, _++_}
 use mathlib.Core.Path.{_≡_, refl, sym, ap, _∙_}
-use lib.Dec.{eqb}
 use lib.ListN.{length, getD, length-append}
-use borrow.Author.Tests.{ne-eqb}
 use Rattle.buffer.specs.Bytes.{littleEndian, bytesOf}
 use Rattle.buffer.specs.BytesLaws.{bytes-append, bytes-of-one}
 use Rattle.buffer.specs.Wrote.{Wrote}
 use Rattle.buffer.specs.WroteLaws.{wrote-nothing, wrote-then}
 use Rattle.validation.specs.Openings.{maxMarks, risingTo}
+use Rattle.validation.specs.RisingLaws.{rising-takes, rising-skips}
 use Rattle.openings.specs.Rounds.{isMarked, ListedIn}
+use Rattle.openings.proofs.RoundSteps.{has-mark, no-mark}
 
 pub record Listing (marks before list : List ℕ) (count at e : ℕ) : Type 0 where
   pub few : e ≤ maxMarks
@@ -24,18 +23,20 @@ pub listing-starts : (marks list : List ℕ) → Listing marks list list 0 0 0
 unfolding bytesOf risingTo
 listing-starts marks list = record { few = omega arith; fewer = omega arith; written = wrote-nothing list 0; counted = refl }
 
-rising-marked : (marks : List ℕ) (e : ℕ) → (getD marks e 0 ≡ 0 → ⊥) → risingTo (e + 1) (isMarked marks) ≡ risingTo e (isMarked marks) ++ (e ∷ [])
-unfolding risingTo isMarked
-rising-marked marks e h = rw (ne-eqb (getD marks e 0) 0 h)
+next-entry : (e : ℕ) → e + 1 ≡ suc e
+next-entry e = omega arith
 
-rising-other : (marks : List ℕ) (e : ℕ) → getD marks e 0 ≡ 0 → risingTo (e + 1) (isMarked marks) ≡ risingTo e (isMarked marks)
-unfolding risingTo isMarked
-rising-other marks e h = rw (h, append-nil)
+module _ (marks : List ℕ) (e : ℕ) where
+  marked-next : (getD marks e 0 ≡ 0 → ⊥) → risingTo (e + 1) (isMarked marks) ≡ risingTo e (isMarked marks) ++ (e ∷ [])
+  marked-next h = ap (λ (n : ℕ). risingTo n (isMarked marks)) (next-entry e) ∙ rising-takes e (isMarked marks) (has-mark marks e h)
+
+  other-next : getD marks e 0 ≡ 0 → risingTo (e + 1) (isMarked marks) ≡ risingTo e (isMarked marks)
+  other-next h = ap (λ (n : ℕ). risingTo n (isMarked marks)) (next-entry e) ∙ rising-skips e (isMarked marks) (no-mark marks e h)
 
 module _ {marks before list : List ℕ} {count at e : ℕ} (l : Listing marks before list count at e) (low : e < maxMarks) where
   pub listing-marked : {after : List ℕ} {next : ℕ} → (getD marks e 0 ≡ 0 → ⊥) → Wrote list after at (littleEndian e) next → Listing marks before after (count + 1) next (e + 1)
   listing-marked h w =
-      let more = rising-marked marks e h in
+      let more = marked-next marks e h in
       let bytes : bytesOf (risingTo (e + 1) (isMarked marks)) ≡ bytesOf (risingTo e (isMarked marks)) ++ littleEndian e = ap bytesOf more ∙ bytes-append (risingTo e (isMarked marks)) (e ∷ []) ∙ ap (λ (b : List ℕ). bytesOf (risingTo e (isMarked marks)) ++ b) (bytes-of-one e) in
       record {
         few = omega arith;
@@ -45,10 +46,10 @@ module _ {marks before list : List ℕ} {count at e : ℕ} (l : Listing marks be
       }
 
   pub listing-other : getD marks e 0 ≡ 0 → Listing marks before list count at (e + 1)
-  listing-other h = let same = rising-other marks e h in record { few = omega arith; fewer = omega (arith, l .fewer); written = rw same (l .written); counted = rw same (l .counted) }
+  listing-other h = let same = other-next marks e h in record { few = omega arith; fewer = omega (arith, l .fewer); written = rw same (l .written); counted = rw same (l .counted) }
 
-  -- after the last
-pub listing-ends : {marks before list : List ℕ} {count at e : ℕ} → Listing marks before list count at e → (e < maxMarks → ⊥) → ListedIn marks before list count
+-- after the last
+pub listing-ends : {marks before list : List ℕ} {count at e : ℕ} → Listing marks before list count at e → maxMarks ≤ e → ListedIn marks before list count
 listing-ends {marks} {e = e} l h =
     let all : e ≡ maxMarks = omega (arith, l .few) in
     record { written = rw all at (l .written .stands); counted = rw all at (l .counted) }

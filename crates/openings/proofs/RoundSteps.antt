@@ -30,7 +30,8 @@ use Rattle.widening.specs.Opening.{isIn, opened}
 use Rattle.widening.specs.OpeningLaws.{opened-once}
 use Rattle.validation.specs.Check.{Check, checks}
 use Rattle.validation.specs.Judge.{Failure, Verdict, allPass, failsAt, judge}
-use Rattle.validation.specs.Openings.{judgedOpen, afterRound, rounds, maxMarks}
+use Rattle.validation.specs.Openings.{judgedOpen, rounds, maxMarks}
+use Rattle.validation.specs.RoundLaws.{round-passes, round-opens, round-ends, round-ends-past}
 use Rattle.value_checks.specs.Shown.{Shown, passes, fails, shownOf}
 use Rattle.value_checks.specs.Verdicts.{refusedAt, failureOf, shownWith, shownBy}
 use Rattle.value_checks.specs.declared.verdict.Fault.{Fault}
@@ -66,15 +67,15 @@ module _ (set : Code.Setting) {s : Schema} {scope : Scope} {sheet rule words : L
   shows t x at rat small =
       j .shows (settingBy set) t x (scope-unbound sheet rule words (set .row) (set .service) Kernel s scope (settingBy set) t small u refl refl refl at) rat
 
-  pub round-passes : a .verdict ≡ Pass → RoundJudged (settingBy set) s rule sheet words Passed
+  pub passes-round : a .verdict ≡ Pass → RoundJudged (settingBy set) s rule sheet words Passed
   unfolding shownBy shownWith
-  round-passes v =
+  passes-round v =
       record { finds = λ t x at rat small. let e : shownBy a ≡ passes (a .passed) = rw v in passes-found _ (a .passed) (sym e ∙ shows t x at rat small) }
 
-  pub round-refused : {fault : Fault} {place at : ℕ} {over : Over} → a .verdict ≡ Defect fault place over → at ≡ refusedAt fault
+  pub refuses-round : {fault : Fault} {place at : ℕ} {over : Over} → a .verdict ≡ Defect fault place over → at ≡ refusedAt fault
       → RoundJudged (settingBy set) s rule sheet words (Refused at)
   unfolding shownBy shownWith failureOf
-  round-refused {fault} {place} {at} {over} v e =
+  refuses-round {fault} {place} {at} {over} v e =
       record {
         finds = λ t x stands rat small.
             rw e (fails-found _ _ _ _ _ (failureOf fault) (rw v at (shows t x stands rat small)));
@@ -99,26 +100,30 @@ marked-other : (marks : List ℕ) (e k : ℕ) → (k ≡ e → ⊥) → isMarked
 unfolding isMarked
 marked-other marks e k h = rw (getD-set-other marks e k 1 0 (λ q. h q))
 
-no-mark : (marks : List ℕ) (e : ℕ) → getD marks e 0 ≡ 0 → isMarked marks e ≡ false
+pub has-mark : (marks : List ℕ) (e : ℕ) → (getD marks e 0 ≡ 0 → ⊥) → isMarked marks e ≡ true
+unfolding isMarked
+has-mark marks e h = rw (ne-eqb (getD marks e 0) 0 h)
+
+pub no-mark : (marks : List ℕ) (e : ℕ) → getD marks e 0 ≡ 0 → isMarked marks e ≡ false
 unfolding isMarked
 no-mark marks e h = rw h
 
--- The rounds, by what the check list's verdict is.
+-- The rounds, by what a round finds.
 
-module _ (setting : Setting) (t : Tree.Schema) (cs : List Check) (found : List ℕ) (k : ℕ) where
+module _ (setting : Setting) (t : Tree.Schema) (cs : List Check) (k : ℕ) (found : List ℕ) where
   rounds-pass : (v : Verdict) → RoundIs Passed v → judgedOpen setting t cs found ≡ v → rounds setting t cs (suc k) found ≡ some found
-  unfolding rounds afterRound
-  rounds-pass (allPass n) r e = rw e
+  rounds-pass (allPass n) r e = round-passes setting t cs k found n e
 
-  rounds-vain : (at : ℕ) (v : Verdict) → RoundIs (Refused at) v → judgedOpen setting t cs found ≡ v → (leb at maxSchemaEntries && not (isIn found at)) ≡ false
-      → rounds setting t cs (suc k) found ≡ none
-  unfolding rounds afterRound
-  rounds-vain at (failsAt n c why) r e h = rw (e, r, h)
+  rounds-far : (at : ℕ) (v : Verdict) → RoundIs (Refused at) v → judgedOpen setting t cs found ≡ v → maxSchemaEntries < at → rounds setting t cs (suc k) found ≡ none
+  rounds-far at (failsAt n c why) r e h = round-ends-past setting t cs k found n c why e (rw r h)
 
-  rounds-more : (at : ℕ) (v : Verdict) → RoundIs (Refused at) v → judgedOpen setting t cs found ≡ v → (leb at maxSchemaEntries && not (isIn found at)) ≡ true
+  rounds-vain : (at : ℕ) (v : Verdict) → RoundIs (Refused at) v → judgedOpen setting t cs found ≡ v → isIn found at ≡ true → rounds setting t cs (suc k) found ≡ none
+  rounds-vain at (failsAt n c why) r e h = round-ends setting t cs k found n c why e (rw r h)
+
+  rounds-more : (at : ℕ) (v : Verdict) → RoundIs (Refused at) v → judgedOpen setting t cs found ≡ v → at ≤ maxSchemaEntries → isIn found at ≡ false
       → rounds setting t cs (suc k) found ≡ rounds setting t cs k (at ∷ found)
-  unfolding rounds afterRound
-  rounds-more at (failsAt n c why) r e h = rw (e, r, h)
+  rounds-more at (failsAt n c why) r e low new =
+      round-opens setting t cs k found n c why e (rw r low) (rw r new) ∙ ap (λ (y : ℕ). rounds setting t cs k (y ∷ found)) r
 
 suc-left : (n : ℕ) → 0 < n → n ≡ suc (n - 1)
 suc-left n h = omega arith
@@ -150,7 +155,7 @@ search-starts =
 module _ {setting : Setting} {rule : List ℕ} {first s : Schema} {sheet₀ marks₀ words₀ sheet marks words : List ℕ} {left : ℕ}
     (c : Searching setting rule first sheet₀ marks₀ words₀ s sheet marks words left) where
   -- the last round
-  pub search-ends : (0 < left → ⊥) → MarksFound setting first rule sheet₀ marks₀ marks words₀ words false
+  pub search-ends : left ≤ 0 → MarksFound setting first rule sheet₀ marks₀ marks words₀ words false
   unfolding rounds
   search-ends h =
       let over : left ≡ 0 = omega arith in
@@ -168,38 +173,39 @@ module _ {setting : Setting} {rule : List ℕ} {first s : Schema} {sheet₀ mark
           front = c .front;
           ends = λ t x start st.
               let l = c .leads t x start st in
-              let v = judge setting (opened (isIn (l .found)) t) (checks setting x) in
-              (
+              let v = judge setting (opened (isIn (l .found)) t) (checks setting x) in (
                 l .found,
-                round-left t x start l ∙ rounds-pass setting t (checks setting x) (l .found) (left - 1) v (r .finds _ x (l .stands .indexed) (l .stands .ruled) (l .stands .small)) refl,
+                round-left t x start l ∙ rounds-pass setting t (checks setting x) (left - 1) (l .found) v (r .finds _ x (l .stands .indexed) (l .stands .ruled) (l .stands .small)) refl,
                 l .stands .marked,
               );
         }
 
     module _ {at : ℕ} (r : RoundJudged setting s rule sheet words (Refused at)) where
-      in-vain : ((found : List ℕ) → ((e : ℕ) → e < maxMarks → isMarked marks e ≡ isIn found e) → (leb at maxSchemaEntries && not (isIn found at)) ≡ false)
-          → MarksFound setting first rule sheet₀ marks₀ marks words₀ words false
+      found-of : (t : Tree.Schema) (x : Rule) (start : List ℕ) (l : Leads setting rule t x start s sheet marks words left)
+          → RoundIs (Refused at) (judge setting (opened (isIn (l .found)) t) (checks setting x))
+      found-of t x start l = r .finds _ x (l .stands .indexed) (l .stands .ruled) (l .stands .small)
+
+      pub search-too-far : maxSchemaEntries < at → MarksFound setting first rule sheet₀ marks₀ marks words₀ words false
       unfolding judgedOpen
-      in-vain h =
+      search-too-far h =
           record {
             front = c .front;
             ends = λ t x start st.
                 let l = c .leads t x start st in
-                round-left t x start l
-                ∙ rounds-vain setting t (checks setting x) (l .found) (left - 1) at _ (r .finds _ x (l .stands .indexed) (l .stands .ruled) (l .stands .small)) refl
-                (h (l .found) (l .stands .marked));
+                round-left t x start l ∙ rounds-far setting t (checks setting x) (left - 1) (l .found) at _ (found-of t x start l) refl h;
           }
 
-      pub search-too-far : maxSchemaEntries < at → MarksFound setting first rule sheet₀ marks₀ marks words₀ words false
-      search-too-far h = in-vain (λ found marked. rw (lt-leb at maxSchemaEntries h))
-
-      module _ (near : maxSchemaEntries < at → ⊥) where
-        is-near : leb at maxSchemaEntries ≡ true
-        is-near = le-leb at maxSchemaEntries (omega arith)
-
+      module _ (near : at ≤ maxSchemaEntries) where
         pub search-again : (getD marks at 0 ≡ 0 → ⊥) → MarksFound setting first rule sheet₀ marks₀ marks words₀ words false
-        unfolding isMarked
-        search-again h = in-vain (λ found marked. rw (is-near, ← (marked at (omega arith)), ne-eqb (getD marks at 0) 0 h))
+        unfolding judgedOpen
+        search-again h =
+            record {
+              front = c .front;
+              ends = λ t x start st.
+                  let l = c .leads t x start st in
+                  let known : isIn (l .found) at ≡ true = sym (l .stands .marked at (omega arith)) ∙ has-mark marks at h in
+                  round-left t x start l ∙ rounds-vain setting t (checks setting x) (left - 1) (l .found) at _ (found-of t x start l) refl known;
+            }
 
         -- one mark more
         module _ (new : getD marks at 0 ≡ 0) (room : length marks ≡ maxMarks) {sheet′ words′ : List ℕ} (o : MarkOpened sheet at sheet′) {q : SchemaRead} (read : SchemaAnswer sheet′ words words′ q) where
@@ -240,7 +246,7 @@ module _ {setting : Setting} {rule : List ℕ} {first s : Schema} {sheet₀ mark
                     let good = rw g at (read .answer) in
                     let reads = now-reads (l .found) t (l .stands .reads) in
                     let same : good .tree ≡ opened (isIn (at ∷ l .found)) t = Option·some-injective _ _ (sym (good .reads) ∙ reads) in
-                    let fresh : isIn (l .found) at ≡ false = sym (l .stands .marked at (omega arith)) ∙ unmarked in
+                    let fresh : isIn (l .found) at ≡ false = sym (l .stands .marked at (omega arith)) ∙ no-mark marks at new in
                     record {
                       found = at ∷ l .found;
                       stands =
@@ -254,9 +260,6 @@ module _ {setting : Setting} {rule : List ℕ} {first s : Schema} {sheet₀ mark
                           };
                       same =
                           round-left t x start l
-                          ∙ rounds-more setting t (checks setting x) (l .found) (left - 1) at _ (r .finds _ x (l .stands .indexed) (l .stands .ruled) (l .stands .small)) refl (rw (is-near, fresh));
+                          ∙ rounds-more setting t (checks setting x) (left - 1) (l .found) at _ (found-of t x start l) refl near fresh;
                     };
               }
-            where
-              unmarked : isMarked marks at ≡ false
-              unmarked = no-mark marks at new

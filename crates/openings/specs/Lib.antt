@@ -1,3 +1,4 @@
 pub mod Call
 pub mod Rounds
 pub mod Runs
+pub mod CallLaws

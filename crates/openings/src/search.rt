@@ -65,5 +65,5 @@ pub fn open_sheets(
         return refused(5);
     };
     let end = put(path, 0, schema);
-    list_marks(setting, s, rule, &mut path[..end], list, scratch)
+    list_marks(setting, s, rule, &mut path[0..end], list, scratch)
 }

@@ -1,6 +1,6 @@
 use native.Mathlib.Omega.{arith}
 use borrow.Author.Needs.{needs}
-use Rattle.openings.proofs.RoundSteps.{round-passes, round-refused}
+use Rattle.openings.proofs.RoundSteps.{passes-round, refuses-round}
 use Rattle.openings.proofs.rounds.check_round.Statement.{statement}
 use Rattle.openings.proofs.rounds.check_round.Tie as tie
 use Rattle.openings.proofs.rounds.check_round.Reads as reads
@@ -27,7 +27,7 @@ enum-told c = search needs
 
 -- src/rounds.rt:60:9
 returns : tie.Need-returns
-returns c = round-passes _ (c .before .before .before .unbound .ensures) (c .before .before .judge .ensures) (c .enum-told .given .1)
+returns c = passes-round _ (c .before .before .before .unbound .ensures) (c .before .before .judge .ensures) (c .enum-told .given .1)
 
 -- src/rounds.rt:62:20
 refused-at-requires : tie.Need-refused-at-requires
@@ -35,7 +35,7 @@ refused-at-requires c κs = search needs
 
 -- src/rounds.rt:53:1
 returns-2 : tie.Need-returns-2
-returns-2 c = round-refused _ (c .before .before .before .before .before .unbound .ensures) (c .before .before .before .before .judge .ensures) (c .before .before .verdict .given .1) (c .refused-at .ensures)
+returns-2 c = refuses-round _ (c .before .before .before .before .before .unbound .ensures) (c .before .before .before .before .judge .ensures) (c .before .before .verdict .given .1) (c .refused-at .ensures)
 
 pub check-round-spec : {M : Type 1} → statement M
 check-round-spec =
