@@ -12,3 +12,4 @@ pub mod BookEntry
 pub mod BookEntryLaws
 pub mod WallEntry
 pub mod WallEntryLaws
+pub mod OpenEntry

@@ -5,8 +5,8 @@ use mathlib.Core.Bool.{true, false}
 use mathlib.Core.List.{List, [], _∷_, _++_}
 use mathlib.Core.Option.{Option, none, some}
 use mathlib.Core.Path.{_≡_, refl, sym, ap, _∙_}
-use lib.ListN.{length, take, drop, replicate, length-append, length-drop, getD-replicate}
-use lib.Seq.{sets, sets-eq, drop-at, drop-append-add, drop-drop}
+use lib.ListN.{length, take, drop, replicate, getD-replicate}
+use lib.Seq.{sets, sets-eq, drop-at}
 use Rattle.buffer.specs.Bytes.{bytesOf}
 use Rattle.buffer.specs.Wrote.{Wrote}
 use Rattle.buffer.specs.WroteLaws.{wrote-front}
@@ -29,6 +29,7 @@ use Rattle.validation.specs.Openings.{maxMarks, risingTo, fewestMarks}
 use Rattle.validation.specs.RisingLaws.{rising-agree}
 use Rattle.validation.specs.RoundLaws.{fewest-found, fewest-missing}
 use Rattle.validation.specs.Result.{pathBytes, KeptFrom}
+use Rattle.validation.specs.KeptLaws.{sets-kept}
 use Rattle.single_check.specs.Sheets.{FrontOnly}
 use Rattle.single_check.specs.SheetLaws.{still-read, front-schema, front-rule, front-both}
 use Rattle.openings.specs.Call.{openRefused, opens, nothingHelps, answerWith, searched, openNumbers, listAfter, freePath}
@@ -79,18 +80,11 @@ copied {pathBefore} {path} {schema} {end} w fits =
     ∙ drop-at schema (drop (0 + length schema) pathBefore) end (sym all)
     ∙ ap (λ (k : ℕ). drop k pathBefore) nothing
 
-replaced : (sheet pathBefore : List ℕ) (end : ℕ) → length sheet ≡ end → end ≤ pathBytes → end ≤ length pathBefore → KeptFrom pathBytes pathBefore (sheet ++ drop end pathBefore)
-replaced sheet pathBefore end same low fits =
-    let split : pathBytes ≡ length sheet + (pathBytes - end) = omega arith in
-    let whole : end + (pathBytes - end) ≡ pathBytes = omega arith in
-    record {
-      size = omega (arith, length-append sheet (drop end pathBefore), length-drop end pathBefore);
-      kept =
-          ap (λ (k : ℕ). drop k (sheet ++ drop end pathBefore)) split
-          ∙ drop-append-add sheet (drop end pathBefore) (pathBytes - end)
-          ∙ drop-drop (pathBytes - end) end pathBefore
-          ∙ ap (λ (k : ℕ). drop k pathBefore) whole;
-    }
+replaced : (sheet pathBefore : List ℕ) (end : ℕ) → length sheet ≡ end → end ≤ pathBytes → pathBytes ≤ length pathBefore → KeptFrom pathBytes pathBefore (sheet ++ drop end pathBefore)
+replaced sheet pathBefore end same low room =
+    let place : 0 + length sheet ≡ end = omega arith in
+    let written : sets pathBefore 0 sheet ≡ sheet ++ drop end pathBefore = rw place at (sets-eq sheet pathBefore 0 (omega arith)) in
+    rw written at (sets-kept pathBytes pathBefore sheet (omega arith) room)
 
 -- the path buffer is free wherever both sheets were read
 free-path : (o : Option (List ℕ)) {before after : List ℕ} → KeptFrom pathBytes before after → KeptFrom (freePath (answerWith o)) before after
@@ -160,7 +154,7 @@ module _ {setting : Setting} {schema rule pathBefore list before middle : List �
           record {
             front = front-both (front-both (front-schema (read .kept)) (front-rule (ruled-at .kept))) (l .front);
             answers = rw (good .reads, ruled-at .reads) (l .answers (good .tree) (ruled-at .tree) stands);
-            kept = rw (good .reads, ruled-at .reads, untouched) (free-path _ (replaced sheet′ pathBefore end long (omega arith) (omega arith)));
+            kept = rw (good .reads, ruled-at .reads, untouched) (free-path _ (replaced sheet′ pathBefore end long (omega arith) room));
           }
         where
           ruled-at : RuleIndexed rule middle after x

@@ -1,18 +1,23 @@
 -- The refusals of the call, one after the other, and what its answer promises.
-use Prim.Native.Nat.{ℕ, _≤_, _<_}
+use Prim.Native.Nat.{ℕ, _+_, _≤_, _<_, min}
 use native.Mathlib.Omega.{arith}
 use mathlib.Core.Bool.{not, cond}
-use mathlib.Core.List.{List, _∷_, _++_}
-use mathlib.Core.Option.{Option, none, some, orElse}
+use mathlib.Core.List.{List, [], _∷_, _++_}
+use mathlib.Core.Option.{Option, none, some, orElse, Option·map}
 use mathlib.Core.Path.{_≡_, refl, sym, _∙_}
-use borrow.Author.Tests.{le-leb, lt-leb}
+use lib.Dec.{leb}
+use borrow.Author.Tests.{leb-true, le-leb, lt-leb}
 use Rattle.definition.specs.Tree.{Schema, Rule}
 use Rattle.definition.specs.Decode.{decodeSchema, decodeRule}
 use Rattle.reference.specs.Setting.{Setting}
-use Rattle.validation.specs.Check.{isNone}
-use Rattle.validation.specs.Result.{any, isTaken, settingFor, ofSettings, ofTable, ofSheets, firstRefusal}
-use Rattle.validation.specs.RefusalLaws.{first-append}
-use Rattle.openings.specs.Call.{OpenCall, checkOf, listBytes, ofList, openRefusals, OpenAnswer, openRefused, searched, refusedOr, openAnswer}
+use Rattle.widening.specs.Opening.{isIn}
+use Rattle.validation.specs.Check.{isNone, checks}
+use Rattle.validation.specs.Result.{any, pathBytes, isTaken, settingFor, ofSettings, ofTable, ofSheets, firstRefusal}
+use Rattle.validation.specs.RefusalLaws.{first-append, every, of-first, capped-settings}
+use Rattle.validation.specs.Openings.{maxMarks, risingTo, rounds, fewestMarks}
+use Rattle.validation.specs.RisingLaws.{rising-few}
+use Rattle.single_check.specs.SheetLaws.{roomy}
+use Rattle.openings.specs.Call.{OpenCall, checkOf, listBytes, ofList, openRefusals, OpenAnswer, openRefused, answerWith, searched, refusedOr, openAnswer, openNumbers}
 
 -- 1 and 3
 abbrev pub settingRefusal : OpenCall → Option ℕ
@@ -57,3 +62,63 @@ module _ (c : OpenCall) (h : settingRefusal c ≡ none) where
     unfolding openAnswer orElse ofSheets firstRefusal checkOf
     sheets-decide e =
         rw (then-table, e) (by-sheets (settingFor (checkOf c)) (decodeSchema (c .schema)) (decodeRule (c .rule)))
+
+-- A path buffer without room is refused, whatever else the call holds.
+
+pub no-room-refused : (c : OpenCall) → c .widths .path < pathBytes → (n : ℕ) × (openAnswer c ≡ openRefused n)
+no-room-refused c short = go (settingRefusal c) refl
+  where
+    go : (o : Option ℕ) → settingRefusal c ≡ o → (n : ℕ) × (openAnswer c ≡ openRefused n)
+    go none e = absurd (omega (arith, short, roomy (checkOf c .asked) (c .widths) e .room))
+    go (some n) e = (n, settings-first c n e)
+
+-- A setting beyond both ranges may stand for every larger one.
+
+unfoldable pub cappedOpen : (most : ℕ) → OpenCall → OpenCall
+cappedOpen most c =
+    record {
+      kind = min (c .kind) most;
+      semantics = min (c .semantics) most;
+      table = c .table;
+      schema = c .schema;
+      rule = c .rule;
+      widths = c .widths;
+      list = c .list;
+    }
+
+pub capped-open : (most : ℕ) (c : OpenCall) → 8 < most → openAnswer (cappedOpen most c) ≡ openAnswer c
+unfolding cappedOpen checkOf ofSettings firstRefusal
+capped-open most c =
+    capped-settings
+    (λ kind semantics.
+    openAnswer (record { kind = kind; semantics = semantics; table = c .table; schema = c .schema; rule = c .rule; widths = c .widths; list = c .list }))
+    (openRefused 1) (λ kind semantics e. settings-first _ 1 (rw e)) most (c .kind) (c .semantics)
+
+-- The numbers are small, those of the set as well.
+
+-- every number is at most `most`
+abbrev pub AllAtMost : (most : ℕ) → List ℕ → Type 0
+AllAtMost most [] = Unit {0}
+AllAtMost most (n ∷ ns) = (n ≤ most) × AllAtMost most ns
+
+pub refusal-low : (c : OpenCall) (n : ℕ) → firstRefusal (openRefusals c) ≡ some n → n ≤ 38
+unfolding openRefusals ofSettings ofSheets every
+refusal-low c n e = leb-true n 38 (of-first (λ (m : ℕ). leb m 38) n (openRefusals c) refl e)
+
+numbers-low : (setting : Setting) (t : Option Schema) (x : Option Rule) → AllAtMost maxMarks (openNumbers (searched setting t x))
+unfolding openNumbers searched answerWith fewestMarks
+numbers-low setting none x = (omega arith, omega arith, omega arith, tt)
+numbers-low setting (some t) none = (omega arith, omega arith, omega arith, tt)
+numbers-low setting (some t) (some x) = by (rounds setting t (checks setting x) (maxMarks + 1) [])
+  where
+    by : (o : Option (List ℕ)) → AllAtMost maxMarks (openNumbers (answerWith (Option·map (λ found. risingTo maxMarks (isIn found)) o)))
+    by none = (omega arith, omega arith, omega arith, tt)
+    by (some found) = (omega arith, omega arith, rising-few maxMarks (isIn found), tt)
+
+pub answer-low : (c : OpenCall) → AllAtMost maxMarks (openNumbers (openAnswer c))
+unfolding openAnswer openNumbers refusedOr
+answer-low c = by (firstRefusal (openRefusals c)) refl
+  where
+    by : (o : Option ℕ) → firstRefusal (openRefusals c) ≡ o → AllAtMost maxMarks (openNumbers (refusedOr o (searched (settingFor (checkOf c)) (decodeSchema (c .schema)) (decodeRule (c .rule)))))
+    by none e = numbers-low (settingFor (checkOf c)) (decodeSchema (c .schema)) (decodeRule (c .rule))
+    by (some n) e = (omega (arith, refusal-low c n e), omega arith, omega arith, tt)

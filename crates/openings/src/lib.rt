@@ -4,7 +4,6 @@ mod list; // list.rt: the marks as a list of numbers
 mod search; // search.rt: two sheets that are well formed
 
 use crate::list::LIST_BYTES;
-use crate::search::OPEN_NUMBERS;
 use crate::search::open_sheets;
 use crate::search::refused;
 use single_check::settings::Settled;
@@ -12,6 +11,9 @@ use single_check::settings::refused_settings;
 use single_check::settings::settle;
 ghost use Rattle.openings.specs.Call.{MeetsOpen};
 ghost use Rattle.openings.specs.Runs.{openRunOf};
+
+// How many numbers a result has.
+pub const OPEN_NUMBERS: usize = 3;
 
 // Finds the marks: settings and widths are tried first, then the list, then the name table, then the sheets. The path buffer takes a copy of the schema, in which they
 // are opened.

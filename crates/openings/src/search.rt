@@ -1,4 +1,5 @@
 // Two sheets that are well formed: which marks are opened in the schema, and the list of them.
+use crate::OPEN_NUMBERS;
 use crate::list::put_marks;
 use crate::rounds::MAX_MARKS;
 use crate::rounds::find_marks;
@@ -17,9 +18,6 @@ ghost use Rattle.validation.specs.Result.{pathBytes, scratchWords};
 ghost use Rattle.single_check.specs.Settings.{settingBy};
 ghost use Rattle.openings.specs.Call.{openRefused, openNumbers};
 ghost use Rattle.openings.specs.Runs.{MarksListed, SheetsOpened};
-
-// How many numbers a result has.
-pub const OPEN_NUMBERS: usize = 3;
 
 pub fn refused(number: u32) -> [u32; OPEN_NUMBERS]
     ensures { λ r. ⌜ r ≡ openNumbers (openRefused number) ⌝ }

@@ -3,6 +3,7 @@ pub mod Judge
 pub mod Location
 pub mod Result
 pub mod RefusalLaws
+pub mod KeptLaws
 pub mod Loading
 pub mod LoadingLaws
 pub mod CheckLaws
