@@ -78,18 +78,13 @@ fn least(call: &OpeningsCall) -> Option<Marks> {
     if !call.accepts(&schema, &closed) {
         return None;
     }
-    let others = |mark: &u32| {
-        closed
-            .iter()
-            .copied()
-            .filter(|other| other != mark)
-            .collect()
+    let without = |mark: &u32| {
+        let mut others = closed.clone();
+        others.remove(mark);
+        others
     };
-    let least: Marks = closed
-        .iter()
-        .copied()
-        .filter(|mark| !call.accepts(&schema, &others(mark)))
-        .collect();
+    let mut least = closed.clone();
+    least.retain(|mark| !call.accepts(&schema, &without(mark)));
     call.accepts(&schema, &least).then_some(least)
 }
 

@@ -9,17 +9,17 @@ use model::table::Table;
 use model::trees::Sheet;
 use model::{write_rule, OPENINGS_BYTES, OPENING_LIST_BYTES};
 
-/// Closed throughout but for `w`: `l`, an array of objects with a string `s` and a map `m` of objects; `o`, an object with an object `p` in it; `s`, a string; `w`, an open
-/// object. The arguments have an object `a`.
+/// Closed but for the strings, whose marks count for nothing, and for `w`: `l`, an array of objects with a map `m` of objects and a string `s`; `o`, an object with an object `p`
+/// in it; `s`, a string; `w`, an object. The arguments have an object `a`.
 const SCHEMA: &str = "H,0,4,0,1\n\
     F,6,0,1,0,1,-,l\n\
     F,7,0,0,2,0,-,\n\
     F,10,0,1,0,1,-,m\n\
     F,7,0,0,0,0,-,\n\
-    F,1,0,0,0,1,-,s\n\
+    F,1,1,0,0,1,-,s\n\
     F,7,0,0,1,1,-,o\n\
     F,7,0,0,0,1,-,p\n\
-    F,1,0,0,0,1,-,s\n\
+    F,1,1,0,0,1,-,s\n\
     F,7,1,0,0,1,-,w\n\
     F,7,0,0,0,1,-,a\n";
 

@@ -21,12 +21,13 @@ use model::{decode_schema, write_rule, write_schema, OPENINGS_BYTES, OPENING_LIS
 /// A name, how often in a thousand cases it comes, and what makes it.
 type Profile = (&'static str, usize, fn(&mut Random) -> OpeningsCase);
 
-pub const PROFILES: [Profile; 8] = [
-    ("closed", 420, closed),
-    ("slips", 130, slips),
-    ("incurable", 120, incurable),
-    ("binders", 120, binders),
-    ("checks", 120, checks),
+pub const PROFILES: [Profile; 9] = [
+    ("reads", 250, reads),
+    ("closed", 220, closed),
+    ("slips", 120, slips),
+    ("incurable", 110, incurable),
+    ("binders", 110, binders),
+    ("checks", 100, checks),
     ("refusals", 70, refusals),
     ("side by side", 15, side_by_side),
     ("one in another", 5, one_in_another),
@@ -106,25 +107,47 @@ fn with_closed(random: &mut Random, wide: &Schema, often: usize) -> (Schema, Vec
     (narrow, closed)
 }
 
-/// A schema of many objects, most of them open.
+/// The schema with some of its fields taken away, from holders that are then open: what was right for it is right still.
+fn without_some(random: &mut Random, schema: &Schema) -> Schema {
+    let mut less = schema.clone();
+    let often = random.pick(&[0, 15, 30, 50]);
+    for holder in std::iter::once(&mut less.record).chain(&mut less.arguments) {
+        take_some(random, &mut holder.open, &mut holder.fields, often);
+    }
+    less
+}
+
+fn take_some(random: &mut Random, open: &mut bool, fields: &mut Vec<Field>, often: usize) {
+    let before = fields.len();
+    fields.retain(|_| !random.chance(often));
+    *open |= fields.len() < before;
+    for field in fields {
+        if let Some(items) = &mut field.items {
+            take_some(random, &mut items.open, &mut items.properties, often);
+        }
+        take_some(random, &mut field.open, &mut field.properties, often);
+    }
+}
+
+/// A schema of many objects, half of them open.
 fn objects(random: &mut Random) -> Schema {
     let fields = |random: &mut Random, most: usize| -> Vec<Field> {
         let count = random.between(0, most);
         (0..count).map(|_| an_object(random, 3)).collect()
     };
-    let record = holder(random.chance(60), fields(random, 4));
-    let arguments = random.chance(60).then(|| holder(random.chance(60), fields(random, 2)));
+    let record = holder(random.chance(50), fields(random, 5));
+    let arguments = random.chance(60).then(|| holder(random.chance(50), fields(random, 3)));
     schema(record, arguments)
 }
 
 /// An object, an array or map of them, or now and then any other field.
 fn an_object(random: &mut Random, depth: usize) -> Field {
     let mut made = field(schemas::name(random), random.pick(&[OBJECT, OBJECT, OBJECT, ARRAY, ARRAY, MAP]));
-    made.open = random.chance(60);
+    made.open = random.chance(50);
     match made.kind {
         _ if depth == 1 || random.chance(15) => schemas::a_field(random, 1),
         OBJECT => {
-            let count = random.between(0, 2);
+            let count = random.between(1, 3);
             Field { properties: sorted((0..count).map(|_| an_object(random, depth - 1)).collect()), ..made }
         }
         _ => Field { items: element(an_object(random, depth - 1)), ..made },
@@ -133,14 +156,25 @@ fn an_object(random: &mut Random, depth: usize) -> Field {
 
 /// A rule or template that reads in several places, for a schema that a setting goes with.
 fn sheet(random: &mut Random, setting: &Setting, schema: &Schema, slip: usize) -> Sheet {
-    let (scope, count) = (setting.scope(schema, slip), random.between(1, 6));
-    match random.below(10) {
-        0..=2 => setting.sheet(random, schema, slip),
-        3 => Sheet::Template(array((0..count).map(|_| scope.value(random, 2)).collect())),
-        4 => Sheet::Template(object((0..count).map(|index| (format!("k{index}"), scope.text(random))).collect())),
-        5..=7 => rule(all(conditions(random, &scope, count))),
-        _ => rule(condition(Operator::Any(conditions(random, &scope, count)))),
+    let (scope, count) = (setting.scope(schema, slip), random.between(1, 8));
+    let references = |random: &mut Random| array((0..count).map(|_| text(&scope.reference(random))).collect());
+    match random.below(12) {
+        0 | 1 => setting.sheet(random, schema, slip),
+        2 => Sheet::Template(object((0..count).map(|index| (format!("k{index}"), scope.value(random, 2))).collect())),
+        3 | 4 => Sheet::Template(references(random)),
+        5 | 6 => rule(exists(references(random))),
+        7 | 8 => rule(condition(Operator::Any(conditions(random, &scope, count)))),
+        _ => rule(all(conditions(random, &scope, count))),
     }
+}
+
+/// A setting of any kind, most often one that may read all there is.
+fn a_setting<'n>(random: &mut Random, names: &'n Names) -> Setting<'n> {
+    let mut setting = Setting::new(random, names);
+    if random.chance(60) {
+        setting.kind = random.pick(&[2, 4]);
+    }
+    setting
 }
 
 fn conditions(random: &mut Random, scope: &Scope<'_>, count: usize) -> Vec<Condition> {
@@ -152,12 +186,90 @@ fn made(setting: &Setting, schema: &Schema, sheet: &Sheet) -> OpeningsCase {
     OpeningsCase::of(&setting.case(schema, sheet))
 }
 
+/// A way that a reference can go to a holder, the number of the holder's mark, and whether that is 1.
+struct Way {
+    path: String,
+    number: u32,
+    open: bool,
+}
+
+/// The ways to the record, the arguments and the objects below them.
+fn ways(setting: &Setting, schema: &Schema) -> Vec<Way> {
+    let mut found = Vec::new();
+    let record = Some((&schema.record, 1));
+    let arguments = schema.arguments.as_ref().map(|arguments| (arguments, 0));
+    for (root, holder) in [("fields", record), ("old_fields", record), ("args", arguments)] {
+        if let Some((holder, number)) = holder.filter(|_| setting.may_read(root)) {
+            let path = format!("${root}");
+            ways_below(setting.semantics > 1, &path, &holder.fields, &mut found);
+            found.push(Way { path, number, open: holder.open });
+        }
+    }
+    found
+}
+
+/// A name with a dot is reached by no path, and neither is an empty one.
+fn ways_below(service: bool, path: &str, fields: &[Field], found: &mut Vec<Way>) {
+    for field in fields.iter().filter(|field| !field.name.is_empty() && !field.name.contains('.')) {
+        ways_at(service, format!("{path}.{}", field.name), field, found);
+    }
+}
+
+fn ways_at(service: bool, path: String, field: &Field, found: &mut Vec<Way>) {
+    match (field.kind, &field.items) {
+        (OBJECT, _) => {
+            ways_below(service, &path, &field.properties, found);
+            found.push(Way { path, number: field.entry, open: field.open });
+        }
+        (ARRAY, Some(element)) if service => ways_at(service, format!("{path}.0"), element, found),
+        _ => {}
+    }
+}
+
+/// Names that no holder has, read at some of the holders: the marks of those must be opened, and no others.
+fn reads(random: &mut Random) -> OpeningsCase {
+    let names = own_names(random);
+    let setting = a_setting(random, &names);
+    let objects = objects(random);
+    let (schema, _) = with_closed(random, &objects, 90);
+    let often = random.pick(&[10, 30, 60, 100]);
+    let mut read: Vec<Way> = ways(&setting, &schema).into_iter().filter(|_| random.chance(often)).collect();
+    random.shuffle(&mut read);
+    let references = read.iter().map(|way| format!("{}.{}", way.path, random.pick(&["q", "q", "q.r", "q.count", "q..", "q.0"])));
+    let references: Vec<String> = references.collect();
+    let sheet = if random.chance(25) {
+        Sheet::Template(array(references.iter().map(|reference| text(reference)).collect()))
+    } else {
+        let conditions = references.iter().map(|reference| reader(random, &setting, text(reference)));
+        rule(all(std::iter::once(literal(true)).chain(conditions).collect()))
+    };
+    let mut set: Vec<u32> = read.iter().filter(|way| !way.open).map(|way| way.number).collect();
+    set.sort();
+    set.dedup();
+    made(&setting, &schema, &sheet).expecting(Expect::Set(set))
+}
+
+/// A condition in which nothing but the reference can be wrong.
+fn reader(random: &mut Random, setting: &Setting, reference: Value) -> Condition {
+    match random.below(if setting.semantics > 1 { 8 } else { 5 }) {
+        0 => exists(reference),
+        1 => pair(random.between(8, 15) as u8, number("7"), reference),
+        2 => pair(random.between(16, 17) as u8, reference, text("q")),
+        3 => pair(random.between(6, 7) as u8, text("2024-02-29"), reference),
+        4 => not(exists(object(vec![("k".to_owned(), array(vec![reference]))]))),
+        5 => compare(random.between(1, 6) as u8, reference, value(Data::Null)),
+        6 => condition(Operator::Truthy(reference)),
+        _ => quantifier(random.between(20, 21) as u8, "b", reference, exists(text(random.pick(&["$b", "$b.q", "$b.q..", "$b."])))),
+    }
+}
+
 /// What is right under a schema, under the same with marks closed: opening these again is enough.
 fn closed(random: &mut Random) -> OpeningsCase {
     let names = own_names(random);
-    let setting = Setting::new(random, &names);
-    let wide = objects(random);
-    let sheet = sheet(random, &setting, &wide, 0);
+    let setting = a_setting(random, &names);
+    let full = objects(random);
+    let sheet = sheet(random, &setting, &full, 0);
+    let wide = without_some(random, &full);
     let often = random.pick(&[100, 90, 70, 40]);
     let (schema, closed) = with_closed(random, &wide, often);
     made(&setting, &schema, &sheet).expecting(Expect::Within(closed))
@@ -166,10 +278,11 @@ fn closed(random: &mut Random) -> OpeningsCase {
 /// The same with slips, some of which no opening cures.
 fn slips(random: &mut Random) -> OpeningsCase {
     let names = own_names(random);
-    let setting = Setting::new(random, &names);
-    let wide = objects(random);
+    let setting = a_setting(random, &names);
+    let full = objects(random);
     let slip = random.between(2, 20);
-    let sheet = sheet(random, &setting, &wide, slip);
+    let sheet = sheet(random, &setting, &full, slip);
+    let wide = without_some(random, &full);
     let (schema, _) = with_closed(random, &wide, 80);
     made(&setting, &schema, &sheet).expecting(Expect::Read)
 }
@@ -177,9 +290,9 @@ fn slips(random: &mut Random) -> OpeningsCase {
 /// What opening would cure, with a defect somewhere before, among or after it that no opening does.
 fn incurable(random: &mut Random) -> OpeningsCase {
     let names = own_names(random);
-    let setting = Setting::new(random, &names);
-    let wide = objects(random);
-    let (scope, count) = (setting.scope(&wide, 0), random.between(0, 3));
+    let setting = a_setting(random, &names);
+    let full = objects(random);
+    let (scope, count) = (setting.scope(&full, 0), random.between(0, 3));
     let sheet = if random.chance(20) {
         let mut values: Vec<Value> = (0..count).map(|_| scope.value(random, 2)).collect();
         values.insert(random.below(count + 1), text(random.pick(&UNREADABLE)));
@@ -190,6 +303,7 @@ fn incurable(random: &mut Random) -> OpeningsCase {
         children.insert(random.below(count + 1), defect);
         rule(condition(if random.chance(50) { Operator::All(children) } else { Operator::Any(children) }))
     };
+    let wide = without_some(random, &full);
     let (schema, _) = with_closed(random, &wide, 80);
     made(&setting, &schema, &sheet).expecting(Expect::None)
 }
