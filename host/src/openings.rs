@@ -1,4 +1,4 @@
-//! The fewest marks to open so that a rule is accepted (docs/FORMAT.md, "Openings").
+//! The marks to open for a rule, and the schema with them open (docs/FORMAT.md, "The fewest marks to open").
 
 use crate::entries::{Malformed, read_schema};
 use crate::limits::{MAX_SCHEMA_ENTRIES, OPENINGS_BYTES};

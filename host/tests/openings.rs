@@ -1,4 +1,4 @@
-//! The fixed list of rules and the marks to open for them (host/vectors/openings.txt) replayed through the crate, and what docs/FORMAT.md, "Openings", says of every answer.
+//! The fixed list of rules and the marks to open for them (host/vectors/openings.txt) replayed through the crate, and what docs/FORMAT.md, "The fewest marks to open", says of every answer.
 
 mod support;
 
@@ -258,7 +258,7 @@ fn any_input_has_an_answer() {
     );
 }
 
-/// The schema of docs/FORMAT.md, "A pair of sheets", and the rules of "Openings".
+/// The schema of docs/FORMAT.md, "A pair of sheets", and the rules of "The fewest marks to open".
 #[test]
 fn the_format_shows_the_sets() {
     let bar =

@@ -1,4 +1,4 @@
-//! The fewest marks to open (docs/FORMAT.md, "Openings"): which open marks of a schema must go from 0 to 1 for a rule or template to be accepted.
+//! Which open marks of a schema must go from 0 to 1 for a rule or template to be accepted (docs/FORMAT.md, "The fewest marks to open").
 
 use super::call::{Call, SCRATCH_WORDS};
 use super::sheets::{decode_schema, write_schema};
