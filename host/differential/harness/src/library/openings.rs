@@ -17,11 +17,12 @@ pub fn hold(case: &OpeningsCase, opened: &Opened, extent: Extent) -> Result<(), 
 /// What is answered, given the model's answer to the case: a buffer may be shorter than the case says.
 fn expected(case: &OpeningsCase, opened: &Opened, lent: &OpeningsLent) -> Opened {
     let is_cut = lent.path < case.path_len.min(MIN_PATH_BYTES) || lent.slot.length < case.result_len.min(OPENINGS_BYTES);
+    let is_list_cut = lent.list < case.list_len.min(OPENING_LIST_BYTES);
     match opened.0[0] {
         1 => opened.clone(),
         _ if is_cut => ([3, 0, 0], Vec::new()),
         3 => opened.clone(),
-        _ if lent.list < OPENING_LIST_BYTES => ([36, 0, 0], Vec::new()),
+        _ if is_list_cut => ([36, 0, 0], Vec::new()),
         _ => opened.clone(),
     }
 }
