@@ -612,7 +612,7 @@ fn expected_command() -> String {
 }
 
 #[cfg(test)]
-#[allow(clippy::panic, clippy::unwrap_used)]
+#[allow(clippy::unwrap_used)]
 mod tests {
     use super::*;
 
@@ -763,8 +763,8 @@ mod tests {
         let settings = "--kind invariant --semantics kernel/1";
         let check =
             |output: &str| match parsed(&format!("check s a b --table t {settings} {output}")) {
-                Ok(Command::Check(arguments)) => arguments,
-                other => panic!("{other:?}"),
+                Ok(Command::Check(arguments)) => Some(arguments),
+                _ => None,
             };
         for (line, write) in [
             ("", false),
@@ -773,13 +773,14 @@ mod tests {
             ("--write", true),
         ] {
             let output = if write { "" } else { line };
-            let expected = Opening {
-                check: check(output),
-                write,
-            };
+            let check = check(output).unwrap();
             let asked = parsed(&format!("open s a b --table t {settings} {line}"));
-            assert_eq!(asked, Ok(Command::Open(expected)), "{line}");
+            assert_eq!(asked, Ok(Command::Open(Opening { check, write })), "{line}");
         }
+    }
+
+    #[test]
+    fn errors_about_openings_say_what_was_expected() {
         assert_eq!(error("open"), "open: expected the files SCHEMA and RULE");
         assert_eq!(
             error("open s"),
@@ -791,16 +792,17 @@ mod tests {
         );
         for other in ["--json", "--quiet"] {
             let expected = "open: expected --write without --json and --quiet";
-            assert_eq!(
-                error(&format!("open s a {settings} --write {other}")),
-                expected
-            );
+            assert_eq!(error(&format!("open s a --write {other}")), expected);
         }
         for option in ["--sarif", "--constants", "--reader kernel"] {
             let (name, _) = option.split_once(' ').unwrap_or((option, ""));
             let expected = format!("open: {name} is not an option of this command");
-            assert_eq!(error(&format!("open s a {settings} {option}")), expected);
+            assert_eq!(error(&format!("open s a {option}")), expected);
         }
+    }
+
+    #[test]
+    fn nothing_is_written_but_by_open() {
         for line in [
             "check s a",
             "path s a",

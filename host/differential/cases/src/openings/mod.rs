@@ -2,6 +2,7 @@
 
 pub mod edges;
 pub mod generate;
+mod schemas;
 
 use crate::case::{self, Case};
 use crate::limits::{MIN_SCRATCH_WORDS, REFUSALS};
