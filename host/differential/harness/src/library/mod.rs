@@ -10,6 +10,7 @@ mod functions;
 pub mod instants;
 pub mod keys;
 pub mod lent;
+pub mod openings;
 pub mod raw;
 pub mod tables;
 pub mod walls;
