@@ -1,7 +1,7 @@
 mod Edges
-mod Kept
+pub mod Kept
 mod Entered
 mod Sheets
-mod Bytes
+pub mod Bytes
 mod FieldSteps
 mod HeadSteps

@@ -1,3 +1,4 @@
+mod Edges
 pub mod RoundSteps
 pub mod ListSteps
 pub mod SearchSteps

@@ -12,8 +12,8 @@ use Rattle.definition.specs.Decode.{decodeSchema, decodeRule}
 use Rattle.reference.specs.Setting.{Setting}
 use Rattle.widening.specs.Opening.{isIn}
 use Rattle.validation.specs.Check.{isNone, checks}
-use Rattle.validation.specs.Result.{any, pathBytes, isTaken, settingFor, ofSettings, ofTable, ofSheets, firstRefusal}
-use Rattle.validation.specs.RefusalLaws.{first-append, every, of-first, capped-settings}
+use Rattle.validation.specs.Result.{any, Refusal, pathBytes, isTaken, settingFor, ofSettings, ofTable, ofSheets, firstRefusal}
+use Rattle.validation.specs.RefusalLaws.{first-append, NoneDue, none-due, first-none, every, of-first, capped-settings}
 use Rattle.validation.specs.Openings.{maxMarks, risingTo, rounds, fewestMarks}
 use Rattle.validation.specs.RisingLaws.{rising-few}
 use Rattle.single_check.specs.SheetLaws.{roomy}
@@ -39,6 +39,10 @@ by-sheets setting none x = refl
 by-sheets setting (some t) none = refl
 by-sheets setting (some t) (some x) = refl
 
+due-append : (xs ys : List Refusal) → NoneDue (xs ++ ys) → NoneDue xs × NoneDue ys
+due-append [] ys n = (tt, n)
+due-append (x ∷ xs) ys n = let m = due-append xs ys (n .1) in ((n .0, m .0), m .1)
+
 module _ (c : OpenCall) (h : settingRefusal c ≡ none) where
   then-list : firstRefusal (openRefusals c) ≡ firstRefusal (ofList (c .list) ∷ (ofTable (c .table) ++ ofSheets (checkOf c)))
   unfolding openRefusals orElse
@@ -62,6 +66,14 @@ module _ (c : OpenCall) (h : settingRefusal c ≡ none) where
     unfolding openAnswer orElse ofSheets firstRefusal checkOf
     sheets-decide e =
         rw (then-table, e) (by-sheets (settingFor (checkOf c)) (decodeSchema (c .schema)) (decodeRule (c .rule)))
+
+-- neither the settings' nor the table's where none is
+pub none-of-these : (c : OpenCall) → firstRefusal (openRefusals c) ≡ none → (settingRefusal c ≡ none) × (firstRefusal (ofTable (c .table)) ≡ none)
+unfolding openRefusals
+none-of-these c e =
+    let all = none-due (openRefusals c) e in
+    let front = due-append (ofSettings (checkOf c .asked) (c .widths)) (ofList (c .list) ∷ (ofTable (c .table) ++ ofSheets (checkOf c))) all in
+    (first-none _ (front .0), first-none _ (due-append (ofTable (c .table)) (ofSheets (checkOf c)) (front .1 .1) .0))
 
 -- A path buffer without room is refused, whatever else the call holds.
 
@@ -107,13 +119,13 @@ refusal-low c n e = leb-true n 38 (of-first (λ (m : ℕ). leb m 38) n (openRefu
 
 numbers-low : (setting : Setting) (t : Option Schema) (x : Option Rule) → AllAtMost maxMarks (openNumbers (searched setting t x))
 unfolding openNumbers searched answerWith fewestMarks
-numbers-low setting none x = (omega arith, omega arith, omega arith, tt)
-numbers-low setting (some t) none = (omega arith, omega arith, omega arith, tt)
+numbers-low setting none x = (omega arith, (omega arith, (omega arith, tt)))
+numbers-low setting (some t) none = (omega arith, (omega arith, (omega arith, tt)))
 numbers-low setting (some t) (some x) = by (rounds setting t (checks setting x) (maxMarks + 1) [])
   where
     by : (o : Option (List ℕ)) → AllAtMost maxMarks (openNumbers (answerWith (Option·map (λ found. risingTo maxMarks (isIn found)) o)))
-    by none = (omega arith, omega arith, omega arith, tt)
-    by (some found) = (omega arith, omega arith, rising-few maxMarks (isIn found), tt)
+    by none = (omega arith, (omega arith, (omega arith, tt)))
+    by (some found) = (omega arith, (omega arith, (rising-few maxMarks (isIn found), tt)))
 
 pub answer-low : (c : OpenCall) → AllAtMost maxMarks (openNumbers (openAnswer c))
 unfolding openAnswer openNumbers refusedOr
@@ -121,4 +133,4 @@ answer-low c = by (firstRefusal (openRefusals c)) refl
   where
     by : (o : Option ℕ) → firstRefusal (openRefusals c) ≡ o → AllAtMost maxMarks (openNumbers (refusedOr o (searched (settingFor (checkOf c)) (decodeSchema (c .schema)) (decodeRule (c .rule)))))
     by none e = numbers-low (settingFor (checkOf c)) (decodeSchema (c .schema)) (decodeRule (c .rule))
-    by (some n) e = (omega (arith, refusal-low c n e), omega arith, omega arith, tt)
+    by (some n) e = (omega (arith, refusal-low c n e), (omega arith, (omega arith, tt)))
