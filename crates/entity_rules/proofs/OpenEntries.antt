@@ -1,17 +1,16 @@
 -- The fewest marks as a C function hands them over.
-use Prim.Native.Nat.{ℕ, _^_, _-_, _<_, _≤_, min}
+use Prim.Native.Nat.{ℕ, _-_, _<_, min}
 use native.Mathlib.Omega.{arith}
-use mathlib.Core.List.{List, [], _∷_, _++_}
+use mathlib.Core.List.{List, _++_}
 use mathlib.Core.Path.{_≡_, refl, ap, _∙_}
 use lib.ListN.{length, take, drop, getD, length-take, replicate, length-replicate}
-use Rattle.buffer.specs.Bytes.{InFourBytes, no-more, one-more}
-use Rattle.validation.specs.Openings.{maxMarks}
 use Rattle.validation.specs.Result.{scratchWords}
 use Rattle.openings.specs.Call.{OpenAnswer, openRefused, opens, nothingHelps, openAnswer, openNumbers, listAfter, freePath, openCallOf, MeetsOpen}
-use Rattle.openings.specs.CallLaws.{no-room-refused, cappedOpen, capped-open, AllAtMost, answer-low}
+use Rattle.openings.specs.CallLaws.{no-room-refused, cappedOpen, capped-open, answer-low}
 use Rattle.openings.specs.Runs.{openRunOf}
 use Rattle.entity_rules.specs.Entry.{numbersAfter, pathLent}
 use Rattle.entity_rules.specs.OpenEntry.{openBytes, openCallFor, openEntryAnswer, openRefusalOf, OpenAnswered}
+use Rattle.entity_rules.specs.OpenEntryLaws.{in-four-bytes}
 use Rattle.entity_rules.proofs.Entries.{lent-nothing, lent-within}
 use Rattle.entity_rules.proofs.BookSteps.{path-home}
 
@@ -24,10 +23,6 @@ first-refusal nothingHelps = refl
 freed-refused : (a : OpenAnswer) (n : ℕ) → a ≡ openRefused n → freePath a ≡ 0
 unfolding freePath
 freed-refused a n e = rw e
-
-in-four : (ns : List ℕ) → AllAtMost maxMarks ns → InFourBytes ns
-in-four [] h = no-more
-in-four (n ∷ ns) h = one-more {n = n} (omega (arith, h .0)) (in-four ns (h .1))
 
 module _ (kind semantics : ℕ) (table schema rule path list result : List ℕ) where
   abbrev answer : OpenAnswer
@@ -68,5 +63,5 @@ module _ (kind semantics : ℕ) (table schema rule path list result : List ℕ) 
             (rw same at (m .path));
         list = m .list ∙ ap (λ (a : OpenAnswer). listAfter a list) same;
         result = w ∙ ap (λ (l : List ℕ). numbersAfter l result) stands;
-        small = in-four _ (answer-low call);
+        small = in-four-bytes _ (answer-low call);
       }

@@ -13,3 +13,4 @@ pub mod BookEntryLaws
 pub mod WallEntry
 pub mod WallEntryLaws
 pub mod OpenEntry
+pub mod OpenEntryLaws

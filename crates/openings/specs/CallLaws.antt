@@ -1,12 +1,13 @@
 -- The refusals of the call, one after the other, and what its answer promises.
-use Prim.Native.Nat.{ℕ, _+_, _≤_, _<_, min}
+use Prim.Native.Nat.{ℕ, zero, suc, _+_, _*_, _≤_, _<_, min}
 use native.Mathlib.Omega.{arith}
-use mathlib.Core.Bool.{not, cond}
+use mathlib.Core.Bool.{Bool, true, false, not, cond}
 use mathlib.Core.List.{List, [], _∷_, _++_}
 use mathlib.Core.Option.{Option, none, some, orElse, Option·map}
 use mathlib.Core.Path.{_≡_, refl, sym, _∙_}
 use lib.Dec.{leb}
-use borrow.Author.Tests.{leb-true, le-leb, lt-leb}
+use lib.ListN.{length}
+use borrow.Author.Tests.{leb-true, le-leb, lt-leb, not-false}
 use Rattle.definition.specs.Tree.{Schema, Rule}
 use Rattle.definition.specs.Decode.{decodeSchema, decodeRule}
 use Rattle.reference.specs.Setting.{Setting}
@@ -17,7 +18,7 @@ use Rattle.validation.specs.RefusalLaws.{first-append, NoneDue, none-due, first
 use Rattle.validation.specs.Openings.{maxMarks, risingTo, rounds, fewestMarks}
 use Rattle.validation.specs.RisingLaws.{rising-few}
 use Rattle.single_check.specs.SheetLaws.{roomy}
-use Rattle.openings.specs.Call.{OpenCall, checkOf, listBytes, ofList, openRefusals, OpenAnswer, openRefused, answerWith, searched, refusedOr, openAnswer, openNumbers}
+use Rattle.openings.specs.Call.{OpenCall, checkOf, listBytes, ofList, openRefusals, OpenAnswer, openRefused, opens, answerWith, searched, refusedOr, openAnswer, openNumbers}
 
 -- 1 and 3
 abbrev pub settingRefusal : OpenCall → Option ℕ
@@ -74,6 +75,13 @@ none-of-these c e =
     let all = none-due (openRefusals c) e in
     let front = due-append (ofSettings (checkOf c .asked) (c .widths)) (ofList (c .list) ∷ (ofTable (c .table) ++ ofSheets (checkOf c))) all in
     (first-none _ (front .0), first-none _ (due-append (ofTable (c .table)) (ofSheets (checkOf c)) (front .1 .1) .0))
+
+list-room : (c : OpenCall) → firstRefusal (openRefusals c) ≡ none → listBytes ≤ c .list
+unfolding openRefusals
+list-room c e =
+    let all = none-due (openRefusals c) e in
+    let front = due-append (ofSettings (checkOf c .asked) (c .widths)) (ofList (c .list) ∷ (ofTable (c .table) ++ ofSheets (checkOf c))) all in
+    leb-true listBytes (c .list) (not-false (leb listBytes (c .list)) (front .1 .0))
 
 -- A path buffer without room is refused, whatever else the call holds.
 
@@ -134,3 +142,50 @@ answer-low c = by (firstRefusal (openRefusals c)) refl
     by : (o : Option ℕ) → firstRefusal (openRefusals c) ≡ o → AllAtMost maxMarks (openNumbers (refusedOr o (searched (settingFor (checkOf c)) (decodeSchema (c .schema)) (decodeRule (c .rule)))))
     by none e = numbers-low (settingFor (checkOf c)) (decodeSchema (c .schema)) (decodeRule (c .rule))
     by (some n) e = (omega (arith, refusal-low c n e), (omega arith, (omega arith, tt)))
+
+-- The marks of a set are small too, and have room in the list.
+
+all-more : (low high : ℕ) (ns : List ℕ) → low ≤ high → AllAtMost low ns → AllAtMost high ns
+all-more low high [] h a = tt
+all-more low high (n ∷ ns) h a = (omega (arith, a .0), all-more low high ns h (a .1))
+
+all-append : (most : ℕ) (ns ms : List ℕ) → AllAtMost most ns → AllAtMost most ms → AllAtMost most (ns ++ ms)
+all-append most [] ms a b = b
+all-append most (n ∷ ns) ms a b = (a .0, all-append most ns ms (a .1) b)
+
+rising-low : (n : ℕ) (p : ℕ → Bool) → AllAtMost n (risingTo n p)
+unfolding risingTo
+rising-low zero p = tt
+rising-low (suc n) p = all-append (suc n) (risingTo n p) (cond (p n) (n ∷ []) []) (all-more n (suc n) (risingTo n p) (omega arith) (rising-low n p)) (last (p n))
+  where
+    last : (b : Bool) → AllAtMost (suc n) (cond b (n ∷ []) [])
+    last true = (omega arith, tt)
+    last false = tt
+
+pub record SetFits (c : OpenCall) (set : List ℕ) : Type 0 where
+  pub low : AllAtMost maxMarks set
+  pub room : 4 * length set ≤ c .list
+
+found-low : (setting : Setting) (t : Option Schema) (x : Option Rule) (set : List ℕ) → searched setting t x ≡ opens set → AllAtMost maxMarks set × (length set ≤ maxMarks)
+unfolding searched answerWith fewestMarks
+found-low setting none x set e = let z : _≡_ {A = ℕ} 0 1 = cc in absurd (omega arith)
+found-low setting (some t) none set e = let z : _≡_ {A = ℕ} 0 1 = cc in absurd (omega arith)
+found-low setting (some t) (some x) set e = by (rounds setting t (checks setting x) (maxMarks + 1) []) e
+  where
+    by : (o : Option (List ℕ)) → answerWith (Option·map (λ found. risingTo maxMarks (isIn found)) o) ≡ opens set → AllAtMost maxMarks set × (length set ≤ maxMarks)
+    by none e = let z : _≡_ {A = ℕ} 0 1 = cc in absurd (omega arith)
+    by (some found) e =
+        let same : risingTo maxMarks (isIn found) ≡ set = cc in
+        rw (← same) (rising-low maxMarks (isIn found), rising-few maxMarks (isIn found))
+
+pub set-fits : (c : OpenCall) (set : List ℕ) → openAnswer c ≡ opens set → SetFits c set
+unfolding openAnswer refusedOr
+set-fits c set e = by (firstRefusal (openRefusals c)) refl e
+  where
+    by : (o : Option ℕ) → firstRefusal (openRefusals c) ≡ o
+        → refusedOr o (searched (settingFor (checkOf c)) (decodeSchema (c .schema)) (decodeRule (c .rule))) ≡ opens set
+        → SetFits c set
+    by none f e =
+        let found = found-low (settingFor (checkOf c)) (decodeSchema (c .schema)) (decodeRule (c .rule)) set e in
+        record { low = found .0; room = omega (arith, found .1, list-room c f) }
+    by (some n) f e = let z : _≡_ {A = ℕ} 0 1 = cc in absurd (omega arith)

@@ -1,7 +1,7 @@
 -- The decision and the relation are the same, at each level, and the reason is the first breach of all.
 use mathlib.Core.Bool.{Bool, true, false, cond}
 use mathlib.Core.List.{List, [], _∷_, _++_}
-use mathlib.Core.Logic.{_↔_}
+use mathlib.Core.Logic.{_↔_, _⊎_, inl, inr}
 use mathlib.Core.Option.{Option, none, some}
 use mathlib.Core.Path.{_≡_, refl, ap, subst}
 use Prim.Native.Nat.{ℕ}
@@ -287,6 +287,13 @@ decided-every [] l e = let same : marks ≡ l = cc in subst (λ (k : Level). Eve
 decided-every (growth ∷ ds) l e = rw (growth-either (decided ds) l e .2) anything-every
 decided-every (breach why a b ∷ ds) l e = let z : _≡_ {A = ℕ} 0 1 = cc in absurd (omega arith)
 
+-- of the levels it names these two
+decided-level : (ds : List Difference) (l : Level) → decided ds ≡ widening l → (l ≡ marks) ⊎ (l ≡ anything)
+unfolding decided
+decided-level [] l e = inl cc
+decided-level (growth ∷ ds) l e = inr (growth-either (decided ds) l e .2)
+decided-level (breach why a b ∷ ds) l e = let z : _≡_ {A = ℕ} 0 1 = cc in absurd (omega arith)
+
 decided-marks : (ds : List Difference) → AllAllowed ds marks → decided ds ≡ widening marks
 unfolding decided
 decided-marks [] a = refl
@@ -303,6 +310,10 @@ decided-anything (breach why e e′ ∷ ds) a = absurd (first-allowed a)
 pub widens-sound : (s s′ : Schema) (l : Level) → widens s s′ ≡ widening l → WiderSchema l s s′
 unfolding widens
 widens-sound s s′ l e = schema-sound s s′ l (decided-every (differences s s′) l e) (decided-sound (differences s s′) l e)
+
+pub widens-level : (s s′ : Schema) (l : Level) → widens s s′ ≡ widening l → (l ≡ marks) ⊎ (l ≡ anything)
+unfolding widens
+widens-level s s′ l e = decided-level (differences s s′) l e
 
 -- `marks` exactly if the relation holds at that level
 pub widens-marks : (s s′ : Schema) → SchemaRises s′ → (widens s s′ ≡ widening marks) ↔ WiderSchema marks s s′
