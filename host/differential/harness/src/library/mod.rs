@@ -4,6 +4,7 @@ mod arena;
 pub mod books;
 pub mod checks;
 pub mod entry;
+#[allow(dead_code, reason = "there is nothing to compare the version with")]
 #[rustfmt::skip] // Its own crate lays it out.
 #[path = "../../../../src/raw/functions.rs"]
 mod functions;
