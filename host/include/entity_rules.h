@@ -1,21 +1,21 @@
-/* One rule, template or key path checked against the schema of its record, or a whole rule book; schemas compared, and
- * instants read: the C functions of libentity_rules.a.
+/* One rule, template or key path checked against the schema of its record, or a whole rule book; schemas compared, the marks
+ * to open in one found, and instants read: the C functions of libentity_rules.a.
  *
  * docs/FORMAT.md says what the sheets hold and what each number means. Lengths are in bytes. A pointer must lead to as many bytes
- * as the length after it says, and must not be null, even where that is 0. path, marks, result, pages, buffer and fields must not overlap each other
+ * as the length after it says, and must not be null, even where that is 0. path, marks, list, result, pages, buffer and fields must not overlap each other
  * or anything else. No function keeps a pointer, allocates or waits, so any number of threads may call them at once. A call
  * takes up to about 330 KB of stack: 16 KB for its scratch, the rest by how deep the sheets nest, most for a rule with 64 levels of values in
  * 256 of conditions. A path under 32,768 bytes or a result under 28 is refusal 3, and is not written; rulecheck_check needs a result of 32,
- * rulecheck_tally of 144, rulecheck_wall of 16.
+ * rulecheck_tally of 144, rulecheck_wall of 16, rulecheck_openings of 12.
  */
 #ifndef ENTITY_RULES_H
 #define ENTITY_RULES_H
 
 /* The version of this header and of the crate. */
-#define ENTITY_RULES_VERSION "0.1.0"
+#define ENTITY_RULES_VERSION "0.2.0"
 
 /* The same as the library's rulecheck_version() answers it. */
-#define ENTITY_RULES_VERSION_NUMBER 0x000100u
+#define ENTITY_RULES_VERSION_NUMBER 0x000200u
 
 #include <stddef.h>
 #include <stdint.h>
@@ -50,7 +50,7 @@ enum entity_rules_reader {
   ENTITY_RULES_PROJECTION = 2
 };
 
-/* The number of an answer: 0, a refusal (1 to 5, 33 to 35, 37, 38) or a defect (11 to 22). */
+/* The number of an answer: 0, a refusal (1 to 5, 33 to 38) or a defect (11 to 22). */
 enum entity_rules_number {
   ENTITY_RULES_ACCEPTED = 0,
   ENTITY_RULES_REFUSED_SETTING = 1,
@@ -73,6 +73,7 @@ enum entity_rules_number {
   ENTITY_RULES_REFUSED_OUTPUT = 33,
   ENTITY_RULES_REFUSED_BOOK_FORM = 34,
   ENTITY_RULES_REFUSED_MARK_LIST = 35,
+  ENTITY_RULES_REFUSED_OPENING_LIST = 36,
   ENTITY_RULES_REFUSED_TABLE_FORM = 37,
   ENTITY_RULES_REFUSED_TABLE_MARK = 38
 };
@@ -183,6 +184,18 @@ enum entity_rules_wall_field {
   ENTITY_RULES_WALL_PAGES = 1
 };
 
+/* The numbers of a result of rulecheck_openings, by their index; the first is ENTITY_RULES_NUMBER. */
+enum entity_rules_openings_field {
+  ENTITY_RULES_OPENINGS_SET = 1,
+  ENTITY_RULES_OPENINGS_COUNT = 2
+};
+
+/* The marks of a set of openings that are not a field's entry. */
+enum entity_rules_opening {
+  ENTITY_RULES_OPENING_ARGUMENTS = 0,
+  ENTITY_RULES_OPENING_RECORD = 1
+};
+
 /* The numbers of an instant's fields, by their index. */
 enum entity_rules_instant_field {
   ENTITY_RULES_YEAR = 0,
@@ -205,6 +218,7 @@ enum entity_rules_instant_field {
 #define ENTITY_RULES_RESULT_BYTES 28
 #define ENTITY_RULES_TALLY_BYTES 144
 #define ENTITY_RULES_WALL_BYTES 16
+#define ENTITY_RULES_OPENINGS_BYTES 12
 
 /* A page of a wall sheet: the sheets that it has a line for, and its bytes. */
 #define ENTITY_RULES_PAGE_SHEETS 58
@@ -213,6 +227,9 @@ enum entity_rules_instant_field {
 /* The same of rulecheck_check, besides the path. */
 #define ENTITY_RULES_MARKS_BYTES 8192
 #define ENTITY_RULES_CHECK_RESULT_BYTES 32
+
+/* The list of rulecheck_openings. */
+#define ENTITY_RULES_OPENING_LIST_BYTES 4100
 
 /* Checks a rule. Returns the number; result takes all seven numbers, and after a defect path begins with its path, which has no
  * 0 at its end. Other bytes of both keep their values. A template's sheet is refused with 5. */
@@ -294,10 +311,24 @@ uint32_t rulecheck_wall(uint64_t kind, uint64_t semantics,
                         uint8_t *pages, size_t pages_length,
                         uint8_t *result, size_t result_length);
 
+/* Which open marks of the schema must go from 0 to 1 for the rule or template to be accepted. Where some set of openings gives acceptance, there is one that every
+ * other such set contains: list takes its marks, rising, each as four bytes, least significant first: 0 for the mark of the arguments, 1 for that of
+ * the record, else the entry of the field (enum entity_rules_opening). What is accepted as it is has the set without marks. Returns 0, and result takes
+ * three numbers of four bytes (enum entity_rules_openings_field): 0, 1 if there is a set and else 0, and how many marks it has; or returns a refusal, the other
+ * two being 0: 1, 3 (for a path under 32,768 bytes or a result under 12), 36 for a list under 4,100 bytes, 37, 38, 4, 5, tried in this order. There is no
+ * label. After an answer the first 32,768 bytes of path hold anything; all other bytes of the three buffers are kept. */
+uint32_t rulecheck_openings(uint64_t kind, uint64_t semantics,
+                            const uint8_t *table, size_t table_length,
+                            const uint8_t *schema, size_t schema_length,
+                            const uint8_t *rule, size_t rule_length,
+                            uint8_t *path, size_t path_length,
+                            uint8_t *list, size_t list_length,
+                            uint8_t *result, size_t result_length);
+
 /* One of the numbers of a tally or of a wall sheet's result, by its index; 0 past the end. */
 uint64_t rulecheck_count(const uint8_t *result, size_t result_length, uint32_t index);
 
-/* One of the numbers of a result, by an index of enum entity_rules_field, of a list of marks, or of an instant's fields; 0 past the end. */
+/* One of the numbers of a result, by an index of enum entity_rules_field, of a list of marks or of openings, or of an instant's fields; 0 past the end. */
 uint32_t rulecheck_field(const uint8_t *result, size_t result_length, uint32_t index);
 
 /* The version of the library that is linked: major, minor and patch, eight bits for each of the last two. A host compares it with

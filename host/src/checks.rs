@@ -1,7 +1,11 @@
 //! A check with everything that it can be lent.
 
 use crate::constants::{Constant, constants};
-use crate::limits::{CHECK_RESULT_BYTES, MARKS_BYTES, PATH_BYTES, TALLY_BYTES, WALL_BYTES};
+use crate::limits::{
+    CHECK_RESULT_BYTES, MARKS_BYTES, OPENING_LIST_BYTES, OPENINGS_BYTES, PATH_BYTES, TALLY_BYTES,
+    WALL_BYTES,
+};
+use crate::openings;
 use crate::settings::{Kind, Semantics};
 use crate::sheets::{RuleBytes, SchemaBytes};
 use crate::tally::{self, Tally};
@@ -172,6 +176,46 @@ impl<'a> Check<'a> {
             &mut result,
         );
         wall::answer(&result, pages)
+    }
+
+    /// Finds the fewest open marks of a schema that must go from 0 to 1 for a rule or template to be accepted; otherwise as [`openings`](crate::openings()). The label has no influence,
+    /// and is not looked at.
+    ///
+    /// ```
+    /// use entity_rules::{Check, Kind, Name, Semantics, Table};
+    ///
+    /// let (schema, template) = (b"H,0,0,0,0\n", b"T\nV,5,7,$args.x\n");
+    /// let check = Check::new(Kind::CreateSet, Semantics::Service1, "set");
+    /// assert_eq!(check.openings(schema, template)?, Some(vec![0]));
+    ///
+    /// // A name that the table hides is not to be had by opening.
+    /// let table = Table::stock().hide(Kind::CreateSet, Name::Args).sheet()?;
+    /// assert_eq!(check.table(&table).openings(schema, template)?, None);
+    /// # Ok::<(), Box<dyn std::error::Error>>(())
+    /// ```
+    ///
+    /// # Errors
+    ///
+    /// If the table or one of the sheets is refused.
+    pub fn openings<'s>(
+        &self,
+        schema: impl Into<SchemaBytes<'s>>,
+        rule: impl Into<RuleBytes<'s>>,
+    ) -> Result<Option<Vec<u32>>, Refusal> {
+        let (mut path, mut list) = (vec![0; PATH_BYTES], vec![0; OPENING_LIST_BYTES]);
+        let mut result = [0; OPENINGS_BYTES];
+        let (kind, semantics) = (self.kind.number().into(), self.semantics.number().into());
+        raw::openings(
+            kind,
+            semantics,
+            self.table,
+            schema.into().0,
+            rule.into().0,
+            &mut path,
+            &mut list,
+            &mut result,
+        );
+        openings::answer(&result, &list)
     }
 }
 

@@ -25,6 +25,7 @@ mod instant;
 pub mod limits;
 mod number;
 mod numbered;
+mod openings;
 #[allow(unsafe_code)]
 pub mod raw;
 mod settings;
@@ -43,6 +44,7 @@ pub use constants::Constant;
 pub use finite::{Finite, finite};
 pub use identity::{Identity, Packed, identity};
 pub use instant::{Instant, instant};
+pub use openings::opened;
 pub use settings::{Kind, Name, Reader, Semantics, UnknownName};
 pub use sheets::{RuleBytes, RuleSheet, SchemaBytes, SchemaSheet};
 pub use table::{Table, TableError};
@@ -244,6 +246,43 @@ pub fn wall(
     book: impl AsRef<[u8]>,
 ) -> Result<String, Refusal> {
     Check::new(kind, semantics, &label).wall(schema, book)
+}
+
+/// Finds the fewest open marks of a schema that must go from 0 to 1 for a rule or template to be accepted.
+///
+/// Where some set of openings gives acceptance, there is one that every other such set contains, and this is returned: 0 stands for the mark of the arguments, 1 for that of the
+/// record, any other number for that of the field with this entry, and the marks rise. What is accepted as it is has the set without marks, and what no opening helps has none.
+/// [`opened`] opens the marks of a set. Which names may be read is decided by the stock table; a [`Check`] can be lent another.
+///
+/// ```
+/// use entity_rules::{check_rule, opened, openings, Condition, Field, FieldKind, Kind, Rule, Schema, Semantics};
+///
+/// let bar = Field::element(FieldKind::Object).property(Field::new("threaded", FieldKind::Boolean));
+/// let schema = Schema::new().field(Field::new("bars", FieldKind::Array).items(bar)).sheet()?;
+/// let rule = Rule::new(Condition::for_all("bar", "$fields.bars", Condition::lt("$bar.tension", 40))).sheet()?;
+///
+/// // Entry 3 is the element of `bars`.
+/// let marks = openings(Kind::Invariant, Semantics::Service1, &schema, &rule)?.ok_or("a set")?;
+/// assert_eq!(marks, [3]);
+/// let wider = opened(&schema, &marks)?;
+/// assert!(check_rule(Kind::Invariant, Semantics::Service1, "tension", &wider, &rule)?.is_accepted());
+///
+/// // No opening brings a name that no kind may read.
+/// let rule = Rule::new(Condition::exists("$tension")).sheet()?;
+/// assert_eq!(openings(Kind::Invariant, Semantics::Service1, &schema, &rule)?, None);
+/// # Ok::<(), Box<dyn std::error::Error>>(())
+/// ```
+///
+/// # Errors
+///
+/// If one of the sheets is refused.
+pub fn openings<'a>(
+    kind: Kind,
+    semantics: Semantics,
+    schema: impl Into<SchemaBytes<'a>>,
+    rule: impl Into<RuleBytes<'a>>,
+) -> Result<Option<Vec<u32>>, Refusal> {
+    Check::new(kind, semantics, "").openings(schema, rule)
 }
 
 type Entry = fn(u64, u64, &[u8], &[u8], &[u8], &mut [u8], &mut [u8]) -> u32;

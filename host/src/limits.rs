@@ -57,6 +57,12 @@ pub const TALLY_BYTES: usize = 144;
 /// Bytes that a wall sheet needs for its result: two numbers of eight bytes.
 pub const WALL_BYTES: usize = 16;
 
+/// Bytes that a call for openings needs for its result: three numbers of four bytes.
+pub const OPENINGS_BYTES: usize = 12;
+
+/// Bytes that a call for openings needs for the list of marks: 1,025 numbers of four bytes.
+pub const OPENING_LIST_BYTES: usize = 4_100;
+
 /// Sheets that a page of a wall sheet has a line for.
 pub const PAGE_SHEETS: usize = 58;
 

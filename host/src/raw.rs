@@ -21,8 +21,8 @@ mod functions;
 
 use functions::{
     rulecheck_check, rulecheck_count, rulecheck_field, rulecheck_finite, rulecheck_instant,
-    rulecheck_load_table, rulecheck_path, rulecheck_rule, rulecheck_tally, rulecheck_template,
-    rulecheck_version, rulecheck_wall, rulecheck_widens,
+    rulecheck_load_table, rulecheck_openings, rulecheck_path, rulecheck_rule, rulecheck_tally,
+    rulecheck_template, rulecheck_version, rulecheck_wall, rulecheck_widens,
 };
 
 /// Checks a rule; the answer is the number, and `result` takes all seven numbers.
@@ -370,6 +370,62 @@ pub fn wall(
     }
 }
 
+/// Finds the fewest marks of a schema to open so that a rule or template is accepted; the answer is 0 or a refusal, and `result` takes three numbers of four bytes, which [`field`] reads: the
+/// answer, 1 if there is a set, and how many marks it has. These are at the start of `list`, four bytes each.
+///
+/// A result under 12 bytes, like a path buffer under 32,768, is refusal 3. A list under 4,100 bytes is refusal 36, tried after that and before the table's. There is no label. After an answer the first
+/// 32,768 bytes of the path buffer hold anything; under a refusal nothing but the result is written.
+///
+/// ```
+/// use entity_rules::raw;
+///
+/// let (mut path, mut list, mut result) = (vec![0; 32_768], [7; 4_100], [0; 12]);
+/// let (schema, template) = (b"H,0,0,0,0\n", b"T\nV,6,2,\nV,5,9,$fields.a\nV,5,7,$args.b\n");
+/// assert_eq!(raw::openings(2, 1, &[], schema, template, &mut path, &mut list, &mut result), 0);
+/// assert_eq!([1, 2].map(|index| raw::field(&result, index)), [1, 2]);
+/// assert_eq!(list[..9], [0, 0, 0, 0, 1, 0, 0, 0, 7]);
+///
+/// // Nothing makes this one readable.
+/// assert_eq!(raw::openings(2, 1, &[], schema, b"T\nV,5,5,$nope\n", &mut path, &mut list, &mut result), 0);
+/// assert_eq!([1, 2].map(|index| raw::field(&result, index)), [0, 0]);
+/// assert_eq!(raw::openings(2, 1, b"N", schema, b"", &mut path, &mut list[..4_099], &mut result), 36);
+/// assert_eq!(raw::openings(2, 1, b"N", schema, b"", &mut path, &mut list, &mut result), 37);
+/// ```
+#[expect(
+    clippy::too_many_arguments,
+    reason = "as many as the C function has slices and numbers"
+)]
+pub fn openings(
+    kind: u64,
+    semantics: u64,
+    table: &[u8],
+    schema: &[u8],
+    rule: &[u8],
+    path: &mut [u8],
+    list: &mut [u8],
+    result: &mut [u8],
+) -> u32 {
+    // SAFETY: as in `rule`; the table is a slice that is read, like the schema, and the list one that is written, lent mutably like the other two.
+    unsafe {
+        rulecheck_openings(
+            kind,
+            semantics,
+            table.as_ptr(),
+            table.len(),
+            schema.as_ptr(),
+            schema.len(),
+            rule.as_ptr(),
+            rule.len(),
+            path.as_mut_ptr(),
+            path.len(),
+            list.as_mut_ptr(),
+            list.len(),
+            result.as_mut_ptr(),
+            result.len(),
+        )
+    }
+}
+
 /// One of the eighteen numbers that [`tally`] leaves, or of the two of [`wall`].
 ///
 /// The answer is 0 where the eight bytes do not lie in the result.
@@ -389,7 +445,7 @@ pub fn count(result: &[u8], index: u32) -> u64 {
 }
 
 /// One of the numbers in a result: 0 number, 1 family, 2 detail, 3 place, 4 over place, 5 passed, 6 path length, after [`check`] 7 how many marks; after
-/// [`widens`] its own. Or one of the marks in a list.
+/// [`widens`] and [`openings`] their own. Or one of the marks in a list.
 ///
 /// The answer is 0 where the four bytes do not lie in the result.
 ///
@@ -415,7 +471,7 @@ pub(crate) fn numbers(result: &[u8]) -> [u32; 7] {
 /// The version of the library that is linked: major, minor and patch, eight bits for each of the last two.
 ///
 /// ```
-/// assert_eq!(entity_rules::raw::version(), 0x00_01_00);
+/// assert_eq!(entity_rules::raw::version(), 0x00_02_00);
 /// ```
 #[must_use]
 pub fn version() -> u32 {

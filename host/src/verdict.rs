@@ -473,8 +473,8 @@ impl fmt::Display for PathVerdict {
 
 /// Why a call was not answered.
 ///
-/// The typed functions never meet [`Setting`](Refusal::Setting), [`Width`](Refusal::Width), [`Output`](Refusal::Output) and [`Marks`](Refusal::Marks), since their settings are
-/// known ones and their buffers wide enough.
+/// The typed functions never meet [`Setting`](Refusal::Setting), [`Width`](Refusal::Width), [`Output`](Refusal::Output), [`Marks`](Refusal::Marks) and [`Openings`](Refusal::Openings), since
+/// their settings are known ones and their buffers wide enough.
 ///
 /// ```
 /// use entity_rules::{check, Kind, Refusal, Semantics};
@@ -506,6 +506,8 @@ pub enum Refusal {
     BookForm,
     /// 35: the list of marks is too short.
     Marks,
+    /// 36 of a call for openings: the list of marks to open is too short.
+    Openings,
     /// 37: the name table is malformed. [`Table::read`](crate::Table::read) says where.
     TableForm,
     /// 38: a mark of the name table breaks one of its two conditions. [`Table::read`](crate::Table::read) says which.
@@ -531,6 +533,7 @@ impl Refusal {
             Self::Output => 33,
             Self::BookForm => 34,
             Self::Marks => 35,
+            Self::Openings => 36,
             Self::TableForm => 37,
             Self::TableMark => 38,
             Self::Unknown([number, ..]) => number,
@@ -554,6 +557,7 @@ impl Refusal {
             Self::Output => "output",
             Self::BookForm => "book form",
             Self::Marks => "mark list",
+            Self::Openings => "opening list",
             Self::TableForm => "table form",
             Self::TableMark => "table mark",
             Self::Unknown(_) => "unknown",
@@ -610,7 +614,7 @@ impl fmt::Display for Refusal {
             Self::Label => f.pad("the label is over 256 bytes long, or not UTF-8"),
             Self::Path => f.pad("the path is over 512 bytes long, or not UTF-8"),
             Self::Width => f.pad(
-                "the path buffer is under 32,768 bytes, or the result under 28 (32 for a check with marks, 144 for a tally, 16 for a wall sheet)",
+                "the path buffer is under 32,768 bytes, or the result under 28 (32 for a check with marks, 144 for a tally, 16 for a wall sheet, 12 for openings)",
             ),
             Self::SchemaSheet => f.pad("the schema sheet is not well formed"),
             Self::NewSchemaSheet => f.pad("the new schema's sheet is not well formed"),
@@ -620,6 +624,7 @@ impl fmt::Display for Refusal {
             Self::Output => f.pad("the buffer for the pages is too short"),
             Self::BookForm => f.pad("the file is not a rule book"),
             Self::Marks => f.pad("the list of marks is under 8,192 bytes"),
+            Self::Openings => f.pad("the list of marks to open is under 4,100 bytes"),
             Self::TableForm => f.pad("the name table is malformed"),
             Self::TableMark => f.pad(
                 "a mark of the name table hides a name that every kind reads, or shows $old_fields where $fields is hidden",

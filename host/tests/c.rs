@@ -1,8 +1,8 @@
 //! The C header and the C example.
 
 use entity_rules::limits::{
-    CHECK_RESULT_BYTES, MARKS_BYTES, MAX_KEY_BYTES, PAGE_BYTES, PAGE_SHEETS, PATH_BYTES,
-    RESULT_BYTES, TABLE_BYTES, TALLY_BYTES, WALL_BYTES,
+    CHECK_RESULT_BYTES, MARKS_BYTES, MAX_KEY_BYTES, OPENING_LIST_BYTES, OPENINGS_BYTES, PAGE_BYTES,
+    PAGE_SHEETS, PATH_BYTES, RESULT_BYTES, TABLE_BYTES, TALLY_BYTES, WALL_BYTES,
 };
 use entity_rules::{
     BreachReason, CollectionFault, DefectNumber, Family, InstantFault, Kind, Reader,
@@ -129,6 +129,7 @@ fn the_header_has_the_numbers_of_the_crate() {
         ("OUTPUT", Refusal::Output),
         ("BOOK_FORM", Refusal::BookForm),
         ("MARK_LIST", Refusal::Marks),
+        ("OPENING_LIST", Refusal::Openings),
         ("TABLE_FORM", Refusal::TableForm),
         ("TABLE_MARK", Refusal::TableMark),
     ];
@@ -179,7 +180,13 @@ fn the_header_has_the_numbers_of_the_crate() {
     ];
     let counts = counts.map(|(name, index)| (format!("TALLY_{name}"), index));
     let walls = [("WALL_NUMBER".to_owned(), 0), ("WALL_PAGES".to_owned(), 1)];
-    let counts = counts.into_iter().chain(walls);
+    let openings = [
+        ("OPENINGS_SET".to_owned(), 1),
+        ("OPENINGS_COUNT".to_owned(), 2),
+        ("OPENING_ARGUMENTS".to_owned(), 0),
+        ("OPENING_RECORD".to_owned(), 1),
+    ];
+    let counts = counts.into_iter().chain(walls).chain(openings);
     let settings = kinds.chain(semantics).chain(readers);
     let answers = defects.chain(families).chain(refusals);
     let answers = answers
@@ -205,6 +212,8 @@ fn the_header_has_the_numbers_of_the_crate() {
         ("CHECK_RESULT_BYTES", CHECK_RESULT_BYTES),
         ("TALLY_BYTES", TALLY_BYTES),
         ("WALL_BYTES", WALL_BYTES),
+        ("OPENINGS_BYTES", OPENINGS_BYTES),
+        ("OPENING_LIST_BYTES", OPENING_LIST_BYTES),
         ("PAGE_SHEETS", PAGE_SHEETS),
         ("PAGE_BYTES", PAGE_BYTES),
     ] {
@@ -229,8 +238,8 @@ fn the_header_declares_what_the_crate_calls() {
     functions.sort();
     let called = include_str!("../src/raw/functions.rs");
     assert_eq!(functions, declared(called, "pub fn rulecheck_"));
-    assert_eq!(functions.len(), 13);
-    assert!(include_str!("../README.md").contains("declares the thirteen functions"));
+    assert_eq!(functions.len(), 14);
+    assert!(include_str!("../README.md").contains("declares the fourteen functions"));
 }
 
 #[test]

@@ -2,7 +2,7 @@
 
 use entity_rules::{
     Check, Checked, Condition, Defect, DefectNumber, Field, FieldKind, Kind, Refusal, Rule,
-    RuleSheet, Schema, SchemaSheet, Semantics, Table, Value, check_rule,
+    RuleSheet, Schema, SchemaSheet, Semantics, Table, Value, check_rule, openings,
 };
 use std::thread;
 
@@ -55,17 +55,28 @@ fn a_thread_needs_no_more_stack_than_is_said() {
     assert!(include_str!("../include/entity_rules.h").contains(&said));
     assert!(include_str!("../README.md").contains(&said));
 
-    // The sheet that takes most: values as deep as may be, in conditions as deep as may be.
+    let (schema, rule) = deepest();
+    let call = move || check_rule(Kind::Invariant, Semantics::Service1, "r", &schema, &rule);
+    let verdict = on_a_small_stack(call).expect("no refusal");
+    let number = verdict.defect().map(|defect| defect.number);
+    assert_eq!(number, Some(DefectNumber::Deep));
+
+    let (schema, rule) = deepest();
+    let call = move || openings(Kind::Invariant, Semantics::Service1, &schema, &rule);
+    assert_eq!(on_a_small_stack(call), Ok(None));
+}
+
+/// The sheets that take most: values as deep as may be, in conditions as deep as may be.
+fn deepest() -> (SchemaSheet, RuleSheet) {
     let arrays = || (1..64).fold(Value::from("$a"), |inner, _| Value::array([inner]));
     let pair = Condition::eq(arrays(), arrays());
     let condition = (1..256).fold(pair, |inner, _| Condition::not(inner));
     let rule = Rule::new(condition).sheet().expect("a rule");
-    let schema = Schema::new().sheet().expect("a schema");
+    (Schema::new().sheet().expect("a schema"), rule)
+}
+
+fn on_a_small_stack<T: Send + 'static>(call: impl FnOnce() -> T + Send + 'static) -> T {
     let thread = thread::Builder::new().stack_size(CALL_STACK + OWN_STACK);
-    let checked = thread
-        .spawn(move || check_rule(Kind::Invariant, Semantics::Service1, "r", &schema, &rule))
-        .expect("a thread");
-    let verdict = checked.join().expect("an answer").expect("no refusal");
-    let number = verdict.defect().map(|defect| defect.number);
-    assert_eq!(number, Some(DefectNumber::Deep));
+    let answer = thread.spawn(call).expect("a thread");
+    answer.join().expect("an answer")
 }

@@ -27,10 +27,10 @@ use Rattle.walk.specs.declared.answer.Collected.{Collected}
 use Rattle.walk.specs.declared.answer.Collected.the-variants as Collected
 use Rattle.walk.specs.declared.answer.CollectionFault.the-variants.{NotAString}
 use Rattle.validation.specs.Check.{Binder, check, failsIf, entryOf, isString, hasDot, operatorCheck, isEmpty, body, bodies, depth, depthOfConditions}
-use Rattle.validation.specs.Judge.{outcome}
+use Rattle.validation.specs.Judge.{failure, unasked, outcome}
 use Rattle.value_checks.specs.Kinds.{OperatorAt}
 use Rattle.value_checks.specs.Nodes.{IsCondition, AreConditions, Behind}
-use Rattle.value_checks.specs.Verdicts.{numberOf, detailOf, failed, going, GoesOn, PassedOn, Failed, Required}
+use Rattle.value_checks.specs.Verdicts.{numberOf, failureOf, failed, going, GoesOn, PassedOn, Failed, Required}
 use Rattle.scope.specs.Collections.{CollectionIs}
 use Rattle.value_checks.specs.Frames.{Frame, frame, Stands, OperandsJudged}
 use Rattle.condition_checks.specs.Bodies.{OperatorJudged, NonemptyJudged, EntryJudged, Leaf, LeafJudged, bindBy, BindAt, CollectionOf, BodyJudged, BodiesJudged, QuantifierJudged}
@@ -52,7 +52,7 @@ use Rattle.condition_checks.proofs.OperandLaws.{operands-none, operands
 
 module _ {scope : Scope} {over : Over} {op i : ℕ} {a r : Progress} where
   pub operator-early : op < 18 → PassedOn a r → OperatorJudged scope over op i a r
-  unfolding operatorCheck failsIf
+  unfolding operatorCheck failsIf unasked
   operator-early l p =
       record {
         atMost = p .atMost;
@@ -63,7 +63,7 @@ module _ {scope : Scope} {over : Over} {op i : ℕ} {a r : Progress} where
       }
 
   pub operator-service : 18 ≤ op → scope .service ≡ true → PassedOn a r → OperatorJudged scope over op i a r
-  unfolding operatorCheck failsIf
+  unfolding operatorCheck failsIf unasked
   operator-service l t p =
       record {
         atMost = p .atMost;
@@ -75,7 +75,7 @@ module _ {scope : Scope} {over : Over} {op i : ℕ} {a r : Progress} where
       }
 
   pub operator-fails : 18 ≤ op → scope .service ≡ false → Failed a Operator (i + 1) over r → OperatorJudged scope over op i a r
-  unfolding operatorCheck failsIf check numberOf detailOf
+  unfolding operatorCheck failsIf check numberOf failureOf unasked
   operator-fails l t p =
       record {
         atMost = omega (arith, p .same);
@@ -294,7 +294,7 @@ module _ (schema rule words : List ℕ) (scope : Scope) (over : Over) (i end lef
         (operator-goes own e)
 
     body-goes : (c : Condition) → IsCondition rule words i end c → depth c ≤ left → scope .count + left ≤ 32 → GoesOn (outcome setting tree) a (body setting binders c) r
-    unfolding body depth depthOfConditions conditionEntries conditionsEntries bodies numberOf detailOf check
+    unfolding body depth depthOfConditions conditionEntries conditionsEntries bodies numberOf failureOf check
     body-goes (literal e truth) w d k =
         let p : op ≡ 1 = has-operator rule words i start kind (literal e truth) (w .stands) in
         rw (w .stands .isEntry)
@@ -308,7 +308,7 @@ module _ (schema rule words : List ℕ) (scope : Scope) (over : Over) (i end lef
         (entry .nonempty .many (p .1) (p .2) .goes (outcome setting tree) (check 16 (i + 1) binders (failsIf (isEmpty children) 0))
         (record { numbered = refl; placed = refl; held = s .held })
         (settled-outcome setting tree binders env 16 (i + 1) (isEmpty children) 0 (s .bound)
-        ∙ ap (λ (x : Bool). failed x 0) (empty-end children i end (omega (arith, w .ends)))))
+        ∙ ap (λ (x : Bool). failed x (failure 0 0)) (empty-end children i end (omega (arith, w .ends)))))
         (inner .conditions (p .1) (omega (arith, p .2)) .goes setting tree binders env children s (record { stand = w .stands .1; ends = omega (arith, w .ends) }) (omega arith) (omega arith))))
     body-goes (negation e child) w d k =
         let p : op ≡ 4 = has-operator rule words i start kind (negation e child) (w .stands) in

@@ -24,11 +24,11 @@ use Rattle.walk.specs.declared.answer.Collected.{Collected}
 use Rattle.walk.specs.declared.answer.Collected.the-variants as Collected
 use Rattle.walk.specs.declared.answer.CollectionFault.{CollectionFault}
 use Rattle.validation.specs.Check.{Binder, walkable, readable, Check, check, failsIf, referenceText, referenceCheck, references, hasDot, body, bodies, depth, depthOfConditions}
-use Rattle.validation.specs.Judge.{CheckOutcome, outcome, verdict, extend, enter, environment, answer, answerIn, decide, judgeFrom}
+use Rattle.validation.specs.Judge.{Failure, failure, CheckOutcome, outcome, verdict, extend, enter, environment, answer, answerIn, decide, judgeFrom}
 use Rattle.validation.specs.Result.{overOf}
 use Rattle.value_checks.specs.Shown.{Shown, passes, fails, shownOf, goOn}
 use Rattle.value_checks.specs.Nodes.{Behind}
-use Rattle.value_checks.specs.Verdicts.{numberOf, detailOf, overBy, shownWith, shownBy, failed, GoesOn, PassedOn, Failed, Required}
+use Rattle.value_checks.specs.Verdicts.{numberOf, failureOf, overBy, shownWith, shownBy, failed, GoesOn, PassedOn, Failed, Required}
 use Rattle.scope.specs.Scopes.{BoundElement, Binds}
 use Rattle.scope.specs.ScopeLaws.{scope-bound}
 use Rattle.value_checks.specs.Frames.{Frame, frame, Stands, OperandsJudged}
@@ -62,10 +62,10 @@ record Unread (setting : Setting) (tree : Schema) (env : Environment) (v : Value
   pub entry : ℕ
   pub text : Text
   pub behind : Text
-  pub detail : ℕ
+  pub why : Failure
   pub isText : v ≡ string entry text
   pub isReference : referenceText text ≡ some behind
-  pub refuses : verdict (reference setting tree env behind) ≡ some detail
+  pub refuses : verdict (reference setting tree env behind) ≡ some why
 
 dollar-reference : (t : Text) (b : ℕ) (u : Text) → t ≡ code "$" ∷ b ∷ u → (b ≡ code "$" → ⊥) → referenceText t ≡ some (b ∷ u)
 unfolding referenceText beginsWithDollar
@@ -81,7 +81,7 @@ module _ (setting : Setting) (tree : Schema) (env : Environment) where
   reads-of unknown h = tt
   reads-of (known f) h = tt
 
-  text-unread : (e : ℕ) (t : Text) (o : Option Text) → referenceText t ≡ o → (y : Option ℕ)
+  text-unread : (e : ℕ) (t : Text) (o : Option Text) → referenceText t ≡ o → (y : CheckOutcome)
       → ((u : Text) → o ≡ some u → verdict (reference setting tree env u) ≡ y)
       → (d at : ℕ) (left : List Text)
       → collectionText tree env t ≡ refused d at left
@@ -92,8 +92,8 @@ module _ (setting : Setting) (tree : Schema) (env : Environment) where
       text-explained setting tree env t
       (λ b u s h. let p : referenceText t ≡ some (b ∷ u) = dollar-reference t b u s h in let z : _≡_ {A = ℕ} 0 1 = cc in absurd (omega arith)) in
       absurd (omega (arith, explained-few (collectionText tree env t) d at left c x))
-  text-unread e t (some u) r (some detail) q d at left c m =
-      record { entry = e; text = t; behind = u; detail = detail; isText = refl; isReference = r; refuses = q u refl }
+  text-unread e t (some u) r (some why) q d at left c m =
+      record { entry = e; text = t; behind = u; why = why; isText = refl; isReference = r; refuses = q u refl }
   text-unread e t (some u) r none q d at left c m =
       let x : Explained (collectionText tree env t) =
       text-explained setting tree env t
@@ -113,7 +113,7 @@ module _ (setting : Setting) (tree : Schema) (env : Environment) where
   unread (string e t) d at left c m =
       text-unread e t (referenceText t) refl (of (referenceText t)) (λ u k. rw k) d at left c m
     where
-      of : Option Text → Option ℕ
+      of : Option Text → CheckOutcome
       of none = none
       of (some u) = verdict (reference setting tree env u)
   unread (array e values) d at left c m = absurd (other-few d at left c m)
@@ -125,15 +125,15 @@ record Shows (s : Shown) : Type 0 where
   pub number : ℕ
   pub place : ℕ
   pub over : Option ℕ
-  pub detail : ℕ
-  pub shown : s ≡ fails n number place over detail
+  pub why : Failure
+  pub shown : s ≡ fails n number place over why
 
-one-fails : (ask : Check → CheckOutcome) (c : Check) (d : ℕ) → ask c ≡ some d → (s : Shown) → Shows (goOn s (λ n. shownOf (judgeFrom ask n (c ∷ []))))
+one-fails : (ask : Check → CheckOutcome) (c : Check) (why : Failure) → ask c ≡ some why → (s : Shown) → Shows (goOn s (λ n. shownOf (judgeFrom ask n (c ∷ []))))
 unfolding goOn judgeFrom decide shownOf
-one-fails ask c d e (passes n) =
-    record { n = n; number = c .number; place = c .place; over = overOf (c .binders); detail = d; shown = rw e }
-one-fails ask c d e (fails n m place over detail) =
-    record { n = n; number = m; place = place; over = over; detail = detail; shown = refl }
+one-fails ask c why e (passes n) =
+    record { n = n; number = c .number; place = c .place; over = overOf (c .binders); why = why; shown = rw e }
+one-fails ask c why e (fails n m place over first) =
+    record { n = n; number = m; place = place; over = over; why = first; shown = refl }
 
 unread-shows : (f : Frame) (setting : Setting) (tree : Schema) (binders : List Binder) (env : Environment) (v : Value) {b d : Progress}
     → Stands f setting tree binders env
@@ -145,14 +145,14 @@ unread-shows f setting tree binders env v {b} {d} s n g =
     let e : references binders v ≡ check 18 (n .entry) binders (readable (n .behind)) ∷ [] = rw (n .isText, n .isReference) in
     let h : GoesOn (outcome setting tree) b (check 18 (n .entry) binders (readable (n .behind)) ∷ []) d = rw e at g in
     rw (h .shows)
-    (one-fails (outcome setting tree) _ (n .detail)
+    (one-fails (outcome setting tree) _ (n .why)
     (readable-outcome setting tree binders env 18 (n .entry) (n .behind) (s .bound) ∙ n .refuses)
     (shownBy b))
 
 none-fails : (d : Progress) → d .verdict ≡ Pass → Shows (shownBy d) → ⊥
 unfolding shownBy shownWith
 none-fails d e s =
-    let p : passes (d .passed) ≡ fails (s .n) (s .number) (s .place) (s .over) (s .detail) = rw e at (s .shown) in
+    let p : passes (d .passed) ≡ fails (s .n) (s .number) (s .place) (s .over) (s .why) = rw e at (s .shown) in
     let z : _≡_ {A = ℕ} 0 1 = cc in
     omega arith
 
@@ -170,7 +170,7 @@ pub quantifier-misnamed : {schema rule words : List ℕ} {scope : Scope} {over :
     → wrong ≡ true
     → Failed a Bind (i + 1) over r
     → QuantifierJudged (frame schema rule words scope over) (partOf rule name) i end left a r
-unfolding numberOf detailOf check failed
+unfolding numberOf failureOf check failed
 quantifier-misnamed {rule = rule} name {i} {wrong = wrong} same said t p =
     let q : wrong ≡ (isBlank (partOf rule name) || hasDot (partOf rule name)) = rw same at said in
     record {
@@ -179,7 +179,7 @@ quantifier-misnamed {rule = rule} name {i} {wrong = wrong} same said t p =
           λ setting tree binders env v that s w u ends deep room.
           p .goes (outcome setting tree) _ _ (record { numbered = refl; placed = refl; held = s .held })
           (settled-outcome setting tree binders env 21 (i + 1) (isBlank (partOf rule name) || hasDot (partOf rule name)) 0 (s .bound)
-          ∙ ap (λ (x : Bool). failed x 0) (sym q ∙ t));
+          ∙ ap (λ (x : Bool). failed x (failure 0 0)) (sym q ∙ t));
     }
 
 module _ (schema rule words : List ℕ) (scope : Scope) (over : Over) (name : Part) (i end left : ℕ) {wrong : Bool} {text : Text} {middle : ℕ} {a b d : Progress} (inside : i < end) (k : Behind words (i + 1) end middle) (same : text ≡ partOf rule name) (said : wrong ≡ (isBlank text || hasDot text)) (bound : Required a wrong Bind (i + 1) over b) (refs : OperandsJudged (frame schema rule words scope over) 5 (i + 1) middle b d) where
@@ -191,12 +191,12 @@ module _ (schema rule words : List ℕ) (scope : Scope) (over : Over) (name : Pa
         k .exact (omega arith) (omega arith) ∙ n
 
     bind-goes : GoesOn (outcome setting tree) a (check 21 (i + 1) binders (failsIf (isBlank (partOf rule name) || hasDot (partOf rule name)) 0) ∷ []) b
-    unfolding numberOf detailOf check
+    unfolding numberOf failureOf check
     bind-goes =
         let q : wrong ≡ (isBlank (partOf rule name) || hasDot (partOf rule name)) = rw same at said in
         bound .goes (outcome setting tree) _ (record { numbered = refl; placed = refl; held = s .held })
         (settled-outcome setting tree binders env 21 (i + 1) (isBlank (partOf rule name) || hasDot (partOf rule name)) 0 (s .bound)
-        ∙ ap (λ (x : Bool). failed x 0) (sym q))
+        ∙ ap (λ (x : Bool). failed x (failure 0 0)) (sym q))
 
     over-goes : GoesOn (outcome setting tree) b (references binders v) d
     over-goes = value-references refs setting tree binders env v s (record { stands = w; ends = middle-is })
@@ -295,14 +295,14 @@ module _ (schema rule words : List ℕ) (scope : Scope) (over : Over) (name : Pa
       → d .verdict ≡ Pass
       → Failed d (Collection fault place) (i + 1) over r
       → QuantifierJudged (frame schema rule words scope over) (partOf rule name) i end left a r
-  unfolding verdict numberOf detailOf check
+  unfolding verdict numberOf failureOf check
   quantifier-refused {x} {fault} {place} {r} collects y none-yet p =
       record {
         atMost = omega (arith, bound .atMost, refs .atMost, p .same, k .most, k .least (omega arith));
         goes =
             λ setting tree binders env v that s w u ends deep room.
             let q : CollectedIs schema words (Collected.No fault place) (collection tree env v) = rw y at (collects .leads setting tree env v (s .scoped) w) in
-            let o : outcome setting tree (check 22 (i + 1) binders (walkable v)) ≡ some (q .0) =
+            let o : outcome setting tree (check 22 (i + 1) binders (walkable v)) ≡ some (failure (q .0) place) =
             walkable-outcome setting tree binders env 22 (i + 1) v (s .bound) ∙ ap verdict (q .2) in
             goes-then (bind-goes setting tree binders env v that s w ends)
             (goes-then (over-goes setting tree binders env v that s w ends)
@@ -317,13 +317,13 @@ module _ (schema rule words : List ℕ) (scope : Scope) (over : Over) (name : Pa
           → GoesOn (outcome setting tree) b (references binders v) d
           → (detail : ℕ) (path : List Text)
           → collection tree env v ≡ refused detail place path
-          → outcome setting tree (check 22 (i + 1) binders (walkable v)) ≡ some detail
+          → outcome setting tree (check 22 (i + 1) binders (walkable v)) ≡ some (failure detail place)
           → (detail ≤ 5 → detail ≡ collectionDetail fault)
           → (few : Bool) → leb detail 5 ≡ few
           → GoesOn (outcome setting tree) d (check 22 (i + 1) binders (walkable v) ∷ others) r
       refuse setting tree binders env v s others before detail path c o listed true e =
           p .goes (outcome setting tree) _ others (record { numbered = refl; placed = refl; held = s .held })
-          (o ∙ ap some (listed (leb-true detail 5 e)))
+          (o ∙ ap (λ (x : ℕ). some (failure x place)) (listed (leb-true detail 5 e)))
       refuse setting tree binders env v s others before detail path c o listed false e =
           let n : Unread setting tree env v =
           unread setting tree env v detail place path c (leb-false detail 5 e) in

@@ -18,13 +18,13 @@ use Rattle.reference.specs.Setting.{Setting}
 use Rattle.definition.specs.Within.{conditionsEntries}
 use Rattle.rule.specs.Index.{startOf, endOf, RuleAt}
 use Rattle.validation.specs.Check.{Check, check, failsIf, literalCheck, literals, literalsOfConditions, literalChecks, isBlankText, depth, references, checks}
-use Rattle.validation.specs.Judge.{outcome, environment, judge}
+use Rattle.validation.specs.Judge.{Failure, failure, outcome, environment, judge}
 use Rattle.scope.specs.Scopes.{chainOf, ChainAt, ScopeAt}
 use Rattle.scope.specs.declared.binder.Scope.{Scope}
 use Rattle.condition_checks.specs.Depth.{DepthIs}
 use Rattle.validation.specs.Result.{overOf}
 use Rattle.value_checks.specs.Shown.{shownOf, goOn}
-use Rattle.value_checks.specs.Verdicts.{numberOf, detailOf, overBy, shownWith, shownBy, failed, going, GoesOn, PassedOn, Failed, Required}
+use Rattle.value_checks.specs.Verdicts.{numberOf, failureOf, overBy, shownWith, shownBy, failed, going, GoesOn, PassedOn, Failed, Required}
 use Rattle.value_checks.specs.Literals.{ConditionLiterals}
 use Rattle.value_checks.specs.Frames.{frame, Stands, OperandsJudged}
 use Rattle.condition_checks.specs.Bodies.{BodyJudged}
@@ -91,23 +91,23 @@ outside-required : {a r : Progress} {wrong : Bool} {fault : Fault} {place : ℕ}
     → Required a wrong fault place Outside r
     → wrong ≡ flag
     → n ≡ numberOf fault
-    → d ≡ detailOf fault
+    → failure d 0 ≡ failureOf fault
     → GoesOn (outcome setting tree) a (check n place [] (failsIf flag d) ∷ []) r
 unfolding check overOf overBy environment
 outside-required {a} {r} {wrong} {fault} {place} n d flag setting tree p e m q =
     p .goes (outcome setting tree) _ (record { numbered = m; placed = refl; held = refl })
-    (settled-outcome setting tree [] [] n place flag d refl ∙ ap (λ (x : Bool). failed x d) (sym e) ∙ ap (λ (x : ℕ). failed wrong x) q)
+    (settled-outcome setting tree [] [] n place flag d refl ∙ ap (λ (x : Bool). failed x (failure d 0)) (sym e) ∙ ap (λ (x : Failure). failed wrong x) q)
 
 outside-failed : {a r : Progress} {fault : Fault} {place : ℕ} (n d : ℕ) (flag : Bool) (setting : Setting) (tree : Schema) (others : List Check)
     → Failed a fault place Outside r
     → flag ≡ true
     → n ≡ numberOf fault
-    → d ≡ detailOf fault
+    → failure d 0 ≡ failureOf fault
     → GoesOn (outcome setting tree) a (check n place [] (failsIf flag d) ∷ others) r
 unfolding check overOf overBy environment failed
 outside-failed {place = place} n d flag setting tree others p e m q =
     p .goes (outcome setting tree) _ others (record { numbered = m; placed = refl; held = refl })
-    (settled-outcome setting tree [] [] n place flag d refl ∙ ap (λ (x : Bool). failed x d) e ∙ ap some q)
+    (settled-outcome setting tree [] [] n place flag d refl ∙ ap (λ (x : Bool). failed x (failure d 0)) e ∙ ap some q)
 
 both-go : (sheet : List ℕ) (name message : OptionalPart) {unnamed untold : Bool} {b c : Progress} (setting : Setting) (tree : Schema)
     → unnamed ≡ isBlankText (optionalOf sheet name)
@@ -119,14 +119,14 @@ both-go : (sheet : List ℕ) (name message : OptionalPart) {unnamed untold : Boo
     ∷ check 12 1 [] (failsIf (isBlankText (optionalOf sheet message)) 0)
     ∷ [])
     c
-unfolding numberOf detailOf
+unfolding numberOf failureOf
 both-go sheet name message setting tree blank-name blank-message named told =
     goes-then (outside-required 11 0 (isBlankText (optionalOf sheet name)) setting tree named blank-name refl refl)
     (outside-required 12 0 (isBlankText (optionalOf sheet message)) setting tree told blank-message refl refl)
 
 module _ {schema sheet words : List ℕ} {scope : Scope} {name message : OptionalPart} {end : ℕ} {unnamed : Bool} (blank-name : unnamed ≡ isBlankText (optionalOf sheet name)) where
   pub definition-unnamed : {r : Progress} → unnamed ≡ true → Failed (going 0) Name 1 Outside r → DefinitionJudged schema sheet words scope name message end r
-  unfolding checks numberOf detailOf
+  unfolding checks numberOf failureOf
   definition-unnamed {r} t p =
       record {
         shows =
@@ -141,7 +141,7 @@ module _ {schema sheet words : List ℕ} {scope : Scope} {name message : Optiona
       → untold ≡ true
       → Failed b Message 1 Outside r
       → DefinitionJudged schema sheet words scope name message end r
-  unfolding checks numberOf detailOf
+  unfolding checks numberOf failureOf
   definition-untold {r = r} blank-message named t p =
       record {
         shows =
@@ -161,7 +161,7 @@ module _ {schema sheet words : List ℕ} {scope : Scope} {name message : Optiona
       → 32 < n
       → Failed c Deep 2 Outside r
       → DefinitionJudged schema sheet words scope name message end r
-  unfolding checks numberOf detailOf
+  unfolding checks numberOf failureOf
   definition-deep {n} {r} m h p =
       record {
         shows =
@@ -198,7 +198,7 @@ module _ {schema sheet words : List ℕ} {scope : Scope} {name message : Optiona
             (q .goes setting tree [] [] assert (outermost s) w few (omega arith)))));
       }
     where
-      passes-if : (x : Bool) → x ≡ true → failed (not x) 0 ≡ none
+      passes-if : (x : Bool) → x ≡ true → failed (not x) (failure 0 0) ≡ none
       passes-if x e = rw e
 
 -- By the sheet's first entry.

@@ -8,7 +8,7 @@ use lib.ListN.{length, take, drop}
 use lib.Seq.{take-length, drop-length}
 use borrow.Author.Tests.{leb-true, leb-false}
 use Rattle.sheet.specs.ReaderLaws.{by-test}
-use Rattle.rule_book.specs.Tally.{KeptFrom}
+use Rattle.validation.specs.Result.{KeptFrom}
 use Rattle.rule_book.specs.TallyLaws.{AllWithin}
 use Rattle.host_numbers.specs.Counts.{InEightBytes, no-more, one-more}
 use Rattle.entity_rules.specs.Entry.{pathLent}

@@ -6,3 +6,4 @@ pub mod Examples
 pub mod BookSteps
 pub mod BookEntries
 pub mod WallEntries
+pub mod OpenEntries

@@ -1,5 +1,6 @@
--- Seven numbers for a result.
-use Prim.Native.Nat.{ℕ, _^_, _≤_, _<_}
+-- Numbers for a result.
+use Prim.Native.Nat.{ℕ, _*_, _/_, _^_, _≤_, _<_}
+use native.Mathlib.Omega.{arith}
 use mathlib.Core.List.{List}
 use mathlib.Core.Path.{_≡_}
 use lib.ListN.{length}
@@ -9,8 +10,17 @@ use Rattle.buffer.specs.Bytes.{bytesOf, InFourBytes, no-more, one-more}
 use Rattle.single_check.specs.Outcomes.{numbersBy}
 use Rattle.single_check.specs.declared.outcome.Outcome.{Outcome}
 use Rattle.single_check.specs.declared.outcome.Report.{Report}
-use Rattle.entity_rules.specs.Entry.{resultBytes, fieldsOf, resultAfter}
+use Rattle.entity_rules.specs.Entry.{resultBytes, fieldsOf, resultAfter, numbersAfter}
 use Rattle.entity_rules.specs.CheckEntry.{reportBytes, reportFields, reportAfter}
+
+-- numbers of any count
+pub numbers-short : (ns l : List ℕ) → length l / 4 < length ns → l ≡ numbersAfter ns l
+unfolding numbersAfter
+numbers-short ns l short = rw (lt-leb (4 * length ns) (length l) (omega arith))
+
+pub numbers-written : (ns : List ℕ) {before after : List ℕ} {next : ℕ} → length ns ≤ length before / 4 → Wrote before after 0 (bytesOf ns) next → after ≡ numbersAfter ns before
+unfolding numbersAfter
+numbers-written ns {before} room w = rw (le-leb (4 * length ns) (length before) (omega arith)) (w .stands)
 
 pub result-short : (o : Outcome) (l : List ℕ) → length l < resultBytes → l ≡ resultAfter (numbersBy o) l
 unfolding resultAfter

@@ -2,8 +2,8 @@
 use Prim.Native.Nat.{ℕ}
 use mathlib.Core.List.{List}
 use mathlib.Core.Path.{_≡_}
-use Rattle.validation.specs.Result.{pathBytes, scratchWords}
-use Rattle.rule_book.specs.Tally.{BookCall, BookAnswer, bookRefused, tallied, bookAnswer, tallyNumbers, freed, KeptFrom}
+use Rattle.validation.specs.Result.{pathBytes, scratchWords, KeptFrom}
+use Rattle.rule_book.specs.Tally.{BookCall, BookAnswer, bookRefused, tallied, bookAnswer, tallyNumbers, freed}
 use Rattle.entity_rules.specs.Entry.{pathLent}
 use Rattle.host_numbers.specs.Counts.{InEightBytes, countsAfter}
 

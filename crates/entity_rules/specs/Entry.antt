@@ -1,5 +1,5 @@
 -- What a C function of this crate answers, and what both buffers hold after it (docs/FORMAT.md, "The C interface").
-use Prim.Native.Nat.{ℕ}
+use Prim.Native.Nat.{ℕ, _*_}
 use mathlib.Core.Bool.{cond}
 use mathlib.Core.List.{List, [], _∷_}
 use mathlib.Core.Path.{_≡_}
@@ -30,6 +30,10 @@ fieldsOf n =
 -- the result buffer after the call: the numbers lie at its start, and all other bytes keep their values
 unfoldable pub resultAfter : Numbers → List ℕ → List ℕ
 resultAfter n before = cond (leb resultBytes (length before)) (sets before 0 (bytesOf (fieldsOf n))) before
+
+-- the same with other numbers
+unfoldable pub numbersAfter : (numbers before : List ℕ) → List ℕ
+numbersAfter numbers before = cond (leb (4 * length numbers) (length before)) (sets before 0 (bytesOf numbers)) before
 
 -- A result buffer with too few bytes is refusal 3, as a path buffer under 32,768 bytes is. So the path buffer counts as empty there:
 -- 3 then falls due in its place, after 1 and 2 and before the sheets.

@@ -12,3 +12,5 @@ pub mod BookEntry
 pub mod BookEntryLaws
 pub mod WallEntry
 pub mod WallEntryLaws
+pub mod OpenEntry
+pub mod OpenEntryLaws

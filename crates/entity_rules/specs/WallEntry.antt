@@ -2,8 +2,7 @@
 use Prim.Native.Nat.{ℕ}
 use mathlib.Core.List.{List}
 use mathlib.Core.Path.{_≡_}
-use Rattle.validation.specs.Result.{pathBytes}
-use Rattle.rule_book.specs.Tally.{KeptFrom}
+use Rattle.validation.specs.Result.{pathBytes, KeptFrom}
 use Rattle.wall.specs.Wall.{WallCall, WallAnswer, wallRefused, printed, wallAnswer, wallNumbers, pagesAfter, wallFreed}
 use Rattle.host_numbers.specs.Counts.{InEightBytes, countsAfter}
 use Rattle.entity_rules.specs.BookEntry.{bookCallFor}

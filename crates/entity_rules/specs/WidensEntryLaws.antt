@@ -2,14 +2,19 @@
 -- old rule fares under the new schema as demand 3 says.
 use Prim.Native.Nat.{ℕ, _≤_, _<_}
 use native.Mathlib.Omega.{arith}
+use mathlib.Core.Bool.{Bool}
 use mathlib.Core.List.{List}
-use mathlib.Core.Option.{none}
-use mathlib.Core.Path.{_≡_, refl, sym, _∙_}
+use mathlib.Core.Logic.{_⊎_, ⊎-elim}
+use mathlib.Core.Option.{Option, none, some}
+use mathlib.Core.Path.{_≡_, refl, sym, ap, _∙_}
 use lib.ListN.{length, getD}
 use borrow.Author.Tests.{le-leb}
-use Rattle.widening.specs.Widening.{Level, marks, anything}
+use Rattle.definition.specs.Tree.{Schema}
+use Rattle.definition.specs.Decode.{decodeSchema}
+use Rattle.widening.specs.Widening.{Level, only, anything, marks}
 use Rattle.widening.specs.Decision.{widening, refuted}
-use Rattle.widening.specs.SheetDecision.{DecisionAnswer, malformed, decision, widensSheets, decisionNumbers}
+use Rattle.widening.specs.DecisionLaws.{widens-level}
+use Rattle.widening.specs.SheetDecision.{DecisionAnswer, malformed, decision, answerFor, widensSheets, decisionNumbers}
 use Rattle.validation.specs.Result.{early, firstRefusal, Unrefused, Run, callOf, Meets}
 use Rattle.validation.specs.Demands.{SameButSchema, Demand3}
 use Rattle.validation.specs.Upgrade.{upgrade}
@@ -27,35 +32,50 @@ module _ {first second resultBefore resultNow : List ℕ} {r : ℕ} (a : WidensA
   pub widens-returns : r ≡ widensNumbers first second .number
   widens-returns = a .number ∙ rw (le-leb resultBytes (length resultBefore) room) refl
 
--- the answer that stands for a widening
-unfoldable pub yesAt : Level → ℕ
-yesAt marks = 1
-yesAt anything = 2
+-- the answer that stands for a widening in which no more than that differs
+pub data YesAt : Level → ℕ → Type 0 where
+  byMarks : YesAt marks 1
+  byAnything : YesAt anything 2
 
-says-yes : (l : Level) (x : DecisionAnswer) → decisionNumbers x .number ≡ 0 → decisionNumbers x .answer ≡ yesAt l → x ≡ decision (widening l)
-unfolding decisionNumbers yesAt
-says-yes l (malformed which) n y = absurd (omega arith)
-says-yes marks (decision (widening marks)) n y = refl
-says-yes marks (decision (widening anything)) n y = absurd (omega arith)
-says-yes anything (decision (widening marks)) n y = absurd (omega arith)
-says-yes anything (decision (widening anything)) n y = refl
-says-yes marks (decision (refuted why e e′)) n y = absurd (omega arith)
-says-yes anything (decision (refuted why e e′)) n y = absurd (omega arith)
+sheets-level : (x x′ : Option Schema) (l : Level) → answerFor x x′ ≡ decision (widening l) → (l ≡ marks) ⊎ (l ≡ anything)
+unfolding answerFor
+sheets-level none x′ l e = let z : _≡_ {A = ℕ} 0 1 = cc in absurd (omega arith)
+sheets-level (some s) none l e = let z : _≡_ {A = ℕ} 0 1 = cc in absurd (omega arith)
+sheets-level (some s) (some s′) l e = widens-level s s′ l cc
+
+only-marks : (may : ℕ → Bool) → (only may ≡ marks) ⊎ (only may ≡ anything) → only may ≡ marks
+only-marks may h = ⊎-elim (λ e. e) (λ e. let z : _≡_ {A = ℕ} 0 1 = cc in absurd (omega arith)) h
+
+says-yes : {l : Level} {y : ℕ} (x : DecisionAnswer)
+    → ((k : Level) → x ≡ decision (widening k) → (k ≡ marks) ⊎ (k ≡ anything))
+    → YesAt l y
+    → decisionNumbers x .number ≡ 0
+    → decisionNumbers x .answer ≡ y
+    → x ≡ decision (widening l)
+unfolding decisionNumbers
+says-yes (malformed which) levels said n a = absurd (omega arith)
+says-yes (decision (widening (only may))) levels byMarks n a = ap (λ (k : Level). decision (widening k)) (only-marks may (levels (only may) refl))
+says-yes (decision (widening (only may))) levels byAnything n a = absurd (omega arith)
+says-yes (decision (widening anything)) levels byMarks n a = absurd (omega arith)
+says-yes (decision (widening anything)) levels byAnything n a = refl
+says-yes (decision (refuted why e e′)) levels byMarks n a = absurd (omega arith)
+says-yes (decision (refuted why e e′)) levels byAnything n a = absurd (omega arith)
 
 -- from the bytes of an answer to what it means for a rule
 pub entry-upgrade : {l : Level} {resultBefore resultNow : List ℕ} {n : ℕ} (r r′ : Run)
     → WidensAnswered (r .schema) (r′ .schema) resultBefore resultNow n
     → resultBytes ≤ length resultBefore
     → n ≡ 0
-    → fieldAt 1 resultNow ≡ yesAt l
+    → YesAt l (fieldAt 1 resultNow)
     → Meets r
     → Meets r′
     → SameButSchema r r′
     → Unrefused (callOf r)
     → firstRefusal (early (callOf r′)) ≡ none
     → Demand3 l r r′
-unfolding widensNumbers inPlaces fieldsOf
+unfolding widensNumbers inPlaces fieldsOf widensSheets
 entry-upgrade {l} r r′ a room zero said m m′ s u u′ =
     upgrade r r′ m m′ s
-    (says-yes l (widensSheets (r .schema) (r′ .schema)) (sym (widens-returns a room) ∙ zero) (sym (widens-field a room 1 (omega arith)) ∙ said))
+    (says-yes (widensSheets (r .schema) (r′ .schema)) (λ k. sheets-level (decodeSchema (r .schema)) (decodeSchema (r′ .schema)) k) said
+    (sym (widens-returns a room) ∙ zero) (sym (widens-field a room 1 (omega arith))))
     u u′

@@ -4,6 +4,7 @@ mod report; // report.rt: a check with a name table and a mark list
 mod change; // change.rt: what is answered about two schema sheets
 mod book; // book.rt: the tally of a rule book
 mod pages; // pages.rt: a rule book's run for the wall
+mod fewest; // fewest.rt: the fewest marks to open
 
 use crate::change::told;
 use crate::result::RESULT_BYTES;

@@ -14,7 +14,8 @@ use Rattle.sheet.specs.Places.{ReadsTo, Refuses}
 use Rattle.reference.specs.Setting.{Setting}
 use Rattle.schema.specs.Read.{SchemaIs}
 use Rattle.schema.specs.declared.read.SchemaRead.{SchemaRead}
-use Rattle.validation.specs.Result.{any, Answer, maxLabelBytes, pathBytes, Numbers, numbersOf}
+use Rattle.validation.specs.Result.{any, Answer, maxLabelBytes, pathBytes, Numbers, numbersOf, KeptFrom}
+use Rattle.validation.specs.KeptLaws.{kept-both}
 use Rattle.single_check.specs.Answers.{Tells}
 use Rattle.single_check.specs.Sheets.{takesOf, sheetAnswer, FrontOnly, SheetChecked}
 use Rattle.single_check.specs.SheetLaws.{still-read, front-rule, front-both}
@@ -22,7 +23,7 @@ use Rattle.single_check.specs.declared.sheets.Takes.the-variants.{Any}
 use Rattle.single_check.specs.declared.outcome.Outcome.{Outcome}
 use Rattle.rule_book.specs.Book.{sheetIn, sheetsOf}
 use Rattle.rule_book.specs.BookLaws.{sheets-end, sheets-more, sheets-none, book-round-trip}
-use Rattle.rule_book.specs.Tally.{countOf, passedIn, sum, tallyOf, tallied, tallyNumbers, defectNumbers, KeptFrom}
+use Rattle.rule_book.specs.Tally.{countOf, passedIn, sum, tallyOf, tallied, tallyNumbers, defectNumbers}
 use Rattle.rule_book.specs.TallyLaws.{counts-within, tally-bytes}
 use Rattle.rule_book.specs.AnswerLaws.{sheet-number, sheet-passed, sheet-path}
 use Rattle.rule_book.specs.Tallying.{answersIn, numbersIn, Ready, SheetsTallied}
@@ -187,9 +188,6 @@ tallying-start {label} {schema} {read} {book} setting r =
       kept = record { size = refl; kept = refl };
       front = record { size = refl; kept = λ i h. refl };
     }
-
-pub kept-both : {free : ℕ} {before middle after : List ℕ} → KeptFrom free before middle → KeptFrom free middle after → KeptFrom free before after
-kept-both f g = record { size = g .size ∙ f .size; kept = g .kept ∙ f .kept }
 
 module _ {setting : Setting} {label schema : List ℕ} {read : SchemaRead} {book pathBefore before path words counts : List ℕ} {sheets passed at : ℕ}
     (t : Tallying setting label schema read book pathBefore before path words counts sheets passed at) where

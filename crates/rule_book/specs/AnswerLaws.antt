@@ -1,12 +1,11 @@
 -- What the check of one sheet adds to a run: a number below 23, no more passed than the sheet has bytes, and a path in the first 32,768 bytes.
-use Prim.Native.Nat.{ℕ, _+_, _-_, _<_, _≤_}
+use Prim.Native.Nat.{ℕ, _<_, _≤_}
 use native.Mathlib.Omega.{arith}
 use mathlib.Core.Bool.{Bool, true, false, cond}
-use mathlib.Core.List.{List, _++_}
+use mathlib.Core.List.{List}
 use mathlib.Core.Option.{Option, none, some, Option·none-ne-some}
 use mathlib.Core.Path.{_≡_, refl, sym, ap, _∙_}
-use lib.ListN.{length, drop}
-use lib.Seq.{sets, sets-eq, length-sets, drop-append-add, drop-drop}
+use lib.ListN.{length}
 use Rattle.definition.specs.Tree.{Text, Schema, Rule}
 use Rattle.definition.specs.Decode.{decodeSchema, decodeRule}
 use Rattle.definition.specs.Within.{RuleWithin}
@@ -14,13 +13,13 @@ use Rattle.definition.specs.RoundTrip.{rule-round-trip}
 use Rattle.reference.specs.Setting.{Setting}
 use Rattle.validation.specs.Check.{Check, check, checks}
 use Rattle.validation.specs.Judge.{Verdict, allPass, failsAt, judge}
-use Rattle.validation.specs.Result.{Takes, Answer, refused, accepted, defect, maxLabelBytes, pathBytes, isTaken, answerOf, checked, judged, numbersOf, pathAfter}
+use Rattle.validation.specs.Result.{Takes, Answer, refused, accepted, defect, maxLabelBytes, pathBytes, isTaken, answerOf, checked, judged, numbersOf, pathAfter, KeptFrom}
+use Rattle.validation.specs.KeptLaws.{sets-kept}
 use Rattle.validation.specs.CheckLaws.{every-check}
 use Rattle.validation.specs.CountLaws.{VerdictIs, every-judged}
 use Rattle.defect_path.specs.LengthLaws.{path-length}
 use Rattle.single_check.specs.Sheets.{takenOf, sheetAnswer}
 use Rattle.rule_book.specs.ByteLaws.{judged-passed}
-use Rattle.rule_book.specs.Tally.{KeptFrom}
 
 -- a rule that is taken is the sheet's
 taken : (takes : Takes) (o : Option Rule) (x : Rule) → takenOf takes o ≡ some x → o ≡ some x
@@ -61,20 +60,6 @@ module _ (takes : Takes) (setting : Setting) (label schema sheet : List ℕ) whe
   sheet-passed = judged-passed setting label sheet (decodeSchema schema) (takenOf takes (decodeRule sheet)) (taken takes (decodeRule sheet))
 
 -- Its path.
-
-sets-kept : (free : ℕ) (l p : List ℕ) → length p ≤ free → free ≤ length l → KeptFrom free l (sets l 0 p)
-sets-kept free l p short room =
-    let behind : length p + (free - length p) ≡ free = omega arith in
-    let all : 0 + length p + (free - length p) ≡ free = omega arith in
-    record {
-      size = length-sets l 0 p;
-      kept =
-          ap (drop free) (sets-eq p l 0 (omega arith))
-          ∙ ap (λ (k : ℕ). drop k (p ++ drop (0 + length p) l)) (sym behind)
-          ∙ drop-append-add p (drop (0 + length p) l) (free - length p)
-          ∙ drop-drop (free - length p) (0 + length p) l
-          ∙ ap (λ (k : ℕ). drop k l) all;
-    }
 
 answer-path : (before : List ℕ) → pathBytes ≤ length before → (a : Answer) → numbersOf a .pathLength ≤ pathBytes → KeptFrom pathBytes before (pathAfter a before)
 unfolding numbersOf pathAfter

@@ -7,7 +7,7 @@ use mathlib.Core.Path.{_≡_}
 use lib.ListN.{length, drop, replicate}
 use lib.Dec.{eqb}
 use Rattle.validation.specs.Check.{isNone}
-use Rattle.validation.specs.Result.{any, Asked, Widths, Call, Answer, Refusal, ofTable, ofSettings, firstRefusal, numbersOf, resultOf, pathBytes, scratchWords, markBytes}
+use Rattle.validation.specs.Result.{any, Asked, Widths, Call, Answer, Refusal, ofTable, ofSettings, firstRefusal, numbersOf, resultOf, pathBytes, scratchWords, markBytes, KeptFrom}
 use Rattle.rule_book.specs.Book.{sheetsOf}
 
 pub record BookCall : Type 0 where
@@ -111,11 +111,6 @@ tallyNumbers (tallied t) = 0 ∷ t .read ∷ t .accepted ∷ t .schemaRefused �
 unfoldable pub freed : ℕ → BookAnswer → ℕ
 freed n (bookRefused number) = 0
 freed n (tallied t) = n
-
--- only the first `free` elements may differ
-pub record KeptFrom (free : ℕ) (before after : List ℕ) : Type 0 where
-  pub size : length after ≡ length before
-  pub kept : drop free after ≡ drop free before
 
 -- what a caller hands over, and what it has after the call
 pub record BookRun : Type 0 where

@@ -15,7 +15,7 @@ use Rattle.reference.specs.Setting.{oneOf}
 use Rattle.validation.specs.Check.{isNone, IsDefect}
 use Rattle.validation.specs.Result.{Call, Answer, refused, refusalNumbers, IsRefusal, Heard, refusal, acceptance, finding, ofTable, ofSettings, early, ofSheets, refusals, firstRefusal, numbersOf, resultOf, pathBytes}
 use Rattle.validation.specs.Result as Result
-use Rattle.validation.specs.RefusalLaws.{every, present, none-due, first-none, of-listed, of-first, sheets-first, first-append, outside}
+use Rattle.validation.specs.RefusalLaws.{every, present, none-due, first-none, of-listed, of-first, sheets-first, first-append, capped-settings}
 use Rattle.single_check.specs.SheetLaws.{roomy}
 use Rattle.validation.specs.DemandLaws.{NotRefused, heard, unrefused-answer}
 use Rattle.rule_book.specs.Book.{sheetsOf, writeBook}
@@ -304,14 +304,6 @@ no-room-refused c short = let (n, e) = no-room-due c short in (n, settings-first
 
 -- A kind or semantics beyond its range is refusal 1, so a number beyond both may stand for every larger one.
 
-kind-due : (c : BookCall) → 8 < c .kind → settingRefusal c ≡ some 1
-unfolding ofSettings firstRefusal askedOf
-kind-due c more = rw (outside 8 (c .kind) more)
-
-semantics-due : (c : BookCall) → 4 < c .semantics → settingRefusal c ≡ some 1
-unfolding ofSettings firstRefusal askedOf
-semantics-due c more = rw (outside 4 (c .semantics) more, and-false)
-
 unfoldable pub cappedBook : (most : ℕ) → BookCall → BookCall
 cappedBook most c =
     record {
@@ -327,23 +319,12 @@ cappedBook most c =
 -- of every answer that refusal 1 decides
 pub capped-same : {A : Type 0} (f : BookCall → A) (a : A) → ((c : BookCall) → settingRefusal c ≡ some 1 → f c ≡ a) → (most : ℕ) (c : BookCall) → 8 < most
     → f (cappedBook most c) ≡ f c
-unfolding cappedBook
-capped-same f a decides most c beyond =
-    by-test (leb (c .kind) most)
-    (λ k.
-    let kind-low = leb-true (c .kind) most k in
-    let kind-is : min (c .kind) most ≡ c .kind = omega arith in
-    by-test (leb (c .semantics) most)
-    (λ s.
-    let semantics-low = leb-true (c .semantics) most s in
-    let semantics-is : min (c .semantics) most ≡ c .semantics = omega arith in
-    rw (kind-is, semantics-is))
-    (λ s.
-    let semantics-high = leb-false (c .semantics) most s in
-    decides (cappedBook most c) (semantics-due (cappedBook most c) (omega arith)) ∙ sym (decides c (semantics-due c (omega arith)))))
-    (λ k.
-    let kind-high = leb-false (c .kind) most k in
-    decides (cappedBook most c) (kind-due (cappedBook most c) (omega arith)) ∙ sym (decides c (kind-due c (omega arith))))
+unfolding cappedBook ofSettings firstRefusal askedOf
+capped-same f a decides most c =
+    capped-settings
+    (λ kind semantics.
+    f (record { kind = kind; semantics = semantics; label = c .label; table = c .table; schema = c .schema; book = c .book; lent = c .lent }))
+    a (λ kind semantics e. decides _ (rw e)) most (c .kind) (c .semantics)
 
 pub capped-book : (most : ℕ) (c : BookCall) → 8 < most → bookAnswer (cappedBook most c) ≡ bookAnswer c
 capped-book = capped-same bookAnswer (bookRefused 1) (λ c e. settings-first c 1 e)

@@ -7,10 +7,10 @@ use lib.ListN.{length, getD}
 use Rattle.reference.specs.Setting.{Setting}
 use Rattle.schema.specs.Read.{SchemaIs}
 use Rattle.schema.specs.declared.read.SchemaRead.{SchemaRead}
-use Rattle.validation.specs.Result.{any, Answer, maxLabelBytes, pathBytes, scratchWords}
+use Rattle.validation.specs.Result.{any, Answer, maxLabelBytes, pathBytes, scratchWords, KeptFrom}
 use Rattle.single_check.specs.Sheets.{sheetAnswer, FrontOnly}
 use Rattle.rule_book.specs.Book.{sheetsOf}
-use Rattle.rule_book.specs.Tally.{tallyOf, tallied, tallyNumbers, KeptFrom, BookRun}
+use Rattle.rule_book.specs.Tally.{tallyOf, tallied, tallyNumbers, BookRun}
 
 -- what the check list says of each sheet, under a setting
 unfoldable pub answersIn : Setting → (label schema : List ℕ) → List (List ℕ) → List Answer

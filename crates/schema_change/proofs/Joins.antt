@@ -4,7 +4,7 @@ use mathlib.Core.Bool.{Bool, true, false, cond}
 use mathlib.Core.List.{List, [], _∷_, _++_}
 use mathlib.Core.Path.{_≡_, refl, ap, sym, _∙_}
 use native.Mathlib.Omega.{arith}
-use Rattle.widening.specs.Widening.{marks, anything}
+use Rattle.widening.specs.Widening.{only, anything, marks}
 use Rattle.widening.specs.Decision.{fieldAdded, Difference, growth, breach, breachIf, Decision, widening, refuted, withGrowth, decided}
 use Rattle.widening.specs.Decision as Decision
 use Rattle.schema_change.specs.declared.answer.Reason.{Reason}
@@ -19,7 +19,7 @@ growth-twice (refuted why e e′) = refl
 
 joined-grown : (a b : Decision) → joined (withGrowth a) b ≡ withGrowth (joined a b)
 unfolding joined withGrowth
-joined-grown (widening marks) b = refl
+joined-grown (widening (only may)) b = refl
 joined-grown (widening anything) b = sym (growth-twice b)
 joined-grown (refuted why e e′) b = refl
 
@@ -31,7 +31,7 @@ decided-append (breach why e e′ ∷ xs) ys = refl
 
 joined-assoc : (a b c : Decision) → joined (joined a b) c ≡ joined a (joined b c)
 unfolding joined
-joined-assoc (widening marks) b c = refl
+joined-assoc (widening (only may)) b c = refl
 joined-assoc (widening anything) b c = joined-grown b c
 joined-assoc (refuted why e e′) b c = refl
 
@@ -46,15 +46,15 @@ goes-both {a} {b} {c} {xs} {ys} f g =
     }
 
 -- nothing differs
-joined-nothing : (d : Decision) → d ≡ joined d (widening marks)
+joined-nothing : (a : Change) → decisionOf a ≡ joined (decisionOf a) (widening marks)
 unfolding joined withGrowth
-joined-nothing (widening marks) = refl
-joined-nothing (widening anything) = refl
-joined-nothing (refuted why e e′) = refl
+joined-nothing Marks = refl
+joined-nothing Anything = refl
+joined-nothing (Refuted why e e′) = refl
 
 pub goes-nothing : {a : Change} → Goes a [] a
 unfolding decided
-goes-nothing {a} = record { is = joined-nothing (decisionOf a) }
+goes-nothing {a} = record { is = joined-nothing a }
 
 -- a breach stays, whatever comes after it
 pub goes-closed : (a : Change) (ds : List Difference) → isOpenYet a ≡ false → Goes a ds a
@@ -135,7 +135,7 @@ open-widening (Refuted why e e′) = refl
 
 joined-behind : (a b : Decision) → isWidening (joined a b) ≡ true → isWidening b ≡ true
 unfolding joined withGrowth isWidening
-joined-behind (widening marks) b e = e
+joined-behind (widening (only may)) b e = e
 joined-behind (widening anything) (widening l) e = refl
 joined-behind (widening anything) (refuted why k k′) e = e
 joined-behind (refuted why k k′) b e = let z : _≡_ {A = ℕ} 0 1 = cc in absurd (omega arith)

@@ -2,7 +2,7 @@
 use mathlib.Core.Bool.{Bool, true, false}
 use mathlib.Core.List.{List}
 use mathlib.Core.Path.{_≡_}
-use Rattle.widening.specs.Widening.{marks, anything}
+use Rattle.widening.specs.Widening.{only, anything, marks}
 use Rattle.widening.specs.Decision.{fieldMissing, kindDiffers, itemsDiffer, tagDiffers, markCloses, fieldAdded, argumentsGo, Difference, Decision, widening, refuted, withGrowth, decided}
 use Rattle.widening.specs.Decision as Decision
 use Rattle.widening.specs.SheetDecision.{DecisionAnswer, malformed, decision}
@@ -33,7 +33,7 @@ widensAnswerOf (Is change) = decision (decisionOf change)
 
 -- what two parts of the list decide together
 unfoldable pub joined : Decision → Decision → Decision
-joined (widening marks) d = d
+joined (widening (only may)) d = d
 joined (widening anything) d = withGrowth d
 joined (refuted why e e′) d = refuted why e e′
 

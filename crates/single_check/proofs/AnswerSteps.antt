@@ -28,7 +28,7 @@ use Rattle.validation.specs.Location.{behindLabel}
 use Rattle.validation.specs.Result as Result
 use Rattle.validation.specs.Result.{checked, ownFamily, numbersOf, pathAfter, overOf, familyIn, overPlaceIn}
 use Rattle.value_checks.specs.Shown.{Shown, passes, fails, shownOf, answerShown, answer-shown}
-use Rattle.value_checks.specs.Verdicts.{numberOf, detailOf, overBy, shownWith, shownBy}
+use Rattle.value_checks.specs.Verdicts.{numberOf, failureOf, overBy, shownWith, shownBy}
 use Rattle.condition_checks.specs.Rules.{RuleJudged}
 use Rattle.value_checks.specs.declared.verdict.Fault.{Fault}
 use Rattle.value_checks.specs.declared.verdict.Over.{Over}
@@ -142,11 +142,11 @@ module _ (set : Code.Setting) {schema sheet : List ℕ} {s : Schema} {words : Li
         → Narrow written size
         → Answered setting label schema sheet s words before after
         (record { number = found .number; family = family; detail = found .detail; place = place; «over_place» = overPlace′; passed = p; «path_length» = size })
-    unfolding shownBy shownWith answerShown pathAfter numbersOf
+    unfolding shownBy shownWith failureOf answerShown pathAfter numbersOf
     answer-defect {label} {before} {after} {fault} {entry} {over} {found = found} {place} {size} {family} {overPlace} {overPlace′} {written} v finding placed wrote family-is over-is over-narrow narrow-size =
         record {
           tells = λ t x at rat within short small room.
-              let f : shownBy a ≡ fails (a .passed) (numberOf fault) entry (overBy over) (detailOf fault) = rw v in
+              let f : shownBy a ≡ fails (a .passed) (numberOf fault) entry (overBy over) (failureOf fault) = rw v in
               let w = shown-small t x short at rat within f in
               let entries = within .entries in
               let few = w .few in

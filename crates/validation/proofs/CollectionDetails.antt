@@ -14,7 +14,7 @@ use Rattle.validation.specs.Result.{Call, Defect, Answer, refused, accep
 
 abbrev ExplainedVerdict : Verdict → Type 0
 ExplainedVerdict (allPass n) = Unit {0}
-ExplainedVerdict (failsAt n c d) = c .number ≡ 22 → Listed d
+ExplainedVerdict (failsAt n c why) = c .number ≡ 22 → Listed (why .detail)
 
 abbrev ExplainedAnswer : Answer → Type 0
 ExplainedAnswer (refused n) = Unit {0}

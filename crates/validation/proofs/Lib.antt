@@ -12,3 +12,4 @@ pub mod TableEdges
 mod MemberOrder
 pub mod ConstantEdges
 pub mod MarkEdges
+pub mod OpeningEdges

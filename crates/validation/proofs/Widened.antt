@@ -6,7 +6,7 @@ use mathlib.Core.Path.{_≡_, refl}
 use Rattle.sheet.specs.Ascii.{ascii}
 use Rattle.definition.specs.Tree.{Text, Schema}
 use Rattle.definition.specs.Decode.{decodeSchema}
-use Rattle.widening.specs.Widening.{Level, marks, anything, kept, opened, closed, wider, neither, both, end, keep, more, without, appear, stay, WiderSchema}
+use Rattle.widening.specs.Widening.{Level, marks, anything, listed, anyMark, kept, opened, closed, wider, neither, both, end, keep, more, without, appear, stay, WiderSchema}
 use Rattle.validation.specs.Result.{Lent, Call, Unrefused, Numbers}
 use Rattle.validation.specs.Growth.{against, Widens}
 use Rattle.validation.specs.Demands.{Demand3, demand-3}
@@ -61,7 +61,7 @@ pub mark : Shows marks
     (accepts 5)
 unfolding heard lacks roomy
 mark =
-    shows _ _ refl refl (record { fields = record { mark = kept; members = keep (wider opened neither end) end }; arguments = without }) refl refl refl refl
+    shows _ _ refl refl (record { fields = record { mark = kept; members = keep (wider (opened (listed refl)) neither end) end }; arguments = without }) refl refl refl refl
 
 -- the mark of an element, read through an ordinal
 pub element-mark : Shows marks
@@ -71,7 +71,7 @@ pub element-mark : Shows marks
     (accepts 5)
 unfolding heard lacks roomy
 element-mark =
-    shows _ _ refl refl (record { fields = record { mark = kept; members = keep (wider kept (both (wider opened neither end)) end) end }; arguments = without }) refl refl refl refl
+    shows _ _ refl refl (record { fields = record { mark = kept; members = keep (wider kept (both (wider (opened (listed refl)) neither end)) end) end }; arguments = without }) refl refl refl refl
 
 -- the mark of the arguments
 pub arguments-mark : Shows marks
@@ -81,7 +81,7 @@ pub arguments-mark : Shows marks
     (accepts 5)
 unfolding heard lacks roomy
 arguments-mark =
-    shows _ _ refl refl (record { fields = record { mark = kept; members = end }; arguments = stay (record { mark = opened; members = end }) }) refl refl refl refl
+    shows _ _ refl refl (record { fields = record { mark = kept; members = end }; arguments = stay (record { mark = opened (listed refl); members = end }) }) refl refl refl refl
 
 -- an open mark elsewhere: the same defect with the same detail
 pub other-mark : Shows marks
@@ -91,7 +91,7 @@ pub other-mark : Shows marks
     (lacks 3)
 unfolding heard lacks roomy
 other-mark =
-    shows _ _ refl refl (record { fields = record { mark = opened; members = keep (wider kept neither end) end }; arguments = without }) refl refl refl refl
+    shows _ _ refl refl (record { fields = record { mark = opened (listed refl); members = keep (wider kept neither end) end }; arguments = without }) refl refl refl refl
 
 -- an added field with a property: the defect goes
 pub subtree : Shows anything
@@ -141,7 +141,7 @@ pub mark-and-fields : Shows anything
     (finds 18 1 10 4 0 5 14 (ascii "r.assert.eq[1]"))
 unfolding heard lacks roomy
 mark-and-fields =
-    shows _ _ refl refl (record { fields = record { mark = opened; members = more closed (keep (wider opened neither (more closed end)) end) }; arguments = without }) refl refl refl refl
+    shows _ _ refl refl (record { fields = record { mark = opened anyMark; members = more closed (keep (wider (opened anyMark) neither (more closed end)) end) }; arguments = without }) refl refl refl refl
 
 -- a property under a string: the same defect
 pub any-kind : Shows anything

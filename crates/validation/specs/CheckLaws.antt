@@ -161,7 +161,7 @@ under-literals (l ∷ ls) = (record { binders = refl; other = λ e. omega arith 
 -- passes, or fails with one of the details of number 22
 abbrev pub Explains : CheckOutcome → Type 0
 Explains none = Unit {0}
-Explains (some d) = Listed d
+Explains (some why) = Listed (why .detail)
 
 passes-reads : (r : Reached) → verdict r ≡ none → Reads r
 unfolding verdict

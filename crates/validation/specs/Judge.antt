@@ -8,14 +8,27 @@ use Rattle.reference.specs.Walk.{Reached, refused, unknown, known}
 use Rattle.reference.specs.Reference.{Environment, reference, collection}
 use Rattle.validation.specs.Check.{Binder, Question, settled, readable, walkable, Check}
 
--- none passes, a detail fails
+-- why a check fails: the detail, and the entry of the field that refused; 1 is the record, 0 the arguments or no field at all
+pub record Failure : Type 0 where
+  pub detail : ℕ
+  pub at : ℕ
+
+abbrev pub failure : (detail at : ℕ) → Failure
+failure d at = record { detail = d; at = at }
+
+-- none passes
 abbrev pub CheckOutcome : Type 0
-CheckOutcome = Option ℕ
+CheckOutcome = Option Failure
 
 unfoldable pub verdict : Reached → CheckOutcome
-verdict (refused d at left) = some d
+verdict (refused d at left) = some (failure d at)
 verdict unknown = none
 verdict (known f) = none
+
+-- a check that no schema answers
+unfoldable pub unasked : Option ℕ → CheckOutcome
+unasked none = none
+unasked (some d) = some (failure d 0)
 
 -- the binders with their elements, outermost first resolved; none where one of them walks no collection
 unfoldable pub extend : Text → Environment → Reached → Option Environment
@@ -32,13 +45,14 @@ environment schema [] = some []
 environment schema (b ∷ bs) = enter schema b (environment schema bs)
 
 unfoldable pub answer : Setting → Schema → Environment → Question → CheckOutcome
-answer setting schema env (settled o) = o
+unfolding unasked
+answer setting schema env (settled o) = unasked o
 answer setting schema env (readable t) = verdict (reference setting schema env t)
 answer setting schema env (walkable v) = verdict (collection schema env v)
 
 -- under a binder that walks no collection nothing passes; its own check fails before
 unfoldable pub answerIn : Setting → Schema → Question → Option Environment → CheckOutcome
-answerIn setting schema q none = some 0
+answerIn setting schema q none = some (failure 0 0)
 answerIn setting schema q (some env) = answer setting schema env q
 
 unfoldable pub outcome : Setting → Schema → Check → CheckOutcome
@@ -47,12 +61,12 @@ outcome setting schema c = answerIn setting schema (c .question) (environment sc
 pub data Verdict : Type 0 where
   -- all checks passed, so many
   allPass : (passed : ℕ) → Verdict
-  -- the check failed with the detail, after so many that passed
-  failsAt : (passed : ℕ) (c : Check) (detail : ℕ) → Verdict
+  -- the check failed, after so many that passed
+  failsAt : (passed : ℕ) (c : Check) (why : Failure) → Verdict
 
 unfoldable pub decide : CheckOutcome → ℕ → Check → Verdict → Verdict
 decide none passed c others = others
-decide (some d) passed c others = failsAt passed c d
+decide (some why) passed c others = failsAt passed c why
 
 unfoldable pub judgeFrom : (Check → CheckOutcome) → ℕ → List Check → Verdict
 judgeFrom ask passed [] = allPass passed

@@ -20,7 +20,7 @@ use Rattle.validation.specs.Result.{Call, Answer, refused, accepted, def
 -- what a check of number 18 fails with
 abbrev Fails : CheckOutcome → Type 0
 Fails none = Unit {0}
-Fails (some d) = Kernel d
+Fails (some why) = Kernel (why .detail)
 
 verdict-kernel : (r : Reached) → Has Kernel r → Fails (verdict r)
 unfolding verdict
@@ -46,7 +46,7 @@ module _ (setting : Setting) (is-kernel : setting .reader ≡ kernel) (schema : 
 
   abbrev VerdictByKernel : Verdict → Type 0
   VerdictByKernel (allPass n) = Unit {0}
-  VerdictByKernel (failsAt n c d) = c .number ≡ 18 → Kernel d
+  VerdictByKernel (failsAt n c why) = c .number ≡ 18 → Kernel (why .detail)
 
   decided-by : (o : CheckOutcome) (n : ℕ) (c : Check) (v : Verdict) → (c .number ≡ 18 → Fails o) → VerdictByKernel v → VerdictByKernel (decide o n c v)
   unfolding decide

@@ -122,7 +122,7 @@ both-fail {l} x x′ details =
 walks-fare : {l : Level} {x x′ : Reached} → Fares l x x′ → KeyDemand3 l (numbersOf (keyAnswer x)) (numbersOf (keyAnswer x′))
 unfolding keyAnswer
 walks-fare (stillRefused {d = d} {d′ = d′} details) = both-fail d d′ details
-walks-fare (nowUnknown {d = d}) = now-accepts d
+walks-fare (nowUnknown {d = d} m) = now-accepts d
 walks-fare (nowKnown {d = d}) = now-accepts d
 walks-fare stillUnknown = both-accept
 walks-fare (stillKnown g) = both-accept

@@ -3,6 +3,7 @@ pub mod Judge
 pub mod Location
 pub mod Result
 pub mod RefusalLaws
+pub mod KeptLaws
 pub mod Loading
 pub mod LoadingLaws
 pub mod CheckLaws
@@ -26,3 +27,10 @@ pub mod Marked
 pub mod ConstantLaws
 pub mod Marking
 pub mod MarkingLaws
+pub mod Openings
+pub mod OpeningLaws
+pub mod RisingLaws
+pub mod Fewest
+pub mod LeastLaws
+pub mod RoundLaws
+pub mod FewestLaws

@@ -216,6 +216,29 @@ pub outside : (high n : ℕ) → high < n → between 1 high n ≡ false
 unfolding between
 outside high n more = rw (lt-leb n high more, and-false)
 
+-- so a number beyond both ranges may stand for every larger one, wherever refusal 1 decides
+pub capped-settings : {A : Type 0} (f : (kind semantics : ℕ) → A) (a : A)
+    → ((kind semantics : ℕ) → (between 1 8 kind && between 1 4 semantics) ≡ false → f kind semantics ≡ a)
+    → (most kind semantics : ℕ)
+    → 8 < most
+    → f (min kind most) (min semantics most) ≡ f kind semantics
+capped-settings f a decides most kind semantics beyond =
+    by-test (leb kind most)
+    (λ k.
+    let kind-low = leb-true kind most k in
+    let kind-is : min kind most ≡ kind = omega arith in
+    by-test (leb semantics most)
+    (λ s.
+    let semantics-low = leb-true semantics most s in
+    let semantics-is : min semantics most ≡ semantics = omega arith in
+    rw (kind-is, semantics-is))
+    (λ s.
+    let semantics-high = leb-false semantics most s in
+    decides _ _ (rw (outside 4 (min semantics most) (omega arith), and-false)) ∙ sym (decides _ _ (rw (outside 4 semantics (omega arith), and-false)))))
+    (λ k.
+    let kind-high = leb-false kind most k in
+    decides _ _ (rw (outside 8 (min kind most) (omega arith))) ∙ sym (decides _ _ (rw (outside 8 kind (omega arith)))))
+
 outside-refused : (c : Call) → (between 1 8 (c .asked .kind) && between 1 4 (c .asked .semantics)) ≡ false → resultOf c ≡ refused 1
 unfolding resultOf refusals early ofSettings firstRefusal refusedOr
 outside-refused c e = rw e
@@ -243,22 +266,11 @@ capped most c =
       rule = c .asked .rule;
     })
 
--- so a number beyond both ranges may stand for every larger one
 pub capped-same : (most : ℕ) (c : Call) → 8 < most → resultOf (capped most c) ≡ resultOf c
-unfolding capped
-capped-same most c beyond =
-    by-test (leb (c .asked .kind) most)
-    (λ k.
-    let kind-low = leb-true (c .asked .kind) most k in
-    let kind-is : min (c .asked .kind) most ≡ c .asked .kind = omega arith in
-    by-test (leb (c .asked .semantics) most)
-    (λ s.
-    let semantics-low = leb-true (c .asked .semantics) most s in
-    let semantics-is : min (c .asked .semantics) most ≡ c .asked .semantics = omega arith in
-    rw (kind-is, semantics-is))
-    (λ s.
-    let semantics-high = leb-false (c .asked .semantics) most s in
-    semantics-refused (capped most c) (omega arith) ∙ sym (semantics-refused c (omega arith))))
-    (λ k.
-    let kind-high = leb-false (c .asked .kind) most k in
-    kind-refused (capped most c) (omega arith) ∙ sym (kind-refused c (omega arith)))
+unfolding capped asking
+capped-same most c =
+    capped-settings
+    (λ kind semantics.
+    resultOf
+    (asking c (record { takes = c .asked .takes; kind = kind; semantics = semantics; label = c .asked .label; rule = c .asked .rule })))
+    (refused 1) (λ kind semantics e. outside-refused _ e) most (c .asked .kind) (c .asked .semantics)

@@ -118,7 +118,8 @@ defectOf setting label r passed number place over d =
 
 unfoldable pub answerOf : Setting → (label : Text) → Rule → Verdict → Answer
 answerOf setting label r (allPass passed) = accepted passed
-answerOf setting label r (failsAt passed c d) = defect (defectOf setting label r passed (c .number) (c .place) (overOf (c .binders)) d)
+answerOf setting label r (failsAt passed c why) =
+    defect (defectOf setting label r passed (c .number) (c .place) (overOf (c .binders)) (why .detail))
 
 abbrev pub maxLabelBytes : ℕ
 maxLabelBytes = 256
@@ -263,6 +264,11 @@ keptScratch (defect d) = scratchWords
 pub record ScratchAfter (a : Answer) (before after : List ℕ) : Type 0 where
   pub size : length after ≡ length before
   pub kept : drop (keptScratch a) after ≡ drop (keptScratch a) before
+
+-- only the first `free` elements may differ
+pub record KeptFrom (free : ℕ) (before after : List ℕ) : Type 0 where
+  pub size : length after ≡ length before
+  pub kept : drop free after ≡ drop free before
 
 -- what a caller hands over, and what it has after the call
 pub record Run : Type 0 where

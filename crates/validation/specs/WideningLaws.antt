@@ -13,24 +13,24 @@ use Rattle.widening.specs.Widening.{Level}
 use Rattle.widening.specs.WalkLaws.{Details, equal, Fares, stillRefused, nowUnknown, nowKnown, stillUnknown, stillKnown}
 use Rattle.widening.specs.ReferenceLaws.{GrownSchema, bothUnknown, bothKnown, EnvironmentFares, noBinders, binder, reference-fares, collection-fares}
 use Rattle.validation.specs.Check.{Binder, Question, settled, readable, walkable, Check}
-use Rattle.validation.specs.Judge.{CheckOutcome, verdict, extend, enter, environment, answer, answerIn, outcome, Verdict, allPass, failsAt, decide, judgeFrom, judge}
+use Rattle.validation.specs.Judge.{Failure, CheckOutcome, verdict, unasked, extend, enter, environment, answer, answerIn, outcome, Verdict, allPass, failsAt, decide, judgeFrom, judge}
 use Rattle.validation.specs.CheckLaws.{Resolved, Sure}
 
 data OutcomeFares : Level → CheckOutcome → CheckOutcome → Type 0 where
   stillPasses : {l : Level} → OutcomeFares l none none
-  nowPasses : {l : Level} {d : ℕ} → OutcomeFares l (some d) none
-  stillFails : {l : Level} {d d′ : ℕ} → Details l d d′ → OutcomeFares l (some d) (some d′)
+  nowPasses : {l : Level} {why : Failure} → OutcomeFares l (some why) none
+  stillFails : {l : Level} {why why′ : Failure} → Details l (why .detail) (why′ .detail) → OutcomeFares l (some why) (some why′)
 
 verdict-fares : {l : Level} {r r′ : Reached} → Fares l r r′ → OutcomeFares l (verdict r) (verdict r′)
 unfolding verdict
 verdict-fares (stillRefused d) = stillFails d
-verdict-fares nowUnknown = nowPasses
+verdict-fares (nowUnknown m) = nowPasses
 verdict-fares nowKnown = nowPasses
 verdict-fares stillUnknown = stillPasses
 verdict-fares (stillKnown g) = stillPasses
 
 -- binders that are resolved stay so
-data Resolves : Level → Option Environment → Option Environment → Type 0 where
+pub data Resolves : Level → Option Environment → Option Environment → Type 0 where
   unresolved : {l : Level} {x′ : Option Environment} → Resolves l none x′
   resolved : {l : Level} {env env′ : Environment} → EnvironmentFares l env env′ → Resolves l (some env) (some env′)
 
@@ -40,7 +40,7 @@ extend-fares : {l : Level} {env env′ : Environment} {r r′ : Reached} (name :
     → Resolves l (extend name env r) (extend name env′ r′)
 unfolding extend
 extend-fares name e (stillRefused d) = unresolved
-extend-fares name e nowUnknown = unresolved
+extend-fares name e (nowUnknown m) = unresolved
 extend-fares name e nowKnown = unresolved
 extend-fares name e stillUnknown = resolved (binder bothUnknown e)
 extend-fares name e (stillKnown g) = resolved (binder (bothKnown g) e)
@@ -53,7 +53,7 @@ unfolding enter
 enter-fares b g unresolved = unresolved
 enter-fares b g (resolved e) = extend-fares (b .name) e (collection-fares (b .over) g e)
 
-environment-fares : {l : Level} {s s′ : Schema} (bs : List Binder) → GrownSchema l s s′ → Resolves l (environment s bs) (environment s′ bs)
+pub environment-fares : {l : Level} {s s′ : Schema} (bs : List Binder) → GrownSchema l s s′ → Resolves l (environment s bs) (environment s′ bs)
 unfolding environment
 environment-fares [] g = resolved noBinders
 environment-fares (b ∷ bs) g = enter-fares b g (environment-fares bs g)
@@ -67,7 +67,7 @@ answer-fares : {l : Level} {s s′ : Schema} {env env′ : Environment} (setting
     → EnvironmentFares l env env′
     → OutcomeFares l (answer setting s env q) (answer setting s′ env′ q)
 unfolding answer
-answer-fares setting (settled o) g e = settled-fares o
+answer-fares setting (settled o) g e = settled-fares (unasked o)
 answer-fares setting (readable t) g e = verdict-fares (reference-fares setting t g e)
 answer-fares setting (walkable v) g e = verdict-fares (collection-fares v g e)
 
@@ -93,8 +93,8 @@ passedOf (failsAt n c d) = n
 
 pub data VerdictFares : Level → Verdict → Verdict → Type 0 where
   stillAccepted : {l : Level} {n : ℕ} → VerdictFares l (allPass n) (allPass n)
-  sameDefect : {l : Level} {n : ℕ} {c : Check} {d d′ : ℕ} → Details l d d′ → VerdictFares l (failsAt n c d) (failsAt n c d′)
-  later : {l : Level} {n : ℕ} {c : Check} {d : ℕ} {v : Verdict} → n < passedOf v → VerdictFares l (failsAt n c d) v
+  sameDefect : {l : Level} {n : ℕ} {c : Check} {why why′ : Failure} → Details l (why .detail) (why′ .detail) → VerdictFares l (failsAt n c why) (failsAt n c why′)
+  later : {l : Level} {n : ℕ} {c : Check} {why : Failure} {v : Verdict} → n < passedOf v → VerdictFares l (failsAt n c why) v
 
 passed-decide : (o : CheckOutcome) (n : ℕ) (c : Check) (v : Verdict) → n + 1 ≤ passedOf v → n ≤ passedOf (decide o n c v)
 unfolding passedOf decide

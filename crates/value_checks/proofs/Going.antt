@@ -9,7 +9,7 @@ use Rattle.sheet.specs.Entries.{ValueHead}
 use Rattle.validation.specs.Check.{Check}
 use Rattle.validation.specs.Judge.{CheckOutcome, allPass, decide, judgeFrom}
 use Rattle.value_checks.specs.Shown.{Shown, passes, fails, shownOf, goOn, judge-append}
-use Rattle.value_checks.specs.Verdicts.{detailOf, shownWith, shownBy, going, GoesOn, FailsWith, PassedOn, Failed, failed, Required}
+use Rattle.value_checks.specs.Verdicts.{failureOf, shownWith, shownBy, going, GoesOn, FailsWith, PassedOn, Failed, failed, Required}
 use Rattle.value_checks.specs.Leaves.{saidIn, said-append}
 use Rattle.value_checks.specs.declared.verdict.Fault.{Fault}
 use Rattle.value_checks.specs.declared.verdict.Over.{Over}
@@ -58,16 +58,16 @@ goes-one {ask} {n} {c} p = record { shows = rw (one-judged ask n c none p) }
 
 pub goes-wrong : {ask : Check → CheckOutcome} {n : ℕ} {c : Check} {fault : Fault} {place : ℕ} {over : Over}
     → FailsWith c fault place over
-    → ask c ≡ some (detailOf fault)
+    → ask c ≡ some (failureOf fault)
     → GoesOn ask (going n) (c ∷ []) (record { passed = n; verdict = Defect fault place over })
 unfolding shownBy shownWith goOn decide shownOf
 goes-wrong {ask} {n} {c} {fault} {place} {over} w p =
-    record { shows = rw (one-judged ask n c (some (detailOf fault)) p, w .numbered, w .placed, w .held) }
+    record { shows = rw (one-judged ask n c (some (failureOf fault)) p, w .numbered, w .placed, w .held) }
 
 -- a failing check ends it
 pub goes-wrong-on : {ask : Check → CheckOutcome} {n : ℕ} {c : Check} {checks : List Check} {fault : Fault} {place : ℕ} {over : Over}
     → FailsWith c fault place over
-    → ask c ≡ some (detailOf fault)
+    → ask c ≡ some (failureOf fault)
     → GoesOn ask (going n) (c ∷ checks) (record { passed = n; verdict = Defect fault place over })
 goes-wrong-on w p = goes-then (goes-wrong w p) (goes-stopped refl)
 

@@ -17,12 +17,12 @@ use Rattle.reference.specs.Setting.{Setting}
 use Rattle.reference.specs.Reference.{Environment}
 use Rattle.rule.specs.Index.{startOf}
 use Rattle.validation.specs.Check.{Binder, check, failsIf, literalCheck}
-use Rattle.validation.specs.Judge.{outcome, environment, answer, answerIn}
+use Rattle.validation.specs.Judge.{failure, outcome, environment, answer, answerIn}
 use Rattle.value_checks.specs.Leaves.{saysAt, saysIf, saidIn}
 use Rattle.validation.specs.Result.{overOf}
 use Rattle.value_checks.specs.Kinds.{typeIn, HasType, TextAt}
 use Rattle.value_checks.specs.Nodes.{EntriesIn}
-use Rattle.value_checks.specs.Verdicts.{numberOf, detailOf, overBy, failed, Required}
+use Rattle.value_checks.specs.Verdicts.{numberOf, failureOf, overBy, failed, Required}
 use Rattle.value_checks.specs.Literals.{literalSays, LiteralsJudged}
 use Rattle.value_checks.specs.declared.verdict.Fault.{Fault}
 use Rattle.value_checks.specs.declared.verdict.Fault.the-variants.{Literal}
@@ -33,7 +33,7 @@ use Rattle.value_checks.specs.declared.verdict.Progress.{Progress}
 use Rattle.value_checks.proofs.Going.{goes-nothing, goes-then, goes-stopped, said-next}
 use Rattle.value_checks.proofs.EntrySteps.{entries-part}
 
-fails-answer : (setting : Setting) (schema : Schema) (env : Environment) (b : Bool) (d : ℕ) → answer setting schema env (failsIf b d) ≡ failed b d
+fails-answer : (setting : Setting) (schema : Schema) (env : Environment) (b : Bool) (d : ℕ) → answer setting schema env (failsIf b d) ≡ failed b (failure d 0)
 unfolding answer failsIf failed
 fails-answer setting schema env true d = refl
 fails-answer setting schema env false d = refl
@@ -41,7 +41,7 @@ fails-answer setting schema env false d = refl
 -- a check that the sheet settles
 pub settled-outcome : (setting : Setting) (schema : Schema) (binders : List Binder) (env : Environment) (n p : ℕ) (b : Bool) (d : ℕ)
     → environment schema binders ≡ some env
-    → outcome setting schema (check n p binders (failsIf b d)) ≡ failed b d
+    → outcome setting schema (check n p binders (failsIf b d)) ≡ failed b (failure d 0)
 unfolding outcome answerIn check
 settled-outcome setting schema binders env n p b d e = rw e (fails-answer setting schema env b d)
 
@@ -109,7 +109,7 @@ module _ {s words : List ℕ} {i at : ℕ} {a : Progress} {test : Bool} (start :
       → finite ≡ isFinite digits
       → Required a (not finite) Literal (i + 1) Outside r
       → LiteralsJudged s words i 1 a r
-  unfolding literalCheck numberOf detailOf overBy check overOf environment
+  unfolding literalCheck numberOf failureOf overBy check overOf environment
   literal-number {part} {digits} {finite} {r} t known same f q =
       let m : HasType s at 52 true = subst (λ (x : Bool). HasType s at 52 x) t typed in
       let e : finite ≡ isFinite (partOf s part) = f ∙ ap isFinite same in
@@ -119,7 +119,7 @@ module _ {s words : List ℕ} {i at : ℕ} {a : Progress} {test : Bool} (start :
             λ setting schema w.
             rw (says-typed literalSays s words i at 52 start m _ (number-says s at i known) w)
             (q .goes (outcome setting schema) _ (record { numbered = refl; placed = refl; held = refl })
-            (settled-outcome setting schema [] [] 14 (i + 1) (not (isFinite (partOf s part))) 0 refl ∙ ap (λ (x : Bool). failed (not x) 0) (sym e)));
+            (settled-outcome setting schema [] [] 14 (i + 1) (not (isFinite (partOf s part))) 0 refl ∙ ap (λ (x : Bool). failed (not x) (failure 0 0)) (sym e)));
       }
 
 module _ {s words : List ℕ} {a : Progress} {start i : ℕ} where

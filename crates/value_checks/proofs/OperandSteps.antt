@@ -5,7 +5,7 @@ use native.Mathlib.Nat.{eq-zero-or-pos}
 use mathlib.Core.Bool.{Bool, true, false, false≢true}
 use mathlib.Core.List.{List, [], _∷_, append-nil}
 use mathlib.Core.Logic.{_⊎_, inl, inr, ⊎-elim}
-use mathlib.Core.Option.{none, some}
+use mathlib.Core.Option.{Option, none, some}
 use mathlib.Core.Path.{_≡_, refl, sym, ap, _∙_}
 use lib.ListN.{drop}
 use lib.Dec.{ltb}
@@ -21,11 +21,11 @@ use Rattle.reference.specs.Reference.{Environment, beginsWithDollar}
 use Rattle.rule.specs.Index.{startOf, EntryAt, ValueAt}
 use Rattle.validation.specs.Check.{Binder, Question, settled, Check, check, failsIf, isNone, entryOf, isString, isHolder, references, instantText, instantForm, instantOperand, affixOperand, compareSide, operand}
 use Rattle.validation.specs.Constant.{literalText, literalInstant}
-use Rattle.validation.specs.Judge.{CheckOutcome, outcome, environment, answer, answerIn}
+use Rattle.validation.specs.Judge.{failure, unasked, outcome, environment, answer, answerIn}
 use Rattle.scope.specs.declared.binder.Scope.{Scope}
 use Rattle.value_checks.specs.Kinds.{typeIn, TypeAt, TextAt}
 use Rattle.value_checks.specs.Nodes.{AreValues, Behind}
-use Rattle.value_checks.specs.Verdicts.{numberOf, detailOf, sideDetail, instantDetail, failed, GoesOn, PassedOn, Failed, Required}
+use Rattle.value_checks.specs.Verdicts.{numberOf, detailOf, refusedAt, failureOf, sideDetail, instantDetail, failed, GoesOn, PassedOn, Failed, Required}
 use Rattle.value_checks.specs.Frames.{Frame, frame, Stands, IsReference, ReferencesIn, instantCheck, affixCheck, askedBefore, askedAfter, asked, askedOf, ValueJudged, OperandJudged, OperandsJudged, FormIs, formOf, literalBy, ReadAs}
 use Rattle.value_checks.specs.declared.operand.Form.{Form}
 use Rattle.value_checks.specs.declared.operand.Form.the-variants as Form
@@ -151,10 +151,10 @@ value-entry rule words i (string e t) a = a .isEntry
 value-entry rule words i (array e values) a = a .0 .isEntry
 value-entry rule words i (object e pairs) a = a .0 .isEntry
 
-pub asked-outcome : (setting : Setting) (tree : Schema) (binders : List Binder) (env : Environment) (n p : ℕ) (q : Question) (o : CheckOutcome)
+pub asked-outcome : (setting : Setting) (tree : Schema) (binders : List Binder) (env : Environment) (n p : ℕ) (q : Question) (o : Option ℕ)
     → environment tree binders ≡ some env
     → q ≡ settled o
-    → outcome setting tree (check n p binders q) ≡ o
+    → outcome setting tree (check n p binders q) ≡ unasked o
 unfolding outcome answerIn answer check
 asked-outcome setting tree binders env n p q o e s = rw (e, s)
 
@@ -164,6 +164,7 @@ form-passes : {f : Frame} (n : ℕ) {q : Question} {b r : Progress} (setting : S
     → PassedOn b r
     → q ≡ settled none
     → GoesOn (outcome setting tree) b (check n (entryOf v) binders q ∷ []) r
+unfolding unasked
 form-passes {f} n {q} setting tree binders env v s p e =
     p .goes (outcome setting tree) _ (asked-outcome setting tree binders env n (entryOf v) q none (s .bound) e)
 
@@ -173,13 +174,14 @@ form-fails : {f : Frame} (n : ℕ) {q : Question} {fault : Fault} {place : ℕ} 
     → Failed b fault place (f .over) r
     → n ≡ numberOf fault
     → q ≡ settled (some (detailOf fault))
+    → refusedAt fault ≡ 0
     → (others : List Check)
     → GoesOn (outcome setting tree) b (check n (entryOf v) binders q ∷ others) r
-unfolding check
-form-fails {f} n {q} {fault} setting tree binders env v s w p m e others =
+unfolding check unasked failureOf
+form-fails {f} n {q} {fault} setting tree binders env v s w p m e z others =
     p .goes (outcome setting tree) _ others
     (record { numbered = m; placed = w; held = s .held })
-    (asked-outcome setting tree binders env n (entryOf v) q (some (detailOf fault)) (s .bound) e)
+    (asked-outcome setting tree binders env n (entryOf v) q (some (detailOf fault)) (s .bound) e ∙ ap (λ (x : ℕ). some (failure (detailOf fault) x)) (sym z))
 
 -- What the value of a word is asked besides its references.
 
@@ -204,13 +206,13 @@ module _ {rule words : List ℕ} {over : Over} {i : ℕ} {a : Progress} where
       → x ≡ Bad fault
       → Failed a (Instant fault) (i + 1) over r
       → ValueJudged rule words over instantCheck i a r
-  unfolding instantCheck formOf numberOf detailOf
+  unfolding instantCheck formOf numberOf failureOf
   instant-fails g y p =
       record {
         atMost = omega (arith, p .same);
         goes =
             λ schema scope setting tree binders env v s w.
-            form-fails 20 setting tree binders env v s (value-entry rule words i v w) p refl (rw y at (g v w .form)) [];
+            form-fails 20 setting tree binders env v s (value-entry rule words i v w) p refl (rw y at (g v w .form)) refl [];
       }
 
   module _ {at digit : ℕ} (start : at ≡ startOf words i) (kind : TypeAt rule at digit) where
@@ -225,20 +227,20 @@ module _ {rule words : List ℕ} {over : Over} {i : ℕ} {a : Progress} where
         }
 
     pub affix-fails : {r : Progress} → (digit ≡ 53 → ⊥) → Failed a Affix (i + 1) over r → ValueJudged rule words over affixCheck i a r
-    unfolding affixCheck failsIf numberOf detailOf
+    unfolding affixCheck failsIf numberOf failureOf
     affix-fails d p =
         record {
           atMost = omega (arith, p .same);
           goes =
               λ schema scope setting tree binders env v s w.
-              form-fails 19 setting tree binders env v s (value-entry rule words i v w) p refl (rw (no-string-by rule words i start kind d v w)) [];
+              form-fails 19 setting tree binders env v s (value-entry rule words i v w) p refl (rw (no-string-by rule words i start kind d v w)) refl [];
         }
 
     pub side-asked : {op : ℕ} {which : Side} {r : Progress}
         → op ≡ 18
         → Required a (ltb 53 digit) (Operand which) (i + 1) over r
         → ValueJudged rule words over (askedBefore op which) i a r
-    unfolding askedBefore numberOf detailOf check
+    unfolding askedBefore numberOf failureOf check
     side-asked {op} {which} e p =
         record {
           atMost = p .atMost;
@@ -248,7 +250,7 @@ module _ {rule words : List ℕ} {over : Over} {i : ℕ} {a : Progress} where
               (p .goes (outcome setting tree) _
               (record { numbered = refl; placed = value-entry rule words i v w; held = s .held })
               (settled-outcome setting tree binders env 17 (entryOf v) (isHolder v) (sideDetail which) (s .bound)
-              ∙ ap (λ (x : Bool). failed x (sideDetail which)) (holder-by rule words i start kind v w)));
+              ∙ ap (λ (x : Bool). failed x (failure (sideDetail which) 0)) (holder-by rule words i start kind v w)));
         }
 
   pub side-unasked : (op : ℕ) (which : Side) → (op ≡ 18 → ⊥) → ValueJudged rule words over (askedBefore op which) i a a

@@ -26,7 +26,7 @@ use Rattle.validation.specs.Judge.{outcome, environment, verdict, answer, answe
 use Rattle.value_checks.specs.Leaves.{leaves, leavesOfValues, leavesOfPairs, saidIn, said-value}
 use Rattle.value_checks.specs.Kinds.{typeIn, HasType, TextAt}
 use Rattle.value_checks.specs.Nodes.{IsValue, EntriesIn}
-use Rattle.value_checks.specs.Verdicts.{numberOf, detailOf, GoesOn, PassedOn, Failed}
+use Rattle.value_checks.specs.Verdicts.{numberOf, failureOf, GoesOn, PassedOn, Failed}
 use Rattle.scope.specs.References.{ReferenceReads}
 use Rattle.value_checks.specs.Frames.{Frame, Stands, IsReference, referenceSays, ReferencesIn}
 use Rattle.value_checks.specs.declared.verdict.Fault.{Fault}
@@ -144,7 +144,7 @@ module _ {f : Frame} {i at : ℕ} {a : Progress} {test : Bool} (start : at ≡ s
         → x ≡ No fault place
         → Failed a (Reference fault place) (i + 1) (f .over) r
         → ReferencesIn f i 1 a r
-    unfolding referenceCheck verdict numberOf detailOf check
+    unfolding referenceCheck verdict numberOf failureOf check
     reference-fails {x} {fault} {place} {r} e q y p =
         record {
           atMost = omega (arith, p .same);

@@ -6,7 +6,7 @@ use mathlib.Core.Option.{Option, none, some}
 use mathlib.Core.Path.{_≡_}
 use Rattle.walk.specs.Answers.{referenceDetail, collectionDetail}
 use Rattle.validation.specs.Check.{Check}
-use Rattle.validation.specs.Judge.{CheckOutcome, judgeFrom}
+use Rattle.validation.specs.Judge.{Failure, failure, CheckOutcome, judgeFrom}
 use Rattle.validation.specs.Result.{overOf}
 use Rattle.value_checks.specs.Shown.{Shown, passes, fails, shownOf, goOn}
 use Rattle.value_checks.specs.declared.verdict.Side.{Side}
@@ -59,13 +59,32 @@ detailOf (Instant fault) = instantDetail fault
 detailOf Bind = 0
 detailOf (Collection fault at) = collectionDetail fault
 
+-- the entry of the field that refused
+unfoldable pub refusedAt : Fault → ℕ
+refusedAt Name = 0
+refusedAt Message = 0
+refusedAt Deep = 0
+refusedAt Literal = 0
+refusedAt Operator = 0
+refusedAt Empty = 0
+refusedAt (Operand side) = 0
+refusedAt (Reference fault at) = at
+refusedAt Affix = 0
+refusedAt (Instant fault) = 0
+refusedAt Bind = 0
+refusedAt (Collection fault at) = at
+
+unfoldable pub failureOf : Fault → Failure
+unfolding detailOf refusedAt
+failureOf fault = failure (detailOf fault) (refusedAt fault)
+
 unfoldable pub overBy : Over → Option ℕ
 overBy Outside = none
 overBy (In e) = some e
 
 unfoldable pub shownWith : ℕ → Verdict → Shown
 shownWith n Pass = passes n
-shownWith n (Defect f place over) = fails n (numberOf f) place (overBy over) (detailOf f)
+shownWith n (Defect f place over) = fails n (numberOf f) place (overBy over) (failureOf f)
 
 unfoldable pub shownBy : Progress → Shown
 shownBy a = shownWith (a .passed) (a .verdict)
@@ -98,16 +117,16 @@ pub record Failed (a : Progress) (fault : Fault) (place : ℕ) (over : Over) (r 
   pub same : r .passed ≡ a .passed
   pub goes : (ask : Check → CheckOutcome) (c : Check) (checks : List Check)
       → FailsWith c fault place over
-      → ask c ≡ some (detailOf fault)
+      → ask c ≡ some (failureOf fault)
       → GoesOn ask a (c ∷ checks) r
 
-unfoldable pub failed : Bool → ℕ → CheckOutcome
-failed true detail = some detail
-failed false detail = none
+unfoldable pub failed : Bool → Failure → CheckOutcome
+failed true why = some why
+failed false why = none
 
 pub record Required (a : Progress) (wrong : Bool) (fault : Fault) (place : ℕ) (over : Over) (r : Progress) : Type 0 where
   pub atMost : r .passed ≤ a .passed + 1
   pub goes : (ask : Check → CheckOutcome) (c : Check)
       → FailsWith c fault place over
-      → ask c ≡ failed wrong (detailOf fault)
+      → ask c ≡ failed wrong (failureOf fault)
       → GoesOn ask a (c ∷ []) r

@@ -15,7 +15,8 @@ use Rattle.buffer.specs.WroteLaws.{wrote-nothing, wrote-then, wrote-kept, sets-
 use Rattle.reference.specs.Setting.{Setting}
 use Rattle.schema.specs.Read.{SchemaAnswer}
 use Rattle.schema.specs.declared.read.SchemaRead.{SchemaRead}
-use Rattle.validation.specs.Result.{any, Answer, refused, accepted, defect, pathBytes, Numbers, numbersOf, pathAfter}
+use Rattle.validation.specs.Result.{any, Answer, refused, accepted, defect, pathBytes, Numbers, numbersOf, pathAfter, KeptFrom}
+use Rattle.validation.specs.KeptLaws.{kept-both}
 use Rattle.single_check.specs.Answers.{Tells}
 use Rattle.single_check.specs.Sheets.{takesOf, sheetAnswer, SheetChecked}
 use Rattle.single_check.specs.SheetLaws.{still-read, front-schema, front-rule, front-both}
@@ -23,10 +24,10 @@ use Rattle.single_check.specs.declared.sheets.Takes.the-variants.{Any}
 use Rattle.single_check.specs.declared.outcome.Outcome.{Outcome}
 use Rattle.rule_book.specs.Book.{sheetIn, sheetsOf}
 use Rattle.rule_book.specs.BookLaws.{sheets-end, sheets-more, sheets-none}
-use Rattle.rule_book.specs.Tally.{countOf, KeptFrom}
+use Rattle.rule_book.specs.Tally.{countOf}
 use Rattle.rule_book.specs.TallyLaws.{counts-within}
 use Rattle.rule_book.specs.AnswerLaws.{sheet-short, sheet-path}
-use Rattle.rule_book.proofs.TallySteps.{first-of, kept-both}
+use Rattle.rule_book.proofs.TallySteps.{first-of}
 use Rattle.rule_book.specs.Tallying.{answersIn, Ready}
 use Rattle.wall.specs.Pages.{perPage, line, resultLine, results, blankLine, heading, foot, page, pagesFrom}
 use Rattle.wall.specs.Writing.{rowOf, rowsFrom}

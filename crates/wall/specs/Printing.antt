@@ -8,10 +8,10 @@ use lib.Seq.{sets}
 use Rattle.buffer.specs.Wrote.{Wrote}
 use Rattle.reference.specs.Setting.{Setting}
 use Rattle.schema.specs.declared.read.SchemaRead.{SchemaRead}
-use Rattle.validation.specs.Result.{maxLabelBytes, pathBytes, scratchWords}
+use Rattle.validation.specs.Result.{maxLabelBytes, pathBytes, scratchWords, KeptFrom}
 use Rattle.single_check.specs.Sheets.{FrontOnly}
 use Rattle.rule_book.specs.Book.{sheetsOf}
-use Rattle.rule_book.specs.Tally.{countOf, KeptFrom}
+use Rattle.rule_book.specs.Tally.{countOf}
 use Rattle.rule_book.specs.Tallying.{answersIn, Ready, bookRunOf}
 use Rattle.wall.specs.Pages.{perPage, page, pagesFrom}
 use Rattle.wall.specs.Wall.{WallRun}

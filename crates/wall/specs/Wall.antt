@@ -7,9 +7,9 @@ use mathlib.Core.Path.{_≡_}
 use lib.Dec.{leb}
 use lib.ListN.{length}
 use lib.Seq.{sets}
-use Rattle.validation.specs.Result.{Answer, Refusal, ofTable, ofSettings, firstRefusal, pathBytes, scratchWords}
+use Rattle.validation.specs.Result.{Answer, Refusal, ofTable, ofSettings, firstRefusal, pathBytes, scratchWords, KeptFrom}
 use Rattle.rule_book.specs.Book.{sheetsOf}
-use Rattle.rule_book.specs.Tally.{BookCall, askedOf, ofForm, answersOf, orNoSheets, KeptFrom, BookRun, bookCallOf}
+use Rattle.rule_book.specs.Tally.{BookCall, askedOf, ofForm, answersOf, orNoSheets, BookRun, bookCallOf}
 use Rattle.wall.specs.Pages.{pageBytes, pageCount, pagesOf}
 
 -- a call as for a tally, and how many bytes are lent for the pages

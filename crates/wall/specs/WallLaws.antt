@@ -12,10 +12,10 @@ use borrow.Author.Tests.{leb-true, leb-false, le-leb, lt-leb}
 use Rattle.sheet.specs.ReaderLaws.{by-test}
 use Rattle.reference.specs.Setting.{oneOf}
 use Rattle.validation.specs.Check.{isNone}
-use Rattle.validation.specs.Result.{Answer, refusalNumbers, IsRefusal, Refusal, ofTable, ofSettings, firstRefusal, resultOf, pathBytes}
+use Rattle.validation.specs.Result.{Answer, refusalNumbers, IsRefusal, Refusal, ofTable, ofSettings, firstRefusal, resultOf, pathBytes, KeptFrom}
 use Rattle.validation.specs.RefusalLaws.{every, present, is-set, none-due, of-listed, of-first, first-none, first-append}
 use Rattle.rule_book.specs.Book.{sheetsOf}
-use Rattle.rule_book.specs.Tally.{BookCall, askedOf, single, ofForm, answersOf, sum, Tally, tallyOf, tallied, orNoSheets, bookAnswer, KeptFrom}
+use Rattle.rule_book.specs.Tally.{BookCall, askedOf, single, ofForm, answersOf, sum, Tally, tallyOf, tallied, orNoSheets, bookAnswer}
 use Rattle.rule_book.specs.TallyLaws.{settingRefusal, setting-listed, table-listed, unlisted, no-room-due, book-tallied, cappedBook, capped-same, read-bound, AllWithin}
 use Rattle.wall.specs.Pages.{pageBytes, resultLine, pageCount, pagesOf}
 use Rattle.wall.specs.PageLaws.{pages-size, ownCounts, lineAt, result-line, feet-add-up}

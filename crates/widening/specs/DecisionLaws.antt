@@ -1,9 +1,9 @@
 -- The decision and the relation are the same, at each level, and the reason is the first breach of all.
 use mathlib.Core.Bool.{Bool, true, false, cond}
 use mathlib.Core.List.{List, [], _∷_, _++_}
-use mathlib.Core.Logic.{_↔_}
+use mathlib.Core.Logic.{_↔_, _⊎_, inl, inr}
 use mathlib.Core.Option.{Option, none, some}
-use mathlib.Core.Path.{_≡_, refl, ap}
+use mathlib.Core.Path.{_≡_, refl, ap, subst}
 use Prim.Native.Nat.{ℕ}
 use lib.Dec.{eqb}
 use native.Mathlib.Omega.{arith}
@@ -13,13 +13,13 @@ use Rattle.sheet.specs.OrderLaws.{sameBytes-equal, sameBytes-refl, precedes-irr
 use Rattle.definition.specs.Tree.{Text, Field, field, Items, absent, element, Members, noMembers, member, Holder, Schema}
 use Rattle.definition.specs.Within.{FieldRises, ItemsRise, MembersRise, ArgumentsRise, SchemaRises}
 use Rattle.definition.specs.RisingLaws.{AllBehind, rising-behind}
-use Rattle.widening.specs.Widening.{Level, marks, anything, Opened, kept, opened, MayGrow, closed, WiderField, wider, WiderItems, neither, both, WiderMembers, end, keep, more, WiderHolder, WiderArguments, without, appear, stay, WiderSchema}
+use Rattle.widening.specs.Widening.{Level, only, anything, marks, MayOpen, listed, anyMark, Opened, kept, opened, MayGrow, closed, WiderField, wider, WiderItems, neither, both, WiderMembers, end, keep, more, WiderHolder, WiderArguments, without, appear, stay, WiderSchema}
 use Rattle.widening.specs.Decision.{Reason, Difference, growth, breach, breachIf, sameTag, sameItemsMark, closes, ownDifferences, added, allAdded, missing, sought, fieldDifferences, itemsDifferences, membersDifferences, argumentsMarks, argumentsDifferences, differences, Decision, widening, refuted, withGrowth, decided, widens}
 
 -- Which differences a level allows.
 
 abbrev pub Allowed : Difference → Level → Type 0
-Allowed growth marks = ⊥
+Allowed growth (only may) = ⊥
 Allowed growth anything = Unit {0}
 Allowed (breach why e e′) l = ⊥
 
@@ -52,18 +52,22 @@ no-breach b why e e′ h = rw h nothing
 
 -- Marks, tags, added fields.
 
-opened-if : (o o′ : Bool) → closes o o′ ≡ false → Opened o o′
-unfolding closes
-opened-if true true h = kept
-opened-if true false h = let z : _≡_ {A = ℕ} 0 1 = cc in absurd (omega arith)
-opened-if false true h = opened
-opened-if false false h = kept
+-- no decision is about some open marks and not about others
+abbrev pub EveryMark : Level → Type 0
+EveryMark l = (e : ℕ) → MayOpen l e
 
-closes-not : {o o′ : Bool} → Opened o o′ → closes o o′ ≡ false
+opened-if : {l : Level} (e : ℕ) (o o′ : Bool) → EveryMark l → closes o o′ ≡ false → Opened l e o o′
+unfolding closes
+opened-if e true true every h = kept
+opened-if e true false every h = let z : _≡_ {A = ℕ} 0 1 = cc in absurd (omega arith)
+opened-if e false true every h = opened (every e)
+opened-if e false false every h = kept
+
+closes-not : {l : Level} {e : ℕ} {o o′ : Bool} → Opened l e o o′ → closes o o′ ≡ false
 unfolding closes
 closes-not (kept {mark = true}) = refl
 closes-not (kept {mark = false}) = refl
-closes-not opened = refl
+closes-not (opened m) = refl
 
 tag-equal : (t t′ : Option Text) → sameTag t t′ ≡ true → t ≡ t′
 unfolding sameTag
@@ -80,7 +84,7 @@ tag-refl (some t) = sameBytes-refl t
 may-grow-if : (o : Bool) (f′ : Field) (l : Level) → Allowed (added o f′) l → MayGrow l o
 unfolding added
 may-grow-if true f′ l a = absurd a
-may-grow-if false f′ marks a = absurd a
+may-grow-if false f′ (only may) a = absurd a
 may-grow-if false f′ anything a = closed
 
 added-allowed : {l : Level} {o : Bool} (f′ : Field) → MayGrow l o → Allowed (added o f′) l
@@ -123,8 +127,8 @@ sought-sound o name f m found lost l h (member name′ f′ m′) a =
 mutual
   unfolding fieldDifferences itemsDifferences membersDifferences ownDifferences sameItemsMark
 
-  field-sound : (f f′ : Field) (l : Level) → AllAllowed (fieldDifferences f f′) l → WiderField l f f′
-  field-sound (field e kind o tag i m) (field e′ kind′ o′ tag′ i′ m′) l a =
+  field-sound : (f f′ : Field) (l : Level) → EveryMark l → AllAllowed (fieldDifferences f f′) l → WiderField l f f′
+  field-sound (field e kind o tag i m) (field e′ kind′ o′ tag′ i′ m′) l every a =
       let p = allowed-parts _ _ a in
       let kinds = allowed-parts _ _ (p .0) in
       let opens = allowed-parts _ _ (kinds .1) in
@@ -133,21 +137,21 @@ mutual
       let sameKind = eqb-true kind kind′ (not-false (eqb kind kind′) (breach-not _ _ e e′ (kinds .0))) in
       let sameTags = tag-equal tag tag′ (not-false (sameTag tag tag′) (breach-not _ _ e e′ (items .1))) in
       rw (sameKind, sameTags) (wider
-      (opened-if o o′ (breach-not _ _ e e′ (opens .0)))
-      (items-sound i i′ l (not-false (sameItemsMark i i′) (breach-not _ _ e e′ (items .0))) (below .0))
-      (members-sound o m m′ l (below .1)))
+      (opened-if e o o′ every (breach-not _ _ e e′ (opens .0)))
+      (items-sound i i′ l every (not-false (sameItemsMark i i′) (breach-not _ _ e e′ (items .0))) (below .0))
+      (members-sound o m m′ l every (below .1)))
 
-  items-sound : (i i′ : Items) (l : Level) → sameItemsMark i i′ ≡ true → AllAllowed (itemsDifferences i i′) l → WiderItems l i i′
-  items-sound absent absent l h a = neither
-  items-sound absent (element f′) l h a = let z : _≡_ {A = ℕ} 0 1 = cc in absurd (omega arith)
-  items-sound (element f) absent l h a = let z : _≡_ {A = ℕ} 0 1 = cc in absurd (omega arith)
-  items-sound (element f) (element f′) l h a = both (field-sound f f′ l a)
+  items-sound : (i i′ : Items) (l : Level) → EveryMark l → sameItemsMark i i′ ≡ true → AllAllowed (itemsDifferences i i′) l → WiderItems l i i′
+  items-sound absent absent l every h a = neither
+  items-sound absent (element f′) l every h a = let z : _≡_ {A = ℕ} 0 1 = cc in absurd (omega arith)
+  items-sound (element f) absent l every h a = let z : _≡_ {A = ℕ} 0 1 = cc in absurd (omega arith)
+  items-sound (element f) (element f′) l every h a = both (field-sound f f′ l every a)
 
-  members-sound : (o : Bool) (m m′ : Members) (l : Level) → AllAllowed (membersDifferences o m m′) l → WiderMembers l o m m′
-  members-sound o noMembers m′ l a = all-added-sound o m′ l a
-  members-sound o (member name f m) m′ l a =
+  members-sound : (o : Bool) (m m′ : Members) (l : Level) → EveryMark l → AllAllowed (membersDifferences o m m′) l → WiderMembers l o m m′
+  members-sound o noMembers m′ l every a = all-added-sound o m′ l a
+  members-sound o (member name f m) m′ l every a =
       sought-sound o name f m _ _ l
-      (λ f′ others′ b. let p = allowed-parts _ _ b in (field-sound f f′ l (p .0), members-sound o m others′ l (p .1)))
+      (λ f′ others′ b. let p = allowed-parts _ _ b in (field-sound f f′ l every (p .0), members-sound o m others′ l every (p .1)))
       m′
       a
 
@@ -201,30 +205,31 @@ mutual
 
 -- Schemas.
 
-holder-sound : (h h′ : Holder) (l : Level)
+holder-sound : (at : ℕ) (h h′ : Holder) (l : Level)
+    → EveryMark l
     → closes (h .isOpen) (h′ .isOpen) ≡ false
     → AllAllowed (membersDifferences (h .isOpen) (h .members) (h′ .members)) l
-    → WiderHolder l h h′
-holder-sound h h′ l e a =
-    record { mark = opened-if (h .isOpen) (h′ .isOpen) e; members = members-sound (h .isOpen) (h .members) (h′ .members) l a }
+    → WiderHolder l at h h′
+holder-sound at h h′ l every e a =
+    record { mark = opened-if at (h .isOpen) (h′ .isOpen) every e; members = members-sound (h .isOpen) (h .members) (h′ .members) l every a }
 
-arguments-sound : (x x′ : Option Holder) (l : Level) → AllAllowed (argumentsMarks x x′) l → AllAllowed (argumentsDifferences x x′) l → WiderArguments l x x′
+arguments-sound : (x x′ : Option Holder) (l : Level) → EveryMark l → AllAllowed (argumentsMarks x x′) l → AllAllowed (argumentsDifferences x x′) l → WiderArguments l x x′
 unfolding argumentsMarks argumentsDifferences
-arguments-sound none none l a b = without
-arguments-sound none (some h′) marks a b = absurd (first-allowed a)
-arguments-sound none (some h′) anything a b = appear
-arguments-sound (some h) none l a b = absurd (first-allowed a)
-arguments-sound (some h) (some h′) l a b = stay (holder-sound h h′ l (breach-not _ _ 1 1 a) b)
+arguments-sound none none l every a b = without
+arguments-sound none (some h′) (only may) every a b = absurd (first-allowed a)
+arguments-sound none (some h′) anything every a b = appear
+arguments-sound (some h) none l every a b = absurd (first-allowed a)
+arguments-sound (some h) (some h′) l every a b = stay (holder-sound 0 h h′ l every (breach-not _ _ 1 1 a) b)
 
-schema-sound : (s s′ : Schema) (l : Level) → AllAllowed (differences s s′) l → WiderSchema l s s′
+schema-sound : (s s′ : Schema) (l : Level) → EveryMark l → AllAllowed (differences s s′) l → WiderSchema l s s′
 unfolding differences
-schema-sound s s′ l a =
+schema-sound s s′ l every a =
     let p = allowed-parts _ _ a in
     let q = allowed-parts _ _ (p .1) in
     let r = allowed-parts _ _ (q .1) in
     record {
-      fields = holder-sound (s .fields) (s′ .fields) l (breach-not _ _ 1 1 (p .0)) (r .0);
-      arguments = arguments-sound (s .arguments) (s′ .arguments) l (q .0) (r .1);
+      fields = holder-sound 1 (s .fields) (s′ .fields) l every (breach-not _ _ 1 1 (p .0)) (r .0);
+      arguments = arguments-sound (s .arguments) (s′ .arguments) l every (q .0) (r .1);
     }
 
 arguments-marks-complete : {l : Level} {x x′ : Option Holder} → WiderArguments l x x′ → AllAllowed (argumentsMarks x x′) l
@@ -253,13 +258,13 @@ unfolding withGrowth
 growth-either (widening k) l e = (k, refl, cc)
 growth-either (refuted why a b) l e = let z : _≡_ {A = ℕ} 0 1 = cc in absurd (omega arith)
 
-marks-allow : (ds : List Difference) → AllAllowed ds marks → AllAllowed ds anything
+marks-allow : {may : ℕ → Bool} (ds : List Difference) → AllAllowed ds (only may) → AllAllowed ds anything
 marks-allow [] a = nothing
 marks-allow (growth ∷ ds) a = absurd (first-allowed a)
 marks-allow (breach why e e′ ∷ ds) a = absurd (first-allowed a)
 
 more-allow : (ds : List Difference) (l : Level) → AllAllowed ds l → AllAllowed ds anything
-more-allow ds marks a = marks-allow ds a
+more-allow ds (only may) a = marks-allow ds a
 more-allow ds anything a = a
 
 decided-sound : (ds : List Difference) (l : Level) → decided ds ≡ widening l → AllAllowed ds l
@@ -269,6 +274,25 @@ decided-sound (growth ∷ ds) l e =
     let g = growth-either (decided ds) l e in
     rw (g .2) (also tt (more-allow ds (g .0) (decided-sound ds (g .0) (g .1))))
 decided-sound (breach why a b ∷ ds) l e = let z : _≡_ {A = ℕ} 0 1 = cc in absurd (omega arith)
+
+marks-every : EveryMark marks
+marks-every e = listed refl
+
+anything-every : EveryMark anything
+anything-every e = anyMark
+
+decided-every : (ds : List Difference) (l : Level) → decided ds ≡ widening l → EveryMark l
+unfolding decided
+decided-every [] l e = let same : marks ≡ l = cc in subst (λ (k : Level). EveryMark k) same marks-every
+decided-every (growth ∷ ds) l e = rw (growth-either (decided ds) l e .2) anything-every
+decided-every (breach why a b ∷ ds) l e = let z : _≡_ {A = ℕ} 0 1 = cc in absurd (omega arith)
+
+-- of the levels it names these two
+decided-level : (ds : List Difference) (l : Level) → decided ds ≡ widening l → (l ≡ marks) ⊎ (l ≡ anything)
+unfolding decided
+decided-level [] l e = inl cc
+decided-level (growth ∷ ds) l e = inr (growth-either (decided ds) l e .2)
+decided-level (breach why a b ∷ ds) l e = let z : _≡_ {A = ℕ} 0 1 = cc in absurd (omega arith)
 
 decided-marks : (ds : List Difference) → AllAllowed ds marks → decided ds ≡ widening marks
 unfolding decided
@@ -285,7 +309,11 @@ decided-anything (breach why e e′ ∷ ds) a = absurd (first-allowed a)
 -- whatever it answers, of any two schemas, is so
 pub widens-sound : (s s′ : Schema) (l : Level) → widens s s′ ≡ widening l → WiderSchema l s s′
 unfolding widens
-widens-sound s s′ l e = schema-sound s s′ l (decided-sound (differences s s′) l e)
+widens-sound s s′ l e = schema-sound s s′ l (decided-every (differences s s′) l e) (decided-sound (differences s s′) l e)
+
+pub widens-level : (s s′ : Schema) (l : Level) → widens s s′ ≡ widening l → (l ≡ marks) ⊎ (l ≡ anything)
+unfolding widens
+widens-level s s′ l e = decided-level (differences s s′) l e
 
 -- `marks` exactly if the relation holds at that level
 pub widens-marks : (s s′ : Schema) → SchemaRises s′ → (widens s s′ ≡ widening marks) ↔ WiderSchema marks s s′
@@ -296,7 +324,7 @@ widens-marks s s′ r = (λ e. widens-sound s s′ marks e, λ w. decided-marks 
 pub widens-anything : (s s′ : Schema) → SchemaRises s′ → ((l : Level) × (widens s s′ ≡ widening l)) ↔ WiderSchema anything s s′
 unfolding widens
 widens-anything s s′ r = (
-  λ e. schema-sound s s′ anything (more-allow (differences s s′) (e .0) (decided-sound (differences s s′) (e .0) (e .1))),
+  λ e. schema-sound s s′ anything anything-every (more-allow (differences s s′) (e .0) (decided-sound (differences s s′) (e .0) (e .1))),
   λ w. decided-anything (differences s s′) (schema-complete w r),
 )
 

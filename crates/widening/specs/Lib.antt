@@ -7,3 +7,5 @@ pub mod Decision
 pub mod DecisionLaws
 pub mod DecisionOrderLaws
 pub mod SheetDecision
+pub mod Opening
+pub mod OpeningLaws

@@ -7,7 +7,7 @@ use Rattle.definition.specs.Tree.{Text, Field, Holder, Schema, Value, constant,
 use Rattle.sheet.specs.Order.{sameBytes}
 use Rattle.reference.specs.Setting.{Name, id, entity, version, fields, state, toState, fromState, args, oldFields, nameOf, Reader, kernel, Setting}
 use Rattle.reference.specs.Path.{Segments, split}
-use Rattle.reference.specs.Walk.{Step, isEmpty}
+use Rattle.reference.specs.Walk.{Step, entryOf, isEmpty}
 use Rattle.reference.specs.Reference.{Environment, bound, Root, noRoot, missing, root, argumentsRoot, rootOf, fromHolder, rootWalk, fromRoot, fromName, fromElement, fromBound, reference, keyWalk, behindFirst, beginsWithDollar, collectionIn, collectionNamed, collectionElement, collectionBound, collectionText, collection}
 use Rattle.widening.specs.Widening.{Level, anything, WiderHolder, WiderArguments, without, appear, stay, WiderSchema}
 use Rattle.widening.specs.Distinct.{DistinctMembers, DistinctArguments, DistinctSchema}
@@ -47,7 +47,7 @@ data RootFares : Level → Root → Root → Type 0 where
   neverRoot : {l : Level} → RootFares l noRoot noRoot
   stillMissing : {l : Level} → RootFares l missing missing
   appeared : {at : ℕ} {h′ : Holder} → RootFares anything missing (root at h′)
-  stillRoot : {l : Level} {at : ℕ} {h h′ : Holder} → WiderHolder l h h′ → DistinctMembers (h′ .members) → RootFares l (root at h) (root at h′)
+  stillRoot : {l : Level} {at : ℕ} {h h′ : Holder} → WiderHolder l at h h′ → DistinctMembers (h′ .members) → RootFares l (root at h) (root at h′)
 
 arguments-fare : {l : Level} {x x′ : Option Holder} → WiderArguments l x x′ → DistinctArguments x′ → RootFares l (argumentsRoot x) (argumentsRoot x′)
 unfolding argumentsRoot
@@ -68,8 +68,8 @@ root-fares g args = arguments-fare (g .isWider .arguments) (g .isDistinct .argum
 root-fares g oldFields = stillRoot (g .isWider .fields) (g .isDistinct .fields)
 
 holder-fares : {l : Level} {h h′ : Holder} {step : Field → Text → Step} (at detail : ℕ) (s : Text) (path : List Text)
-    → ((f f′ : Field) (s : Text) → Grown l f f′ → StepFares l (step f s) (step f′ s))
-    → WiderHolder l h h′
+    → ((f f′ : Field) (s : Text) → Grown l f f′ → StepFares l (entryOf f) (step f s) (step f′ s))
+    → WiderHolder l at h h′
     → DistinctMembers (h′ .members)
     → Fares l (fromHolder step at detail h s path) (fromHolder step at detail h′ s path)
 unfolding fromHolder
@@ -78,7 +78,7 @@ holder-fares at detail s path steps w d =
     (member-fares detail (w .mark) (lookup-finds s (w .members) d))
 
 root-walk-fares : {l : Level} {h h′ : Holder} (reader : Reader) (isService : Bool) (at : ℕ) (s : Text) (path : List Text)
-    → WiderHolder l h h′
+    → WiderHolder l at h h′
     → DistinctMembers (h′ .members)
     → Fares l (rootWalk reader isService at h s path) (rootWalk reader isService at h′ s path)
 unfolding rootWalk

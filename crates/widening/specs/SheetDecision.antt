@@ -4,7 +4,7 @@ use mathlib.Core.List.{List}
 use mathlib.Core.Option.{Option, none, some}
 use Rattle.definition.specs.Tree.{Schema}
 use Rattle.definition.specs.Decode.{decodeSchema}
-use Rattle.widening.specs.Widening.{marks, anything}
+use Rattle.widening.specs.Widening.{only, anything}
 use Rattle.widening.specs.Decision.{Reason, fieldMissing, kindDiffers, itemsDiffer, tagDiffers, markCloses, fieldAdded, argumentsGo, Decision, widening, refuted, widens}
 
 pub data DecisionAnswer : Type 0 where
@@ -40,6 +40,6 @@ pub record DecisionNumbers : Type 0 where
 
 unfoldable pub decisionNumbers : DecisionAnswer → DecisionNumbers
 decisionNumbers (malformed which) = record { number = 4; answer = which; reason = 0; first = 0; second = 0 }
-decisionNumbers (decision (widening marks)) = record { number = 0; answer = 1; reason = 0; first = 0; second = 0 }
+decisionNumbers (decision (widening (only may))) = record { number = 0; answer = 1; reason = 0; first = 0; second = 0 }
 decisionNumbers (decision (widening anything)) = record { number = 0; answer = 2; reason = 0; first = 0; second = 0 }
 decisionNumbers (decision (refuted why e e′)) = record { number = 0; answer = 3; reason = reasonNumber why; first = e; second = e′ }

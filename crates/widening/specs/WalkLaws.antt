@@ -11,7 +11,7 @@ use Rattle.sheet.specs.OrderLaws.{sameBytes-equal}
 use Rattle.reference.specs.Setting.{Reader, kernel, projection}
 use Rattle.reference.specs.Path.{isOrdinal, isCount}
 use Rattle.reference.specs.Walk.{Step, refuse, leaf, free, into, lookup, memberStep, itemStep, Reached, refused, unknown, known, lastOr, arrive, entryOf, travel, isEmpty, arrayStep, mapStep, isTag, contentKey, unionStep, textCount, walkStep, fieldStep, elementOr, elementOfField, elementOf}
-use Rattle.widening.specs.Widening.{Level, anything, Opened, kept, opened, MayGrow, closed, WiderField, wider, WiderItems, neither, both, WiderMembers, end, keep, more}
+use Rattle.widening.specs.Widening.{Level, anything, MayOpen, anyMark, Opened, kept, opened, MayGrow, closed, WiderField, wider, WiderItems, neither, both, WiderMembers, end, keep, more}
 use Rattle.widening.specs.Distinct.{DistinctField, DistinctItems, DistinctMembers}
 
 -- a field and its widening, with no sibling name twice in the latter
@@ -26,18 +26,19 @@ pub data Details : Level → ℕ → ℕ → Type 0 where
 
 pub data Fares : Level → Reached → Reached → Type 0 where
   stillRefused : {l : Level} {d d′ at at′ : ℕ} {p p′ : List Text} → Details l d d′ → Fares l (refused d at p) (refused d′ at′ p′)
-  nowUnknown : {l : Level} {d at : ℕ} {p : List Text} → Fares l (refused d at p) unknown
+  nowUnknown : {l : Level} {d at : ℕ} {p : List Text} → MayOpen l at → Fares l (refused d at p) unknown
   nowKnown : {d at : ℕ} {p : List Text} {f′ : Field} → Fares anything (refused d at p) (known f′)
   stillUnknown : {l : Level} → Fares l unknown unknown
   stillKnown : {l : Level} {f f′ : Field} → Grown l f f′ → Fares l (known f) (known f′)
 
-pub data StepFares : Level → Step → Step → Type 0 where
-  sameRefusal : {l : Level} {d : ℕ} → StepFares l (refuse d) (refuse d)
-  nowFree : {l : Level} {d : ℕ} → StepFares l (refuse d) free
-  changed : {d : ℕ} {s′ : Step} → StepFares anything (refuse d) s′
-  sameLeaf : {l : Level} {d : ℕ} → StepFares l (leaf d) (leaf d)
-  stillFree : {l : Level} → StepFares l free free
-  stillInto : {l : Level} {f f′ : Field} → Grown l f f′ → StepFares l (into f) (into f′)
+-- a step from the holder with that entry
+pub data StepFares : Level → ℕ → Step → Step → Type 0 where
+  sameRefusal : {l : Level} {at d : ℕ} → StepFares l at (refuse d) (refuse d)
+  nowFree : {l : Level} {at d : ℕ} → MayOpen l at → StepFares l at (refuse d) free
+  changed : {at d : ℕ} {s′ : Step} → StepFares anything at (refuse d) s′
+  sameLeaf : {l : Level} {at d : ℕ} → StepFares l at (leaf d) (leaf d)
+  stillFree : {l : Level} {at : ℕ} → StepFares l at free free
+  stillInto : {l : Level} {at : ℕ} {f f′ : Field} → Grown l f f′ → StepFares l at (into f) (into f′)
 
 pub data Finds : Level → Bool → Option Field → Option Field → Type 0 where
   found : {l : Level} {o : Bool} {f f′ : Field} → Grown l f f′ → Finds l o (some f) (some f′)
@@ -91,40 +92,40 @@ lookup-finds s (more {name = n} {f′ = f′} {m = m} g ws) d =
     (λ e. lookup-lacks s ws (rw (sameBytes-equal n s e) at (d .0)))
     (lookup-finds s ws (d .2))
 
-pub member-fares : {l : Level} {o o′ : Bool} {x x′ : Option Field} (d : ℕ)
-    → Opened o o′
+pub member-fares : {l : Level} {at : ℕ} {o o′ : Bool} {x x′ : Option Field} (d : ℕ)
+    → Opened l at o o′
     → Finds l o x x′
-    → StepFares l (memberStep x o d) (memberStep x′ o′ d)
+    → StepFares l at (memberStep x o d) (memberStep x′ o′ d)
 unfolding memberStep
 member-fares d p (found g) = stillInto g
 member-fares d (kept {mark = true}) nothing = stillFree
 member-fares d (kept {mark = false}) nothing = sameRefusal
-member-fares d opened nothing = nowFree
+member-fares d (opened m) nothing = nowFree m
 member-fares d p (added closed) = changed
 
-item-fares : {l : Level} {i i′ : Items} → WiderItems l i i′ → DistinctItems i′ → StepFares l (itemStep i) (itemStep i′)
+item-fares : {l : Level} {at : ℕ} {i i′ : Items} → WiderItems l i i′ → DistinctItems i′ → StepFares l at (itemStep i) (itemStep i′)
 unfolding itemStep
 item-fares neither d = stillFree
 item-fares (both w) d = stillInto (record { isWider = w; isDistinct = d })
 
 -- a test that does not see the schema
-either-fares : {l : Level} {s s′ t t′ : Step} (b : Bool) → StepFares l s s′ → StepFares l t t′ → StepFares l (cond b s t) (cond b s′ t′)
+either-fares : {l : Level} {at : ℕ} {s s′ t t′ : Step} (b : Bool) → StepFares l at s s′ → StepFares l at t t′ → StepFares l at (cond b s t) (cond b s′ t′)
 either-fares true p q = p
 either-fares false p q = q
 
-array-fares : {l : Level} {i i′ : Items} (s : Text) → WiderItems l i i′ → DistinctItems i′ → StepFares l (arrayStep i s) (arrayStep i′ s)
+array-fares : {l : Level} {at : ℕ} {i i′ : Items} (s : Text) → WiderItems l i i′ → DistinctItems i′ → StepFares l at (arrayStep i s) (arrayStep i′ s)
 unfolding arrayStep
 array-fares s w d = either-fares (isCount s) sameLeaf (either-fares (isOrdinal s) (item-fares w d) sameRefusal)
 
-map-fares : {l : Level} (s : Text) → StepFares l (mapStep s) (mapStep s)
+map-fares : {l : Level} {at : ℕ} (s : Text) → StepFares l at (mapStep s) (mapStep s)
 unfolding mapStep
 map-fares s = either-fares (isCount s) sameLeaf sameRefusal
 
-union-fares : {l : Level} (tag : Option Text) (s : Text) → StepFares l (unionStep tag s) (unionStep tag s)
+union-fares : {l : Level} {at : ℕ} (tag : Option Text) (s : Text) → StepFares l at (unionStep tag s) (unionStep tag s)
 unfolding unionStep
 union-fares tag s = either-fares (isTag tag s) sameLeaf (either-fares (sameBytes (contentKey tag) s) stillFree sameRefusal)
 
-text-fares : {l : Level} (reader : Reader) → StepFares l (textCount reader) (textCount reader)
+text-fares : {l : Level} {at : ℕ} (reader : Reader) → StepFares l at (textCount reader) (textCount reader)
 unfolding textCount
 text-fares kernel = sameLeaf
 text-fares projection = sameRefusal
@@ -132,8 +133,8 @@ text-fares projection = sameRefusal
 pub walk-step-fares : {l : Level} {f f′ : Field} (reader : Reader) (isService : Bool) (s : Text)
     → WiderField l f f′
     → DistinctField f′
-    → StepFares l (walkStep reader isService f s) (walkStep reader isService f′ s)
-unfolding walkStep
+    → StepFares l (entryOf f) (walkStep reader isService f s) (walkStep reader isService f′ s)
+unfolding walkStep entryOf
 walk-step-fares reader b s (wider {kind = k} {tag = tag} p wi wm) d =
     either-fares (isEmpty s) sameRefusal
     (either-fares (b && eqb k 6) (array-fares s wi (d .0))
@@ -147,8 +148,8 @@ walk-step-fares reader b s (wider {kind = k} {tag = tag} p wi wm) d =
 pub field-step-fares : {l : Level} {f f′ : Field} (s : Text)
     → WiderField l f f′
     → DistinctField f′
-    → StepFares l (fieldStep f s) (fieldStep f′ s)
-unfolding fieldStep
+    → StepFares l (entryOf f) (fieldStep f s) (fieldStep f′ s)
+unfolding fieldStep entryOf
 field-step-fares s (wider {kind = k} p wi wm) d =
     either-fares (eqb k 8 || eqb k 11) stillFree
     (either-fares (eqb k 7) (member-fares 2 p (lookup-finds s wm (d .1)))
@@ -157,7 +158,7 @@ field-step-fares s (wider {kind = k} p wi wm) d =
 -- where anything may differ, a refusal says nothing of the second answer
 pub refused-fares : {d at : ℕ} {p : List Text} (r : Reached) → Fares anything (refused d at p) r
 refused-fares (refused d at p) = stillRefused differ
-refused-fares unknown = nowUnknown
+refused-fares unknown = nowUnknown anyMark
 refused-fares (known f) = nowKnown
 
 last-fares : {l : Level} {r r′ : Reached} (path : List Text) → Fares l r r′ → Fares l (lastOr path r) (lastOr path r′)
@@ -167,18 +168,18 @@ last-fares (s ∷ path) h = h
 
 pub arrive-fares : {l : Level} {onward onward′ : Field → Reached} {t t′ : Step} (at at′ : ℕ) (s : Text) (path : List Text)
     → ((f f′ : Field) → Grown l f f′ → Fares l (onward f) (onward′ f′))
-    → StepFares l t t′
+    → StepFares l at t t′
     → Fares l (arrive at s path onward t) (arrive at′ s path onward′ t′)
 unfolding arrive
 arrive-fares at at′ s path h sameRefusal = stillRefused equal
-arrive-fares at at′ s path h nowFree = nowUnknown
+arrive-fares at at′ s path h (nowFree m) = nowUnknown m
 arrive-fares at at′ s path h changed = refused-fares _
 arrive-fares at at′ s path h sameLeaf = last-fares path (stillRefused equal)
 arrive-fares at at′ s path h stillFree = stillUnknown
 arrive-fares at at′ s path h (stillInto g) = h _ _ g
 
 pub travel-fares : {l : Level} {step : Field → Text → Step} {f f′ : Field} (path : List Text)
-    → ((f f′ : Field) (s : Text) → Grown l f f′ → StepFares l (step f s) (step f′ s))
+    → ((f f′ : Field) (s : Text) → Grown l f f′ → StepFares l (entryOf f) (step f s) (step f′ s))
     → Grown l f f′
     → Fares l (travel step path f) (travel step path f′)
 unfolding travel
@@ -212,7 +213,7 @@ element-field-fares (wider {kind = k} p wi wm) d = if-fares (eqb k 6 || eqb k 10
 pub element-fares : {l : Level} {r r′ : Reached} → Fares l r r′ → Fares l (elementOf r) (elementOf r′)
 unfolding elementOf
 element-fares (stillRefused d) = stillRefused d
-element-fares nowUnknown = nowUnknown
+element-fares (nowUnknown m) = nowUnknown m
 element-fares nowKnown = refused-fares _
 element-fares stillUnknown = stillUnknown
 element-fares (stillKnown g) = element-field-fares (g .isWider) (g .isDistinct)

@@ -1,19 +1,23 @@
 //! The library through its C functions.
 
-use crate::functions::{rulecheck_check, rulecheck_count, rulecheck_rule, rulecheck_tally, rulecheck_template, rulecheck_widens};
+use crate::functions::{
+    rulecheck_check, rulecheck_count, rulecheck_field, rulecheck_openings, rulecheck_rule, rulecheck_tally, rulecheck_template,
+    rulecheck_widens,
+};
 use crate::sheets::Sample;
 
-/// What a caller lends for a path and for marks, and where the numbers of a check or of a tally go.
+/// What a caller lends for a path, for marks and for openings, and where the numbers of a check or of a tally go.
 pub struct Buffers {
     path: Vec<u8>,
     marks: Vec<u8>,
+    openings: Vec<u8>,
     result: [u8; 32],
     tally: [u8; 144],
 }
 
 impl Buffers {
     pub fn new() -> Self {
-        Self { path: vec![0; 32_768], marks: vec![0; 8_192], result: [0; 32], tally: [0; 144] }
+        Self { path: vec![0; 32_768], marks: vec![0; 8_192], openings: vec![0; 4_100], result: [0; 32], tally: [0; 144] }
     }
 }
 
@@ -112,6 +116,33 @@ pub fn mark(sample: &Sample, buffers: &mut Buffers) -> u32 {
             result.as_mut_ptr(),
             result.len(),
         )
+    }
+}
+
+/// The fewest marks to open, under the stock table; the answer is how many there are, none where no opening helps or a sheet is refused.
+pub fn openings(sample: &Sample, buffers: &mut Buffers) -> Option<u32> {
+    let (schema, rule) = (&sample.schema, &sample.rule);
+    let Buffers { path, openings, result, .. } = buffers;
+    // SAFETY: as in `check`; the list of openings is lent like the path, and the result is only read after the call.
+    unsafe {
+        let number = rulecheck_openings(
+            sample.kind,
+            sample.semantics,
+            b"".as_ptr(),
+            0,
+            schema.as_ptr(),
+            schema.len(),
+            rule.as_ptr(),
+            rule.len(),
+            path.as_mut_ptr(),
+            path.len(),
+            openings.as_mut_ptr(),
+            openings.len(),
+            result.as_mut_ptr(),
+            result.len(),
+        );
+        let field = |index| rulecheck_field(result.as_ptr(), result.len(), index);
+        (number == 0 && field(1) == 1).then(|| field(2))
     }
 }
 

@@ -2,7 +2,7 @@
 
 use crate::pairs::Compared;
 use crate::row::Row;
-use crate::{books, plot};
+use crate::{books, openings, plot};
 use std::fs;
 use std::path::Path;
 
@@ -19,6 +19,7 @@ pub struct Figures {
     pub numbers: Vec<Row>,
     pub acceptance: Vec<Acceptance>,
     pub pairs: Vec<Compared>,
+    pub openings: Vec<openings::Row>,
     /// What a call takes of the stack, in bytes.
     pub stack: Vec<(&'static str, usize)>,
     pub books: Vec<books::Row>,
@@ -30,6 +31,11 @@ type Part = (&'static str, String);
 /// Rule books.
 pub fn book_parts(rows: &[books::Row]) -> [Part; 2] {
     [("books", books::table(rows)), ("book counts", books::counts(rows))]
+}
+
+/// The fewest marks to open.
+pub fn openings_part(rows: &[openings::Row]) -> Part {
+    ("openings", openings::table(rows))
 }
 
 /// Puts each part where the document has a place for it.
@@ -44,7 +50,8 @@ pub fn write(document: &str, parts: &[Part]) -> Result<(), String> {
 impl Figures {
     pub fn tables(&self) -> String {
         let own = [self.checks(), self.counts(), self.long_numbers(), self.acceptances(), self.comparisons(), self.stacks()];
-        own.into_iter().chain(book_parts(&self.books).map(|(_, part)| part)).collect::<Vec<_>>().join("\n")
+        let more = [openings_part(&self.openings)].into_iter().chain(book_parts(&self.books));
+        own.into_iter().chain(more.map(|(_, part)| part)).collect::<Vec<_>>().join("\n")
     }
 
     /// Puts each table, the processor's name and the plot where the document has a place for them.
@@ -57,6 +64,7 @@ impl Figures {
             ("acceptance", self.acceptances()),
             ("pairs", self.comparisons()),
             ("stack", self.stacks()),
+            openings_part(&self.openings),
         ];
         write(document, &parts)?;
         write(document, &book_parts(&self.books))?;

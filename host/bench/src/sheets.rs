@@ -174,6 +174,12 @@ pub fn book_rule(at: usize) -> Vec<u8> {
     of_blocks([at, at + 7, at + 23, at + 41].map(|i| i % 61)).into_bytes()
 }
 
+/// The schema of 611 entries with a rule on four of its blocks that is changed, and the number that is answered then.
+pub fn of_lots(number: u32, change: impl Fn(&str) -> String) -> Sample {
+    let rule = change(&of_blocks([0, 20, 40, 60])).into_bytes();
+    Sample { rule, number, ..typical(611) }
+}
+
 /// Two letters, rising.
 fn pair_name(i: usize) -> String {
     let letters: Vec<char> = ('0'..='9').chain('A'..='Z').chain('a'..='z').collect();
@@ -188,6 +194,13 @@ pub fn wide_schema(fields: usize) -> String {
 fn wide(fields: usize) -> Sample {
     let count = fields / 2;
     Sample::new(wide_schema(fields), format!("T\nV,6,{count},\n{}", each(count, |i| text(&format!("$fields.{}", pair_name(2 * i))))))
+}
+
+/// Closed objects without a field, and a reference to a field of each.
+pub fn closed_objects(count: usize) -> Sample {
+    let fields = each(count, |i| object(&pair_name(i), 0));
+    let references = each(count, |i| text(&format!("$fields.{}.dye", pair_name(i))));
+    Sample::new(format!("H,0,{count},-,0\n{fields}"), format!("T\nV,6,{count},\n{references}")).with_defect(18)
 }
 
 fn members(keys: impl Iterator<Item = usize>) -> String {

@@ -113,6 +113,23 @@ unsafe extern "C" {
         result_length: usize,
     ) -> u32;
 
+    pub fn rulecheck_openings(
+        kind: u64,
+        semantics: u64,
+        table: *const u8,
+        table_length: usize,
+        schema: *const u8,
+        schema_length: usize,
+        rule: *const u8,
+        rule_length: usize,
+        path: *mut u8,
+        path_length: usize,
+        list: *mut u8,
+        list_length: usize,
+        result: *mut u8,
+        result_length: usize,
+    ) -> u32;
+
     pub fn rulecheck_count(result: *const u8, result_length: usize, index: u32) -> u64;
 
     pub fn rulecheck_field(result: *const u8, result_length: usize, index: u32) -> u32;

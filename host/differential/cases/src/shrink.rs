@@ -21,7 +21,8 @@ pub fn shrink(case: &Case, fails: impl Fn(&Case) -> bool) -> Case {
     small
 }
 
-fn candidates(case: &Case) -> Vec<Case> {
+/// The case with one part left out or made smaller.
+pub fn candidates(case: &Case) -> Vec<Case> {
     let mut found = Vec::new();
     if !case.label.is_empty() {
         found.push(Case { label: Vec::new(), ..case.clone() });

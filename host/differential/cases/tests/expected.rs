@@ -3,7 +3,7 @@
 use cases::case::Case;
 use cases::generate::{names::STOCK, profiles};
 use cases::random::Random;
-use cases::{books, edges, keys, longest, marks, slips, tables, walls, widens};
+use cases::{books, edges, keys, longest, marks, openings, slips, tables, walls, widens};
 use model::{check, check_key, decode_rule, tally, wall, Answer};
 
 const GENERATED: u64 = 1_000;
@@ -90,5 +90,14 @@ fn wall_sheets_have_the_pages_that_they_were_made_for() {
     for case in walls::edges::edges().into_iter().chain(generated) {
         let (numbers, _) = wall(&case.call());
         assert!(case.allows(numbers), "{numbers:?} for\n{case:?}");
+    }
+}
+
+#[test]
+fn marks_are_opened_as_the_cases_were_made_for() {
+    let generated = randoms(GENERATED).map(|mut random| openings::generate::case(&mut random).1);
+    for case in openings::edges::edges().into_iter().chain(generated) {
+        let answer = model::openings(&case.call());
+        assert!(case.expect.allows(&answer), "{answer:?} for\n{case:?}");
     }
 }

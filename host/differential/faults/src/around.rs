@@ -30,6 +30,12 @@ pub fn wall_answer(call: &::model::WallCall) -> ([u64; 2], Vec<u8>) {
     wall(&WallCall { book, pages_len: call.pages_len })
 }
 
+/// The same for openings.
+pub fn openings_answer(call: &::model::OpeningsCall) -> ([u32; 3], Vec<u32>) {
+    let &::model::OpeningsCall { kind, semantics, table, schema, rule, path_len, list_len, result_len } = call;
+    openings(&OpeningsCall { kind, semantics, table, schema, rule, path_len, list_len, result_len })
+}
+
 fn own(answer: Answer) -> ::model::Answer {
     let Answer { number, family, detail, place, over_place, passed, path } = answer;
     ::model::Answer { number, family, detail, place, over_place, passed, path }

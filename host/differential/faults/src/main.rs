@@ -1,5 +1,5 @@
 //! Asks each faulty model until it answers otherwise than the library: on the known edges, on generated cases, on the published samples, on
-//! keys, on rule books and their wall sheets, and last on tables: `faults [CASES] [SEED]`.
+//! keys, on rule books and their wall sheets, on openings, and last on tables: `faults [CASES] [SEED]`.
 
 use cases::books::{self, BookCase};
 use cases::case::Case;
@@ -7,12 +7,13 @@ use cases::edges::edges;
 use cases::generate::{names::STOCK, profiles};
 use cases::keys::{self, KeyCase};
 use cases::longest::longest;
+use cases::openings::{self, Opened, OpeningsCase};
 use cases::random::Random;
 use cases::tables::{self, LoadCase};
 use cases::walls::{self, Printed, WallCase};
 use harness::library::{self, lent::Extent};
 use harness::runs::published::sample_cases;
-use model::{Answer, BookCall, Call, KeyCall, TallyNumbers, WallCall};
+use model::{Answer, BookCall, Call, KeyCall, OpeningsCall, TallyNumbers, WallCall};
 use std::panic::{catch_unwind, AssertUnwindSafe};
 use std::process::ExitCode;
 
@@ -24,6 +25,7 @@ struct Faulty {
     load_answer: fn(&[u8], usize) -> (u32, Vec<u8>),
     tally_answer: fn(&BookCall) -> TallyNumbers,
     wall_answer: fn(&WallCall) -> Printed,
+    openings_answer: fn(&OpeningsCall) -> Opened,
 }
 
 /// What the models are asked.
@@ -33,6 +35,7 @@ enum Question {
     Load(LoadCase),
     Book(BookCase),
     Wall(WallCase),
+    Openings(OpeningsCase),
 }
 
 include!(concat!(env!("OUT_DIR"), "/faults.rs"));
@@ -69,7 +72,8 @@ fn main() -> ExitCode {
     }
 }
 
-/// All questions, each with the words for it: so many generated cases, as many keys, a twentieth as many books and wall sheets, as many cases under a table, and as many tables to load.
+/// All questions, each with the words for it: so many generated cases, as many keys, a twentieth as many books and openings, known wall sheets, as many cases under a table, and as many
+/// tables to load.
 fn questions(cases: u64, seed: u64) -> impl Iterator<Item = (String, Question)> {
     let named = |name: &'static str| move |case| (name.to_owned(), Question::Case(case));
     let known = edges().into_iter().chain(longest()).map(named("a known edge"));
@@ -86,6 +90,11 @@ fn questions(cases: u64, seed: u64) -> impl Iterator<Item = (String, Question)> 
     };
     let known_walls = walls::edges::edges().into_iter().chain([walls::edges::large()]);
     let known_walls = known_walls.map(|case| ("a known wall sheet".to_owned(), Question::Wall(case)));
+    let known_openings = openings::edges::edges().into_iter().map(|case| ("a known case of openings".to_owned(), Question::Openings(case)));
+    let opening = move |number| {
+        let case = openings::generate::case(&mut Random::of_case(seed, number)).1;
+        (format!("openings {number} of seed {seed}"), Question::Openings(case))
+    };
     let known_tables = tables::edges::edges().into_iter().map(named("a known edge of tables"));
     let known_loads = tables::edges::loads().into_iter().map(|case| ("a known load".to_owned(), Question::Load(case)));
     let table = move |number| {
@@ -96,6 +105,7 @@ fn questions(cases: u64, seed: u64) -> impl Iterator<Item = (String, Question)> 
     };
     let cases_and_keys = known.chain((0..cases).map(made)).chain(samples).chain(known_keys).chain((0..cases).map(key));
     let cases_and_keys = cases_and_keys.chain(known_books).chain((0..cases / 20).map(book)).chain(known_walls);
+    let cases_and_keys = cases_and_keys.chain(known_openings).chain((0..cases / 20).map(opening));
     cases_and_keys.chain(known_tables).chain(known_loads).chain((0..cases).flat_map(table))
 }
 
@@ -106,6 +116,7 @@ fn difference(question: &Question, faulty: Faulty) -> Option<String> {
         Question::Key(case) => library::keys::hold(case, &(faulty.key_answer)(&case.call()), Extent::Some),
         Question::Book(case) => library::books::hold(case, &(faulty.tally_answer)(&case.call()), Extent::Some),
         Question::Wall(case) => library::walls::hold(case, &(faulty.wall_answer)(&case.call()), Extent::Some),
+        Question::Openings(case) => library::openings::hold(case, &(faulty.openings_answer)(&case.call()), Extent::Some),
         Question::Load(case) => {
             let (number, buffer) = (faulty.load_answer)(&case.table, case.buffer_len);
             let loaded = if number == 0 { case.table.as_slice() } else { &[] };

@@ -1,7 +1,8 @@
 //! The commands of the comparison. See README.md beside the script `run`.
 
 use harness::runs::{
-    books, compare, exhaustive, fuzzed, instants, keys, marks, memory, moved, published, tables, text_samples, vectors, walls, widened, widens,
+    books, compare, exhaustive, fuzzed, instants, keys, marks, memory, moved, openings, published, tables, text_samples, vectors, walls,
+    widened, widens,
 };
 use std::collections::BTreeMap;
 use std::process::ExitCode;
@@ -39,6 +40,10 @@ const USAGE: &str = "usage: differential COMMAND [OPTION..]
   marks [--cases N] [--seed S]     known rules that compare instants, then N generated ones: which conditions are constant
   marks-vectors --out FILE [--seed S]
                                    writes the fixed list of rules and their marks
+  openings [--cases N] [--seed S]  known rules for schemas that are too closed for them, then N generated ones (200,000): the fewest marks to
+                                   open by library and model, and every set of openings by the Rust
+  openings-vectors --out FILE [--seed S]
+                                   writes the fixed list of rules and the marks to open for them
   widens [--cases N] [--seed S]    known pairs of schemas, then N generated ones: is the second a widening, by library and model; and N
                                    with a rule, compared with the Rust
   widens-vectors --out FILE [--seed S]
@@ -166,6 +171,15 @@ fn run(arguments: &[String]) -> Result<(), Trouble> {
             let options = options(rest, &["out", "seed"])?;
             let file = options.get("out").ok_or_else(|| Trouble::Usage("marks-vectors needs --out FILE".to_owned()))?;
             marks::vectors::vectors(file, numeral(&options, "seed", 1)?).map_err(Trouble::Failed)
+        }
+        "openings" => {
+            let options = options(rest, &["cases", "seed"])?;
+            openings::run::openings(numeral(&options, "cases", 200_000)?, numeral(&options, "seed", 1)?).map_err(Trouble::Failed)
+        }
+        "openings-vectors" => {
+            let options = options(rest, &["out", "seed"])?;
+            let file = options.get("out").ok_or_else(|| Trouble::Usage("openings-vectors needs --out FILE".to_owned()))?;
+            openings::vectors::vectors(file, numeral(&options, "seed", 1)?).map_err(Trouble::Failed)
         }
         "vectors" => {
             let options = options(rest, &["out", "printed", "seed"])?;

@@ -9,13 +9,14 @@ use std::str::FromStr;
 
 pub const HELP: &str = "\
 Checks rules, templates and key paths against the schema of their record, and schemas against
-those that come after them; tallies rule books; reads instants.
+those that come after them; tallies rule books; finds what to open for a rule; reads instants.
 
 usage: entity-rules check SCHEMA RULE.. --kind KIND --semantics SEMANTICS [OPTION..]
        entity-rules tally SCHEMA BOOK --kind KIND --semantics SEMANTICS [OPTION..]
        entity-rules wall SCHEMA BOOK --kind KIND --semantics SEMANTICS [OPTION..]
        entity-rules book RULE.. > BOOK
        entity-rules path SCHEMA PATH.. --semantics SEMANTICS [OPTION..]
+       entity-rules open SCHEMA RULE.. --kind KIND --semantics SEMANTICS [OPTION..]
        entity-rules widens OLD NEW [--json] [--quiet]
        entity-rules upgrade OLD NEW RULE.. --kind KIND --semantics SEMANTICS [OPTION..]
        entity-rules instant TEXT.. [--json] [--quiet]
@@ -29,6 +30,8 @@ usage: entity-rules check SCHEMA RULE.. --kind KIND --semantics SEMANTICS [OPTIO
            serial number, the number, family and place of its answer, the checks passed, the path
   book     writes the rule book of the sheets in these files to standard output
   path     whether paths of the record's fields can be read
+  open     which objects of the schema must be opened for rules to be accepted, no more than needed;
+           with --write the schema with all of them open
   widens   whether the schema NEW is a widening of OLD, so that what was accepted stays accepted;
            what grew, or the first breach
   upgrade  what happens to rules when NEW replaces OLD: where it is a widening, those that are
@@ -50,21 +53,22 @@ usage: entity-rules check SCHEMA RULE.. --kind KIND --semantics SEMANTICS [OPTIO
                       tally also a folder of files of rules
   PATH                a path of the record's fields, without `$fields.` before it
   TEXT                a text that may be an instant
-  --kind KIND         check, tally, wall, upgrade: invariant, precondition, create_template,
+  --kind KIND         check, tally, wall, open, upgrade: invariant, precondition, create_template,
                       operation_template, outcome_selector, create_selector, create_set or
-                      create_outcome_template, or as the format spells them (CreateSet); check
-                      and upgrade do without it where a list gives each file its kind
+                      create_outcome_template, or as the format spells them (CreateSet); check,
+                      open and upgrade do without it where a list gives each file its kind
   --semantics SEMANTICS
                       kernel/1, service/1, service/2 or service/3
   --reader READER     path: kernel or projection, who will read the path (default: kernel)
-  --table FILE        check, tally, wall, upgrade: a file that holds a name table, which says what
-                      each kind may read (default: the stock table, which the command `table`
+  --table FILE        check, tally, wall, open, upgrade: a file that holds a name table, which says
+                      what each kind may read (default: the stock table, which the command `table`
                       prints); it may be -
-  --label TEXT        check, wall, upgrade: what each path begins with (default: the file's name
-                      without its extension; for a sheet of a book, except by wall, followed by
-                      its serial number in brackets)
+  --label TEXT        check, wall, open, upgrade: what each path begins with (default: the file's
+                      name without its extension; for a sheet of a book, except by wall, followed
+                      by its serial number in brackets)
   --constants         check: under a rule that is accepted, its conditions that are always true or
                       always false, since they compare two dates that are written in the rule
+  --write             open: prints nothing but the schema, with all that the rules need opened
   --json              one line of JSON for each rule, path, text, book or pair of schemas, and no
                       summary
   --sarif             check: one SARIF 2.1.0 log, from which editors and code hosts show defects
@@ -87,26 +91,28 @@ Examples, in the crate's folder examples/mill:
   entity-rules wall pattern.schema mill.book --kind precondition --semantics service/1
   entity-rules book release.rule misspelt.rule > two.book
   entity-rules path pattern.schema bars.count --semantics service/1 --reader projection
+  entity-rules open pattern.schema fits.rule --kind precondition --semantics service/1
   entity-rules widens pattern.schema wider.schema
   entity-rules upgrade pattern.schema wider.schema release.rule misspelt.rule \\
       --kind precondition --semantics service/1
   entity-rules instant 2024-02-29 '2024-02-29 12:00:00.5Z'
   entity-rules check pattern.schema rules --kind precondition --semantics service/1
 
-Exit status: 0 if all are accepted, NEW is a widening, or every rule's answer is as before; 1 if one
-has a defect or is not an instant, NEW is not a widening, or a rule's answer has changed; 2 if one
-is refused or cannot be read, or the command line is wrong.
+Exit status: 0 if all are accepted, or can be by opening, NEW is a widening, or every rule's answer
+is as before; 1 if one has a defect or is not an instant, no opening helps one, NEW is not a
+widening, or a rule's answer has changed; 2 if one is refused or cannot be read, or the command line
+is wrong.
 
 Colours and a progress bar appear on a terminal only. NO_COLOR, set to anything that is not empty,
 switches the colours off; TERM=dumb switches off both.
 ";
 
-const COMMANDS: [&str; 11] = [
-    "check", "tally", "wall", "book", "path", "widens", "upgrade", "instant", "show", "explain",
-    "table",
+const COMMANDS: [&str; 12] = [
+    "check", "tally", "wall", "book", "path", "open", "widens", "upgrade", "instant", "show",
+    "explain", "table",
 ];
 
-const FLAGS: [&str; 4] = ["--json", "--quiet", "--sarif", "--constants"];
+const FLAGS: [&str; 5] = ["--json", "--quiet", "--sarif", "--constants", "--write"];
 
 /// The options that take a value, and those that are asked before any command.
 const OTHERS: [&str; 7] = [
@@ -129,6 +135,7 @@ pub enum Command {
     Wall(BookRun),
     /// Writes the book of these files.
     Book(Vec<PathBuf>),
+    Open(Opening),
     Widens(Pair),
     Upgrade(Upgrade),
     Instants(Instants),
@@ -165,6 +172,14 @@ pub struct Pair {
 pub struct Upgrade {
     pub check: Arguments,
     pub new: PathBuf,
+}
+
+/// What `open` is given: rules to open the schema for.
+#[derive(Debug, PartialEq)]
+pub struct Opening {
+    pub check: Arguments,
+    /// Whether the schema is printed with everything opened that the rules need.
+    pub write: bool,
 }
 
 /// What `instant` is given.
@@ -228,6 +243,7 @@ struct Options {
     reader: Option<Reader>,
     label: Option<String>,
     table: Option<PathBuf>,
+    write: bool,
     output: Output,
 }
 
@@ -259,6 +275,7 @@ pub fn parse(words: impl IntoIterator<Item = OsString>) -> Result<Command, Strin
             .files("book", "file RULE")
             .map(Command::Book),
         Some(command) if command == "path" => options(words)?.path().map(Command::Check),
+        Some(command) if command == "open" => options(words)?.open().map(Command::Open),
         Some(command) if command == "widens" => options(words)?.widens().map(Command::Widens),
         Some(command) if command == "upgrade" => options(words)?.upgrade().map(Command::Upgrade),
         Some(command) if command == "instant" => options(words)?.instant().map(Command::Instants),
@@ -319,6 +336,7 @@ impl Options {
             "--quiet" => self.output.quiet = true,
             "--sarif" => self.output.sarif = true,
             "--constants" => self.output.constants = true,
+            "--write" => self.write = true,
             "--kind" => self.kind = Some(named(name, &text(name, word())?)?),
             "--semantics" => self.semantics = Some(named(name, &text(name, word())?)?),
             "--reader" => self.reader = Some(named(name, &text(name, word())?)?),
@@ -337,6 +355,7 @@ impl Options {
 
     fn check(self) -> Result<Arguments, String> {
         self.once("check")?;
+        not_for("check", &[("--write", self.write)])?;
         if self.output.json && self.output.sarif {
             return Err("check: expected --json or --sarif, not both".to_owned());
         }
@@ -362,6 +381,7 @@ impl Options {
             ("--reader", self.reader.is_some()),
             ("--sarif", self.output.sarif),
             ("--constants", self.output.constants),
+            ("--write", self.write),
         ];
         not_for(command, &given)?;
         let [schema, book] = self.words.as_slice() else {
@@ -402,11 +422,30 @@ impl Options {
         }
     }
 
+    fn open(self) -> Result<Opening, String> {
+        self.once("open")?;
+        let given = [
+            ("--sarif", self.output.sarif),
+            ("--constants", self.output.constants),
+        ];
+        not_for("open", &given)?;
+        if self.write && (self.output.json || self.output.quiet) {
+            return Err("open: expected --write without --json and --quiet".to_owned());
+        }
+        let write = self.write;
+        let (schema, rules) = self.split("open", "files SCHEMA and RULE", "file RULE")?;
+        Ok(Opening {
+            check: self.rules("open", schema, &rules)?,
+            write,
+        })
+    }
+
     fn upgrade(self) -> Result<Upgrade, String> {
         self.once("upgrade")?;
         let given = [
             ("--sarif", self.output.sarif),
             ("--constants", self.output.constants),
+            ("--write", self.write),
         ];
         not_for("upgrade", &given)?;
         match self.words.clone().as_slice() {
@@ -457,6 +496,7 @@ impl Options {
             ("--table", self.table.is_some()),
             ("--sarif", self.output.sarif),
             ("--constants", self.output.constants),
+            ("--write", self.write),
         ];
         not_for("path", &given)?;
         let (schema, paths) = self.split("path", "file SCHEMA and a PATH", "PATH")?;
@@ -497,6 +537,7 @@ impl Options {
             ("--table", self.table.is_some()),
             ("--sarif", self.output.sarif),
             ("--constants", self.output.constants),
+            ("--write", self.write),
         ];
         not_for(command, &given)
     }
@@ -718,6 +759,67 @@ mod tests {
     }
 
     #[test]
+    fn objects_are_opened_for_rules() {
+        let settings = "--kind invariant --semantics kernel/1";
+        let check =
+            |output: &str| match parsed(&format!("check s a b --table t {settings} {output}")) {
+                Ok(Command::Check(arguments)) => Some(arguments),
+                _ => None,
+            };
+        for (line, write) in [
+            ("", false),
+            ("--json", false),
+            ("--quiet", false),
+            ("--write", true),
+        ] {
+            let output = if write { "" } else { line };
+            let check = check(output).unwrap();
+            let asked = parsed(&format!("open s a b --table t {settings} {line}"));
+            assert_eq!(asked, Ok(Command::Open(Opening { check, write })), "{line}");
+        }
+    }
+
+    #[test]
+    fn errors_about_openings_say_what_was_expected() {
+        assert_eq!(error("open"), "open: expected the files SCHEMA and RULE");
+        assert_eq!(
+            error("open s"),
+            "open: expected at least one file RULE after \"s\""
+        );
+        assert_eq!(
+            error("open s - --table -"),
+            "open: expected `-`, standard input, at most once"
+        );
+        for other in ["--json", "--quiet"] {
+            let expected = "open: expected --write without --json and --quiet";
+            assert_eq!(error(&format!("open s a --write {other}")), expected);
+        }
+        for option in ["--sarif", "--constants", "--reader kernel"] {
+            let (name, _) = option.split_once(' ').unwrap_or((option, ""));
+            let expected = format!("open: {name} is not an option of this command");
+            assert_eq!(error(&format!("open s a {option}")), expected);
+        }
+    }
+
+    #[test]
+    fn nothing_is_written_but_by_open() {
+        for line in [
+            "check s a",
+            "path s a",
+            "tally s b",
+            "wall s b",
+            "upgrade o n a",
+            "widens o n",
+            "show a",
+            "instant a",
+        ] {
+            let (command, _) = line.split_once(' ').unwrap();
+            let expected = format!("{command}: --write is not an option of this command");
+            assert_eq!(error(&format!("{line} --write")), expected);
+        }
+    }
+
+    #[test]
     fn books_are_written_and_sheets_shown_from_files_alone() {
         let files = || vec!["a".into(), "-".into()];
         assert_eq!(parsed("book a -"), Ok(Command::Book(files())));
@@ -798,7 +900,7 @@ mod tests {
 
     #[test]
     fn errors_say_what_was_expected() {
-        let commands = "expected a command, one of `check`, `tally`, `wall`, `book`, `path`, `widens`, `upgrade`, `instant`, `show`, `explain`, `table`";
+        let commands = "expected a command, one of `check`, `tally`, `wall`, `book`, `path`, `open`, `widens`, `upgrade`, `instant`, `show`, `explain`, `table`";
         assert_eq!(error(""), commands);
         assert_eq!(
             error("chekc"),

@@ -262,6 +262,36 @@ impl Shared {
         }
     }
 
+    /// What comes of a question under another schema.
+    pub fn outcome_under(
+        &self,
+        arguments: &Arguments,
+        schema: &[u8],
+        question: Question<'_>,
+    ) -> Outcome {
+        match (self.ready(), question) {
+            (Ok((names, _)), Question::Rule { rule, kind, label }) => {
+                rule_outcome(arguments, names, schema, rule, kind, label)
+            }
+            _ => Checked::new(arguments, self, question).outcome,
+        }
+    }
+
+    /// The marks of the schema to open for a rule; none where there is no rule, or something shared is missing.
+    pub fn openings(
+        &self,
+        arguments: &Arguments,
+        question: Question<'_>,
+    ) -> Option<Result<Option<Vec<u32>>, Refusal>> {
+        match (self.ready(), question) {
+            (Ok((names, schema)), Question::Rule { rule, kind, .. }) => {
+                let check = Check::new(kind, arguments.semantics, "").table(&names.lent);
+                Some(check.openings(schema, rule.bytes))
+            }
+            _ => None,
+        }
+    }
+
     /// What comes of a question, and, for a rule of which it is wanted then, what comes of it under another schema.
     pub fn outcomes(
         &self,
@@ -270,13 +300,10 @@ impl Shared {
         question: Question<'_>,
         is_wanted: impl Fn(&Outcome) -> bool,
     ) -> (Outcome, Option<Outcome>) {
-        let (Ok((names, schema)), Question::Rule { rule, kind, label }) = (self.ready(), question)
-        else {
-            return (Checked::new(arguments, self, question).outcome, None);
-        };
-        let under = |schema: &[u8]| rule_outcome(arguments, names, schema, rule, kind, label);
-        let outcome = under(schema);
-        let after = is_wanted(&outcome).then(|| under(other));
+        let outcome = Checked::new(arguments, self, question).outcome;
+        let is_rule = self.ready().is_ok() && matches!(question, Question::Rule { .. });
+        let after = (is_rule && is_wanted(&outcome))
+            .then(|| self.outcome_under(arguments, other, question));
         (outcome, after)
     }
 }

@@ -1,6 +1,6 @@
 //! The command-line tool: `entity-rules check SCHEMA RULE.. --kind KIND --semantics SEMANTICS`, `entity-rules tally SCHEMA BOOK ..` for a whole rule book,
 //! which `entity-rules book RULE..` writes and `entity-rules wall SCHEMA BOOK ..` prints for the wall, `entity-rules path SCHEMA PATH..` for keys,
-//! `entity-rules widens OLD NEW` and `entity-rules upgrade OLD NEW RULE..` for schemas that change, `entity-rules instant TEXT..`, which prints the
+//! `entity-rules open SCHEMA RULE..` for what must be opened in a schema, `entity-rules widens OLD NEW` and `entity-rules upgrade OLD NEW RULE..` for schemas that change, `entity-rules instant TEXT..`, which prints the
 //! fields of instants, `entity-rules show FILE..`, which prints sheets as trees, `entity-rules explain NUMBER`, which says what a number of an answer means, and `entity-rules table`, which prints the stock table.
 
 #![forbid(unsafe_code)]
@@ -25,6 +25,7 @@ mod json;
 mod meaning;
 mod near;
 mod object;
+mod openings;
 mod outline;
 mod printed;
 mod progress;
@@ -39,11 +40,12 @@ mod upgraded;
 mod version;
 mod widened;
 
-use arguments::{Arguments, Asked, BookRun, Command, Instants, Output, Pair, Upgrade};
+use arguments::{Arguments, Asked, BookRun, Command, Instants, Opening, Output, Pair, Upgrade};
 use checked::{Checked, Shared};
-use entity_rules::{Book, Table};
+use entity_rules::{Book, Table, opened};
 use files::{Rules, Sheet, read_sheet};
 use folders::{NotSettled, Settings, expand, settle};
+use openings::{Opened, Remedies, Remedy};
 use progress::Progress;
 use report::{Counts, Palette};
 use sarif::Log;
@@ -96,6 +98,7 @@ fn run(command: &Command) -> io::Result<u8> {
         Command::Tally(asked) => return tally(asked, &mut out),
         Command::Wall(asked) => return wall(asked, &mut out),
         Command::Book(files) => return book(files, &mut out),
+        Command::Open(asked) => return open(asked, &mut out),
         Command::Widens(pair) => return widens(pair, &mut out),
         Command::Upgrade(asked) => return upgrade(asked, &mut out),
         Command::Instants(asked) => return instants(asked, &mut out),
@@ -295,6 +298,92 @@ fn book(files: &[PathBuf], out: &mut impl Write) -> io::Result<u8> {
     out.write_all(book.bytes())?;
     out.flush()?;
     Ok(0)
+}
+
+/// Finds what must be opened for every rule, and prints that or the schema with all of it open.
+fn open(asked: &Opening, out: &mut impl Write) -> io::Result<u8> {
+    let arguments = &asked.check;
+    let rules = match rules("open", &arguments.asked) {
+        Ok(rules) => rules,
+        Err(status) => return Ok(status),
+    };
+    let shared = Shared::of(arguments);
+    let questions = arguments.asked.questions(&rules).into_iter();
+    let all = questions.map(|question| Opened::new(arguments, &shared, question));
+    match asked.write {
+        true => write_opened(arguments, &shared, all, out),
+        false => print_openings(arguments, all, out),
+    }
+}
+
+/// Prints what must be opened for every rule.
+fn print_openings<'a>(
+    arguments: &Arguments,
+    all: impl ExactSizeIterator<Item = Opened<'a>>,
+    out: &mut impl Write,
+) -> io::Result<u8> {
+    let output = arguments.output;
+    let total = all.len();
+    let palette = Palette::new(io::stdout().is_terminal());
+    let mut progress = bar(total, arguments.asked.noun());
+    let mut remedies = Remedies::default();
+    for opened in all {
+        let is_last = !output.json && opened.blames_what_is_shared();
+        remedies.count(&opened);
+        if !(output.quiet && opened.is_accepted()) {
+            progress.clear();
+            let text = match output.json {
+                true => opened.line(),
+                false => opened.text(&palette, &arguments.schema),
+            };
+            out.write_all(text.as_bytes())?;
+        }
+        progress.step();
+        if is_last {
+            break;
+        }
+    }
+    progress.clear();
+    if !output.json && total > 1 && !(output.quiet && remedies.is_plain()) {
+        writeln!(out, "{}", remedies.summary(total))?;
+    }
+    out.flush()?;
+    Ok(remedies.status())
+}
+
+/// Prints the schema with everything opened that the rules need, unless one of them cannot be checked. Which these are, and those that no opening helps, is said on standard error.
+fn write_opened<'a>(
+    arguments: &Arguments,
+    shared: &Shared,
+    all: impl Iterator<Item = Opened<'a>>,
+    out: &mut impl Write,
+) -> io::Result<u8> {
+    let (mut marks, mut remedies) = (Vec::new(), Remedies::default());
+    for opened in all {
+        let is_last = opened.blames_what_is_shared();
+        remedies.count(&opened);
+        match &opened.remedy {
+            Remedy::Open(openings) => marks.extend(openings.iter().map(|one| one.mark)),
+            Remedy::None(_) | Remedy::NotChecked(_) => {
+                let text = opened.text(&Palette::new(false), &arguments.schema);
+                complain(text.trim_end());
+            }
+        }
+        if is_last {
+            break;
+        }
+    }
+    let status = remedies.status();
+    match shared.schema().map(|schema| opened(schema, &marks)) {
+        Ok(Ok(sheet)) if status < REFUSED => out.write_all(&sheet)?,
+        _ => {
+            return Ok(complain(
+                "open: the schema is not written, since a rule cannot be checked",
+            ));
+        }
+    }
+    out.flush()?;
+    Ok(status)
 }
 
 /// Compares two schemas, and prints what comes of it.

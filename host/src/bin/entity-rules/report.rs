@@ -226,6 +226,15 @@ fn rows(
     rows
 }
 
+/// The rows for what an object must be opened for: the entry that reads in it, and marks under what it does not declare.
+pub fn needed_rows(spot: &Spot, blame: Option<&Blame>) -> Vec<(&'static str, String)> {
+    let line = format!("line {}, ", spot.line);
+    let space = " ".repeat(line.len());
+    let marks = blame.map(|blame| ("", format!("{space}{}", string_marks(spot, blame))));
+    let entry = ("for", format!("{line}{}", spot_text(spot)));
+    [entry].into_iter().chain(marks).collect()
+}
+
 fn spot_text(spot: &Spot) -> String {
     format!("entry {}, {}", spot.place, spot.text)
 }

@@ -17,7 +17,7 @@ use model::trees::{Field, Operator, Rule, Schema, Sheet, Value};
 use model::{write_rule, write_schema};
 
 /// Numbers of kinds and semantics that there are not, some past 32 bits.
-const NO_SETTINGS: [u64; 6] = [0, 9, 255, 256 + 1, (1 << 32) + 1, u64::MAX];
+pub const NO_SETTINGS: [u64; 6] = [0, 9, 255, 256 + 1, (1 << 32) + 1, u64::MAX];
 
 pub const NO_UTF8: [&[u8]; 8] =
     [b"\x80", b"\xc3", b"\xc0\x80", b"\xed\xa0\x80", b"\xf4\x90\x80\x80", b"a\xffb", b"\xe2\x82", b"\xf0\x8f\xbf\xbf"];

@@ -1,12 +1,13 @@
 //! The buffers that are lent, each amid bytes that the library must not touch.
 
 use super::entry::{numbers, Entry};
-use super::lent::{Lent, Slot, TallyLent, WallLent};
+use super::lent::{Lent, OpeningsLent, Slot, TallyLent, WallLent};
 use super::raw;
 use cases::books::BookCase;
 use cases::case::Case;
 use cases::keys::KeyCase;
 use cases::limits::MIN_PATH_BYTES;
+use cases::openings::{Opened, OpeningsCase};
 use cases::random::Random;
 use cases::walls::{Printed, WallCase};
 use cases::widens::WidensCase;
@@ -156,6 +157,32 @@ impl Arena {
         }
         self.written(slot, expected)?;
         // After a tally or a wall sheet as much is free as a path buffer must have.
+        let free = if number == 0 { MIN_PATH_BYTES } else { 0 };
+        self.kept_path(slot.pattern, free)
+    }
+
+    /// Makes the call for openings, whose inputs must keep their bytes as well, amid others.
+    pub fn openings(&mut self, case: &OpeningsCase, lent: &OpeningsLent, (numbers, set): &Opened) -> Result<(), String> {
+        let slot = &lent.slot;
+        let around = &self.patterns[slot.pattern][..AROUND];
+        let inputs = case.inputs().map(|input| [around, input, around].concat());
+        let untouched = inputs.clone();
+        let given = inputs.each_ref().map(|input| &input[AROUND..input.len() - AROUND]);
+        let path = &mut self.paths[slot.pattern][AROUND..AROUND + lent.path];
+        let list = &mut self.marks[slot.pattern][AROUND..AROUND + lent.list];
+        let start = AROUND + slot.shift;
+        let result = &mut self.results[slot.pattern][start..start + slot.length];
+        let number = raw::openings(case, given, [path, list, &mut *result]);
+        if number != numbers[0] {
+            return Err(format!("it returns {number}"));
+        }
+        fields(result)?;
+        if inputs != untouched {
+            return Err("a byte of its inputs, or around them, has changed".to_owned());
+        }
+        self.result(slot, numbers)?;
+        self.list(slot.pattern, set)?;
+        // After an answer as much is free as a path buffer must have.
         let free = if number == 0 { MIN_PATH_BYTES } else { 0 };
         self.kept_path(slot.pattern, free)
     }

@@ -47,6 +47,14 @@ pub struct TallyLent {
     pub slot: Slot,
 }
 
+/// One call for openings, with a path buffer and a list of these lengths and a result.
+#[derive(Clone, Copy, Debug, PartialEq, Eq)]
+pub struct OpeningsLent {
+    pub path: usize,
+    pub list: usize,
+    pub slot: Slot,
+}
+
 /// One wall sheet, with a buffer of that length for the pages.
 #[derive(Clone, Copy, Debug, PartialEq, Eq)]
 pub struct WallLent {

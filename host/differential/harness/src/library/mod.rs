@@ -4,12 +4,14 @@ mod arena;
 pub mod books;
 pub mod checks;
 pub mod entry;
+#[allow(dead_code, reason = "there is nothing to compare the version with")]
 #[rustfmt::skip] // Its own crate lays it out.
 #[path = "../../../../src/raw/functions.rs"]
 mod functions;
 pub mod instants;
 pub mod keys;
 pub mod lent;
+pub mod openings;
 pub mod raw;
 pub mod tables;
 pub mod walls;

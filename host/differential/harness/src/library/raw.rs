@@ -2,16 +2,17 @@
 
 use crate::library::entry::Entry;
 use crate::library::functions::{
-    rulecheck_check, rulecheck_count, rulecheck_field, rulecheck_finite, rulecheck_instant, rulecheck_load_table, rulecheck_path,
-    rulecheck_rule, rulecheck_tally, rulecheck_template, rulecheck_wall, rulecheck_widens,
+    rulecheck_check, rulecheck_count, rulecheck_field, rulecheck_finite, rulecheck_instant, rulecheck_load_table, rulecheck_openings,
+    rulecheck_path, rulecheck_rule, rulecheck_tally, rulecheck_template, rulecheck_wall, rulecheck_widens,
 };
 use cases::books::BookCase;
 use cases::case::Case;
 use cases::keys::KeyCase;
 use cases::limits::{CHECK_RESULT_BYTES, RESULT_BYTES};
+use cases::openings::{Opened, OpeningsCase};
 use cases::walls::WallCase;
 use cases::widens::WidensCase;
-use model::{TallyNumbers, MARKS_BYTES, PAGE_BYTES, TALLY_BYTES, WALL_BYTES};
+use model::{TallyNumbers, MARKS_BYTES, OPENINGS_BYTES, PAGE_BYTES, TALLY_BYTES, WALL_BYTES};
 use std::mem::MaybeUninit;
 
 /// An entry that takes one sort of sheet.
@@ -245,6 +246,54 @@ pub fn fresh_wall(case: &WallCase) -> (u32, Option<[u64; 2]>, Vec<u8>) {
         let numbers = [count(written, 0), count(written, 1)];
         let printed = std::slice::from_raw_parts(pages.as_ptr().cast::<u8>(), numbers[1] as usize * PAGE_BYTES);
         (number, Some(numbers), printed.to_vec())
+    }
+}
+
+/// Asks which marks to open: table, schema and rule are lent from places of their own; path buffer, list and result are written.
+pub fn openings(case: &OpeningsCase, inputs: [&[u8]; 3], buffers: [&mut [u8]; 3]) -> u32 {
+    // SAFETY: pointers and lengths are those of slices, and no two of them overlap.
+    unsafe { call_openings(case, inputs, buffers.map(|buffer| (buffer.as_mut_ptr(), buffer.len()))) }
+}
+
+/// # Safety
+///
+/// Each pointer of a buffer leads to as many bytes as its length says, and nothing else refers to these.
+unsafe fn call_openings(case: &OpeningsCase, inputs: [&[u8]; 3], [path, list, result]: [(*mut u8, usize); 3]) -> u32 {
+    let [table, schema, rule] = inputs;
+    rulecheck_openings(
+        case.kind,
+        case.semantics,
+        table.as_ptr(),
+        table.len(),
+        schema.as_ptr(),
+        schema.len(),
+        rule.as_ptr(),
+        rule.len(),
+        path.0,
+        path.1,
+        list.0,
+        list.1,
+        result.0,
+        result.1,
+    )
+}
+
+/// The same with buffers fresh from the allocator and copies of the inputs, as `fresh`: the number, and what is answered where the result has room.
+pub fn fresh_openings(case: &OpeningsCase) -> (u32, Option<Opened>) {
+    let inputs = case.inputs().map(|input| input.to_vec().into_boxed_slice());
+    let [mut path, mut list, mut result] = [case.path_len, case.list_len, case.result_len].map(Box::<[u8]>::new_uninit_slice);
+    let buffers = [&mut path, &mut list, &mut result].map(|buffer| (buffer.as_mut_ptr().cast(), buffer.len()));
+    let [table, schema, rule] = &inputs;
+    // SAFETY: the boxes are as long as said, and only read again after the call, which wrote the result if it has room, and as many marks as that says.
+    unsafe {
+        let number = call_openings(case, [table, schema, rule], buffers);
+        let Some(written) = result.get(..OPENINGS_BYTES) else {
+            return (number, None);
+        };
+        let written = std::slice::from_raw_parts(written.as_ptr().cast::<u8>(), OPENINGS_BYTES);
+        let numbers = [0, 1, 2].map(|index| field(written, index));
+        let list = std::slice::from_raw_parts(list.as_ptr().cast::<u8>(), 4 * numbers[2] as usize);
+        (number, Some((numbers, (0..numbers[2]).map(|index| field(list, index)).collect())))
     }
 }
 

@@ -4,5 +4,6 @@ pub mod answer;
 pub mod instants;
 pub mod marks;
 pub mod nodes;
+pub mod openings;
 pub mod plan;
 pub mod refusals;

@@ -8,9 +8,10 @@ use cases::limits::{
     MAX_CONDITION_NESTING, MAX_FIELD_NESTING, MAX_LABEL_BYTES, MAX_PATH_BYTES, MAX_RULE_ENTRIES, MAX_SCHEMA_ENTRIES, MAX_SHEET_BYTES,
     MAX_TEXT_BYTES, MAX_VALUE_NESTING, MIN_PATH_BYTES, MIN_SCRATCH_WORDS, REFUSALS, RESULT_BYTES, TABLE_BYTES,
 };
+use cases::openings::OpeningsCase;
 use cases::walls::WallCase;
 use cases::widens::WidensCase;
-use model::TALLY_BYTES;
+use model::{OPENINGS_BYTES, TALLY_BYTES};
 
 /// The refusal that answers a call, or 0.
 pub fn refusal(case: &Case) -> u32 {
@@ -80,6 +81,19 @@ pub fn wall_refusal(case: &WallCase) -> u32 {
         0 | 37 | 38 if pages * 4_860 > case.pages_len => 33,
         other => other,
     }
+}
+
+/// The refusal that answers a call for openings, or 0: those of a check without a label, with 36 after 3 for a list of fewer than 1,025 elements of four bytes.
+pub fn openings_refusal(case: &OpeningsCase) -> u32 {
+    let is_known = (1..=8).contains(&case.kind) && (1..=4).contains(&case.semantics);
+    let is_wide = case.path_len >= MIN_PATH_BYTES && case.result_len >= OPENINGS_BYTES;
+    let has_room = case.list_len / 4 >= 1_025;
+    let table = &case.table[..case.table.len().min(TABLE_BYTES)];
+    let is_lent = table.is_empty() || is_table(table);
+    let is_schema = is_sheet(&case.schema, b"H", MAX_SCHEMA_ENTRIES);
+    let is_rule = is_sheet(&case.rule, b"RT", MAX_RULE_ENTRIES);
+    let tests = [is_known, is_wide, has_room, is_lent, are_marks_sound(table), is_schema, is_rule];
+    first_failing([1, 3, 36, 37, 38, 4, 5], &tests)
 }
 
 /// How many sheets a file has, if it is what those are written as that come after its lengths, however these are spelled and as far as the file goes.

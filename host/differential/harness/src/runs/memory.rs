@@ -16,13 +16,14 @@ use cases::instants;
 use cases::keys::{self, KeyCase};
 use cases::limits::RESULT_BYTES;
 use cases::longest::longest;
+use cases::openings::{self, OpeningsCase};
 use cases::random::Random;
 use cases::tables::{self, LoadCase};
 use cases::walls::{self, WallCase};
 use cases::widens::{self, WidensCase};
 
-/// The known edges, the list of answers, then so many generated cases, and the same of keys, of tables, of loads, of instants, of pairs of schemas, of books and of wall
-/// sheets; an error is a difference from the model.
+/// The known edges, the list of answers, then so many generated cases, and the same of keys, of tables, of loads, of instants, of pairs of schemas, of books, of wall
+/// sheets and of openings; an error is a difference from the model.
 pub fn memory(list: &str, cases: u64, seed: u64) -> Result<(), String> {
     let known: Vec<Case> = edges().into_iter().chain(longest()).collect();
     for case in &known {
@@ -90,6 +91,14 @@ pub fn memory(list: &str, cases: u64, seed: u64) -> Result<(), String> {
         let (_, case) = walls::generate::case(&mut Random::of_case(seed, number));
         one_wall(&case).map_err(|trouble| format!("wall sheet {number} of seed {seed}: {trouble}"))?;
     }
+    let known_openings = openings::edges::edges();
+    for case in &known_openings {
+        one_openings(case)?;
+    }
+    for number in 0..books {
+        let (_, case) = openings::generate::case(&mut Random::of_case(seed, number));
+        one_openings(&case).map_err(|trouble| format!("openings {number} of seed {seed}: {trouble}"))?;
+    }
     println!("{} known edges, {} cases of {list}, {cases} generated ones (seed {seed}): answers as the model's", known.len(), listed.len());
     println!("{} known edges of keys, {cases} generated ones (seed {seed}): answers as the model's", known_keys.len());
     println!(
@@ -101,6 +110,7 @@ pub fn memory(list: &str, cases: u64, seed: u64) -> Result<(), String> {
     println!("{} known pairs of schemas, {cases} generated ones (seed {seed}): answers as the model's", known_pairs.len());
     println!("{} known books, {books} generated ones (seed {seed}): answers as the model's", known_books.len());
     println!("{} known wall sheets, {books} generated ones (seed {seed}): answers as the model's", known_walls.len());
+    println!("{} known openings, {books} generated ones (seed {seed}): answers as the model's", known_openings.len());
     Ok(())
 }
 
@@ -157,6 +167,17 @@ fn one_wall(case: &WallCase) -> Result<(), String> {
         Ok(())
     } else {
         Err(format!("a wall sheet is answered {:?}, not {numbers:?}, or its pages differ", found.1))
+    }
+}
+
+fn one_openings(case: &OpeningsCase) -> Result<(), String> {
+    let expected = model::openings(&case.call());
+    let found = raw::fresh_openings(case);
+    let wanted = (expected.0[0], (case.result_len >= model::OPENINGS_BYTES).then_some(expected));
+    if found == wanted {
+        Ok(())
+    } else {
+        Err(format!("openings are answered {found:?}, not {wanted:?}"))
     }
 }
 

@@ -11,6 +11,7 @@ pub mod keys;
 pub mod marks;
 pub mod memory;
 pub mod moved;
+pub mod openings;
 pub mod published;
 pub mod record;
 pub mod tables;

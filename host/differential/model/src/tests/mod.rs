@@ -5,6 +5,7 @@ mod collections;
 mod defects;
 mod edges;
 mod keys;
+mod openings;
 mod references;
 mod refusals;
 mod sheets;

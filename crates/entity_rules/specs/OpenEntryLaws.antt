@@ -1,0 +1,51 @@
+-- What a host may rely on where it asks for the fewest marks: `rulecheck_field` gives the three numbers of the answer, and the marks in the list.
+use Prim.Native.Nat.{ℕ, _*_, _≤_, _<_}
+use native.Mathlib.Omega.{arith}
+use mathlib.Core.List.{List, [], _∷_}
+use mathlib.Core.Path.{_≡_, refl, ap, _∙_}
+use lib.ListN.{length, getD}
+use borrow.Author.Tests.{le-leb}
+use Rattle.buffer.specs.Bytes.{InFourBytes, no-more, one-more, fieldAt}
+use Rattle.buffer.specs.BytesLaws.{field-written}
+use Rattle.validation.specs.Openings.{maxMarks}
+use Rattle.openings.specs.CallLaws.{AllAtMost, set-fits}
+use Rattle.openings.specs.Call.{OpenAnswer, openRefused, opens, nothingHelps, openNumbers, listAfter}
+use Rattle.entity_rules.specs.Entry.{numbersAfter}
+use Rattle.entity_rules.specs.OpenEntry.{openBytes, openCallFor, openEntryAnswer, OpenAnswered}
+
+pub in-four-bytes : (ns : List ℕ) → AllAtMost maxMarks ns → InFourBytes ns
+in-four-bytes [] h = no-more
+in-four-bytes (n ∷ ns) h = one-more {n = n} (omega (arith, h .0)) (in-four-bytes ns (h .1))
+
+three-numbers : (a : OpenAnswer) → length (openNumbers a) ≡ 3
+unfolding openNumbers
+three-numbers (openRefused n) = refl
+three-numbers (opens set) = refl
+three-numbers nothingHelps = refl
+
+-- a number of the result
+pub field-of-openings : {answer : OpenAnswer} {pathBefore pathNow listBefore listNow resultBefore resultNow : List ℕ} {r : ℕ}
+    → OpenAnswered answer pathBefore pathNow listBefore listNow resultBefore resultNow r
+    → (i : ℕ)
+    → i < 3
+    → openBytes ≤ length resultBefore
+    → fieldAt i resultNow ≡ getD (openNumbers answer) i 0
+unfolding numbersAfter
+field-of-openings {answer} {resultBefore = resultBefore} a i less room =
+    let three = three-numbers answer in
+    let fits : 4 * length (openNumbers answer) ≤ length resultBefore = omega arith in
+    rw (a .result, le-leb (4 * length (openNumbers answer)) (length resultBefore) fits) (field-written (openNumbers answer) resultBefore fits i (omega arith) (a .small))
+
+-- a mark of the set
+module _ (kind semantics : ℕ) (table schema rule : List ℕ) {pathBefore pathNow listBefore listNow resultBefore resultNow : List ℕ} {r : ℕ}
+    (a : OpenAnswered (openEntryAnswer kind semantics table schema rule (length pathBefore) (length listBefore) (length resultBefore)) pathBefore pathNow listBefore listNow resultBefore resultNow r) where
+  pub mark-of-openings : (set : List ℕ)
+      → openEntryAnswer kind semantics table schema rule (length pathBefore) (length listBefore) (length resultBefore) ≡ opens set
+      → (i : ℕ)
+      → i < length set
+      → fieldAt i listNow ≡ getD set i 0
+  unfolding openEntryAnswer openCallFor listAfter
+  mark-of-openings set is i less =
+      let fits = set-fits (openCallFor kind semantics table schema rule (length pathBefore) (length listBefore) (length resultBefore)) set is in
+      ap (fieldAt i) (a .list ∙ ap (λ (x : OpenAnswer). listAfter x listBefore) is)
+      ∙ field-written set listBefore (fits .room) i less (in-four-bytes set (fits .low))

@@ -1,0 +1,5 @@
+mod Edges
+pub mod RoundSteps
+pub mod ListSteps
+pub mod SearchSteps
+pub mod CallSteps

@@ -1,0 +1,73 @@
+-- Every call that is not refused answers with the fewest marks, or says that none help.
+use Prim.Native.Nat.{ℕ}
+use native.Mathlib.Omega.{arith}
+use mathlib.Core.Bool.{Bool, true, false}
+use mathlib.Core.List.{List, []}
+use mathlib.Core.Logic.{_↔_, _⊎_, inl, inr}
+use mathlib.Core.Option.{Option, none, some, orElse}
+use mathlib.Core.Path.{_≡_, refl, sym, ap, _∙_}
+use Rattle.definition.specs.Tree.{Schema, Rule}
+use Rattle.definition.specs.Decode.{decodeSchema, decodeRule}
+use Rattle.definition.specs.Write.{writeSchema}
+use Rattle.widening.specs.Opening.{isIn, opened}
+use Rattle.validation.specs.Fewest.{Accepts}
+use Rattle.validation.specs.FewestLaws.{accepts-answer, fewest-accepts, fewest-least, fewest-none}
+use Rattle.validation.specs.Openings.{fewestMarks}
+use Rattle.validation.specs.Result.{any, isTaken, accepted, judged, checked, settingFor, ofTable, firstRefusal, early, resultOf}
+use Rattle.validation.specs.RefusalLaws.{table-decides}
+use Rattle.single_check.specs.Sheets.{takenOf, sheetAnswer}
+use Rattle.single_check.specs.SheetLaws.{sheets-decide}
+use Rattle.openings.specs.Call.{OpenCall, checkOf, openRefusals, opens, nothingHelps, answerWith, searched, refusedOr, openAnswer}
+use Rattle.openings.specs.CallLaws.{settingRefusal, none-of-these}
+use Rattle.openings.specs.FewestCalls.{checkOpened, Accepted, AnswersFewest}
+use Rattle.openings.specs.OpenedLaws.{opened-decodes}
+
+module _ (c : OpenCall) (t : Schema) (x : Rule) (schema : decodeSchema (c .schema) ≡ some t) (rule : decodeRule (c .rule) ≡ some x)
+    (unrefused : firstRefusal (openRefusals c) ≡ none) where
+  answered : openAnswer c ≡ answerWith (fewestMarks (settingFor (checkOf c)) t x)
+  unfolding openAnswer refusedOr searched
+  answered = rw (unrefused, schema, rule)
+
+  early-pass : (may : ℕ → Bool) → firstRefusal (early (checkOpened c t may)) ≡ none
+  unfolding checkOpened checkOf
+  early-pass may =
+      let n = none-of-these c unrefused in
+      table-decides (checkOpened c t may) (n .0) (omega arith) ∙ n .1
+
+  checks-it : (may : ℕ → Bool) → resultOf (checkOpened c t may) ≡ checked (settingFor (checkOf c)) [] (opened may t) x
+  unfolding checkOpened checkOf sheetAnswer takenOf isTaken judged
+  checks-it may =
+      sheets-decide (checkOpened c t may) (early-pass may)
+      ∙ rw (opened-decodes may (c .schema) t schema, rule)
+
+  same-acceptance : (may : ℕ → Bool) → Accepts (settingFor (checkOf c)) t x may ↔ Accepted c t may
+  same-acceptance may =
+      let a = accepts-answer (settingFor (checkOf c)) [] t x may in
+      (λ p. let n = a .0 p in (n .0, checks-it may ∙ n .1), λ n. a .1 (n .0, sym (checks-it may) ∙ n .1))
+
+  opens-is : (o : Option (List ℕ)) (set : List ℕ) → answerWith o ≡ opens set → o ≡ some set
+  unfolding answerWith
+  opens-is none set e = let z : _≡_ {A = ℕ} 0 1 = cc in absurd (omega arith)
+  opens-is (some found) set e = let same : found ≡ set = cc in ap some same
+
+  helps-not : (o : Option (List ℕ)) → answerWith o ≡ nothingHelps → o ≡ none
+  unfolding answerWith
+  helps-not none e = refl
+  helps-not (some found) e = let z : _≡_ {A = ℕ} 0 1 = cc in absurd (omega arith)
+
+  either : (o : Option (List ℕ)) → ((set : List ℕ) × (answerWith o ≡ opens set)) ⊎ (answerWith o ≡ nothingHelps)
+  unfolding answerWith
+  either none = inr refl
+  either (some found) = inl (found, refl)
+
+  pub answers-fewest : AnswersFewest c t
+  answers-fewest =
+      record {
+        answers = rw answered (either (fewestMarks (settingFor (checkOf c)) t x));
+        accepts = λ set e.
+            same-acceptance (isIn set) .0 (fewest-accepts (settingFor (checkOf c)) t x (c .schema) schema set (opens-is _ set (sym answered ∙ e)));
+        least = λ set e may a.
+            fewest-least (settingFor (checkOf c)) t x (c .schema) schema set (opens-is _ set (sym answered ∙ e)) may (same-acceptance may .1 a);
+        none-helps = λ e may a.
+            fewest-none (settingFor (checkOf c)) t x (c .schema) schema (helps-not _ (sym answered ∙ e)) may (same-acceptance may .1 a);
+      }

@@ -1,0 +1,31 @@
+-- What a caller may rely on: the marks that a call answers with are the fewest under which a single check of the opened schema accepts.
+use Prim.Native.Nat.{ℕ}
+use mathlib.Core.Bool.{Bool, true}
+use mathlib.Core.List.{List, []}
+use mathlib.Core.Logic.{_↔_, _⊎_, inl, inr}
+use mathlib.Core.Option.{Option, none, some}
+use mathlib.Core.Path.{_≡_, refl, sym, ap, _∙_}
+use Rattle.definition.specs.Tree.{Schema, Rule}
+use Rattle.definition.specs.Decode.{decodeSchema, decodeRule}
+use Rattle.definition.specs.Write.{writeSchema}
+use Rattle.reference.specs.Setting.{Setting}
+use Rattle.widening.specs.Opening.{isIn, opened}
+use Rattle.validation.specs.Fewest.{Accepts}
+use Rattle.validation.specs.Openings.{fewestMarks}
+use Rattle.validation.specs.Result.{Call, accepted, settingFor, resultOf}
+use Rattle.openings.specs.Call.{OpenCall, checkOf, opens, nothingHelps, openAnswer}
+
+-- the single check of the rule or template under the schema in which those marks are open
+unfoldable pub checkOpened : OpenCall → Schema → (ℕ → Bool) → Call
+checkOpened c t may =
+    record { asked = checkOf c .asked; table = c .table; schema = writeSchema (opened may t); lent = checkOf c .lent }
+
+abbrev pub Accepted : OpenCall → Schema → (ℕ → Bool) → Type 0
+Accepted c t may = (n : ℕ) × (resultOf (checkOpened c t may) ≡ accepted n)
+
+-- for a call about the schema t that is not refused
+pub record AnswersFewest (c : OpenCall) (t : Schema) : Type 0 where
+  pub answers : ((set : List ℕ) × (openAnswer c ≡ opens set)) ⊎ (openAnswer c ≡ nothingHelps)
+  pub accepts : (set : List ℕ) → openAnswer c ≡ opens set → Accepted c t (isIn set)
+  pub least : (set : List ℕ) → openAnswer c ≡ opens set → (may : ℕ → Bool) → Accepted c t may → (e : ℕ) → isIn set e ≡ true → may e ≡ true
+  pub none-helps : openAnswer c ≡ nothingHelps → (may : ℕ → Bool) → Accepted c t may → ⊥
