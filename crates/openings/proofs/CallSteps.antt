@@ -1,6 +1,6 @@
 -- The whole call: each way to its end gives what the definitions say of it.
 use Prim.Native.Nat.{ℕ, _≤_, _<_}
-use mathlib.Core.Bool.{true, false, not}
+use mathlib.Core.Bool.{false, not}
 use mathlib.Core.List.{List, []}
 use mathlib.Core.Option.{Option, none, some}
 use mathlib.Core.Path.{_≡_, refl, sym, ap, _∙_}
@@ -16,7 +16,7 @@ use Rattle.single_check.specs.Settings.{settingBy, askedBy, widthsBy, EarlyIs, 
 use Rattle.single_check.specs.SheetLaws.{Roomy, roomy, front-scratch}
 use Rattle.single_check.specs.declared.settings.Setting.{Setting as CodeSetting}
 use Rattle.single_check.specs.declared.settings.Settled.the-variants.{Set, Refused}
-use Rattle.openings.specs.Call.{OpenCall, checkOf, listBytes, openRefused, opens, nothingHelps, answerWith, searched, openAnswer, openNumbers, listAfter, freePath, freeScratch, openCallOf, MeetsOpen}
+use Rattle.openings.specs.Call.{OpenCall, checkOf, listBytes, openRefused, answerWith, searched, openAnswer, openNumbers, listAfter, freePath, freeScratch, openCallOf, MeetsOpen}
 use Rattle.openings.specs.CallLaws.{settingRefusal, settings-first, list-refused, table-refused, sheets-decide}
 use Rattle.openings.specs.Runs.{SheetsOpened, openRunOf}
 

@@ -1,22 +1,21 @@
 -- A round, and the search: each way through them.
 use Prim.Native.Nat.{ℕ, suc, _+_, _-_, _≤_, _<_}
 use native.Mathlib.Omega.{arith}
-use mathlib.Core.Bool.{Bool, true, false, not, cond, _&&_, _||_}
-use mathlib.Core.List.{List, [], _∷_}
+use mathlib.Core.Bool.{Bool, true, false, _||_}
+use mathlib.Core.List.{List, _∷_}
 use mathlib.Core.Option.{Option, none, some, Option·some-injective, Option·none-ne-some}
 use mathlib.Core.Path.{_≡_, refl, sym, ap, _∙_}
-use lib.Dec.{eqb, leb}
+use lib.Dec.{eqb}
 use lib.ListN.{length, getD, set, length-set}
 use lib.Seq.{getD-set-same, getD-set-other}
-use borrow.Author.Tests.{eqb-true, eqb-false, ne-eqb, le-leb, lt-leb}
-use Rattle.definition.specs.Limits.{maxSheetBytes, maxSchemaEntries, maxRuleEntries}
+use borrow.Author.Tests.{eqb-true, eqb-false, ne-eqb}
+use Rattle.definition.specs.Limits.{maxSheetBytes, maxSchemaEntries}
 use Rattle.definition.specs.Tree as Tree
 use Rattle.definition.specs.Tree.{Rule, rule, template}
 use Rattle.definition.specs.Decode.{decodeSchema}
-use Rattle.definition.specs.Within.{ruleEntries, RuleWithin}
+use Rattle.definition.specs.Within.{ruleEntries}
 use Rattle.reference.specs.Setting.{Setting}
-use Rattle.schema.specs.Kept.{Kept}
-use Rattle.schema.specs.Read.{SchemaAt, SchemaIs, SchemaAnswer}
+use Rattle.schema.specs.Read.{SchemaAt, SchemaAnswer}
 use Rattle.schema.specs.declared.read.Schema.{Schema}
 use Rattle.schema.specs.declared.read.SchemaRead.{SchemaRead}
 use Rattle.schema.specs.declared.read.SchemaRead.the-variants as SchemaRead
@@ -32,7 +31,7 @@ use Rattle.validation.specs.Check.{Check, checks}
 use Rattle.validation.specs.Judge.{Failure, Verdict, allPass, failsAt, judge}
 use Rattle.validation.specs.Openings.{judgedOpen, rounds, maxMarks}
 use Rattle.validation.specs.RoundLaws.{round-passes, round-opens, round-ends, round-ends-past}
-use Rattle.value_checks.specs.Shown.{Shown, passes, fails, shownOf}
+use Rattle.value_checks.specs.Shown.{passes, fails, shownOf}
 use Rattle.value_checks.specs.Verdicts.{refusedAt, failureOf, shownWith, shownBy}
 use Rattle.value_checks.specs.declared.verdict.Fault.{Fault}
 use Rattle.value_checks.specs.declared.verdict.Over.{Over}
@@ -44,7 +43,7 @@ use Rattle.single_check.specs.Sheets.{FrontOnly}
 use Rattle.single_check.specs.SheetLaws.{front-schema, front-both}
 use Rattle.single_check.specs.declared.settings.Setting as Code
 use Rattle.open_marks.specs.Marks.{MarkOpened}
-use Rattle.openings.specs.Rounds.{RoundIs, RoundJudged, isMarked, Stands, EndsIn, MarksFound}
+use Rattle.openings.specs.Rounds.{RoundIs, RoundJudged, isMarked, Stands, MarksFound}
 use Rattle.openings.specs.declared.rounds.Round.{Round}
 use Rattle.openings.specs.declared.rounds.Round.the-variants.{Passed, Refused}
 

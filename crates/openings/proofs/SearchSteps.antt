@@ -10,9 +10,9 @@ use lib.Seq.{sets, sets-eq, drop-at}
 use Rattle.buffer.specs.Bytes.{bytesOf}
 use Rattle.buffer.specs.Wrote.{Wrote}
 use Rattle.buffer.specs.WroteLaws.{wrote-front}
-use Rattle.definition.specs.Limits.{maxSheetBytes, maxRuleEntries}
+use Rattle.definition.specs.Limits.{maxSheetBytes}
 use Rattle.definition.specs.Tree.{Schema, Rule}
-use Rattle.definition.specs.Decode.{decodeSchema, decodeRule}
+use Rattle.definition.specs.Decode.{decodeSchema}
 use Rattle.definition.specs.RoundTrip.{schema-round-trip, rule-round-trip}
 use Rattle.reference.specs.Setting.{Setting}
 use Rattle.schema.specs.Read.{SchemaAnswer}
@@ -25,16 +25,15 @@ use Rattle.rule.specs.declared.RuleRead.{RuleRead}
 use Rattle.rule.specs.declared.RuleRead.the-variants as RuleRead
 use Rattle.widening.specs.Opening.{isIn}
 use Rattle.widening.specs.OpeningLaws.{opened-none}
-use Rattle.validation.specs.Openings.{maxMarks, risingTo, fewestMarks}
+use Rattle.validation.specs.Openings.{maxMarks, risingTo}
 use Rattle.validation.specs.RisingLaws.{rising-agree}
 use Rattle.validation.specs.RoundLaws.{fewest-found, fewest-missing}
 use Rattle.validation.specs.Result.{pathBytes, KeptFrom}
 use Rattle.validation.specs.KeptLaws.{sets-kept}
-use Rattle.single_check.specs.Sheets.{FrontOnly}
 use Rattle.single_check.specs.SheetLaws.{still-read, front-schema, front-rule, front-both}
-use Rattle.openings.specs.Call.{openRefused, opens, nothingHelps, answerWith, searched, openNumbers, listAfter, freePath}
+use Rattle.openings.specs.Call.{openRefused, answerWith, searched, openNumbers, listAfter, freePath}
 use Rattle.openings.specs.Rounds.{isMarked, Stands, MarksFound, ListedIn}
-use Rattle.openings.specs.Runs.{Answers, MarksListed, SheetsOpened}
+use Rattle.openings.specs.Runs.{MarksListed, SheetsOpened}
 use Rattle.openings.proofs.RoundSteps.{no-mark}
 
 module _ {setting : Setting} {s : Code.Schema} {rule sheet list before after marks : List ℕ} where

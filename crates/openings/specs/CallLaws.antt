@@ -4,7 +4,7 @@ use native.Mathlib.Omega.{arith}
 use mathlib.Core.Bool.{Bool, true, false, not, cond}
 use mathlib.Core.List.{List, [], _∷_, _++_}
 use mathlib.Core.Option.{Option, none, some, orElse, Option·map}
-use mathlib.Core.Path.{_≡_, refl, sym, _∙_}
+use mathlib.Core.Path.{_≡_, refl, _∙_}
 use lib.Dec.{leb}
 use lib.ListN.{length}
 use borrow.Author.Tests.{leb-true, le-leb, lt-leb, not-false}
@@ -18,7 +18,7 @@ use Rattle.validation.specs.RefusalLaws.{first-append, NoneDue, none-due, first
 use Rattle.validation.specs.Openings.{maxMarks, risingTo, rounds, fewestMarks}
 use Rattle.validation.specs.RisingLaws.{rising-few}
 use Rattle.single_check.specs.SheetLaws.{roomy}
-use Rattle.openings.specs.Call.{OpenCall, checkOf, listBytes, ofList, openRefusals, OpenAnswer, openRefused, opens, answerWith, searched, refusedOr, openAnswer, openNumbers}
+use Rattle.openings.specs.Call.{OpenCall, checkOf, listBytes, ofList, openRefusals, openRefused, opens, answerWith, searched, refusedOr, openAnswer, openNumbers}
 
 -- 1 and 3
 abbrev pub settingRefusal : OpenCall → Option ℕ

@@ -1,24 +1,23 @@
 -- Every call that is not refused answers with the fewest marks, or says that none help.
 use Prim.Native.Nat.{ℕ}
 use native.Mathlib.Omega.{arith}
-use mathlib.Core.Bool.{Bool, true, false}
+use mathlib.Core.Bool.{Bool}
 use mathlib.Core.List.{List, []}
 use mathlib.Core.Logic.{_↔_, _⊎_, inl, inr}
-use mathlib.Core.Option.{Option, none, some, orElse}
+use mathlib.Core.Option.{Option, none, some}
 use mathlib.Core.Path.{_≡_, refl, sym, ap, _∙_}
 use Rattle.definition.specs.Tree.{Schema, Rule}
 use Rattle.definition.specs.Decode.{decodeSchema, decodeRule}
-use Rattle.definition.specs.Write.{writeSchema}
 use Rattle.widening.specs.Opening.{isIn, opened}
 use Rattle.validation.specs.Fewest.{Accepts}
 use Rattle.validation.specs.FewestLaws.{accepts-answer, fewest-accepts, fewest-least, fewest-none}
 use Rattle.validation.specs.Openings.{fewestMarks}
-use Rattle.validation.specs.Result.{any, isTaken, accepted, judged, checked, settingFor, ofTable, firstRefusal, early, resultOf}
+use Rattle.validation.specs.Result.{isTaken, judged, checked, settingFor, firstRefusal, early, resultOf}
 use Rattle.validation.specs.RefusalLaws.{table-decides}
 use Rattle.single_check.specs.Sheets.{takenOf, sheetAnswer}
 use Rattle.single_check.specs.SheetLaws.{sheets-decide}
 use Rattle.openings.specs.Call.{OpenCall, checkOf, openRefusals, opens, nothingHelps, answerWith, searched, refusedOr, openAnswer}
-use Rattle.openings.specs.CallLaws.{settingRefusal, none-of-these}
+use Rattle.openings.specs.CallLaws.{none-of-these}
 use Rattle.openings.specs.FewestCalls.{checkOpened, Accepted, AnswersFewest}
 use Rattle.openings.specs.OpenedLaws.{opened-decodes}
 

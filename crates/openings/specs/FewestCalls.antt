@@ -1,18 +1,13 @@
 -- What a caller may rely on: the marks that a call answers with are the fewest under which a single check of the opened schema accepts.
 use Prim.Native.Nat.{ℕ}
 use mathlib.Core.Bool.{Bool, true}
-use mathlib.Core.List.{List, []}
-use mathlib.Core.Logic.{_↔_, _⊎_, inl, inr}
-use mathlib.Core.Option.{Option, none, some}
-use mathlib.Core.Path.{_≡_, refl, sym, ap, _∙_}
-use Rattle.definition.specs.Tree.{Schema, Rule}
-use Rattle.definition.specs.Decode.{decodeSchema, decodeRule}
+use mathlib.Core.List.{List}
+use mathlib.Core.Logic.{_⊎_}
+use mathlib.Core.Path.{_≡_}
+use Rattle.definition.specs.Tree.{Schema}
 use Rattle.definition.specs.Write.{writeSchema}
-use Rattle.reference.specs.Setting.{Setting}
 use Rattle.widening.specs.Opening.{isIn, opened}
-use Rattle.validation.specs.Fewest.{Accepts}
-use Rattle.validation.specs.Openings.{fewestMarks}
-use Rattle.validation.specs.Result.{Call, accepted, settingFor, resultOf}
+use Rattle.validation.specs.Result.{Call, accepted, resultOf}
 use Rattle.openings.specs.Call.{OpenCall, checkOf, opens, nothingHelps, openAnswer}
 
 -- the single check of the rule or template under the schema in which those marks are open

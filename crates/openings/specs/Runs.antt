@@ -1,7 +1,6 @@
 -- A call of the code as a run of the definitions, and what its parts leave.
 use Prim.Native.Nat.{ℕ}
 use mathlib.Core.List.{List, []}
-use mathlib.Core.Option.{some}
 use mathlib.Core.Path.{_≡_}
 use lib.ListN.{replicate}
 use Rattle.definition.specs.Tree as Tree

@@ -2,7 +2,6 @@
 use mathlib.Core.Path.{refl}
 use Rattle.entity_rules.proofs.Entries.{lent-within}
 use Rattle.entity_rules.proofs.OpenEntries.{open-answered}
-use native.Mathlib.Omega.{arith}
 use borrow.Author.Needs.{needs}
 use Rattle.entity_rules.proofs.fewest.rulecheck_openings.Statement.{statement}
 use Rattle.entity_rules.proofs.fewest.rulecheck_openings.Tie as tie

@@ -1,6 +1,5 @@
 -- `entity_rules::result::write_numbers` meets its contract.
 use Rattle.entity_rules.proofs.Writing.{numbers-short, numbers-written}
-use native.Mathlib.Omega.{arith}
 use borrow.Author.Needs.{needs}
 use Rattle.entity_rules.proofs.result.write_numbers.Statement.{statement}
 use Rattle.entity_rules.proofs.result.write_numbers.Tie as tie

@@ -1,115 +1,89 @@
-use native.Mathlib.Omega.{arith}
+-- `openings::rounds::refused_at` meets its contract, fault by fault.
 use borrow.Author.Needs.{needs}
 use Rattle.value_checks.specs.Verdicts.{refusedAt}
 use Rattle.openings.proofs.rounds.refused_at.Statement.{statement}
 use Rattle.openings.proofs.rounds.refused_at.Tie as tie
-use Rattle.openings.proofs.rounds.refused_at.Reads as reads
-use Rattle.openings.proofs.rounds.refused_at.Lts as lts
 
--- src/rounds.rt:37:24
 enum-told : tie.Need-enum-told
 enum-told c = search needs
 
--- src/rounds.rt:38:27
 enum-told-2 : tie.Need-enum-told-2
 enum-told-2 c = search needs
 
--- src/rounds.rt:39:24
 enum-told-3 : tie.Need-enum-told-3
 enum-told-3 c = search needs
 
--- src/rounds.rt:40:27
 enum-told-4 : tie.Need-enum-told-4
 enum-told-4 c = search needs
 
--- src/rounds.rt:41:28
 enum-told-5 : tie.Need-enum-told-5
 enum-told-5 c = search needs
 
--- src/rounds.rt:42:25
 enum-told-6 : tie.Need-enum-told-6
 enum-told-6 c = search needs
 
--- src/rounds.rt:43:30
 enum-told-7 : tie.Need-enum-told-7
 enum-told-7 c = search needs
 
--- src/rounds.rt:44:29
 enum-known-fault : tie.Need-enum-known-fault
 enum-known-fault c = search needs
 
--- src/rounds.rt:45:25
 enum-told-8 : tie.Need-enum-told-8
 enum-told-8 c = search needs
 
--- src/rounds.rt:46:30
 enum-told-9 : tie.Need-enum-told-9
 enum-told-9 c = search needs
 
--- src/rounds.rt:47:24
 enum-told-10 : tie.Need-enum-told-10
 enum-told-10 c = search needs
 
--- src/rounds.rt:48:30
 enum-known-fault-2 : tie.Need-enum-known-fault-2
 enum-known-fault-2 c = search needs
 
--- src/rounds.rt:33:1
 returns : tie.Need-returns
 unfolding refusedAt
 returns c = search needs
 
--- src/rounds.rt:33:1
 returns-2 : tie.Need-returns-2
 unfolding refusedAt
 returns-2 c = search needs
 
--- src/rounds.rt:33:1
 returns-3 : tie.Need-returns-3
 unfolding refusedAt
 returns-3 c = search needs
 
--- src/rounds.rt:33:1
 returns-4 : tie.Need-returns-4
 unfolding refusedAt
 returns-4 c = search needs
 
--- src/rounds.rt:33:1
 returns-5 : tie.Need-returns-5
 unfolding refusedAt
 returns-5 c = search needs
 
--- src/rounds.rt:33:1
 returns-6 : tie.Need-returns-6
 unfolding refusedAt
 returns-6 c = search needs
 
--- src/rounds.rt:33:1
 returns-7 : tie.Need-returns-7
 unfolding refusedAt
 returns-7 c = search needs
 
--- src/rounds.rt:33:1
 returns-8 : tie.Need-returns-8
 unfolding refusedAt
 returns-8 c = rw (c .before .fault .given .1)
 
--- src/rounds.rt:33:1
 returns-9 : tie.Need-returns-9
 unfolding refusedAt
 returns-9 c = search needs
 
--- src/rounds.rt:33:1
 returns-10 : tie.Need-returns-10
 unfolding refusedAt
 returns-10 c = search needs
 
--- src/rounds.rt:33:1
 returns-11 : tie.Need-returns-11
 unfolding refusedAt
 returns-11 c = search needs
 
--- src/rounds.rt:33:1
 returns-12 : tie.Need-returns-12
 unfolding refusedAt
 returns-12 c = rw (c .before .fault2 .given .1)

@@ -1,6 +1,5 @@
 -- `openings::search::list_marks` meets its contract.
 use Rattle.openings.proofs.SearchSteps.{marks-listed, none-listed}
-use native.Mathlib.Omega.{arith}
 use borrow.Author.Needs.{needs}
 use Rattle.openings.proofs.search.list_marks.Statement.{statement}
 use Rattle.openings.proofs.search.list_marks.Tie as tie

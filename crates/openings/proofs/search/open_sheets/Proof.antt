@@ -1,7 +1,6 @@
 -- `openings::search::open_sheets` meets its contract: each way to its end.
 use mathlib.Core.Path.{refl}
 use Rattle.openings.proofs.SearchSteps.{no-schema, no-rule, sheets-listed}
-use native.Mathlib.Omega.{arith}
 use borrow.Author.Needs.{needs}
 use Rattle.openings.proofs.search.open_sheets.Statement.{statement}
 use Rattle.openings.proofs.search.open_sheets.Tie as tie
