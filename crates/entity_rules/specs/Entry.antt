@@ -8,6 +8,7 @@ use lib.ListN.{length, replicate}
 use lib.Seq.{sets}
 use Rattle.buffer.specs.Bytes.{bytesOf, InFourBytes, fieldAt}
 use Rattle.validation.specs.Result.{Takes, Call, Answer, Numbers, resultOf, numbersOf, pathAfter, scratchWords, markBytes, Run}
+use Rattle.call.specs.Call.{Reply, numberOf, Buffer, Left, AllLeft}
 use Rattle.single_check.specs.declared.outcome.Outcome.{Outcome}
 use Rattle.single_check.specs.Outcomes.{numbersBy}
 
@@ -99,3 +100,11 @@ entryRun takes kind semantics label table schema rule pathBefore marksLength pat
 pub record Written (o : Outcome) (before after : List ℕ) : Type 0 where
   pub stands : after ≡ resultAfter (numbersBy o) before
   pub small : InFourBytes (fieldsOf (numbersBy o))
+
+-- What a C function promises that hands a reply over: what is returned, the lent buffers, and the result's numbers as bytes, which can be read back. `write` says how the bytes
+-- are written, and `Fits` that each number has room in its own.
+pub record Handed {A : Type 0} (reply : Reply A) (numbers : List ℕ) (write : (numbers before : List ℕ) → List ℕ) (Fits : List ℕ → Type 0) (left : List Left) (lent : List Buffer) (resultBefore resultNow : List ℕ) (r : ℕ) : Type 0 where
+  pub number : r ≡ numberOf reply
+  pub buffers : AllLeft left lent
+  pub result : resultNow ≡ write numbers resultBefore
+  pub small : Fits numbers

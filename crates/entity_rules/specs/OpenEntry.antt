@@ -1,11 +1,12 @@
 -- What `rulecheck_openings` answers, and what its three buffers hold after it (docs/FORMAT.md, "The C interface").
 use Prim.Native.Nat.{ℕ}
-use mathlib.Core.List.{List}
-use mathlib.Core.Path.{_≡_}
+use mathlib.Core.List.{List, [], _∷_}
+use mathlib.Core.Option.{Option}
 use Rattle.buffer.specs.Bytes.{InFourBytes}
-use Rattle.validation.specs.Result.{scratchWords, KeptFrom}
-use Rattle.openings.specs.Call.{OpenCall, OpenAnswer, openRefused, opens, nothingHelps, openAnswer, openNumbers, listAfter, freePath}
-use Rattle.entity_rules.specs.Entry.{numbersAfter, pathLent}
+use Rattle.validation.specs.Result.{pathBytes, scratchWords}
+use Rattle.call.specs.Call.{Reply, freeIfTold}
+use Rattle.openings.specs.Call.{OpenCall, listLeft, openAnswer, openNumbers}
+use Rattle.entity_rules.specs.Entry.{numbersAfter, pathLent, Handed}
 
 -- three numbers of four bytes
 abbrev pub openBytes : ℕ
@@ -24,20 +25,12 @@ openCallFor kind semantics table schema rule pathLength listLength resultLength 
       list = listLength;
     }
 
-unfoldable pub openEntryAnswer : (kind semantics : ℕ) (table schema rule : List ℕ) (pathLength listLength resultLength : ℕ) → OpenAnswer
+unfoldable pub openEntryAnswer : (kind semantics : ℕ) (table schema rule : List ℕ) (pathLength listLength resultLength : ℕ) → Reply (Option (List ℕ))
 openEntryAnswer kind semantics table schema rule pathLength listLength resultLength =
     openAnswer (openCallFor kind semantics table schema rule pathLength listLength resultLength)
 
--- the refusal of the call, or 0
-unfoldable pub openRefusalOf : OpenAnswer → ℕ
-openRefusalOf (openRefused n) = n
-openRefusalOf (opens set) = 0
-openRefusalOf nothingHelps = 0
-
 -- what is returned, and the buffers; since the numbers are small, they can be read back (OpenEntryLaws, `field-of-openings`)
-pub record OpenAnswered (answer : OpenAnswer) (pathBefore pathNow listBefore listNow resultBefore resultNow : List ℕ) (r : ℕ) : Type 0 where
-  pub number : r ≡ openRefusalOf answer
-  pub path : KeptFrom (freePath answer) pathBefore pathNow
-  pub list : listNow ≡ listAfter answer listBefore
-  pub result : resultNow ≡ numbersAfter (openNumbers answer) resultBefore
-  pub small : InFourBytes (openNumbers answer)
+abbrev pub OpenAnswered : (answer : Reply (Option (List ℕ))) (pathBefore pathNow listBefore listNow resultBefore resultNow : List ℕ) (r : ℕ) → Type 0
+OpenAnswered answer pathBefore pathNow listBefore listNow resultBefore resultNow r =
+    Handed answer (openNumbers answer) numbersAfter InFourBytes (freeIfTold pathBytes answer ∷ listLeft answer ∷ [])
+    (record { before = pathBefore; after = pathNow } ∷ record { before = listBefore; after = listNow } ∷ []) resultBefore resultNow r

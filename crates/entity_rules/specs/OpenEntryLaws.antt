@@ -2,29 +2,26 @@
 use Prim.Native.Nat.{ℕ, _*_, _≤_, _<_}
 use native.Mathlib.Omega.{arith}
 use mathlib.Core.List.{List, [], _∷_}
-use mathlib.Core.Path.{_≡_, refl, ap, _∙_}
+use mathlib.Core.Option.{Option}
+use mathlib.Core.Path.{_≡_, ap, _∙_}
 use lib.ListN.{length, getD}
 use borrow.Author.Tests.{le-leb}
 use Rattle.buffer.specs.Bytes.{InFourBytes, no-more, one-more, fieldAt}
 use Rattle.buffer.specs.BytesLaws.{field-written}
 use Rattle.validation.specs.Openings.{maxMarks}
-use Rattle.openings.specs.CallLaws.{AllAtMost, set-fits}
-use Rattle.openings.specs.Call.{OpenAnswer, openRefused, opens, nothingHelps, openNumbers, listAfter}
+use Rattle.call.specs.Call.{Reply, refusedBy, ifTold}
+use Rattle.call.specs.CallLaws.{AllWithin}
+use Rattle.openings.specs.CallLaws.{three-numbers, set-fits}
+use Rattle.openings.specs.Call.{opens, orNoMarks, openNumbers}
 use Rattle.entity_rules.specs.Entry.{numbersAfter}
 use Rattle.entity_rules.specs.OpenEntry.{openBytes, openCallFor, openEntryAnswer, OpenAnswered}
 
-pub in-four-bytes : (ns : List ℕ) → AllAtMost maxMarks ns → InFourBytes ns
+pub in-four-bytes : (ns : List ℕ) → AllWithin maxMarks ns → InFourBytes ns
 in-four-bytes [] h = no-more
 in-four-bytes (n ∷ ns) h = one-more {n = n} (omega (arith, h .0)) (in-four-bytes ns (h .1))
 
-three-numbers : (a : OpenAnswer) → length (openNumbers a) ≡ 3
-unfolding openNumbers
-three-numbers (openRefused n) = refl
-three-numbers (opens set) = refl
-three-numbers nothingHelps = refl
-
 -- a number of the result
-pub field-of-openings : {answer : OpenAnswer} {pathBefore pathNow listBefore listNow resultBefore resultNow : List ℕ} {r : ℕ}
+pub field-of-openings : {answer : Reply (Option (List ℕ))} {pathBefore pathNow listBefore listNow resultBefore resultNow : List ℕ} {r : ℕ}
     → OpenAnswered answer pathBefore pathNow listBefore listNow resultBefore resultNow r
     → (i : ℕ)
     → i < 3
@@ -44,8 +41,16 @@ module _ (kind semantics : ℕ) (table schema rule : List ℕ) {pathBefore pathN
       → (i : ℕ)
       → i < length set
       → fieldAt i listNow ≡ getD set i 0
-  unfolding openEntryAnswer openCallFor listAfter
+  unfolding openEntryAnswer openCallFor ifTold orNoMarks
   mark-of-openings set is i less =
       let fits = set-fits (openCallFor kind semantics table schema rule (length pathBefore) (length listBefore) (length resultBefore)) set is in
-      ap (fieldAt i) (a .list ∙ ap (λ (x : OpenAnswer). listAfter x listBefore) is)
+      ap (fieldAt i) (rw is at (a .buffers .1 .0))
       ∙ field-written set listBefore (fits .room) i less (in-four-bytes set (fits .low))
+
+-- a refusal leaves path buffer and list as they were
+pub openings-refused : {answer : Reply (Option (List ℕ))} {pathBefore pathNow listBefore listNow resultBefore resultNow : List ℕ} {r n : ℕ}
+    → OpenAnswered answer pathBefore pathNow listBefore listNow resultBefore resultNow r
+    → answer ≡ refusedBy n
+    → (pathNow ≡ pathBefore) × (listNow ≡ listBefore)
+unfolding ifTold
+openings-refused a e = let left = rw e at (a .buffers) in (left .0, left .1 .0)

@@ -1,10 +1,11 @@
 -- What `rulecheck_wall` answers, and what its three buffers hold after it (docs/FORMAT.md, "The C interface").
 use Prim.Native.Nat.{ℕ}
-use mathlib.Core.List.{List}
-use mathlib.Core.Path.{_≡_}
-use Rattle.validation.specs.Result.{pathBytes, KeptFrom}
-use Rattle.wall.specs.Wall.{WallCall, WallAnswer, wallRefused, printed, wallAnswer, wallNumbers, pagesAfter, wallFreed}
+use mathlib.Core.List.{List, [], _∷_}
+use Rattle.validation.specs.Result.{Answer, pathBytes}
+use Rattle.call.specs.Call.{Reply, freeIfTold}
+use Rattle.wall.specs.Wall.{WallCall, pagesLeft, wallAnswer, wallNumbers}
 use Rattle.host_numbers.specs.Counts.{InEightBytes, countsAfter}
+use Rattle.entity_rules.specs.Entry.{Handed}
 use Rattle.entity_rules.specs.BookEntry.{bookCallFor}
 
 -- two numbers of eight bytes
@@ -15,19 +16,12 @@ unfoldable pub wallCallFor : (kind semantics : ℕ) (label table schema book : L
 wallCallFor kind semantics label table schema book pathLength pageLength resultLength =
     record { run = bookCallFor wallBytes kind semantics label table schema book pathLength resultLength; pages = pageLength }
 
-unfoldable pub wallEntryAnswer : (kind semantics : ℕ) (label table schema book : List ℕ) (pathLength pageLength resultLength : ℕ) → WallAnswer
+unfoldable pub wallEntryAnswer : (kind semantics : ℕ) (label table schema book : List ℕ) (pathLength pageLength resultLength : ℕ) → Reply (List Answer)
 wallEntryAnswer kind semantics label table schema book pathLength pageLength resultLength =
     wallAnswer (wallCallFor kind semantics label table schema book pathLength pageLength resultLength)
 
--- the refusal of the call, or 0
-unfoldable pub wallRefusalOf : WallAnswer → ℕ
-wallRefusalOf (wallRefused n) = n
-wallRefusalOf (printed answers) = 0
-
 -- what is returned, and the buffers; since the numbers are of 64 bits, they can be read back (WallEntryLaws, `count-of-wall`)
-pub record WallAnswered (answer : WallAnswer) (pathBefore pathNow pagesBefore pagesNow resultBefore resultNow : List ℕ) (r : ℕ) : Type 0 where
-  pub number : r ≡ wallRefusalOf answer
-  pub path : KeptFrom (wallFreed pathBytes answer) pathBefore pathNow
-  pub pages : pagesNow ≡ pagesAfter answer pagesBefore
-  pub result : resultNow ≡ countsAfter (wallNumbers answer) resultBefore
-  pub small : InEightBytes (wallNumbers answer)
+abbrev pub WallAnswered : (answer : Reply (List Answer)) (pathBefore pathNow pagesBefore pagesNow resultBefore resultNow : List ℕ) (r : ℕ) → Type 0
+WallAnswered answer pathBefore pathNow pagesBefore pagesNow resultBefore resultNow r =
+    Handed answer (wallNumbers answer) countsAfter InEightBytes (freeIfTold pathBytes answer ∷ pagesLeft answer ∷ [])
+    (record { before = pathBefore; after = pathNow } ∷ record { before = pagesBefore; after = pagesNow } ∷ []) resultBefore resultNow r

@@ -3,8 +3,10 @@ use Prim.Native.Nat.{ℕ}
 use mathlib.Core.List.{List, [], _∷_}
 use mathlib.Core.Path.{_≡_, refl}
 use lib.ListN.{replicate}
+use lib.Seq.{sets}
 use Rattle.sheet.specs.Ascii.{ascii}
-use Rattle.openings.specs.Call.{OpenCall, openAnswer, openNumbers, listAfter, freePath, freeScratch}
+use Rattle.call.specs.Call.{Left, free, holding, unchanged, freeIfTold}
+use Rattle.openings.specs.Call.{OpenCall, openAnswer, openNumbers, listLeft, scratchLeft}
 use Rattle.openings.specs.Computing.{computing}
 
 -- a closed object `o` in a closed record, beside closed arguments
@@ -55,10 +57,15 @@ unfoldable heard : OpenCall → List ℕ
 unfolding computing asked set shut one all nothing hollow
 heard c = openNumbers (openAnswer c)
 
+-- what a buffer holds where something is written to it
+abbrev written : Left → List ℕ → List ℕ
+written (free n) before = before
+written (holding elements) before = sets before 0 elements
+
 -- what a list of zeros holds after the call
 unfoldable listed : (n : ℕ) → OpenCall → List ℕ
 unfolding heard
-listed n c = listAfter (openAnswer c) (replicate n 0)
+listed n c = written (listLeft (openAnswer c)) (replicate n 0)
 
 pub record Edges : Type 0 where
   -- a set, its marks in the list from its start on, the arguments' mark first
@@ -82,10 +89,10 @@ pub record Edges : Type 0 where
   then-schema : heard (asked [] [] [] 32768 4096 4100) ≡ 4 ∷ 0 ∷ 0 ∷ []
   then-rule : heard (asked [] shut [] 32768 4096 4100) ≡ 5 ∷ 0 ∷ 0 ∷ []
   -- what is free afterwards
-  path-free : freePath (openAnswer (asked [] shut hollow 32768 4096 4100)) ≡ 32768
-  path-kept : freePath (openAnswer (asked [] shut [] 32768 4096 4100)) ≡ 0
-  scratch-free : freeScratch (openAnswer (asked [] shut [] 32768 4096 4100)) ≡ 4096
-  scratch-kept : freeScratch (openAnswer (set 1 2 32768)) ≡ 0
+  path-free : freeIfTold 32768 (openAnswer (asked [] shut hollow 32768 4096 4100)) ≡ free 32768
+  path-kept : freeIfTold 32768 (openAnswer (asked [] shut [] 32768 4096 4100)) ≡ unchanged
+  scratch-free : scratchLeft (openAnswer (asked [] shut [] 32768 4096 4100)) ≡ free 4096
+  scratch-kept : scratchLeft (openAnswer (set 1 2 32768)) ≡ unchanged
 
 pub edges : Edges
 unfolding heard listed

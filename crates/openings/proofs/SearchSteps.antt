@@ -3,7 +3,7 @@ use Prim.Native.Nat.{ℕ, _+_, _-_, _≤_, _<_}
 use native.Mathlib.Omega.{arith}
 use mathlib.Core.Bool.{true, false}
 use mathlib.Core.List.{List, [], _∷_, _++_}
-use mathlib.Core.Option.{Option, none, some}
+use mathlib.Core.Option.{none}
 use mathlib.Core.Path.{_≡_, refl, sym, ap, _∙_}
 use lib.ListN.{length, take, drop, replicate, getD-replicate}
 use lib.Seq.{sets, sets-eq, drop-at}
@@ -11,7 +11,7 @@ use Rattle.buffer.specs.Bytes.{bytesOf}
 use Rattle.buffer.specs.Wrote.{Wrote}
 use Rattle.buffer.specs.WroteLaws.{wrote-front}
 use Rattle.definition.specs.Limits.{maxSheetBytes}
-use Rattle.definition.specs.Tree.{Schema, Rule}
+use Rattle.definition.specs.Tree.{Schema}
 use Rattle.definition.specs.Decode.{decodeSchema}
 use Rattle.definition.specs.RoundTrip.{schema-round-trip, rule-round-trip}
 use Rattle.reference.specs.Setting.{Setting}
@@ -31,9 +31,10 @@ use Rattle.validation.specs.RoundLaws.{fewest-found, fewest-missing}
 use Rattle.validation.specs.Result.{pathBytes, KeptFrom}
 use Rattle.validation.specs.KeptLaws.{sets-kept}
 use Rattle.single_check.specs.SheetLaws.{still-read, front-schema, front-rule, front-both}
-use Rattle.openings.specs.Call.{openRefused, answerWith, searched, openNumbers, listAfter, freePath}
+use Rattle.call.specs.Call.{refusedBy, ifTold, numbersWith}
+use Rattle.openings.specs.Call.{openNumbers, openFigures, orNoMarks}
 use Rattle.openings.specs.Rounds.{isMarked, Stands, MarksFound, ListedIn}
-use Rattle.openings.specs.Runs.{MarksListed, SheetsOpened}
+use Rattle.openings.specs.Runs.{searched, MarksListed, SheetsOpened}
 use Rattle.openings.proofs.RoundSteps.{no-mark}
 
 module _ {setting : Setting} {s : Code.Schema} {rule sheet list before after marks : List ℕ} where
@@ -41,7 +42,7 @@ module _ {setting : Setting} {s : Code.Schema} {rule sheet list before after mar
       → MarksFound setting s rule sheet (replicate maxMarks 0) marks before after true
       → ListedIn marks list list′ count
       → MarksListed setting s rule sheet list list′ before after (0 ∷ 1 ∷ count ∷ [])
-  unfolding answerWith openNumbers listAfter
+  unfolding numbersWith openFigures ifTold orNoMarks
   marks-listed f l =
       record {
         front = f .front;
@@ -56,7 +57,7 @@ module _ {setting : Setting} {s : Code.Schema} {rule sheet list before after mar
 
   pub none-listed : MarksFound setting s rule sheet (replicate maxMarks 0) marks before after false
       → MarksListed setting s rule sheet list list before after (0 ∷ 0 ∷ 0 ∷ [])
-  unfolding answerWith openNumbers listAfter
+  unfolding numbersWith openFigures ifTold orNoMarks bytesOf
   none-listed f =
       record {
         front = f .front;
@@ -85,39 +86,33 @@ replaced sheet pathBefore end same low room =
     let written : sets pathBefore 0 sheet ≡ sheet ++ drop end pathBefore = rw place at (sets-eq sheet pathBefore 0 (omega arith)) in
     rw written at (sets-kept pathBytes pathBefore sheet (omega arith) room)
 
--- the path buffer is free wherever both sheets were read
-free-path : (o : Option (List ℕ)) {before after : List ℕ} → KeptFrom pathBytes before after → KeptFrom (freePath (answerWith o)) before after
-unfolding answerWith freePath
-free-path none k = k
-free-path (some set) k = k
-
 module _ {setting : Setting} {schema rule pathBefore list before middle : List ℕ} {q : SchemaRead} (read : SchemaAnswer schema before middle q) where
   pub no-schema : {r : List ℕ}
       → q ≡ SchemaRead.Bad
-      → r ≡ openNumbers (openRefused 4)
+      → r ≡ openNumbers (refusedBy 4)
       → SheetsOpened setting schema rule pathBefore pathBefore list list before middle r
-  unfolding searched listAfter freePath
+  unfolding searched ifTold
   no-schema b e =
       let bad : decodeSchema schema ≡ none = rw b at (read .answer) in
       record {
         front = front-schema (read .kept);
         answers = rw bad (record { result = e; written = refl });
-        kept = rw bad (record { size = refl; kept = refl });
+        kept = rw bad refl;
       }
 
   module _ {s : Code.Schema} (g : q ≡ SchemaRead.Good s) {after : List ℕ} {a : RuleRead} (ruled : RuleAnswer rule middle after a) where
     pub no-rule : {r : List ℕ}
         → a ≡ RuleRead.Bad
-        → r ≡ openNumbers (openRefused 5)
+        → r ≡ openNumbers (refusedBy 5)
         → SheetsOpened setting schema rule pathBefore pathBefore list list before after r
-    unfolding searched listAfter freePath
+    unfolding searched ifTold
     no-rule b e =
         let good = rw g at (read .answer) in
         let bad = rw b at ruled in
         record {
           front = front-both (front-schema (read .kept)) (front-rule (bad .1));
           answers = rw (good .reads, bad .0) (record { result = e; written = refl });
-          kept = rw (good .reads, bad .0) (record { size = refl; kept = refl });
+          kept = rw (good .reads, bad .0) refl;
         }
 
     module _ {x : RuleSheet} (h : a ≡ RuleRead.Good x) where
@@ -129,7 +124,7 @@ module _ {setting : Setting} {schema rule pathBefore list before middle : List �
           → length sheet′ ≡ length sheet
           → MarksListed setting s rule sheet list list′ after after′ r
           → SheetsOpened setting schema rule pathBefore (sheet′ ++ rest) list list′ before after′ r
-      unfolding searched
+      unfolding searched ifTold
       sheets-listed {path} {sheet} {rest} {list′} {after′} {r} {end} sheet′ room w part behind size l =
           let good = still-read schema (SchemaRead.Good s) (ruled-at .kept) (rw g at (read .answer)) in
           let written = schema-round-trip schema (good .tree) .0 (good .reads) in
@@ -153,7 +148,7 @@ module _ {setting : Setting} {schema rule pathBefore list before middle : List �
           record {
             front = front-both (front-both (front-schema (read .kept)) (front-rule (ruled-at .kept))) (l .front);
             answers = rw (good .reads, ruled-at .reads) (l .answers (good .tree) (ruled-at .tree) stands);
-            kept = rw (good .reads, ruled-at .reads, untouched) (free-path _ (replaced sheet′ pathBefore end long (omega arith) room));
+            kept = rw (good .reads, ruled-at .reads, untouched) (replaced sheet′ pathBefore end long (omega arith) room);
           }
         where
           ruled-at : RuleIndexed rule middle after x

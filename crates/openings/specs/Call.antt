@@ -3,15 +3,14 @@ use Prim.Native.Nat.{ℕ, _*_}
 use mathlib.Core.Bool.{not, cond}
 use mathlib.Core.List.{List, [], _∷_, _++_}
 use mathlib.Core.Option.{Option, none, some}
-use mathlib.Core.Path.{_≡_}
 use lib.Dec.{leb}
 use lib.ListN.{length}
-use lib.Seq.{sets}
 use Rattle.buffer.specs.Bytes.{bytesOf}
 use Rattle.definition.specs.Tree.{Schema, Rule}
 use Rattle.definition.specs.Decode.{decodeSchema, decodeRule}
 use Rattle.reference.specs.Setting.{Setting}
-use Rattle.validation.specs.Result.{any, Widths, Call, Refusal, pathBytes, scratchWords, markBytes, settingFor, ofSettings, ofTable, ofSheets, isOfSheets, firstRefusal, KeptFrom}
+use Rattle.validation.specs.Result.{any, Widths, Call, Refusal, pathBytes, scratchWords, markBytes, settingFor, ofSettings, ofTable, ofSheets, isOfSheets}
+use Rattle.call.specs.Call.{Reply, refusedBy, told, Left, free, holding, unchanged, ifTold, freeIfTold, Shape, replyTo, resultNumbers, Run, Meets}
 use Rattle.validation.specs.Openings.{maxMarks, fewestMarks}
 
 pub record OpenCall : Type 0 where
@@ -40,91 +39,62 @@ listBytes = 4 * maxMarks
 abbrev pub ofList : (list : ℕ) → Refusal
 ofList list = record { number = 36; isDue = not (leb listBytes list) }
 
--- the refusals in the order in which they are tried: 1, 3, 36, 37, 38, 4, 5; an empty label never meets 2
+-- the refusals in the order in which they are tried; an empty label never meets 2
 unfoldable pub openRefusals : OpenCall → List Refusal
 openRefusals c = ofSettings (checkOf c .asked) (c .widths) ++ (ofList (c .list) ∷ (ofTable (c .table) ++ ofSheets (checkOf c)))
 
-pub data OpenAnswer : Type 0 where
-  openRefused : (number : ℕ) → OpenAnswer
-  -- the fewest marks
-  opens : (set : List ℕ) → OpenAnswer
-  -- no marks help
-  nothingHelps : OpenAnswer
+unfoldable pub openRefusalNumbers : List ℕ
+openRefusalNumbers = 1 ∷ 2 ∷ 3 ∷ 36 ∷ 37 ∷ 38 ∷ 4 ∷ 5 ∷ []
 
-unfoldable pub answerWith : Option (List ℕ) → OpenAnswer
-answerWith none = nothingHelps
-answerWith (some set) = opens set
+-- the fewest marks, or none where no marks help; that both sheets are well formed is seen before
+unfoldable pub marksFor : Setting → Option Schema → Option Rule → Option (List ℕ)
+marksFor setting none r = none
+marksFor setting (some t) none = none
+marksFor setting (some t) (some r) = fewestMarks setting t r
 
--- where both sheets are well formed
-unfoldable pub searched : Setting → Option Schema → Option Rule → OpenAnswer
-searched setting none r = openRefused 4
-searched setting (some t) none = openRefused 5
-searched setting (some t) (some r) = answerWith (fewestMarks setting t r)
+unfoldable pub marksIn : OpenCall → Option (List ℕ)
+marksIn c = marksFor (settingFor (checkOf c)) (decodeSchema (c .schema)) (decodeRule (c .rule))
 
-unfoldable pub refusedOr : Option ℕ → OpenAnswer → OpenAnswer
-refusedOr none a = a
-refusedOr (some n) a = openRefused n
+abbrev pub opens : (set : List ℕ) → Reply (Option (List ℕ))
+opens set = told (some set)
 
--- the whole answer: the first refusal that is due, or the marks
-unfoldable pub openAnswer : OpenCall → OpenAnswer
-openAnswer c =
-    let marks = searched (settingFor (checkOf c)) (decodeSchema (c .schema)) (decodeRule (c .rule)) in
-    refusedOr (firstRefusal (openRefusals c)) marks
+abbrev pub nothingHelps : Reply (Option (List ℕ))
+nothingHelps = told none
 
--- the three numbers of a result: number, 1 if there is a set, how many marks it has
-unfoldable pub openNumbers : OpenAnswer → List ℕ
-openNumbers (openRefused n) = n ∷ 0 ∷ 0 ∷ []
-openNumbers (opens set) = 0 ∷ 1 ∷ length set ∷ []
-openNumbers nothingHelps = 0 ∷ 0 ∷ 0 ∷ []
+-- a result has three numbers: behind the first, 1 if there is a set, and how many marks it has
+unfoldable pub openFigures : Option (List ℕ) → List ℕ
+openFigures none = 0 ∷ 0 ∷ []
+openFigures (some set) = 1 ∷ length set ∷ []
 
--- the set is at the start of the list; all other bytes keep their values
-unfoldable pub listAfter : OpenAnswer → List ℕ → List ℕ
-listAfter (openRefused n) before = before
-listAfter (opens set) before = sets before 0 (bytesOf set)
-listAfter nothingHelps before = before
+unfoldable pub orNoMarks : Option (List ℕ) → List ℕ
+orNoMarks none = []
+orNoMarks (some set) = set
 
--- how many bytes of the path buffer are free after the call: none under a refusal
-unfoldable pub freePath : OpenAnswer → ℕ
-freePath (openRefused n) = 0
-freePath (opens set) = pathBytes
-freePath nothingHelps = pathBytes
+-- of the list: the set is at its start
+abbrev pub listLeft : Reply (Option (List ℕ)) → Left
+listLeft = ifTold (λ marks. holding (bytesOf (orNoMarks marks)))
 
--- and how many elements of the scratch: none where no sheet was read
-unfoldable pub freeScratch : OpenAnswer → ℕ
-freeScratch (openRefused n) = cond (isOfSheets n) scratchWords 0
-freeScratch (opens set) = scratchWords
-freeScratch nothingHelps = scratchWords
+-- of the scratch: unchanged where no sheet was read
+unfoldable pub scratchLeft : Reply (Option (List ℕ)) → Left
+scratchLeft (refusedBy n) = cond (isOfSheets n) (free scratchWords) unchanged
+scratchLeft (told marks) = free scratchWords
 
--- what a caller hands over, and what it has after the call
-pub record OpenRun : Type 0 where
-  pub kind : ℕ
-  pub semantics : ℕ
-  pub table : List ℕ
-  pub schema : List ℕ
-  pub rule : List ℕ
-  pub pathBefore : List ℕ
-  pub listBefore : List ℕ
-  pub scratchBefore : List ℕ
-  pub result : List ℕ
-  pub path : List ℕ
-  pub list : List ℕ
-  pub scratch : List ℕ
-
-unfoldable pub openCallOf : OpenRun → OpenCall
-openCallOf r =
+abbrev pub openShape : Shape OpenCall (Option (List ℕ))
+openShape =
     record {
-      kind = r .kind;
-      semantics = r .semantics;
-      table = r .table;
-      schema = r .schema;
-      rule = r .rule;
-      widths = record { path = length (r .pathBefore); scratch = length (r .scratchBefore) };
-      list = length (r .listBefore);
+      refusals = openRefusals;
+      tells = marksIn;
+      size = 2;
+      figures = openFigures;
+      leaves = λ a. freeIfTold pathBytes a ∷ listLeft a ∷ scratchLeft a ∷ [];
     }
 
--- what a whole call promises of its run
-pub record MeetsOpen (r : OpenRun) : Type 0 where
-  pub result : r .result ≡ openNumbers (openAnswer (openCallOf r))
-  pub list : r .list ≡ listAfter (openAnswer (openCallOf r)) (r .listBefore)
-  pub path : KeptFrom (freePath (openAnswer (openCallOf r))) (r .pathBefore) (r .path)
-  pub scratch : KeptFrom (freeScratch (openAnswer (openCallOf r))) (r .scratchBefore) (r .scratch)
+-- the whole answer: the first refusal that is due, or the marks
+abbrev pub openAnswer : OpenCall → Reply (Option (List ℕ))
+openAnswer = replyTo openShape
+
+abbrev pub openNumbers : Reply (Option (List ℕ)) → List ℕ
+openNumbers = resultNumbers openShape
+
+abbrev pub MeetsOpen : Run OpenCall → Type 0
+MeetsOpen = Meets openShape

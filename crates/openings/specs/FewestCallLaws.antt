@@ -5,7 +5,7 @@ use mathlib.Core.Bool.{Bool}
 use mathlib.Core.List.{List, []}
 use mathlib.Core.Logic.{_↔_, _⊎_, inl, inr}
 use mathlib.Core.Option.{Option, none, some}
-use mathlib.Core.Path.{_≡_, refl, sym, ap, _∙_}
+use mathlib.Core.Path.{_≡_, refl, sym, _∙_}
 use Rattle.definition.specs.Tree.{Schema, Rule}
 use Rattle.definition.specs.Decode.{decodeSchema, decodeRule}
 use Rattle.widening.specs.Opening.{isIn, opened}
@@ -14,18 +14,20 @@ use Rattle.validation.specs.FewestLaws.{accepts-answer, fewest-accepts, fewest-
 use Rattle.validation.specs.Openings.{fewestMarks}
 use Rattle.validation.specs.Result.{isTaken, judged, checked, settingFor, firstRefusal, early, resultOf}
 use Rattle.validation.specs.RefusalLaws.{table-decides}
+use Rattle.call.specs.Call.{Reply, told}
+use Rattle.call.specs.CallLaws.{told-injective, nothing-due}
 use Rattle.single_check.specs.Sheets.{takenOf, sheetAnswer}
 use Rattle.single_check.specs.SheetLaws.{sheets-decide}
-use Rattle.openings.specs.Call.{OpenCall, checkOf, openRefusals, opens, nothingHelps, answerWith, searched, refusedOr, openAnswer}
+use Rattle.openings.specs.Call.{OpenCall, checkOf, openRefusals, opens, nothingHelps, marksFor, marksIn, openAnswer}
 use Rattle.openings.specs.CallLaws.{none-of-these}
 use Rattle.openings.specs.FewestCalls.{checkOpened, Accepted, AnswersFewest}
 use Rattle.openings.specs.OpenedLaws.{opened-decodes}
 
 module _ (c : OpenCall) (t : Schema) (x : Rule) (schema : decodeSchema (c .schema) ≡ some t) (rule : decodeRule (c .rule) ≡ some x)
     (unrefused : firstRefusal (openRefusals c) ≡ none) where
-  answered : openAnswer c ≡ answerWith (fewestMarks (settingFor (checkOf c)) t x)
-  unfolding openAnswer refusedOr searched
-  answered = rw (unrefused, schema, rule)
+  answered : openAnswer c ≡ told (fewestMarks (settingFor (checkOf c)) t x)
+  unfolding marksIn marksFor
+  answered = nothing-due (openRefusals c) (marksIn c) unrefused ∙ rw (schema, rule)
 
   early-pass : (may : ℕ → Bool) → firstRefusal (early (checkOpened c t may)) ≡ none
   unfolding checkOpened checkOf
@@ -44,18 +46,7 @@ module _ (c : OpenCall) (t : Schema) (x : Rule) (schema : decodeSchema (c .schem
       let a = accepts-answer (settingFor (checkOf c)) [] t x may in
       (λ p. let n = a .0 p in (n .0, checks-it may ∙ n .1), λ n. a .1 (n .0, sym (checks-it may) ∙ n .1))
 
-  opens-is : (o : Option (List ℕ)) (set : List ℕ) → answerWith o ≡ opens set → o ≡ some set
-  unfolding answerWith
-  opens-is none set e = let z : _≡_ {A = ℕ} 0 1 = cc in absurd (omega arith)
-  opens-is (some found) set e = let same : found ≡ set = cc in ap some same
-
-  helps-not : (o : Option (List ℕ)) → answerWith o ≡ nothingHelps → o ≡ none
-  unfolding answerWith
-  helps-not none e = refl
-  helps-not (some found) e = let z : _≡_ {A = ℕ} 0 1 = cc in absurd (omega arith)
-
-  either : (o : Option (List ℕ)) → ((set : List ℕ) × (answerWith o ≡ opens set)) ⊎ (answerWith o ≡ nothingHelps)
-  unfolding answerWith
+  either : (o : Option (List ℕ)) → ((set : List ℕ) × (_≡_ {A = Reply (Option (List ℕ))} (told o) (opens set))) ⊎ (_≡_ {A = Reply (Option (List ℕ))} (told o) nothingHelps)
   either none = inr refl
   either (some found) = inl (found, refl)
 
@@ -64,9 +55,9 @@ module _ (c : OpenCall) (t : Schema) (x : Rule) (schema : decodeSchema (c .schem
       record {
         answers = rw answered (either (fewestMarks (settingFor (checkOf c)) t x));
         accepts = λ set e.
-            same-acceptance (isIn set) .0 (fewest-accepts (settingFor (checkOf c)) t x (c .schema) schema set (opens-is _ set (sym answered ∙ e)));
+            same-acceptance (isIn set) .0 (fewest-accepts (settingFor (checkOf c)) t x (c .schema) schema set (told-injective (sym answered ∙ e)));
         least = λ set e may a.
-            fewest-least (settingFor (checkOf c)) t x (c .schema) schema set (opens-is _ set (sym answered ∙ e)) may (same-acceptance may .1 a);
+            fewest-least (settingFor (checkOf c)) t x (c .schema) schema set (told-injective (sym answered ∙ e)) may (same-acceptance may .1 a);
         none-helps = λ e may a.
-            fewest-none (settingFor (checkOf c)) t x (c .schema) schema (helps-not _ (sym answered ∙ e)) may (same-acceptance may .1 a);
+            fewest-none (settingFor (checkOf c)) t x (c .schema) schema (told-injective (sym answered ∙ e)) may (same-acceptance may .1 a);
       }

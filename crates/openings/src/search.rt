@@ -15,12 +15,13 @@ ghost use Prim.Native.Nat.{_≤_};
 ghost use lib.ListN.{length};
 ghost use Rattle.definition.specs.Limits.{maxSheetBytes};
 ghost use Rattle.validation.specs.Result.{pathBytes, scratchWords};
+ghost use Rattle.call.specs.Call.{refusedBy};
 ghost use Rattle.single_check.specs.Settings.{settingBy};
-ghost use Rattle.openings.specs.Call.{openRefused, openNumbers};
+ghost use Rattle.openings.specs.Call.{openNumbers};
 ghost use Rattle.openings.specs.Runs.{MarksListed, SheetsOpened};
 
 pub fn refused(number: u32) -> [u32; OPEN_NUMBERS]
-    ensures { λ r. ⌜ r ≡ openNumbers (openRefused number) ⌝ }
+    ensures { λ r. ⌜ r ≡ openNumbers (refusedBy number) ⌝ }
 {
     [number, 0, 0]
 }

@@ -14,9 +14,10 @@ use Rattle.single_check.specs.Sheets.{sheetAnswer}
 use Rattle.single_check.specs.SheetLaws.{roomy, front-schema, front-both, front-scratch, sheets-decide}
 use Rattle.single_check.specs.declared.settings.Setting.{Setting as CodeSetting}
 use Rattle.single_check.specs.declared.settings.Settled.the-variants.{Set, Refused}
+use Rattle.call.specs.Call.{refusedBy, told, ifTold}
 use Rattle.rule_book.specs.Book.{sheetsOf}
 use Rattle.rule_book.specs.Places.{sheetCount}
-use Rattle.rule_book.specs.Tally.{BookCall, askedOf, single, answersOf, tallyOf, bookRefused, tallied, bookAnswer, tallyNumbers, freed, bookCallOf, MeetsBook}
+use Rattle.rule_book.specs.Tally.{BookCall, askedOf, single, answersOf, tallyOf, bookAnswer, tallyNumbers, MeetsBook}
 use Rattle.rule_book.specs.TallyLaws.{settingRefusal, settings-first, form-refused, table-refused, book-tallied}
 use Rattle.rule_book.specs.Tallying.{answersIn, Ready, SheetsTallied, bookRunOf}
 
@@ -37,18 +38,13 @@ module _ (kind semantics : ℕ) (label table schema book pathBefore before : Lis
         lent = widthsBy (length pathBefore) (length before);
       }
 
-  meets-refused : {n : ℕ} {r : List ℕ} → bookAnswer call ≡ bookRefused n → r ≡ tallyNumbers (bookRefused n)
+  meets-refused : {n : ℕ} {r : List ℕ} → bookAnswer call ≡ refusedBy n → r ≡ tallyNumbers (refusedBy n)
       → MeetsBook (bookRunOf kind semantics label table schema book pathBefore before r pathBefore before)
-  unfolding bookCallOf
-  meets-refused a e =
-      record {
-        result = rw a e;
-        path = record { size = refl; kept = refl };
-        scratch = record { size = refl; kept = refl };
-      }
+  unfolding ifTold
+  meets-refused a e = record { result = rw a e; buffers = rw a (refl, (refl, tt)) }
 
   pub meets-settings : {n : ℕ} {r : List ℕ} → EarlyIs kind semantics label (length pathBefore) (length before) n → (n ≡ 0 → ⊥)
-      → r ≡ tallyNumbers (bookRefused n)
+      → r ≡ tallyNumbers (refusedBy n)
       → MeetsBook (bookRunOf kind semantics label table schema book pathBefore before r pathBefore before)
   unfolding askedOf
   meets-settings {n} e h q = meets-refused (settings-first call n (number-some n _ (e .first any []) h)) q
@@ -61,7 +57,7 @@ module _ (kind semantics : ℕ) (label table schema book pathBefore before : Lis
     unfolding askedOf
     settings-pass = not-due []
 
-    pub meets-form : {r : List ℕ} → sheetsOf book ≡ none → r ≡ tallyNumbers (bookRefused 34)
+    pub meets-form : {r : List ℕ} → sheetsOf book ≡ none → r ≡ tallyNumbers (refusedBy 34)
         → MeetsBook (bookRunOf kind semantics label table schema book pathBefore before r pathBefore before)
     meets-form f q = meets-refused (form-refused call settings-pass f) q
 
@@ -70,7 +66,7 @@ module _ (kind semantics : ℕ) (label table schema book pathBefore before : Lis
       unfolding sheetCount
       all = counted-some (sheetsOf book) k count
 
-      pub meets-table : {m : ℕ} {r : List ℕ} → SettledIs kind semantics table (Refused m) → r ≡ tallyNumbers (bookRefused m)
+      pub meets-table : {m : ℕ} {r : List ℕ} → SettledIs kind semantics table (Refused m) → r ≡ tallyNumbers (refusedBy m)
           → MeetsBook (bookRunOf kind semantics label table schema book pathBefore before r pathBefore before)
       meets-table {m} t q = meets-refused (table-refused call settings-pass (all .0) (all .1) m t) q
 
@@ -99,12 +95,10 @@ module _ (kind semantics : ℕ) (label table schema book pathBefore before : Lis
         pub meets-tally : {middle after path r : List ℕ} {q : SchemaRead} → SchemaAnswer schema before middle q
             → SheetsTallied (settingBy s) label schema book pathBefore path middle after r
             → MeetsBook (bookRunOf kind semantics label table schema book pathBefore before r path after)
-        unfolding bookCallOf freed keptScratch
+        unfolding ifTold keptScratch
         meets-tally p done =
-            let answer : bookAnswer call ≡ tallied (tallyOf (answersIn (settingBy s) label schema (all .0))) = book-tallied call settings-pass (all .0) (all .1) (t .0) ∙ ap (λ (answers : List Answer). tallied (tallyOf answers)) (same-answers (all .0)) in
-            let scratch = front-scratch (accepted 0) (front-both (front-schema (p .kept)) (done .front)) refl in
+            let answer : bookAnswer call ≡ told (tallyOf (answersIn (settingBy s) label schema (all .0))) = book-tallied call settings-pass (all .0) (all .1) (t .0) ∙ ap (λ (answers : List Answer). told (tallyOf answers)) (same-answers (all .0)) in
             record {
               result = rw answer (done .numbers (all .0) (all .1));
-              path = rw answer (done .kept);
-              scratch = rw answer (record { size = scratch .size; kept = scratch .kept });
+              buffers = rw answer (done .kept, (front-scratch (accepted 0) (front-both (front-schema (p .kept)) (done .front)) refl, tt));
             }

@@ -23,7 +23,8 @@ use Rattle.single_check.specs.declared.sheets.Takes.the-variants.{Any}
 use Rattle.single_check.specs.declared.outcome.Outcome.{Outcome}
 use Rattle.rule_book.specs.Book.{sheetIn, sheetsOf}
 use Rattle.rule_book.specs.BookLaws.{sheets-end, sheets-more, sheets-none, book-round-trip}
-use Rattle.rule_book.specs.Tally.{countOf, passedIn, sum, tallyOf, tallied, tallyNumbers, defectNumbers}
+use Rattle.call.specs.Call.{told, numbersWith}
+use Rattle.rule_book.specs.Tally.{countOf, passedIn, sum, tallyOf, tallyNumbers, tallyFigures, defectNumbers}
 use Rattle.rule_book.specs.TallyLaws.{counts-within, tally-bytes}
 use Rattle.rule_book.specs.AnswerLaws.{sheet-number, sheet-passed, sheet-path}
 use Rattle.rule_book.specs.Tallying.{answersIn, numbersIn, Ready, SheetsTallied}
@@ -144,8 +145,8 @@ module _ {f : List ℕ → Answer} {book counts : List ℕ} {read passed at : �
     unfolding passedIn sum
     all-passed = omega (arith, rw none-left at (c .passes))
 
-    pub counting-end : numbersIn counts read passed ≡ tallyNumbers (tallied (tallyOf (map f (c .sheets))))
-    unfolding numbersIn tallyNumbers tallyOf defectNumbers
+    pub counting-end : numbersIn counts read passed ≡ tallyNumbers (told (tallyOf (map f (c .sheets))))
+    unfolding numbersIn numbersWith tallyFigures tallyOf defectNumbers
     counting-end =
         rw (
           ← all-read,
@@ -193,15 +194,15 @@ module _ {setting : Setting} {label schema : List ℕ} {read : SchemaRead} {book
     (t : Tallying setting label schema read book pathBefore before path words counts sheets passed at) where
   module _ (small : length label ≤ maxLabelBytes) (room : pathBytes ≤ length pathBefore) {sheet x path′ words′ : List ℕ} {next : ℕ} {o : Outcome}
       (r : ReadsTo sheetIn book at x next) (e : sheet ≡ x) (k : SheetChecked Any setting label schema read sheet path path′ words words′ o) where
-    told : Tells (sheetAnswer any setting label schema x) path path′ o
+    told-one : Tells (sheetAnswer any setting label schema x) path path′ o
     unfolding takesOf
-    told = rw e at (k .tells (t .indexed) small (omega (arith, t .kept .size)))
+    told-one = rw e at (k .tells (t .indexed) small (omega (arith, t .kept .size)))
 
     number-told : o .number ≡ numbersOf (sheetAnswer any setting label schema x) .number
-    number-told = ap (λ (n : Numbers). n .number) (told .result)
+    number-told = ap (λ (n : Numbers). n .number) (told-one .result)
 
     passed-told : o .passed ≡ numbersOf (sheetAnswer any setting label schema x) .passed
-    passed-told = ap (λ (n : Numbers). n .passed) (told .result)
+    passed-told = ap (λ (n : Numbers). n .passed) (told-one .result)
 
     pub number-low : o .number < 23
     number-low = omega (arith, number-told, sheet-number any setting label schema x)
@@ -222,7 +223,7 @@ module _ {setting : Setting} {label schema : List ℕ} {read : SchemaRead} {book
           size = length-set counts (o .number) (getD counts (o .number) 0 + 1) ∙ t .size;
           place = r .within;
           indexed = still-read schema read (k .kept) (t .indexed);
-          kept = kept-both (t .kept) (rw (told .path) (sheet-path label path small (omega (arith, t .kept .size)) any setting schema x));
+          kept = kept-both (t .kept) (rw (told-one .path) (sheet-path label path small (omega (arith, t .kept .size)) any setting schema x));
           front = front-both (t .front) (front-rule (k .kept));
         }
 
@@ -232,7 +233,7 @@ module _ {setting : Setting} {label schema : List ℕ} {read : SchemaRead} {book
       record {
         numbers = λ all form.
             let same = Option·some-injective (t .numbers .sheets) all (sym (t .numbers .whole) ∙ form) in
-            e ∙ counting-end (t .numbers) end ∙ ap (λ (l : List (List ℕ)). tallyNumbers (tallied (tallyOf (map (sheetAnswer any setting label schema) l)))) same;
+            e ∙ counting-end (t .numbers) end ∙ ap (λ (l : List (List ℕ)). tallyNumbers (told (tallyOf (map (sheetAnswer any setting label schema) l)))) same;
         kept = t .kept;
         front = t .front;
       }

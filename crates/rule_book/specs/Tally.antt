@@ -3,11 +3,11 @@ use Prim.Native.Nat.{ℕ, _+_}
 use mathlib.Core.Bool.{cond}
 use mathlib.Core.List.{List, [], _∷_, _++_, map}
 use mathlib.Core.Option.{Option, none, some}
-use mathlib.Core.Path.{_≡_}
-use lib.ListN.{length, drop, replicate}
+use lib.ListN.{length}
 use lib.Dec.{eqb}
 use Rattle.validation.specs.Check.{isNone}
-use Rattle.validation.specs.Result.{any, Asked, Widths, Call, Answer, Refusal, ofTable, ofSettings, firstRefusal, numbersOf, resultOf, pathBytes, scratchWords, markBytes, KeptFrom}
+use Rattle.validation.specs.Result.{any, Asked, Widths, Call, Answer, Refusal, ofTable, ofSettings, numbersOf, resultOf, pathBytes, scratchWords, markBytes}
+use Rattle.call.specs.Call.{Reply, Left, freeIfTold, Shape, replyTo, resultNumbers, Run, Meets}
 use Rattle.rule_book.specs.Book.{sheetsOf}
 
 pub record BookCall : Type 0 where
@@ -84,62 +84,31 @@ tallyOf answers =
       passed = passedIn answers;
     }
 
-pub data BookAnswer : Type 0 where
-  bookRefused : (number : ℕ) → BookAnswer
-  tallied : Tally → BookAnswer
-
 unfoldable pub orNoSheets : Option (List (List ℕ)) → List (List ℕ)
 orNoSheets none = []
 orNoSheets (some sheets) = sheets
 
-unfoldable pub refusedOr : Option ℕ → Tally → BookAnswer
-refusedOr none t = tallied t
-refusedOr (some n) t = bookRefused n
+unfoldable pub tallyIn : BookCall → Tally
+tallyIn c = tallyOf (answersOf c (orNoSheets (sheetsOf (c .book))))
+
+-- read, accepted, by 4, by 5, 11 to 22, passed; a result's first number is in front of them
+unfoldable pub tallyFigures : Tally → List ℕ
+tallyFigures t = t .read ∷ t .accepted ∷ t .schemaRefused ∷ t .ruleRefused ∷ (t .found ++ (t .passed ∷ []))
+
+-- path buffer and scratch
+abbrev pub tallyLeaves : Reply Tally → List Left
+tallyLeaves a = freeIfTold pathBytes a ∷ freeIfTold scratchWords a ∷ []
+
+abbrev pub tallyShape : Shape BookCall Tally
+tallyShape = record { refusals = bookRefusals; tells = tallyIn; size = 17; figures = tallyFigures; leaves = tallyLeaves }
 
 -- the whole answer: the first refusal that is due, or the tally
-unfoldable pub bookAnswer : BookCall → BookAnswer
-bookAnswer c =
-    let tally = tallyOf (answersOf c (orNoSheets (sheetsOf (c .book)))) in
-    refusedOr (firstRefusal (bookRefusals c)) tally
+abbrev pub bookAnswer : BookCall → Reply Tally
+bookAnswer = replyTo tallyShape
 
--- the eighteen numbers of a result: number, read, accepted, by 4, by 5, 11 to 22, passed
-unfoldable pub tallyNumbers : BookAnswer → List ℕ
-tallyNumbers (bookRefused n) = n ∷ replicate 17 0
-tallyNumbers (tallied t) = 0 ∷ t .read ∷ t .accepted ∷ t .schemaRefused ∷ t .ruleRefused ∷ (t .found ++ (t .passed ∷ []))
+-- the eighteen numbers of a result
+abbrev pub tallyNumbers : Reply Tally → List ℕ
+tallyNumbers = resultNumbers tallyShape
 
--- how many elements of a buffer are free after the call: none under a refusal
-unfoldable pub freed : ℕ → BookAnswer → ℕ
-freed n (bookRefused number) = 0
-freed n (tallied t) = n
-
--- what a caller hands over, and what it has after the call
-pub record BookRun : Type 0 where
-  pub kind : ℕ
-  pub semantics : ℕ
-  pub label : List ℕ
-  pub table : List ℕ
-  pub schema : List ℕ
-  pub book : List ℕ
-  pub pathBefore : List ℕ
-  pub scratchBefore : List ℕ
-  pub result : List ℕ
-  pub path : List ℕ
-  pub scratch : List ℕ
-
-unfoldable pub bookCallOf : BookRun → BookCall
-bookCallOf r =
-    record {
-      kind = r .kind;
-      semantics = r .semantics;
-      label = r .label;
-      table = r .table;
-      schema = r .schema;
-      book = r .book;
-      lent = record { path = length (r .pathBefore); scratch = length (r .scratchBefore) };
-    }
-
--- what a whole call promises of its run
-pub record MeetsBook (r : BookRun) : Type 0 where
-  pub result : r .result ≡ tallyNumbers (bookAnswer (bookCallOf r))
-  pub path : KeptFrom (freed pathBytes (bookAnswer (bookCallOf r))) (r .pathBefore) (r .path)
-  pub scratch : KeptFrom (freed scratchWords (bookAnswer (bookCallOf r))) (r .scratchBefore) (r .scratch)
+abbrev pub MeetsBook : Run BookCall → Type 0
+MeetsBook = Meets tallyShape

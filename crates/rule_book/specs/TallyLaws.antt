@@ -1,27 +1,31 @@
 -- What a tally promises: every sheet of the book is counted once, under the number that its own check answers.
 use Prim.Native.Nat.{ℕ, zero, suc, _+_, _*_, _≤_, _<_, min}
 use native.Mathlib.Omega.{arith}
-use mathlib.Core.Bool.{Bool, true, false, cond, and-false, false≢true}
+use mathlib.Core.Bool.{Bool, true, false, cond}
 use mathlib.Core.List.{List, [], _∷_, _++_, map, map-map}
 use mathlib.Core.Logic.{_↔_}
-use mathlib.Core.Option.{Option, none, some, Option·none-ne-some, Option·some-injective, orElse}
+use mathlib.Core.Option.{Option, none, some, Option·some-injective}
 use mathlib.Core.Path.{_≡_, refl, sym, ap, subst, _∙_}
 use lib.Dec.{leb, eqb}
-use lib.ListN.{length, getD, replicate, length-map}
-use borrow.Author.Tests.{eqb-true, eqb-false, leb-true, leb-false}
+use lib.ListN.{length, getD, length-map}
+use borrow.Author.Tests.{eqb-true, eqb-false, leb-true}
 use Rattle.sheet.specs.ReaderLaws.{by-test}
 use Rattle.definition.specs.Decode.{decodeSchema}
 use Rattle.reference.specs.Setting.{oneOf}
 use Rattle.validation.specs.Check.{isNone, IsDefect}
-use Rattle.validation.specs.Result.{Call, Answer, refused, refusalNumbers, IsRefusal, Heard, refusal, acceptance, finding, ofTable, ofSettings, early, ofSheets, refusals, firstRefusal, numbersOf, resultOf, pathBytes}
+use Rattle.validation.specs.Result.{Widths, areWide, Call, Answer, refused, Heard, refusal, acceptance, finding, ofTable, ofSettings, early, ofSheets, refusals, firstRefusal, numbersOf, resultOf, pathBytes, scratchWords}
 use Rattle.validation.specs.Result as Result
-use Rattle.validation.specs.RefusalLaws.{every, present, none-due, first-none, of-listed, of-first, sheets-first, first-append, capped-settings}
+use Rattle.validation.specs.RefusalLaws.{every, present, absent, are-wide, none-due, first-none, of-listed, of-first, sheets-first, capped-settings}
+use Rattle.call.specs.Call.{refusedBy, told, heardBy, tried, ifTold, Run}
+use Rattle.call.specs.CallLaws.{heard-refused, heard-told, nothing-due, front-due, front-passes, first-due, first-passes, only-tried, of-heard, heard-at, numbers-size, first-low, AllWithin, numbers-within, Untouched, refused-untouched, same-answer}
+use Rattle.single_check.specs.Settings.{widthsBy}
 use Rattle.single_check.specs.SheetLaws.{roomy}
 use Rattle.validation.specs.DemandLaws.{NotRefused, heard, unrefused-answer}
 use Rattle.rule_book.specs.Book.{sheetsOf, writeBook}
 use Rattle.rule_book.specs.BookLaws.{sheet-bytes, book-first, book-round-trip}
 use Rattle.rule_book.specs.ByteLaws.{passed-bytes}
-use Rattle.rule_book.specs.Tally.{BookCall, askedOf, single, ofForm, bookRefusals, bookRefusalNumbers, answersOf, countOf, sum, passedIn, Tally, defectNumbers, tallyOf, bookRefused, tallied, BookAnswer, orNoSheets, refusedOr, bookAnswer, tallyNumbers}
+use Rattle.rule_book.specs.Tally.{BookCall, askedOf, single, ofForm, bookRefusals, bookRefusalNumbers, answersOf, countOf, sum, passedIn, Tally, defectNumbers, tallyOf, orNoSheets, tallyIn, tallyFigures, tallyShape, bookAnswer, tallyNumbers, MeetsBook}
+use Rattle.rule_book.specs.Tallying.{bookRunOf}
 
 -- A book that is tallied: it is of the form, and no check of a sheet is refused before its sheets are read.
 
@@ -31,15 +35,10 @@ pub record IsTallied (c : BookCall) (t : Tally) : Type 0 where
   pub tally : t ≡ tallyOf (answersOf c sheets)
   pub unrefused : (sheet : List ℕ) → firstRefusal (early (single c sheet)) ≡ none
 
-not-refused : (o : Option ℕ) (x t : Tally) → refusedOr o x ≡ tallied t → (o ≡ none) × (x ≡ t)
-unfolding refusedOr
-not-refused none x t e = (refl, cc)
-not-refused (some n) x t e = absurd (let z : _≡_ {A = ℕ} 0 1 = cc in omega arith)
-
-pub is-tallied : (c : BookCall) (t : Tally) → bookAnswer c ≡ tallied t → IsTallied c t
-unfolding bookAnswer bookRefusals ofSettings early single askedOf orNoSheets
+pub is-tallied : (c : BookCall) (t : Tally) → bookAnswer c ≡ told t → IsTallied c t
+unfolding bookRefusals ofSettings early single askedOf tallyIn orNoSheets
 is-tallied c t e =
-    let (unrefused, same) = not-refused _ _ t e in
+    let (unrefused, same) = heard-told (bookRefusals c) (tallyIn c) t e in
     let (settings, (label, (widths, (book, table)))) = none-due (bookRefusals c) unrefused in
     let (sheets, form) = present (sheetsOf (c .book)) book in
     record {
@@ -158,7 +157,7 @@ tally-bytes f small (s ∷ others) =
 
 -- The promises.
 
-module _ (c : BookCall) (t : Tally) (e : bookAnswer c ≡ tallied t) where
+module _ (c : BookCall) (t : Tally) (e : bookAnswer c ≡ told t) where
   is : IsTallied c t
   is = is-tallied c t e
 
@@ -205,79 +204,40 @@ module _ (c : BookCall) (t : Tally) (e : bookAnswer c ≡ tallied t) where
 abbrev pub settingRefusal : BookCall → Option ℕ
 settingRefusal c = firstRefusal (ofSettings (askedOf c []) (c .lent))
 
-is-refused : (o : Option ℕ) (t : Tally) (n : ℕ) → (refusedOr o t ≡ bookRefused n) ↔ (o ≡ some n)
-unfolding refusedOr
-is-refused none t n = (λ e. absurd (let z : _≡_ {A = ℕ} 0 1 = cc in omega arith), λ e. absurd (Option·none-ne-some n e))
-is-refused (some m) t n = (λ e. let same : m ≡ n = cc in ap some same, λ e. ap bookRefused (Option·some-injective m n e))
-
-book-refused : (c : BookCall) (n : ℕ) → (bookAnswer c ≡ bookRefused n) ↔ (firstRefusal (bookRefusals c) ≡ some n)
-unfolding bookAnswer
-book-refused c n = is-refused _ _ n
-
-pub settings-first : (c : BookCall) (n : ℕ) → settingRefusal c ≡ some n → bookAnswer c ≡ bookRefused n
-unfolding bookRefusals orElse
-settings-first c n e =
-    book-refused c n .1 (rw (first-append (ofSettings (askedOf c []) (c .lent)) (ofForm (c .book) ∷ ofTable (c .table)), e))
+pub settings-first : (c : BookCall) (n : ℕ) → settingRefusal c ≡ some n → bookAnswer c ≡ refusedBy n
+unfolding bookRefusals
+settings-first c n e = front-due (ofSettings (askedOf c []) (c .lent)) (ofForm (c .book) ∷ ofTable (c .table)) (tallyIn c) n e
 
 module _ (c : BookCall) (h : settingRefusal c ≡ none) where
-  then-form : firstRefusal (bookRefusals c) ≡ firstRefusal (ofForm (c .book) ∷ ofTable (c .table))
-  unfolding bookRefusals orElse
-  then-form = rw (first-append (ofSettings (askedOf c []) (c .lent)) (ofForm (c .book) ∷ ofTable (c .table)), h)
+  then-form : bookAnswer c ≡ heardBy (ofForm (c .book) ∷ ofTable (c .table)) (tallyIn c)
+  unfolding bookRefusals
+  then-form = front-passes (ofSettings (askedOf c []) (c .lent)) (ofForm (c .book) ∷ ofTable (c .table)) (tallyIn c) h
 
-  pub form-refused : sheetsOf (c .book) ≡ none → bookAnswer c ≡ bookRefused 34
-  unfolding firstRefusal isNone
-  form-refused e = book-refused c 34 .1 (then-form ∙ rw e)
+  pub form-refused : sheetsOf (c .book) ≡ none → bookAnswer c ≡ refusedBy 34
+  unfolding isNone
+  form-refused e = then-form ∙ first-due _ (ofTable (c .table)) (tallyIn c) (rw e)
 
   module _ (sheets : List (List ℕ)) (form : sheetsOf (c .book) ≡ some sheets) where
-    then-table : firstRefusal (bookRefusals c) ≡ firstRefusal (ofTable (c .table))
-    unfolding firstRefusal isNone
-    then-table = then-form ∙ rw form
+    then-table : bookAnswer c ≡ heardBy (ofTable (c .table)) (tallyIn c)
+    unfolding isNone
+    then-table = then-form ∙ first-passes _ (ofTable (c .table)) (tallyIn c) (rw form)
 
-    pub table-refused : (n : ℕ) → firstRefusal (ofTable (c .table)) ≡ some n → bookAnswer c ≡ bookRefused n
-    table-refused n e = book-refused c n .1 (then-table ∙ e)
+    pub table-refused : (n : ℕ) → firstRefusal (ofTable (c .table)) ≡ some n → bookAnswer c ≡ refusedBy n
+    table-refused n e = then-table ∙ heard-refused (ofTable (c .table)) (tallyIn c) n .1 e
 
-    pub book-tallied : firstRefusal (ofTable (c .table)) ≡ none → bookAnswer c ≡ tallied (tallyOf (answersOf c sheets))
-    unfolding bookAnswer refusedOr orNoSheets
-    book-tallied e = rw (then-table, e, form)
-
-same-number : (a : BookAnswer) (m n : ℕ) → a ≡ bookRefused m → a ≡ bookRefused n → m ≡ n
-same-number a m n e f = cc
-
--- a refusal of the settings or of the table is one of a single check's, and those that only a book or its pages have are not listed there
-pub setting-listed : (c : BookCall) (n : ℕ) → settingRefusal c ≡ some n → IsRefusal n
-unfolding ofSettings refusalNumbers oneOf every
-setting-listed c n e = record { listed = of-first (λ (m : ℕ). oneOf m refusalNumbers) n (ofSettings (askedOf c []) (c .lent)) refl e }
-
-pub table-listed : (c : BookCall) (n : ℕ) → firstRefusal (ofTable (c .table)) ≡ some n → IsRefusal n
-unfolding refusalNumbers oneOf every
-table-listed c n e = record { listed = of-first (λ (m : ℕ). oneOf m refusalNumbers) n (ofTable (c .table)) refl e }
-
-pub unlisted : {m : ℕ} (n : ℕ) → oneOf n refusalNumbers ≡ false → m ≡ n → IsRefusal m → ⊥
-unlisted n e same r = false≢true (sym e ∙ ap (λ (k : ℕ). oneOf k refusalNumbers) (sym same) ∙ r .listed)
+    pub book-tallied : firstRefusal (ofTable (c .table)) ≡ none → bookAnswer c ≡ told (tallyOf (answersOf c sheets))
+    unfolding tallyIn orNoSheets
+    book-tallied e = then-table ∙ nothing-due (ofTable (c .table)) (tallyIn c) e ∙ rw form
 
 -- 34 is heard exactly where 1 to 3 are not due and the file is not of the form
-pub book-34 : (c : BookCall) → (bookAnswer c ≡ bookRefused 34) ↔ ((settingRefusal c ≡ none) × (sheetsOf (c .book) ≡ none))
-unfolding refusalNumbers oneOf
-book-34 c = (λ e. by-settings e (settingRefusal c) refl, λ e. form-refused c (e .0) (e .1))
-  where
-    by-table : bookAnswer c ≡ bookRefused 34 → settingRefusal c ≡ none → (sheets : List (List ℕ)) → sheetsOf (c .book) ≡ some sheets
-        → (o : Option ℕ) → firstRefusal (ofTable (c .table)) ≡ o → ⊥
-    by-table e h sheets form none f =
-        let both : tallied (tallyOf (answersOf c sheets)) ≡ bookRefused 34 = sym (book-tallied c h sheets form f) ∙ e in
-        let z : _≡_ {A = ℕ} 0 1 = cc in
-        omega arith
-    by-table e h sheets form (some n) f = unlisted 34 refl (same-number _ n 34 (table-refused c h sheets form n f) e) (table-listed c n f)
-
-    by-form : bookAnswer c ≡ bookRefused 34 → settingRefusal c ≡ none → (o : Option (List (List ℕ))) → sheetsOf (c .book) ≡ o → sheetsOf (c .book) ≡ none
-    by-form e h none f = f
-    by-form e h (some sheets) f = absurd (by-table e h sheets f (firstRefusal (ofTable (c .table))) refl)
-
-    by-settings : bookAnswer c ≡ bookRefused 34 → (o : Option ℕ) → settingRefusal c ≡ o → (settingRefusal c ≡ none) × (sheetsOf (c .book) ≡ none)
-    by-settings e none f = (f, by-form e f (sheetsOf (c .book)) refl)
-    by-settings e (some n) f = absurd (unlisted 34 refl (same-number _ n 34 (settings-first c n f) e) (setting-listed c n f))
+pub book-34 : (c : BookCall) → (bookAnswer c ≡ refusedBy 34) ↔ ((settingRefusal c ≡ none) × (sheetsOf (c .book) ≡ none))
+unfolding bookRefusals ofSettings tried oneOf
+book-34 c =
+    let at = heard-at (ofSettings (askedOf c []) (c .lent)) (ofForm (c .book)) (ofTable (c .table)) (tallyIn c) refl refl in
+    (λ e. let h = at .0 e in (h .0, absent (sheetsOf (c .book)) (h .1)), λ h. form-refused c (h .0) (h .1))
 
 -- a book of one sheet tallies what its single check answers
-pub one-sheet : (c : BookCall) (sheet : List ℕ) (t : Tally) → sheetsOf (c .book) ≡ some (sheet ∷ []) → bookAnswer c ≡ tallied t
+pub one-sheet : (c : BookCall) (sheet : List ℕ) (t : Tally) → sheetsOf (c .book) ≡ some (sheet ∷ []) → bookAnswer c ≡ told t
     → t ≡ tallyOf (resultOf (single c sheet) ∷ [])
 unfolding answersOf
 one-sheet c sheet t form e =
@@ -285,10 +245,13 @@ one-sheet c sheet t form e =
     let same = Option·some-injective (is .sheets) (sheet ∷ []) (sym (is .form) ∙ form) in
     is .tally ∙ ap (λ (sheets : List (List ℕ)). tallyOf (answersOf c sheets)) same
 
--- every refusal of a book is one of those listed
-pub book-refusal-listed : (c : BookCall) (n : ℕ) → bookAnswer c ≡ bookRefused n → oneOf n bookRefusalNumbers ≡ true
-unfolding bookRefusals bookRefusalNumbers ofSettings oneOf every
-book-refusal-listed c n e = of-first (λ (m : ℕ). oneOf m bookRefusalNumbers) n (bookRefusals c) refl (book-refused c n .0 e)
+-- the refusals are tried in the order of the list, and no other number is heard
+pub book-tries : (c : BookCall) → tried (bookRefusals c) ≡ bookRefusalNumbers
+unfolding bookRefusals bookRefusalNumbers ofSettings tried
+book-tries c = refl
+
+pub book-refusal-listed : (c : BookCall) (n : ℕ) → bookAnswer c ≡ refusedBy n → oneOf n bookRefusalNumbers ≡ true
+book-refusal-listed c n e = only-tried (bookRefusals c) (tallyIn c) n bookRefusalNumbers (book-tries c) e
 
 -- a path buffer without room is refused, whatever else the call holds
 pub no-room-due : (c : BookCall) → c .lent .path < pathBytes → (n : ℕ) × (settingRefusal c ≡ some n)
@@ -299,7 +262,7 @@ no-room-due c short = go (settingRefusal c) refl
     go none e = absurd (omega (arith, short, roomy (askedOf c []) (c .lent) e .room))
     go (some n) e = (n, e)
 
-pub no-room-refused : (c : BookCall) → c .lent .path < pathBytes → (n : ℕ) × (bookAnswer c ≡ bookRefused n)
+pub no-room-refused : (c : BookCall) → c .lent .path < pathBytes → (n : ℕ) × (bookAnswer c ≡ refusedBy n)
 no-room-refused c short = let (n, e) = no-room-due c short in (n, settings-first c n e)
 
 -- A kind or semantics beyond its range is refusal 1, so a number beyond both may stand for every larger one.
@@ -327,57 +290,64 @@ capped-same f a decides most c =
     a (λ kind semantics e. decides _ (rw e)) most (c .kind) (c .semantics)
 
 pub capped-book : (most : ℕ) (c : BookCall) → 8 < most → bookAnswer (cappedBook most c) ≡ bookAnswer c
-capped-book = capped-same bookAnswer (bookRefused 1) (λ c e. settings-first c 1 e)
+capped-book = capped-same bookAnswer (refusedBy 1) (λ c e. settings-first c 1 e)
 
 -- The eighteen numbers.
 
-numbers-18 : (o : Option ℕ) (answers : List Answer) → length (tallyNumbers (refusedOr o (tallyOf answers))) ≡ 18
-unfolding refusedOr tallyNumbers tallyOf defectNumbers
-numbers-18 none answers = refl
-numbers-18 (some n) answers = refl
+abbrev is-tally : (c : BookCall) (t : Tally) → bookAnswer c ≡ told t → tallyIn c ≡ t
+is-tally c t e = heard-told (bookRefusals c) (tallyIn c) t e .1
 
 pub tally-size : (c : BookCall) → length (tallyNumbers (bookAnswer c)) ≡ 18
-unfolding bookAnswer
-tally-size c = numbers-18 (firstRefusal (bookRefusals c)) (answersOf c (orNoSheets (sheetsOf (c .book))))
+unfolding tallyFigures tallyIn tallyOf defectNumbers
+tally-size c = numbers-size 17 tallyFigures (bookAnswer c) (λ t e. rw (← (is-tally c t e)) refl)
 
 -- the first of them is small: the number of a refusal, or 0
-first-low : (a : BookAnswer) → ((n : ℕ) → a ≡ bookRefused n → n ≤ 38) → getD (tallyNumbers a) 0 0 ≤ 38
-unfolding tallyNumbers
-first-low (bookRefused n) h = h n refl
-first-low (tallied t) h = omega arith
-
-refusal-low : (c : BookCall) (n : ℕ) → bookAnswer c ≡ bookRefused n → n ≤ 38
+refusal-low : (c : BookCall) (n : ℕ) → bookAnswer c ≡ refusedBy n → n ≤ 38
 unfolding bookRefusalNumbers every
-refusal-low c n e = leb-true n 38 (of-listed (λ (m : ℕ). leb m 38) n bookRefusalNumbers refl (book-refusal-listed c n e))
+refusal-low c n e = leb-true n 38 (of-heard (λ (m : ℕ). leb m 38) (bookRefusals c) (tallyIn c) n bookRefusalNumbers (book-tries c) refl e)
 
 pub tally-first : (c : BookCall) → getD (tallyNumbers (bookAnswer c)) 0 0 ≤ 38
-tally-first c = first-low (bookAnswer c) (refusal-low c)
+tally-first c = first-low 38 17 tallyFigures (bookAnswer c) (refusal-low c)
 
 -- and none is beyond the book's length and a refusal's number, so eight bytes hold each
-
-abbrev pub AllWithin : ℕ → List ℕ → Type 0
-AllWithin most [] = Unit {0}
-AllWithin most (n ∷ ns) = (n ≤ most) × AllWithin most ns
-
-zeros-within : (most k : ℕ) → AllWithin most (replicate k 0)
-zeros-within most zero = tt
-zeros-within most (suc k) = (omega arith, zeros-within most k)
-
 counts-then : (most : ℕ) (answers : List Answer) (last : ℕ) (ns : List ℕ) → length answers ≤ most → last ≤ most
     → AllWithin most (map (λ (n : ℕ). countOf n answers) ns ++ (last ∷ []))
 counts-then most answers last [] h l = (l, tt)
 counts-then most answers last (n ∷ ns) h l = (omega (arith, counts-within n answers), counts-then most answers last ns h l)
 
-pub numbers-within : (c : BookCall) → AllWithin (38 + length (c .book)) (tallyNumbers (bookAnswer c))
-unfolding tallyNumbers tallyOf
-numbers-within c = go (bookAnswer c) refl
-  where
-    go : (a : BookAnswer) → bookAnswer c ≡ a → AllWithin (38 + length (c .book)) (tallyNumbers a)
-    go (bookRefused n) e = (omega (arith, refusal-low c n e), zeros-within (38 + length (c .book)) 17)
-    go (tallied t) e =
-        let answers = answersOf c (is-tallied c t e .sheets) in
-        let same = is-tallied c t e .tally in
-        let read : length answers ≤ length (c .book) = rw same at (read-bound c t e) in
-        let passed : passedIn answers ≤ length (c .book) = rw same at (passed-bound c t e) in
-        rw same
-        (omega arith, (omega (arith, read), counts-then _ answers _ (0 ∷ 4 ∷ 5 ∷ defectNumbers) (omega (arith, read)) (omega (arith, passed))))
+pub tally-within : (c : BookCall) → AllWithin (38 + length (c .book)) (tallyNumbers (bookAnswer c))
+unfolding tallyFigures tallyOf
+tally-within c =
+    numbers-within (38 + length (c .book)) 17 tallyFigures (bookAnswer c) (λ n e. omega (arith, refusal-low c n e))
+    (λ t e.
+    let answers = answersOf c (is-tallied c t e .sheets) in
+    let same = is-tallied c t e .tally in
+    let read : length answers ≤ length (c .book) = rw same at (read-bound c t e) in
+    let passed : passedIn answers ≤ length (c .book) = rw same at (passed-bound c t e) in
+    rw same (omega (arith, read), counts-then _ answers _ (0 ∷ 4 ∷ 5 ∷ defectNumbers) (omega (arith, read)) (omega (arith, passed))))
+
+-- A refusal changes nothing; what path buffer and scratch held never matters, nor how long they are, if both have room or neither has.
+
+pub refused-unchanged : (r : Run BookCall) (n : ℕ) → MeetsBook r → bookAnswer (r .call) ≡ refusedBy n → Untouched (r .buffers)
+unfolding ifTold
+refused-unchanged r n m e = refused-untouched tallyShape r n m e (refl, (refl, tt))
+
+-- the same call with other widths
+unfoldable pub lending : Widths → BookCall → BookCall
+lending w c =
+    record { kind = c .kind; semantics = c .semantics; label = c .label; table = c .table; schema = c .schema; book = c .book; lent = w }
+
+pub lending-same : (c : BookCall) (w : Widths) → areWide w ≡ areWide (c .lent) → bookAnswer (lending w c) ≡ bookAnswer c
+unfolding lending bookRefusals tallyIn answersOf ofSettings askedOf single resultOf refusals early ofSheets
+lending-same c w room = rw room refl
+
+module _ (kind semantics : ℕ) (label table schema book : List ℕ) {path scratch r pathNow scratchNow path′ scratch′ r′ pathNow′ scratchNow′ : List ℕ}
+    (m : MeetsBook (bookRunOf kind semantics label table schema book path scratch r pathNow scratchNow))
+    (m′ : MeetsBook (bookRunOf kind semantics label table schema book path′ scratch′ r′ pathNow′ scratchNow′)) where
+  pub any-buffers : areWide (widthsBy (length path) (length scratch)) ≡ areWide (widthsBy (length path′) (length scratch′)) → r ≡ r′
+  unfolding lending
+  any-buffers room = same-answer tallyShape _ _ m m′ (lending-same (bookRunOf kind semantics label table schema book path′ scratch′ r′ pathNow′ scratchNow′ .call) _ room) .result
+
+  -- so 4,096 elements serve as well as more
+  pub lean-buffers : pathBytes ≤ length path → scratchWords ≤ length scratch → pathBytes ≤ length path′ → scratchWords ≤ length scratch′ → r ≡ r′
+  lean-buffers p s p′ s′ = any-buffers (are-wide _ p s ∙ sym (are-wide _ p′ s′))

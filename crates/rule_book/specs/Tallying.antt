@@ -8,9 +8,10 @@ use Rattle.reference.specs.Setting.{Setting}
 use Rattle.schema.specs.Read.{SchemaIs}
 use Rattle.schema.specs.declared.read.SchemaRead.{SchemaRead}
 use Rattle.validation.specs.Result.{any, Answer, maxLabelBytes, pathBytes, scratchWords, KeptFrom}
+use Rattle.call.specs.Call.{told, Run}
 use Rattle.single_check.specs.Sheets.{sheetAnswer, FrontOnly}
 use Rattle.rule_book.specs.Book.{sheetsOf}
-use Rattle.rule_book.specs.Tally.{tallyOf, tallied, tallyNumbers, BookRun}
+use Rattle.rule_book.specs.Tally.{BookCall, tallyOf, tallyNumbers}
 
 -- what the check list says of each sheet, under a setting
 unfoldable pub answersIn : Setting → (label schema : List ℕ) → List (List ℕ) → List Answer
@@ -50,23 +51,24 @@ pub record Ready (label schema : List ℕ) (read : SchemaRead) (book path words 
 
 -- every sheet was checked
 pub record SheetsTallied (setting : Setting) (label schema book pathBefore path before after r : List ℕ) : Type 0 where
-  pub numbers : (sheets : List (List ℕ)) → sheetsOf book ≡ some sheets → r ≡ tallyNumbers (tallied (tallyOf (answersIn setting label schema sheets)))
+  pub numbers : (sheets : List (List ℕ)) → sheetsOf book ≡ some sheets → r ≡ tallyNumbers (told (tallyOf (answersIn setting label schema sheets)))
   pub kept : KeptFrom pathBytes pathBefore path
   pub front : FrontOnly before after
 
 -- A call of the code as a run of the definitions.
-abbrev pub bookRunOf : (kind semantics : ℕ) (label table schema book pathBefore scratchBefore r path scratch : List ℕ) → BookRun
+abbrev pub bookRunOf : (kind semantics : ℕ) (label table schema book pathBefore scratchBefore r path scratch : List ℕ) → Run BookCall
 bookRunOf kind semantics label table schema book pathBefore scratchBefore r path scratch =
     record {
-      kind = kind;
-      semantics = semantics;
-      label = label;
-      table = table;
-      schema = schema;
-      book = book;
-      pathBefore = pathBefore;
-      scratchBefore = scratchBefore;
+      call =
+          record {
+            kind = kind;
+            semantics = semantics;
+            label = label;
+            table = table;
+            schema = schema;
+            book = book;
+            lent = record { path = length pathBefore; scratch = length scratchBefore };
+          };
       result = r;
-      path = path;
-      scratch = scratch;
+      buffers = record { before = pathBefore; after = path } ∷ record { before = scratchBefore; after = scratch } ∷ [];
     }

@@ -13,8 +13,9 @@ use single_check::settings::settle;
 use single_check::sheets::Takes;
 use single_check::sheets::check_sheet;
 ghost use mathlib.Core.Path.{_≡_};
+ghost use Rattle.call.specs.Call.{refusedBy};
 ghost use Rattle.single_check.specs.Settings.{settingBy};
-ghost use Rattle.rule_book.specs.Tally.{bookRefused, tallyNumbers, MeetsBook};
+ghost use Rattle.rule_book.specs.Tally.{tallyNumbers, MeetsBook};
 ghost use Rattle.rule_book.specs.Tallying.{numbersIn, Ready, SheetsTallied, bookRunOf};
 
 // How many numbers a result has.
@@ -24,7 +25,7 @@ pub const TALLY_NUMBERS: usize = 18;
 const ANSWERS: usize = 23;
 
 fn refused(number: u32) -> [u64; TALLY_NUMBERS]
-    ensures { λ r. ⌜ r ≡ tallyNumbers (bookRefused number) ⌝ }
+    ensures { λ r. ⌜ r ≡ tallyNumbers (refusedBy number) ⌝ }
 {
     let mut numbers = [0u64; TALLY_NUMBERS];
     numbers[0] = number as u64;

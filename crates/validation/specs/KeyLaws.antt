@@ -15,6 +15,7 @@ use Rattle.reference.specs.Setting.{Reader, oneOf}
 use Rattle.reference.specs.Walk as Walk
 use Rattle.reference.specs.Walk.{Reached, unknown, known}
 use Rattle.reference.specs.DetailLaws.{Has, WalkDetail, key-detail}
+use Rattle.call.specs.Call.{tried}
 use Rattle.validation.specs.Result.{Answer, refusalNumbers, Heard, firstRefusal, refusedOr}
 use Rattle.validation.specs.Result as Result
 use Rattle.validation.specs.RefusalLaws.{every, of-first, of-listed, outside}
@@ -38,6 +39,11 @@ or-heard : {reader : Reader} {a : Answer} (o : Option ℕ)
 unfolding refusedOr
 or-heard none listed h = h
 or-heard (some n) listed h = refusal (listed n refl)
+
+-- the refusals are tried in the order of the list
+pub key-tries : (c : KeyCall) → tried (keyRefusals c) ≡ keyNumbers
+unfolding keyRefusals keyEarly keyNumbers tried
+key-tries c = refl
 
 key-listed : (c : KeyCall) (n : ℕ) → firstRefusal (keyRefusals c) ≡ some n → oneOf n keyNumbers ≡ true
 unfolding keyRefusals keyEarly keyNumbers oneOf every

@@ -1,18 +1,22 @@
 -- Refusals: which number is heard first, and what is known of it by the lists alone.
 use Prim.Native.Nat.{ℕ, _<_, _≤_, min}
 use native.Mathlib.Omega.{arith}
-use mathlib.Core.Bool.{Bool, true, false, not, cond, _&&_, _||_, and-false, false≢true}
-use mathlib.Core.List.{List, [], _∷_, _++_}
-use mathlib.Core.Option.{Option, none, some, orElse, Option·some-injective, Option·none-ne-some, Option·some-ne-none}
-use mathlib.Core.Path.{_≡_, refl, ap, sym, _∙_}
+use mathlib.Core.Bool.{Bool, true, false, not, _&&_, _||_, and-false, false≢true}
+use mathlib.Core.List.{List, [], _∷_}
+use mathlib.Core.Option.{Option, none, some, orElse}
+use mathlib.Core.Path.{_≡_, refl, sym, _∙_}
 use lib.Dec.{leb, eqb}
-use borrow.Author.Tests.{eqb-true, eqb-false, leb-true, leb-false, le-leb, lt-leb}
+use borrow.Author.Tests.{eqb-false, leb-true, leb-false, le-leb, lt-leb}
 use Rattle.text.specs.Utf8.{between}
-use Rattle.text.proofs.Bools.{and-true-0, and-true-1, or-true-cases}
+use Rattle.text.proofs.Bools.{and-true-1, or-true-cases}
 use Rattle.sheet.specs.ReaderLaws.{by-test}
 use Rattle.reference.specs.Setting.{oneOf}
+pub use Rattle.call.specs.CallLaws.{first-append, NoneDue, none-due, first-none, number-due, number-later, none-left, number-some, number-none, of-listed, of-first}
+unfoldable pub use Rattle.call.specs.CallLaws.{every}
+use Rattle.call.specs.Call.{tried}
+use Rattle.call.specs.CallLaws.{latter, neither}
 use Rattle.validation.specs.Check.{isNone, IsDefect}
-use Rattle.validation.specs.Result.{Asked, Widths, Call, refused, refusalNumbers, IsRefusal, isOfSheets, markBytes, Refusal, ofMarks, ofTable, ofSettings, early, ofSheets, refusals, firstRefusal, numberIn, refusedOr, resultOf}
+use Rattle.validation.specs.Result.{Asked, Widths, areWide, pathBytes, scratchWords, Call, refused, refusalNumbers, IsRefusal, isOfSheets, markBytes, Refusal, ofMarks, ofTable, ofSettings, early, ofSheets, refusals, firstRefusal, numberIn, refusedOr, resultOf}
 
 -- What a test says.
 
@@ -21,90 +25,27 @@ unfolding isNone
 present none e = absurd (false≢true (sym e))
 present (some x) e = (x, refl)
 
+pub absent : {A : Type 0} (o : Option A) → isNone o ≡ true → o ≡ none
+unfolding isNone
+absent none e = refl
+absent (some x) e = absurd (false≢true e)
+
 pub is-set : (b : Bool) → not b ≡ false → b ≡ true
 is-set true e = refl
 is-set false e = sym e
 
--- A list of refusals: those in front are tried first.
+-- buffers that are long enough
+pub are-wide : (w : Widths) → pathBytes ≤ w .path → scratchWords ≤ w .scratch → areWide w ≡ true
+are-wide w room words = rw (le-leb pathBytes (w .path) room, le-leb scratchWords (w .scratch) words)
 
-else-if : (b : Bool) (n : ℕ) (x y : Option ℕ) → cond b (some n) (orElse x y) ≡ orElse (cond b (some n) x) y
-unfolding orElse
-else-if true n x y = refl
-else-if false n x y = refl
+-- the numbers in the order in which they are tried, and every one that is listed is among them
+pub tries : (c : Call) → tried (refusals c) ≡ 1 ∷ 2 ∷ 3 ∷ 35 ∷ 37 ∷ 38 ∷ 4 ∷ 5 ∷ []
+unfolding refusals early ofSettings ofSheets tried
+tries c = refl
 
-pub first-append : (xs ys : List Refusal) → firstRefusal (xs ++ ys) ≡ orElse (firstRefusal xs) (firstRefusal ys)
-unfolding firstRefusal orElse
-first-append [] ys = refl
-first-append (x ∷ xs) ys = rw (first-append xs ys) (else-if (x .isDue) (x .number) (firstRefusal xs) (firstRefusal ys))
-
-abbrev pub NoneDue : List Refusal → Type 0
-NoneDue [] = Unit {0}
-NoneDue (r ∷ rs) = (r .isDue ≡ false) × NoneDue rs
-
-not-first : (b : Bool) (n : ℕ) (o : Option ℕ) → cond b (some n) o ≡ none → (b ≡ false) × (o ≡ none)
-not-first true n o e = absurd (Option·some-ne-none n e)
-not-first false n o e = (refl, e)
-
-pub none-due : (rs : List Refusal) → firstRefusal rs ≡ none → NoneDue rs
-unfolding firstRefusal
-none-due [] e = tt
-none-due (r ∷ rs) e =
-    let (first, others) = not-first (r .isDue) (r .number) (firstRefusal rs) e in
-    (first, none-due rs others)
-
-pub first-none : (rs : List Refusal) → NoneDue rs → firstRefusal rs ≡ none
-unfolding firstRefusal
-first-none [] h = refl
-first-none (r ∷ rs) h = rw (h .0) (first-none rs (h .1))
-
--- the first that is due, by its number
-pub number-due : (r : Refusal) (rs : List Refusal) → r .isDue ≡ true → r .number ≡ numberIn (firstRefusal (r ∷ rs))
-unfolding firstRefusal numberIn
-number-due r rs e = rw e
-
-pub number-later : {n : ℕ} (r : Refusal) (rs : List Refusal) → r .isDue ≡ false → n ≡ numberIn (firstRefusal rs) → n ≡ numberIn (firstRefusal (r ∷ rs))
-unfolding firstRefusal
-number-later r rs e f = rw e f
-
-pub none-left : 0 ≡ numberIn (firstRefusal [])
-unfolding firstRefusal numberIn
-none-left = refl
-
-pub number-some : (n : ℕ) (o : Option ℕ) → n ≡ numberIn o → (n ≡ 0 → ⊥) → o ≡ some n
-unfolding numberIn
-number-some n none e h = absurd (h e)
-number-some n (some m) e h = ap some (sym e)
-
-pub number-none : (o : Option ℕ) → ((n : ℕ) → o ≡ some n → n ≡ 0 → ⊥) → 0 ≡ numberIn o → o ≡ none
-unfolding numberIn
-number-none none h e = refl
-number-none (some n) h e = absurd (h n refl (sym e))
-
--- What a test says of every number in a list is true of each of them.
-
-unfoldable pub every : {A : Type 0} → (A → Bool) → List A → Bool
-every p [] = true
-every p (x ∷ xs) = p x && every p xs
-
-pub of-listed : (p : ℕ → Bool) (n : ℕ) (ns : List ℕ) → every p ns ≡ true → oneOf n ns ≡ true → p n ≡ true
-unfolding every oneOf
-of-listed p n [] e h = absurd (false≢true h)
-of-listed p n (m ∷ ns) e h =
-    by-test (eqb n m) (λ q. rw (eqb-true n m q) (and-true-0 (p m) (every p ns) e))
-    (λ q. of-listed p n ns (and-true-1 (p m) (every p ns) e) (rw q at h))
-
-abbrev pub numbersPass : (ℕ → Bool) → List Refusal → Bool
-numbersPass p rs = every (λ (r : Refusal). p (r .number)) rs
-
-pub of-first : (p : ℕ → Bool) (n : ℕ) (rs : List Refusal) → numbersPass p rs ≡ true → firstRefusal rs ≡ some n → p n ≡ true
-unfolding every firstRefusal
-of-first p n [] e f = absurd (Option·none-ne-some n f)
-of-first p n (r ∷ rs) e f =
-    by-test (r .isDue)
-    (λ d.
-    let same : r .number ≡ n = Option·some-injective (r .number) n (rw d at f) in
-    rw same at (and-true-0 (p (r .number)) (numbersPass p rs) e))
-    (λ d. of-first p n rs (and-true-1 (p (r .number)) (numbersPass p rs) e) (rw d at f))
+pub listed-tried : (c : Call) (n : ℕ) → IsRefusal n → oneOf n (tried (refusals c)) ≡ true
+unfolding refusalNumbers oneOf every
+listed-tried c n r = rw (tries c) (of-listed (λ m. oneOf m (1 ∷ 2 ∷ 3 ∷ 35 ∷ 37 ∷ 38 ∷ 4 ∷ 5 ∷ [])) n refusalNumbers refl (r .listed))
 
 -- every refusal of a call is one of those listed
 pub refusal-listed : (c : Call) (n : ℕ) → firstRefusal (refusals c) ≡ some n → IsRefusal n
@@ -182,16 +123,6 @@ table-decides c e enough = further-decide c e ∙ rw (le-leb markBytes (c .lent 
 pub sheets-first : (c : Call) → firstRefusal (early c) ≡ none → firstRefusal (refusals c) ≡ firstRefusal (ofSheets c)
 unfolding refusals orElse
 sheets-first c e = rw (first-append (early c) (ofSheets c), e)
-
-latter : (x y : Option ℕ) (n : ℕ) → (x ≡ some n → ⊥) → orElse x y ≡ some n → y ≡ some n
-unfolding orElse
-latter none y n h e = e
-latter (some m) y n h e = absurd (h e)
-
-neither : (x y : Option ℕ) → orElse x y ≡ none → (x ≡ none) × (y ≡ none)
-unfolding orElse
-neither none y e = (refl, e)
-neither (some n) y e = absurd (Option·some-ne-none n e)
 
 pub none-of-either : (c : Call) → firstRefusal (refusals c) ≡ none → (firstRefusal (early c) ≡ none) × (firstRefusal (ofSheets c) ≡ none)
 unfolding refusals

@@ -3,7 +3,7 @@ use Prim.Native.Nat.{ℕ}
 use mathlib.Core.Bool.{Bool, true, false, not, cond, _&&_, _||_}
 use mathlib.Core.List.{List, [], _∷_, _++_}
 use mathlib.Core.Option.{Option, none, some}
-use lib.ListN.{length, drop}
+use lib.ListN.{length}
 use lib.Seq.{sets}
 use lib.Dec.{leb, eqb}
 use mathlib.Core.Path.{_≡_}
@@ -12,6 +12,8 @@ use Rattle.definition.specs.Tree.{Text, Schema, Rule, rule, template}
 use Rattle.definition.specs.Decode.{decodeSchema, decodeRule}
 use Rattle.reference.specs.Setting.{Setting, oneOf}
 use Rattle.reference.specs.Table.{tableIn, settingUnder, orStock, isSoundTable}
+pub use Rattle.call.specs.Call.{Refusal, KeptFrom}
+unfoldable pub use Rattle.call.specs.Call.{firstRefusal, numberIn}
 use Rattle.validation.specs.Check.{isNone, Binder, IsDefect, checks, entryOf}
 use Rattle.validation.specs.Judge.{Verdict, allPass, failsAt, judge}
 use Rattle.validation.specs.Location.{pathOf}
@@ -144,14 +146,13 @@ isTaken templates (some (template v)) = true
 abbrev pub settingFor : Call → Setting
 settingFor c = settingUnder (orStock (tableIn (c .table))) (c .asked .kind) (c .asked .semantics)
 
--- a refusal's number, and whether it is due
-pub record Refusal : Type 0 where
-  pub number : ℕ
-  pub isDue : Bool
+-- whether path buffer and scratch are long enough
+abbrev pub areWide : Widths → Bool
+areWide w = leb pathBytes (w .path) && leb scratchWords (w .scratch)
 
 -- of path buffer and scratch
 abbrev pub ofWidths : Widths → Refusal
-ofWidths w = record { number = 3; isDue = not (leb pathBytes (w .path) && leb scratchWords (w .scratch)) }
+ofWidths w = record { number = 3; isDue = not (areWide w) }
 
 -- of the mark list
 abbrev pub ofMarks : (marks : ℕ) → Refusal
@@ -189,15 +190,6 @@ ofSheets c =
 -- the refusals in the order in which they are tried
 unfoldable pub refusals : Call → List Refusal
 refusals c = early c ++ ofSheets c
-
-unfoldable pub firstRefusal : List Refusal → Option ℕ
-firstRefusal [] = none
-firstRefusal (r ∷ rs) = cond (r .isDue) (some (r .number)) (firstRefusal rs)
-
--- its number, or 0 where none is due
-unfoldable pub numberIn : Option ℕ → ℕ
-numberIn none = 0
-numberIn (some n) = n
 
 -- none of the refusals is due
 abbrev pub Unrefused : Call → Type 0
@@ -261,14 +253,8 @@ keptScratch (refused n) = cond (isOfSheets n) scratchWords 0
 keptScratch (accepted n) = scratchWords
 keptScratch (defect d) = scratchWords
 
-pub record ScratchAfter (a : Answer) (before after : List ℕ) : Type 0 where
-  pub size : length after ≡ length before
-  pub kept : drop (keptScratch a) after ≡ drop (keptScratch a) before
-
--- only the first `free` elements may differ
-pub record KeptFrom (free : ℕ) (before after : List ℕ) : Type 0 where
-  pub size : length after ≡ length before
-  pub kept : drop free after ≡ drop free before
+abbrev pub ScratchAfter : Answer → (before after : List ℕ) → Type 0
+ScratchAfter a before after = KeptFrom (keptScratch a) before after
 
 -- what a caller hands over, and what it has after the call
 pub record Run : Type 0 where

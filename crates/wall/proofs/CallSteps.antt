@@ -15,12 +15,13 @@ use Rattle.single_check.specs.declared.settings.Settled.the-variants.{Set, Refu
 use Rattle.rule_book.specs.Book.{sheetsOf}
 use Rattle.rule_book.specs.BookLaws.{book-round-trip}
 use Rattle.rule_book.specs.Places.{sheetCount}
-use Rattle.rule_book.specs.Tally.{askedOf, bookCallOf}
+use Rattle.rule_book.specs.Tally.{askedOf}
 use Rattle.rule_book.specs.TallyLaws.{settingRefusal, tally-bytes}
 use Rattle.rule_book.specs.Tallying.{answersIn}
 use Rattle.rule_book.proofs.CallSteps as Book
 use Rattle.wall.specs.Pages.{perPage, pageBytes, pageCount, pagesFrom, linesOf, pagesOf}
-use Rattle.wall.specs.Wall.{WallCall, wallRefused, printed, wallAnswer, wallNumbers, pagesAfter, wallFreed, wallCallOf, MeetsWall}
+use Rattle.call.specs.Call.{refusedBy, told, ifTold, numbersWith}
+use Rattle.wall.specs.Wall.{WallCall, wallFigures, wallAnswer, wallNumbers, MeetsWall}
 use Rattle.wall.specs.WallLaws.{settings-first, form-refused, pages-refused, table-refused, wall-printed}
 use Rattle.wall.specs.Printing.{Given, PagesPut, wallRunOf}
 
@@ -31,19 +32,13 @@ module _ (kind semantics : ℕ) (label table schema book pathBefore pagesBefore 
   abbrev wallCall : WallCall
   wallCall = record { run = Book.call kind semantics label table schema book pathBefore before; pages = length pagesBefore }
 
-  meets-refused : {n : ℕ} {r : List ℕ} → wallAnswer wallCall ≡ wallRefused n → r ≡ wallNumbers (wallRefused n)
+  meets-refused : {n : ℕ} {r : List ℕ} → wallAnswer wallCall ≡ refusedBy n → r ≡ wallNumbers (refusedBy n)
       → MeetsWall (wallRunOf kind semantics label table schema book pathBefore pagesBefore before r pathBefore pagesBefore before)
-  unfolding wallCallOf bookCallOf pagesAfter
-  meets-refused a e =
-      record {
-        result = rw a e;
-        pages = rw a;
-        path = record { size = refl; kept = refl };
-        scratch = record { size = refl; kept = refl };
-      }
+  unfolding ifTold
+  meets-refused a e = record { result = rw a e; buffers = rw a (refl, (refl, (refl, tt))) }
 
   pub meets-settings : {n : ℕ} {r : List ℕ} → EarlyIs kind semantics label (length pathBefore) (length before) n → (n ≡ 0 → ⊥)
-      → r ≡ wallNumbers (wallRefused n)
+      → r ≡ wallNumbers (refusedBy n)
       → MeetsWall (wallRunOf kind semantics label table schema book pathBefore pagesBefore before r pathBefore pagesBefore before)
   unfolding askedOf
   meets-settings {n} e h q = meets-refused (settings-first wallCall n (number-some n _ (e .first any []) h)) q
@@ -52,7 +47,7 @@ module _ (kind semantics : ℕ) (label table schema book pathBefore pagesBefore 
     pass : settingRefusal (wallCall .run) ≡ none
     pass = Book.settings-pass kind semantics label table schema book pathBefore before e z
 
-    pub meets-form : {r : List ℕ} → sheetsOf book ≡ none → r ≡ wallNumbers (wallRefused 34)
+    pub meets-form : {r : List ℕ} → sheetsOf book ≡ none → r ≡ wallNumbers (refusedBy 34)
         → MeetsWall (wallRunOf kind semantics label table schema book pathBefore pagesBefore before r pathBefore pagesBefore before)
     meets-form f q = meets-refused (form-refused wallCall pass f) q
 
@@ -67,7 +62,7 @@ module _ (kind semantics : ℕ) (label table schema book pathBefore pagesBefore 
       pages-are : count ≡ pageCount (length (all .0))
       pages-are = c ∙ ap pageCount sheets-are
 
-      pub meets-room : {r : List ℕ} → length pagesBefore / 4860 < count → r ≡ wallNumbers (wallRefused 33)
+      pub meets-room : {r : List ℕ} → length pagesBefore / 4860 < count → r ≡ wallNumbers (refusedBy 33)
           → MeetsWall (wallRunOf kind semantics label table schema book pathBefore pagesBefore before r pathBefore pagesBefore before)
       meets-room short q = meets-refused (pages-refused wallCall pass (all .0) (all .1) (omega (arith, pages-are))) q
 
@@ -88,7 +83,7 @@ module _ (kind semantics : ℕ) (label table schema book pathBefore pagesBefore 
         fits : pageBytes * pageCount (length (all .0)) ≤ length pagesBefore
         fits = omega (arith, pages-are)
 
-        pub meets-table : {m : ℕ} {r : List ℕ} → SettledIs kind semantics table (Refused m) → r ≡ wallNumbers (wallRefused m)
+        pub meets-table : {m : ℕ} {r : List ℕ} → SettledIs kind semantics table (Refused m) → r ≡ wallNumbers (refusedBy m)
             → MeetsWall (wallRunOf kind semantics label table schema book pathBefore pagesBefore before r pathBefore pagesBefore before)
         meets-table {m} t q = meets-refused (table-refused wallCall pass (all .0) (all .1) fits m t) q
 
@@ -96,16 +91,20 @@ module _ (kind semantics : ℕ) (label table schema book pathBefore pagesBefore 
             → PagesPut (settingBy s) label schema book count pathBefore path before after pagesBefore pages
             → r ≡ 0 ∷ count ∷ []
             → MeetsWall (wallRunOf kind semantics label table schema book pathBefore pagesBefore before r path pages after)
-        unfolding wallCallOf bookCallOf wallNumbers pagesAfter pagesOf linesOf wallFreed keptScratch answersIn
+        unfolding numbersWith wallFigures ifTold pagesOf linesOf keptScratch answersIn
         meets-printed s t put q =
             let answers = answersIn (settingBy s) label schema (all .0) in
             let same = Book.same-answers kind semantics label table schema book pathBefore before e z counted s t (all .0) in
-            let answer : wallAnswer wallCall ≡ printed answers = wall-printed wallCall pass (all .0) (all .1) fits (t .0) ∙ ap (λ (l : List Answer). printed l) same in
+            let answer : wallAnswer wallCall ≡ told answers = wall-printed wallCall pass (all .0) (all .1) fits (t .0) ∙ ap (λ (l : List Answer). told l) same in
             let size : count ≡ pageCount (length answers) = pages-are ∙ ap pageCount (sym (length-map (all .0) _)) in
-            let scratch = front-scratch (accepted 0) (put .front) refl in
             record {
               result = rw answer (q ∙ ap (λ (n : ℕ). 0 ∷ n ∷ []) size);
-              pages = rw answer (put .written (all .0) (all .1) ∙ ap (λ (n : ℕ). sets pagesBefore 0 (flatten (pagesFrom 0 n answers))) size);
-              path = rw answer (put .kept);
-              scratch = rw answer (record { size = scratch .size; kept = scratch .kept });
+              buffers =
+                  rw answer (
+                    put .kept,
+                    (
+                      put .written (all .0) (all .1) ∙ ap (λ (n : ℕ). sets pagesBefore 0 (flatten (pagesFrom 0 n answers))) size,
+                      (front-scratch (accepted 0) (put .front) refl, tt),
+                    ),
+                  );
             }

@@ -1,6 +1,6 @@
 -- Printing as the code does it: a row for each sheet, a page of rows, all pages; what each may rely on and what it leaves.
 use Prim.Native.Nat.{ℕ, _≤_}
-use mathlib.Core.List.{List, flatten}
+use mathlib.Core.List.{List, [], _∷_, flatten}
 use mathlib.Core.Option.{some}
 use mathlib.Core.Path.{_≡_}
 use lib.ListN.{length, take, drop}
@@ -9,12 +9,13 @@ use Rattle.buffer.specs.Wrote.{Wrote}
 use Rattle.reference.specs.Setting.{Setting}
 use Rattle.schema.specs.declared.read.SchemaRead.{SchemaRead}
 use Rattle.validation.specs.Result.{maxLabelBytes, pathBytes, scratchWords, KeptFrom}
+use Rattle.call.specs.Call.{Run}
 use Rattle.single_check.specs.Sheets.{FrontOnly}
 use Rattle.rule_book.specs.Book.{sheetsOf}
 use Rattle.rule_book.specs.Tally.{countOf}
 use Rattle.rule_book.specs.Tallying.{answersIn, Ready, bookRunOf}
 use Rattle.wall.specs.Pages.{perPage, page, pagesFrom}
-use Rattle.wall.specs.Wall.{WallRun}
+use Rattle.wall.specs.Wall.{WallCall}
 use Rattle.wall.specs.Writing.{rowOf}
 use Rattle.wall.specs.declared.page.Row.{Row}
 use Rattle.wall.specs.declared.page.PageEnd.{PageEnd}
@@ -54,10 +55,18 @@ pub record PagesPut (setting : Setting) (label schema book : List ℕ) (count : 
   pub front : FrontOnly before after
 
 -- A call of the code as a run of the definitions.
-abbrev pub wallRunOf : (kind semantics : ℕ) (label table schema book pathBefore pagesBefore scratchBefore r path pages scratch : List ℕ) → WallRun
+abbrev pub wallRunOf : (kind semantics : ℕ) (label table schema book pathBefore pagesBefore scratchBefore r path pages scratch : List ℕ) → Run WallCall
 wallRunOf kind semantics label table schema book pathBefore pagesBefore scratchBefore r path pages scratch =
     record {
-      run = bookRunOf kind semantics label table schema book pathBefore scratchBefore r path scratch;
-      pagesBefore = pagesBefore;
-      pages = pages;
+      call =
+          record {
+            run = bookRunOf kind semantics label table schema book pathBefore scratchBefore r path scratch .call;
+            pages = length pagesBefore;
+          };
+      result = r;
+      buffers =
+          record { before = pathBefore; after = path }
+          ∷ record { before = pagesBefore; after = pages }
+          ∷ record { before = scratchBefore; after = scratch }
+          ∷ [];
     }

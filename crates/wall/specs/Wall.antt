@@ -2,14 +2,12 @@
 use Prim.Native.Nat.{ℕ, _*_}
 use mathlib.Core.Bool.{not}
 use mathlib.Core.List.{List, [], _∷_, _++_}
-use mathlib.Core.Option.{Option, none, some}
-use mathlib.Core.Path.{_≡_}
 use lib.Dec.{leb}
 use lib.ListN.{length}
-use lib.Seq.{sets}
-use Rattle.validation.specs.Result.{Answer, Refusal, ofTable, ofSettings, firstRefusal, pathBytes, scratchWords, KeptFrom}
+use Rattle.validation.specs.Result.{Answer, Refusal, ofTable, ofSettings, pathBytes, scratchWords}
+use Rattle.call.specs.Call.{Reply, Left, holding, ifTold, freeIfTold, Shape, replyTo, resultNumbers, Run, Meets}
 use Rattle.rule_book.specs.Book.{sheetsOf}
-use Rattle.rule_book.specs.Tally.{BookCall, askedOf, ofForm, answersOf, orNoSheets, BookRun, bookCallOf}
+use Rattle.rule_book.specs.Tally.{BookCall, askedOf, ofForm, answersOf, orNoSheets}
 use Rattle.wall.specs.Pages.{pageBytes, pageCount, pagesOf}
 
 -- a call as for a tally, and how many bytes are lent for the pages
@@ -32,46 +30,28 @@ wallRefusals c = ofSettings (askedOf (c .run) []) (c .run .lent) ++ (ofForm (c .
 unfoldable pub wallRefusalNumbers : List ℕ
 wallRefusalNumbers = 1 ∷ 2 ∷ 3 ∷ 34 ∷ 33 ∷ 37 ∷ 38 ∷ []
 
-pub data WallAnswer : Type 0 where
-  wallRefused : (number : ℕ) → WallAnswer
-  -- the pages of these answers
-  printed : List Answer → WallAnswer
+-- the pages lie at the start of their buffer
+abbrev pub pagesLeft : Reply (List Answer) → Left
+pagesLeft = ifTold (λ answers. holding (pagesOf answers))
 
-unfoldable pub refusedOr : Option ℕ → List Answer → WallAnswer
-refusedOr none answers = printed answers
-refusedOr (some n) answers = wallRefused n
+-- path buffer, pages and scratch
+abbrev pub wallLeaves : Reply (List Answer) → List Left
+wallLeaves a = freeIfTold pathBytes a ∷ pagesLeft a ∷ freeIfTold scratchWords a ∷ []
 
--- the whole answer: the first refusal that is due, or the pages
-unfoldable pub wallAnswer : WallCall → WallAnswer
-wallAnswer c = let answers = wallAnswers (c .run) in refusedOr (firstRefusal (wallRefusals c)) answers
+-- a result has two numbers, the second that of the pages
+unfoldable pub wallFigures : List Answer → List ℕ
+wallFigures answers = pageCount (length answers) ∷ []
 
--- the two numbers of a result: number, pages
-unfoldable pub wallNumbers : WallAnswer → List ℕ
-wallNumbers (wallRefused n) = n ∷ 0 ∷ []
-wallNumbers (printed answers) = 0 ∷ pageCount (length answers) ∷ []
+abbrev pub wallShape : Shape WallCall (List Answer)
+wallShape =
+    record { refusals = wallRefusals; tells = λ (c : WallCall). wallAnswers (c .run); size = 1; figures = wallFigures; leaves = wallLeaves }
 
--- the page buffer after the call: the pages lie at its start, and all other bytes keep their values
-unfoldable pub pagesAfter : WallAnswer → (before : List ℕ) → List ℕ
-pagesAfter (wallRefused n) before = before
-pagesAfter (printed answers) before = sets before 0 (pagesOf answers)
+-- the whole answer: the first refusal that is due, or the answers that are printed
+abbrev pub wallAnswer : WallCall → Reply (List Answer)
+wallAnswer = replyTo wallShape
 
--- how many elements of another buffer are free after the call: none under a refusal
-unfoldable pub wallFreed : ℕ → WallAnswer → ℕ
-wallFreed n (wallRefused number) = 0
-wallFreed n (printed answers) = n
+abbrev pub wallNumbers : Reply (List Answer) → List ℕ
+wallNumbers = resultNumbers wallShape
 
--- what a caller hands over, and what it has after the call; the run's result is the two numbers
-pub record WallRun : Type 0 where
-  pub run : BookRun
-  pub pagesBefore : List ℕ
-  pub pages : List ℕ
-
-unfoldable pub wallCallOf : WallRun → WallCall
-wallCallOf r = record { run = bookCallOf (r .run); pages = length (r .pagesBefore) }
-
--- what a whole call promises of its run
-pub record MeetsWall (r : WallRun) : Type 0 where
-  pub result : r .run .result ≡ wallNumbers (wallAnswer (wallCallOf r))
-  pub pages : r .pages ≡ pagesAfter (wallAnswer (wallCallOf r)) (r .pagesBefore)
-  pub path : KeptFrom (wallFreed pathBytes (wallAnswer (wallCallOf r))) (r .run .pathBefore) (r .run .path)
-  pub scratch : KeptFrom (wallFreed scratchWords (wallAnswer (wallCallOf r))) (r .run .scratchBefore) (r .run .scratch)
+abbrev pub MeetsWall : Run WallCall → Type 0
+MeetsWall = Meets wallShape

@@ -10,7 +10,8 @@ use single_check::settings::Settled;
 use single_check::settings::refused_settings;
 use single_check::settings::settle;
 ghost use mathlib.Core.Path.{_≡_};
-ghost use Rattle.wall.specs.Wall.{wallRefused, wallNumbers, MeetsWall};
+ghost use Rattle.call.specs.Call.{refusedBy};
+ghost use Rattle.wall.specs.Wall.{wallNumbers, MeetsWall};
 ghost use Rattle.wall.specs.Printing.{wallRunOf};
 
 // How many numbers a result has.
@@ -20,7 +21,7 @@ pub const WALL_NUMBERS: usize = 2;
 const PAGE_BYTES: usize = 4860;
 
 fn refused(number: u32) -> [u64; WALL_NUMBERS]
-    ensures { λ r. ⌜ r ≡ wallNumbers (wallRefused number) ⌝ }
+    ensures { λ r. ⌜ r ≡ wallNumbers (refusedBy number) ⌝ }
 {
     [number as u64, 0]
 }

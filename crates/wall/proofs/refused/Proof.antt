@@ -1,11 +1,11 @@
 -- `wall::refused` meets its contract: the number, and no page.
-use Rattle.wall.specs.Wall.{wallNumbers}
+use Rattle.call.specs.Call.{numbersWith}
 use mathlib.Core.Path.{refl}
 use Rattle.wall.proofs.refused.Statement.{statement}
 use Rattle.wall.proofs.refused.Tie as tie
 
 returns : tie.Need-returns
-unfolding wallNumbers
+unfolding numbersWith
 returns c = refl
 
 pub refused-spec : {M : Type 1} → statement M

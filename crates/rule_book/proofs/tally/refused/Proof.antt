@@ -1,6 +1,6 @@
 -- `rule_book::tally::refused` meets its contract: the number, and zeros.
 use mathlib.Core.Path.{refl}
-use Rattle.rule_book.specs.Tally.{tallyNumbers}
+use Rattle.call.specs.Call.{numbersWith}
 use borrow.Author.Needs.{needs}
 use Rattle.rule_book.proofs.tally.refused.Statement.{statement}
 use Rattle.rule_book.proofs.tally.refused.Tie as tie
@@ -9,7 +9,7 @@ array-write-numbers : tie.Need-array-write-numbers
 array-write-numbers c = search needs
 
 returns : tie.Need-returns
-unfolding tallyNumbers
+unfolding numbersWith
 returns c = refl
 
 pub refused-spec : {M : Type 1} → statement M
