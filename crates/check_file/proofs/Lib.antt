@@ -2,3 +2,4 @@ mod Examples
 mod Reading
 mod Apart
 mod Writing
+mod Sizes

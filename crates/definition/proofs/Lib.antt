@@ -2,3 +2,4 @@ pub mod Places
 pub mod Examples
 mod Entries
 mod Keys
+mod Sizes

@@ -1,14 +1,26 @@
--- What a host may rely on where it tallies a book: `rulecheck_count` gives the eighteen numbers of the answer.
+-- What a host may rely on where it tallies a book: `rulecheck_count` gives the eighteen numbers of the answer, and under a widened schema no fewer sheets are
+-- accepted and no fewer checks pass.
 use Prim.Native.Nat.{ℕ, _≤_, _<_}
 use native.Mathlib.Omega.{arith}
-use mathlib.Core.List.{List}
-use mathlib.Core.Path.{_≡_, ap, _∙_}
+use mathlib.Core.Bool.{false≢true}
+use mathlib.Core.List.{List, []}
+use mathlib.Core.Path.{_≡_, refl, ap, sym, _∙_}
 use lib.ListN.{length, getD}
-use Rattle.rule_book.specs.Tally.{Tally, tallyNumbers}
-use Rattle.call.specs.Call.{Reply, refusedBy, ifTold}
-use Rattle.rule_book.specs.TallyLaws.{tally-size}
+use borrow.Author.Tests.{leb-true}
+use Rattle.reference.specs.Setting.{oneOf}
+use Rattle.reference.specs.Table.{tableIn}
+use Rattle.widening.specs.Widening.{Level}
+use Rattle.validation.specs.Result.{pathBytes, ofSettings, early}
+use Rattle.validation.specs.RefusalLaws.{is-set, none-due}
+use Rattle.validation.specs.Growth.{Widens}
+use Rattle.call.specs.Call.{Reply, refusedBy, told, numberOf, ifTold, numbersWith}
+use Rattle.rule_book.specs.Tally.{BookCall, askedOf, single, bookRefusalNumbers, defectNumbers, Tally, tallyOf, tallyFigures, bookAnswer, tallyNumbers}
+use Rattle.rule_book.specs.TallyLaws.{IsTallied, is-tallied, book-refusal-listed, tally-size}
+use Rattle.rule_book.specs.BookGrowth.{BookFares}
+use Rattle.rule_book.specs.BookGrowthLaws.{book-demand-3}
 use Rattle.host_numbers.specs.Counts.{countAt}
 use Rattle.host_numbers.specs.CountLaws.{count-of-written}
+use Rattle.entity_rules.specs.EntryDemands.{and-left, lent-room}
 use Rattle.entity_rules.specs.BookEntry.{bookCallFor, tallyBytes, tallyAnswer, TallyAnswered}
 
 -- the number at index i of a written result is the i-th of its eighteen
@@ -29,3 +41,102 @@ module _ (kind semantics : ℕ) (label table schema book pathBefore pathNow resu
 pub tally-refused : {answer : Reply Tally} {pathBefore pathNow resultBefore resultNow : List ℕ} {r n : ℕ} → TallyAnswered answer pathBefore pathNow resultBefore resultNow r → answer ≡ refusedBy n → pathNow ≡ pathBefore
 unfolding ifTold
 tally-refused a e = rw e at (a .buffers .0)
+
+-- A call that returns 0 has tallied the book, and its result had room.
+
+returned-tallied : (c : BookCall) (a : Reply Tally) → bookAnswer c ≡ a → numberOf a ≡ 0 → (t : Tally) × (bookAnswer c ≡ told t)
+unfolding numberOf bookRefusalNumbers oneOf
+returned-tallied c (refusedBy n) e z = absurd (false≢true (rw z at (book-refusal-listed c n e)))
+returned-tallied c (told t) e z = (t, e)
+
+module _ (kind semantics : ℕ) (label table schema book : List ℕ) (pathLength resultLength : ℕ) (t : Tally) where
+  tallied-room : IsTallied (bookCallFor tallyBytes kind semantics label table schema book pathLength resultLength) t → tallyBytes ≤ resultLength
+  unfolding bookCallFor single askedOf early ofSettings
+  tallied-room is =
+      let due = none-due (early (single (bookCallFor tallyBytes kind semantics label table schema book pathLength resultLength) [])) (is .unrefused []) in
+      let wide = and-left _ _ (is-set _ (due .1 .1 .0)) in
+      lent-room tallyBytes pathLength resultLength (leb-true pathBytes _ wide)
+
+-- the counts of a tally at their places
+pub record CountsAt (result : List ℕ) (t : Tally) : Type 0 where
+  pub read : countAt 1 result ≡ t .read
+  pub accepted : countAt 2 result ≡ t .accepted
+  pub schemaRefused : countAt 3 result ≡ t .schemaRefused
+  pub ruleRefused : countAt 4 result ≡ t .ruleRefused
+  pub passed : countAt 17 result ≡ t .passed
+
+last-number : (c : BookCall) (t : Tally) → IsTallied c t → getD (tallyNumbers (told t)) 17 0 ≡ t .passed
+unfolding numbersWith tallyFigures tallyOf defectNumbers
+last-number c t is = rw (is .tally) refl
+
+-- what a host reads off a result after 0
+pub record Tallied (c : BookCall) (result : List ℕ) : Type 0 where
+  pub tally : Tally
+  pub is : bookAnswer c ≡ told tally
+  pub counts : CountsAt result tally
+
+module _ (kind semantics : ℕ) (label table schema book pathBefore pathNow resultBefore resultNow : List ℕ) where
+  pub tally-read : {r : ℕ}
+      → TallyAnswered (tallyAnswer kind semantics label table schema book (length pathBefore) (length resultBefore)) pathBefore pathNow resultBefore resultNow r
+      → r ≡ 0
+      → Tallied (bookCallFor tallyBytes kind semantics label table schema book (length pathBefore) (length resultBefore)) resultNow
+  unfolding tallyAnswer numbersWith tallyFigures
+  tally-read a z =
+      let c = bookCallFor tallyBytes kind semantics label table schema book (length pathBefore) (length resultBefore) in
+      let (t, e) = returned-tallied c (bookAnswer c) refl (sym (a .number) ∙ z) in
+      let is = is-tallied c t e in
+      let room = tallied-room kind semantics label table schema book (length pathBefore) (length resultBefore) t is in
+      let at : (i : ℕ) → i < 18 → countAt i resultNow ≡ getD (tallyNumbers (told t)) i 0 = λ i less.
+      count-of-tally kind semantics label table schema book pathBefore pathNow resultBefore resultNow a i less room
+      ∙ ap (λ (x : Reply Tally). getD (tallyNumbers x) i 0) e
+      in
+      record {
+        tally = t;
+        is = e;
+        counts =
+            record {
+              read = at 1 (omega arith);
+              accepted = at 2 (omega arith);
+              schemaRefused = at 3 (omega arith);
+              ruleRefused = at 4 (omega arith);
+              passed = at 17 (omega arith) ∙ last-number c t is;
+            };
+      }
+
+-- Demand 3 for a book, at the C function: one book under the same settings and a table of one meaning, neither call refused.
+
+pub record TalliesFare (l : Level) (c c′ : BookCall) (result result′ : List ℕ) : Type 0 where
+  pub first : Tallied c result
+  pub second : Tallied c′ result′
+  -- each sheet fares as demand 3 says
+  pub fares : BookFares l c c′ (first .tally) (second .tally)
+  -- no fewer sheets are accepted, and no fewer checks pass
+  pub accepted : countAt 2 result ≤ countAt 2 result′
+  pub passed : countAt 17 result ≤ countAt 17 result′
+
+module _ (kind semantics : ℕ) (label book table table′ schema schema′ pathBefore pathBefore′ pathNow pathNow′ resultBefore resultBefore′ resultNow resultNow′ : List ℕ) {r r′ : ℕ} {l : Level}
+    (a : TallyAnswered (tallyAnswer kind semantics label table schema book (length pathBefore) (length resultBefore)) pathBefore pathNow resultBefore resultNow r)
+    (a′ : TallyAnswered (tallyAnswer kind semantics label table′ schema′ book (length pathBefore′) (length resultBefore′)) pathBefore′ pathNow′ resultBefore′ resultNow′ r′)
+  where
+    pub entry-book-demand-3 : tableIn table ≡ tableIn table′
+        → Widens l schema schema′
+        → r ≡ 0
+        → r′ ≡ 0
+        → TalliesFare l (bookCallFor tallyBytes kind semantics label table schema book (length pathBefore) (length resultBefore))
+        (bookCallFor tallyBytes kind semantics label table′ schema′ book (length pathBefore′) (length resultBefore′)) resultNow resultNow′
+    unfolding bookCallFor
+    entry-book-demand-3 same w z z′ =
+        let c = bookCallFor tallyBytes kind semantics label table schema book (length pathBefore) (length resultBefore) in
+        let c′ = bookCallFor tallyBytes kind semantics label table′ schema′ book (length pathBefore′) (length resultBefore′) in
+        let first = tally-read kind semantics label table schema book pathBefore pathNow resultBefore resultNow a z in
+        let second = tally-read kind semantics label table′ schema′ book pathBefore′ pathNow′ resultBefore′ resultNow′ a′ z′ in
+        let fares =
+        book-demand-3 c c′ (first .tally) (second .tally) (record { kind = refl; semantics = refl; label = refl; book = refl; table = same }) w (first .is) (second .is)
+        in
+        record {
+          first = first;
+          second = second;
+          fares = fares;
+          accepted = rw (first .counts .accepted, second .counts .accepted) (fares .accepted);
+          passed = rw (first .counts .passed, second .counts .passed) (fares .passed);
+        }

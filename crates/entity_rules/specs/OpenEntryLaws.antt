@@ -1,18 +1,22 @@
--- What a host may rely on where it asks for the fewest marks: `rulecheck_field` gives the three numbers of the answer, and the marks in the list.
+-- What a host may rely on where it asks for the fewest marks: `rulecheck_field` gives the three numbers of the answer, and the marks in the list; elements past
+-- the set keep their values, all of them after none or a refusal; and a refusal is one of 1, 3, 36, 37, 38, 4 and 5.
 use Prim.Native.Nat.{ℕ, _*_, _≤_, _<_}
 use native.Mathlib.Omega.{arith}
+use mathlib.Core.Bool.{true}
 use mathlib.Core.List.{List, [], _∷_}
 use mathlib.Core.Option.{Option}
-use mathlib.Core.Path.{_≡_, ap, _∙_}
-use lib.ListN.{length, getD}
+use mathlib.Core.Path.{_≡_, ap, sym, _∙_}
+use lib.ListN.{length, drop, getD}
 use borrow.Author.Tests.{le-leb}
-use Rattle.buffer.specs.Bytes.{InFourBytes, no-more, one-more, fieldAt}
-use Rattle.buffer.specs.BytesLaws.{field-written}
+use Rattle.buffer.specs.Bytes.{bytesOf, InFourBytes, no-more, one-more, fieldAt}
+use Rattle.buffer.specs.BytesLaws.{field-written, past-written}
+use Rattle.reference.specs.Setting.{oneOf}
 use Rattle.validation.specs.Openings.{maxMarks}
-use Rattle.call.specs.Call.{Reply, refusedBy, ifTold}
+use Rattle.call.specs.Call.{Reply, refusedBy, told, numberOf, ifTold}
 use Rattle.call.specs.CallLaws.{AllWithin}
 use Rattle.openings.specs.CallLaws.{three-numbers, set-fits}
-use Rattle.openings.specs.Call.{opens, orNoMarks, openNumbers}
+use Rattle.openings.specs.Call.{opens, nothingHelps, orNoMarks, openNumbers}
+use Rattle.openings.specs.ListLaws.{openHeardNumbers, open-refusal-heard}
 use Rattle.entity_rules.specs.Entry.{numbersAfter}
 use Rattle.entity_rules.specs.OpenEntry.{openBytes, openCallFor, openEntryAnswer, OpenAnswered}
 
@@ -33,6 +37,14 @@ field-of-openings {answer} {resultBefore = resultBefore} a i less room =
     let fits : 4 * length (openNumbers answer) ≤ length resultBefore = omega arith in
     rw (a .result, le-leb (4 * length (openNumbers answer)) (length resultBefore) fits) (field-written (openNumbers answer) resultBefore fits i (omega arith) (a .small))
 
+-- a refusal leaves path buffer and list as they were
+pub openings-refused : {answer : Reply (Option (List ℕ))} {pathBefore pathNow listBefore listNow resultBefore resultNow : List ℕ} {r n : ℕ}
+    → OpenAnswered answer pathBefore pathNow listBefore listNow resultBefore resultNow r
+    → answer ≡ refusedBy n
+    → (pathNow ≡ pathBefore) × (listNow ≡ listBefore)
+unfolding ifTold
+openings-refused a e = let left = rw e at (a .buffers) in (left .0, left .1 .0)
+
 -- a mark of the set
 module _ (kind semantics : ℕ) (table schema rule : List ℕ) {pathBefore pathNow listBefore listNow resultBefore resultNow : List ℕ} {r : ℕ}
     (a : OpenAnswered (openEntryAnswer kind semantics table schema rule (length pathBefore) (length listBefore) (length resultBefore)) pathBefore pathNow listBefore listNow resultBefore resultNow r) where
@@ -47,10 +59,34 @@ module _ (kind semantics : ℕ) (table schema rule : List ℕ) {pathBefore pathN
       ap (fieldAt i) (rw is at (a .buffers .1 .0))
       ∙ field-written set listBefore (fits .room) i less (in-four-bytes set (fits .low))
 
--- a refusal leaves path buffer and list as they were
-pub openings-refused : {answer : Reply (Option (List ℕ))} {pathBefore pathNow listBefore listNow resultBefore resultNow : List ℕ} {r n : ℕ}
-    → OpenAnswered answer pathBefore pathNow listBefore listNow resultBefore resultNow r
-    → answer ≡ refusedBy n
-    → (pathNow ≡ pathBefore) × (listNow ≡ listBefore)
-unfolding ifTold
-openings-refused a e = let left = rw e at (a .buffers) in (left .0, left .1 .0)
+  -- the elements past the set
+  pub past-of-openings : (set : List ℕ)
+      → openEntryAnswer kind semantics table schema rule (length pathBefore) (length listBefore) (length resultBefore) ≡ opens set
+      → drop (4 * length set) listNow ≡ drop (4 * length set) listBefore
+  unfolding openEntryAnswer openCallFor ifTold orNoMarks
+  past-of-openings set is =
+      let fits = set-fits (openCallFor kind semantics table schema rule (length pathBefore) (length listBefore) (length resultBefore)) set is in
+      ap (drop (4 * length set)) (rw is at (a .buffers .1 .0))
+      ∙ past-written set listBefore (fits .room)
+
+  -- all of them after none
+  pub kept-after-none : openEntryAnswer kind semantics table schema rule (length pathBefore) (length listBefore) (length resultBefore) ≡ nothingHelps → listNow ≡ listBefore
+  unfolding ifTold orNoMarks bytesOf
+  kept-after-none is = rw is at (a .buffers .1 .0)
+
+  -- and after a refusal, which is what is returned where that is not 0
+  pub returned-refused : (r ≡ 0 → ⊥) → openEntryAnswer kind semantics table schema rule (length pathBefore) (length listBefore) (length resultBefore) ≡ refusedBy r
+  unfolding numberOf
+  returned-refused other = by (openEntryAnswer kind semantics table schema rule (length pathBefore) (length listBefore) (length resultBefore)) (a .number)
+    where
+      by : (x : Reply (Option (List ℕ))) → r ≡ numberOf x → x ≡ refusedBy r
+      by (refusedBy n) e = ap refusedBy (sym e)
+      by (told marks) e = absurd (other e)
+
+  pub kept-after-refusal : (r ≡ 0 → ⊥) → listNow ≡ listBefore
+  kept-after-refusal other = openings-refused a (returned-refused other) .1
+
+  pub returned-listed : (r ≡ 0 → ⊥) → oneOf r openHeardNumbers ≡ true
+  unfolding openEntryAnswer
+  returned-listed other =
+      open-refusal-heard (openCallFor kind semantics table schema rule (length pathBefore) (length listBefore) (length resultBefore)) r (returned-refused other)

@@ -15,7 +15,7 @@ use Rattle.widening.specs.Widening.{Level, only, anything, marks}
 use Rattle.widening.specs.Decision.{widening, refuted}
 use Rattle.widening.specs.DecisionLaws.{widens-level}
 use Rattle.widening.specs.SheetDecision.{DecisionAnswer, malformed, decision, answerFor, widensSheets, decisionNumbers}
-use Rattle.validation.specs.Result.{early, firstRefusal, Unrefused, Run, callOf, Meets}
+use Rattle.validation.specs.Result.{AlsoTakes, early, firstRefusal, Unrefused, Run, callOf, Meets}
 use Rattle.validation.specs.Demands.{SameButSchema, Demand3}
 use Rattle.validation.specs.Upgrade.{upgrade}
 use Rattle.buffer.specs.Bytes.{fieldAt}
@@ -70,12 +70,13 @@ pub entry-upgrade : {l : Level} {resultBefore resultNow : List ℕ} {n : ℕ} (r
     → Meets r
     → Meets r′
     → SameButSchema r r′
+    → AlsoTakes (r .asked .takes) (r′ .asked .takes)
     → Unrefused (callOf r)
     → firstRefusal (early (callOf r′)) ≡ none
     → Demand3 l r r′
 unfolding widensNumbers inPlaces fieldsOf widensSheets
-entry-upgrade {l} r r′ a room zero said m m′ s u u′ =
-    upgrade r r′ m m′ s
+entry-upgrade {l} r r′ a room zero said m m′ s also u u′ =
+    upgrade r r′ m m′ s also
     (says-yes (widensSheets (r .schema) (r′ .schema)) (λ k. sheets-level (decodeSchema (r .schema)) (decodeSchema (r′ .schema)) k) said
     (sym (widens-returns a room) ∙ zero) (sym (widens-field a room 1 (omega arith))))
     u u′

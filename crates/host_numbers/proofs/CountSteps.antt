@@ -4,7 +4,7 @@ use native.Mathlib.Omega.{arith}
 use mathlib.Core.List.{List, [], _∷_, _++_, append-assoc, append-nil}
 use mathlib.Core.Path.{_≡_, refl, ap, _∙_}
 use native.Mathlib.Numerals.{add-one}
-use lib.ListN.{length, take, getD}
+use lib.ListN.{length, take, getD, replicate}
 use lib.Seq.{sets, length-sets, take-all, take-suc}
 use borrow.Author.Tests.{le-leb, lt-leb}
 use Rattle.buffer.specs.Wrote.{Wrote}
@@ -84,3 +84,30 @@ unfolding fieldAt
 field-there index r l fits e =
     let same : index * 4 ≡ 4 * index = omega arith in
     rw (le-leb (4 * index + 4) (length l) (omega arith), ← same) e
+
+-- A count above 2^32, in its bytes and read back; one byte less, and there is none.
+
+large-written : countsAfter (7 ∷ 0x0102030405060708 ∷ []) (replicate 17 9)
+    ≡ 7 ∷ 0 ∷ 0 ∷ 0 ∷ 0 ∷ 0 ∷ 0 ∷ 0 ∷ 8 ∷ 7 ∷ 6 ∷ 5 ∷ 4 ∷ 3 ∷ 2 ∷ 1 ∷ 9 ∷ []
+unfolding countsAfter longBytesOf eightBytes littleEndian
+large-written = refl
+
+large-kept : countsAfter (7 ∷ 0x0102030405060708 ∷ []) (replicate 15 9) ≡ replicate 15 9
+unfolding countsAfter
+large-kept = refl
+
+large-read : countAt 1 (replicate 8 0 ++ 8 ∷ 7 ∷ 6 ∷ 5 ∷ 4 ∷ 3 ∷ 2 ∷ 1 ∷ []) ≡ 0x0102030405060708
+unfolding countAt longAt numberAt
+large-read = refl
+
+past-32-bits : countAt 0 (5 ∷ 0 ∷ 0 ∷ 0 ∷ 1 ∷ 0 ∷ 0 ∷ 0 ∷ []) ≡ 4294967301
+unfolding countAt longAt numberAt
+past-32-bits = refl
+
+largest-read : countAt 0 (replicate 8 255) ≡ 18446744073709551615
+unfolding countAt longAt numberAt
+largest-read = refl
+
+short-read : countAt 0 (replicate 7 255) ≡ 0
+unfolding countAt longAt numberAt
+short-read = refl

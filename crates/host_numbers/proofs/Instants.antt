@@ -53,3 +53,26 @@ fields-written = refl
 fields-short : instantAfter (some leap) (replicate 27 7) ≡ replicate 27 7
 unfolding instantAfter
 fields-short = refl
+
+-- 28 bytes are just enough
+fields-fit : instantAfter (some leap) (replicate 28 7)
+    ≡ 232 ∷ 7 ∷ 0 ∷ 0 ∷ 2 ∷ 0 ∷ 0 ∷ 0 ∷ 29 ∷ 0 ∷ 0 ∷ 0 ∷ 23 ∷ 0 ∷ 0 ∷ 0 ∷ 59 ∷ 0 ∷ 0 ∷ 0 ∷ 60 ∷ 0 ∷ 0 ∷ 0 ∷ 1 ∷ 0 ∷ 0 ∷ 0 ∷ []
+unfolding instantAfter listOf bytesOf littleEndian leap
+fields-fit = refl
+
+number-fits : instantNumber 28 (some leap) ≡ 0
+unfolding instantNumber
+number-fits = refl
+
+number-short : instantNumber 27 (some leap) ≡ 3
+unfolding instantNumber
+number-short = refl
+
+-- too few bytes come before a text that is not an instant
+number-unread : instantNumber 28 none ≡ 20
+unfolding instantNumber
+number-unread = refl
+
+number-short-unread : instantNumber 27 none ≡ 3
+unfolding instantNumber
+number-short-unread = refl

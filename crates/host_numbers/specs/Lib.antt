@@ -3,3 +3,4 @@ pub mod CountLaws
 pub mod NumberTest
 pub mod Version
 pub mod InstantEntry
+pub mod InstantLaws

@@ -11,21 +11,26 @@ use borrow.Author.Tests.{eq-eqb, ne-eqb, le-leb, lt-leb, leb-true}
 use Rattle.text.specs.Utf8.{between, isUtf8}
 use Rattle.definition.specs.Tree as Tree
 use Rattle.definition.specs.Decode.{decodeSchema}
-use Rattle.reference.specs.Setting.{Reader}
+use Rattle.reference.specs.Setting.{Setting}
 use Rattle.reference.specs.Walk as Walk
 use Rattle.reference.specs.Walk.{Reached, unknown, known}
 use Rattle.reference.specs.Reference.{keyWalk}
 use Rattle.schema.specs.Index.{indexEnd}
-use Rattle.schema.specs.Read.{SchemaAnswer}
+use Rattle.schema.specs.Read.{SchemaAt, SchemaAnswer}
 use Rattle.schema.specs.declared.read.Schema.{Schema}
 use Rattle.schema.specs.declared.read.SchemaRead.{SchemaRead}
 use Rattle.schema.specs.declared.read.SchemaRead.the-variants.{Good, Bad}
-use Rattle.walk.specs.Answers.{readerIs, referenceDetail, IsReached}
+use Rattle.walk.specs.Answers.{readerIs, referenceDetail, IsReached, ReadableIs}
+use Rattle.walk.specs.declared.answer.Reader.{Reader}
 use Rattle.walk.specs.declared.answer.Reader.the-variants.{Kernel, Projection}
 use Rattle.walk.specs.declared.answer.ReferenceFault.{ReferenceFault}
 use Rattle.walk.specs.declared.answer.Readable.{Readable}
 use Rattle.walk.specs.declared.answer.Readable.the-variants.{Yes, No}
+use Rattle.scope.specs.Names.{mayReadBy}
+use Rattle.scope.specs.Scopes.{SettingAt, Unbound}
 use Rattle.scope.specs.References.{RootWalks}
+use Rattle.scope.specs.declared.name.Row.{Row}
+use Rattle.scope.specs.declared.binder.Scope.{Scope}
 use Rattle.validation.specs.Check.{isNone}
 use Rattle.validation.specs.Result as Result
 use Rattle.validation.specs.Result.{Answer, accepted, defect, isOfSheets, scratchWords, firstRefusal, numberIn, refusedOr, numbersOf, keptScratch, ScratchAfter}
@@ -36,7 +41,7 @@ use Rattle.single_check.specs.Sheets.{FrontOnly}
 use Rattle.single_check.specs.SheetLaws.{front-schema, front-scratch}
 use Rattle.single_check.specs.declared.outcome.Outcome.{Outcome}
 use Rattle.single_check.proofs.SettingSteps.{turned}
-use Rattle.key_path.specs.Keys.{KeyTold, keyRunOf}
+use Rattle.key_path.specs.Keys.{FieldsRead, KeyTold, keyRunOf}
 
 -- What is refused before the schema is read.
 
@@ -113,15 +118,41 @@ pub unreadable-is : (fault : ReferenceFault) {d : ℕ}
 unfolding numbersOf keyDefect
 unreadable-is fault e = rw e
 
-module _ (semantics reader : ℕ) (path schema : List ℕ) (s : Schema) (words : List ℕ) {y : Reader} {z : Readable} (same : y ≡ readerOf reader)
-    (walks : RootWalks schema words 1 (s .fields) path y (not (eqb semantics 1)) z)
+-- the scope says which reader the walk is for
+pub fields-read : (sheet words path : List ℕ) (scope : Scope) (r : Readable)
+    → RootWalks sheet words 1 (scope .schema .fields) path (readerIs (scope .reader)) (scope .service) r
+    → FieldsRead sheet words scope path r
+unfolding keyWalk
+fields-read sheet words path scope r walks =
+    record { leads = λ setting t set at. rw (set .reader, set .service) at (walks .leads (t .fields) (at .fields)) }
+
+module _ (semantics reader : ℕ) (path schema : List ℕ) (s : Schema) (words : List ℕ) {x : Row} {y : Reader} {scope : Scope} {z : Readable}
+    (same : readerIs y ≡ readerOf reader)
+    (bare : Unbound x (not (eqb semantics 1)) y s scope)
+    (reads : FieldsRead schema words scope path z)
   where
+    -- what the scope stands for
+    abbrev setting : Setting
+    setting =
+        record {
+          mayRead = mayReadBy (scope .row);
+          reader = readerOf reader;
+          isRuleKind = true;
+          isService = not (eqb semantics 1);
+        }
+
+    set : SettingAt scope setting
+    set = record { service = bare .service; names = refl; reader = rw (bare .reader) same }
+
+    walked : (t : Tree.Schema) → SchemaAt schema words s t → ReadableIs z (keyWalk (readerOf reader) (not (eqb semantics 1)) t path)
+    walked t at = reads .leads setting t set (rw (bare .schema) at)
+
     pub told-readable : {r : Outcome} → z ≡ Yes → numbersBy r ≡ numbersOf (accepted 1) → KeyTold semantics reader path schema s words r
-    unfolding keyChecked keyWalk
+    unfolding keyChecked
     told-readable e q =
         record {
           tells = λ t at.
-              let reached = rw (e, same) at (walks .leads (t .fields) (at .fields)) in
+              let reached = rw e at (walked t at) in
               q ∙ ap numbersOf (sym (reached-answer _ reached));
         }
 
@@ -129,11 +160,11 @@ module _ (semantics reader : ℕ) (path schema : List ℕ) (s : Schema) (words :
         → z ≡ No fault at
         → numbersBy r ≡ numbersOf (defect (keyDefect (referenceDetail fault)))
         → KeyTold semantics reader path schema s words r
-    unfolding keyChecked keyWalk
+    unfolding keyChecked
     told-unreadable e q =
         record {
           tells = λ t at.
-              let (left, refused) = rw (e, same) at (walks .leads (t .fields) (at .fields)) in
+              let (left, refused) = rw e at (walked t at) in
               q ∙ ap numbersOf (sym (refused-answer _ _ _ left refused));
         }
 

@@ -4,6 +4,9 @@ use definition::limits::SCRATCH_WORDS;
 use schema::read::Schema;
 use schema::read::SchemaRead;
 use schema::read::read_schema;
+use scope::binder::Scope;
+use scope::binder::unbound;
+use scope::name::stock_row;
 use scope::references::validate_reference_path;
 use single_check::finding::reference_detail;
 use single_check::outcome::Outcome;
@@ -23,7 +26,7 @@ ghost use Rattle.walk.specs.Answers.{readerIs, referenceDetail};
 ghost use Rattle.validation.specs.Result.{defect, firstRefusal, numberIn, numbersOf};
 ghost use Rattle.validation.specs.KeyPath.{readerOf, maxKeyBytes, keyEarly, keyDefect, MeetsKey};
 ghost use Rattle.single_check.specs.Outcomes.{numbersBy};
-ghost use Rattle.key_path.specs.Keys.{KeyTold, keyRunOf};
+ghost use Rattle.key_path.specs.Keys.{FieldsRead, KeyTold, keyRunOf};
 
 fn are_settings(semantics: u32, reader: u32) -> bool
     ensures { λ r. ⌜ r ≡ (between 1 4 semantics && between 1 2 reader) ⌝ }
@@ -73,7 +76,17 @@ fn unreadable(fault: ReferenceFault) -> Outcome
     }
 }
 
-// The answer about a path, where the schema is well formed.
+// One path of `$fields`, for the reader that the scope says.
+fn read_fields(schema: &[u8], words: &[u32], scope: Scope, path: &[u8]) -> Readable
+    ensures { λ r. ⌜ FieldsRead (now (schema .entry)) (now (words .entry)) scope (now (path .entry)) r ⌝ }
+{
+    let index = scope.schema;
+    let fields = index.fields;
+    let reader = scope.reader;
+    validate_reference_path(schema, words, 1, fields, path, scope.service, reader)
+}
+
+// The answer about a path, where the schema is well formed. Its scope has no binders, and the row of an invariant, which may read `$fields`.
 fn check_key(
     semantics: u32,
     reader: u32,
@@ -84,9 +97,8 @@ fn check_key(
 ) -> Outcome
     ensures { λ r. ⌜ KeyTold semantics reader (now (path .entry)) (now (schema .entry)) s (now (words .entry)) r ⌝ }
 {
-    let fields = s.fields;
-    let reader = reader_of(reader);
-    match validate_reference_path(schema, words, 1, fields, path, semantics != 1, reader) {
+    let scope = unbound(stock_row(1), semantics != 1, reader_of(reader), s);
+    match read_fields(schema, words, scope, path) {
         Readable::Yes => accepted(1),
         Readable::No(fault, _) => unreadable(fault),
     }

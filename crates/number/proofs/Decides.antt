@@ -33,13 +33,13 @@ says-shift t x y p q a b h s = says-over t (x * 10 ^ a) (y * 10 ^ b) (10 ^ p) (t
         ∙ (sym (mul-assoc y (10 ^ p) (10 ^ b)) ∙ mul-right-comm y (10 ^ p) (10 ^ b)))
 
 module _ (d : ℕ) (ds : List ℕ) (nonzero : 0 < d) (t : tens (d ∷ ds) ≡ true) where
-  first-least : 10 ^ length ds ≤ numeral (d ∷ ds)
+  pub first-least : 10 ^ length ds ≤ numeral (d ∷ ds)
   unfolding numeral numeralFrom
   first-least =
       le-trans (le-of-eq (sym (one-mul (10 ^ length ds))))
       (le-trans (mul-le-mul-right (10 ^ length ds) (omega (arith, nonzero))) (numeral-least (0 * 10 + d) ds))
 
-  first-most : numeral (d ∷ ds) < 10 ^ suc (length ds)
+  pub first-most : numeral (d ∷ ds) < 10 ^ suc (length ds)
   unfolding numeral
   first-most = lt-of-lt-of-le (numeral-most 0 (d ∷ ds) t) (le-of-eq (one-mul (10 ^ suc (length ds))))
 
@@ -84,11 +84,11 @@ module _ (d : ℕ) (ds : List ℕ) (nonzero : 0 < d) (t : tens (d ∷ ds) ≡ tr
           rw (order-even n m (ltb-false n m p) (ltb-false m n q)) (says-test (isLess (d ∷ ds) bound) _ _ (place-even a b e))
 
 -- a row that begins with a nonzero digit, if with any
-abbrev Leads : List ℕ → Type 0
+abbrev pub Leads : List ℕ → Type 0
 Leads [] = Unit {0}
 Leads (d ∷ ds) = 0 < d
 
-leads-significant : (ds : List ℕ) → Leads (significant ds)
+pub leads-significant : (ds : List ℕ) → Leads (significant ds)
 unfolding significant zeros
 leads-significant [] = tt
 leads-significant (d ∷ ds) = go (eqb d 0) refl (leads-significant ds)
@@ -101,7 +101,7 @@ leads-significant (d ∷ ds) = go (eqb d 0) refl (leads-significant ds)
         positive zero e = absurd (e refl)
         positive (suc k) e = omega arith
 
-tens-drop : (n : ℕ) (ds : List ℕ) → tens ds ≡ true → tens (drop n ds) ≡ true
+pub tens-drop : (n : ℕ) (ds : List ℕ) → tens ds ≡ true → tens (drop n ds) ≡ true
 tens-drop zero ds t = t
 tens-drop (suc n) [] t = t
 tens-drop (suc n) (d ∷ ds) t = tens-drop n ds (tens-tail d ds t)

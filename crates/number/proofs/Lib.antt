@@ -1,3 +1,4 @@
+pub mod ComparedPlace
 pub mod Counts
 pub mod Decides
 pub mod Digits

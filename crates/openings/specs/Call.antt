@@ -43,6 +43,7 @@ ofList list = record { number = 36; isDue = not (leb listBytes list) }
 unfoldable pub openRefusals : OpenCall → List Refusal
 openRefusals c = ofSettings (checkOf c .asked) (c .widths) ++ (ofList (c .list) ∷ (ofTable (c .table) ++ ofSheets (checkOf c)))
 
+-- their numbers
 unfoldable pub openRefusalNumbers : List ℕ
 openRefusalNumbers = 1 ∷ 2 ∷ 3 ∷ 36 ∷ 37 ∷ 38 ∷ 4 ∷ 5 ∷ []
 

@@ -10,7 +10,7 @@ use Rattle.definition.specs.Tree.{Schema, Rule}
 use Rattle.definition.specs.Decode.{decodeSchema, decodeRule}
 use Rattle.widening.specs.Opening.{isIn, opened}
 use Rattle.validation.specs.Fewest.{Accepts}
-use Rattle.validation.specs.FewestLaws.{accepts-answer, fewest-accepts, fewest-least, fewest-none}
+use Rattle.validation.specs.FewestLaws.{accepts-answer, fewest-accepts, fewest-least, fewest-closed, fewest-rises, fewest-none}
 use Rattle.validation.specs.Openings.{fewestMarks}
 use Rattle.validation.specs.Result.{isTaken, judged, checked, settingFor, firstRefusal, early, resultOf}
 use Rattle.validation.specs.RefusalLaws.{table-decides}
@@ -58,6 +58,8 @@ module _ (c : OpenCall) (t : Schema) (x : Rule) (schema : decodeSchema (c .schem
             same-acceptance (isIn set) .0 (fewest-accepts (settingFor (checkOf c)) t x (c .schema) schema set (told-injective (sym answered ∙ e)));
         least = λ set e may a.
             fewest-least (settingFor (checkOf c)) t x (c .schema) schema set (told-injective (sym answered ∙ e)) may (same-acceptance may .1 a);
+        closed = λ set e. fewest-closed (settingFor (checkOf c)) t x (c .schema) schema set (told-injective (sym answered ∙ e));
+        rises = λ set e. fewest-rises (settingFor (checkOf c)) t x (c .schema) schema set (told-injective (sym answered ∙ e));
         none-helps = λ e may a.
             fewest-none (settingFor (checkOf c)) t x (c .schema) schema (told-injective (sym answered ∙ e)) may (same-acceptance may .1 a);
       }

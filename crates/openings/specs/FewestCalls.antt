@@ -6,8 +6,9 @@ use mathlib.Core.Logic.{_⊎_}
 use mathlib.Core.Path.{_≡_}
 use Rattle.definition.specs.Tree.{Schema}
 use Rattle.definition.specs.Write.{writeSchema}
-use Rattle.widening.specs.Opening.{isIn, opened}
+use Rattle.widening.specs.Opening.{isIn, opened, isClosed}
 use Rattle.validation.specs.Result.{Call, accepted, resultOf}
+use Rattle.validation.specs.Marked.{Rises}
 use Rattle.openings.specs.Call.{OpenCall, checkOf, opens, nothingHelps, openAnswer}
 
 -- the single check of the rule or template under the schema in which those marks are open
@@ -23,4 +24,8 @@ pub record AnswersFewest (c : OpenCall) (t : Schema) : Type 0 where
   pub answers : ((set : List ℕ) × (openAnswer c ≡ opens set)) ⊎ (openAnswer c ≡ nothingHelps)
   pub accepts : (set : List ℕ) → openAnswer c ≡ opens set → Accepted c t (isIn set)
   pub least : (set : List ℕ) → openAnswer c ≡ opens set → (may : ℕ → Bool) → Accepted c t may → (e : ℕ) → isIn set e ≡ true → may e ≡ true
+  -- each of its marks is 0 in the schema
+  pub closed : (set : List ℕ) → openAnswer c ≡ opens set → (e : ℕ) → isIn set e ≡ true → isClosed t e ≡ true
+  -- a rising list
+  pub rises : (set : List ℕ) → openAnswer c ≡ opens set → Rises 0 set
   pub none-helps : openAnswer c ≡ nothingHelps → (may : ℕ → Bool) → Accepted c t may → ⊥

@@ -6,3 +6,4 @@ pub mod OpenedLaws
 pub mod FewestCalls
 pub mod FewestCallLaws
 pub mod Computing
+pub mod ListLaws

@@ -2,3 +2,4 @@ pub mod Edges
 pub mod SheetSteps
 pub mod TallySteps
 pub mod CallSteps
+mod Grown

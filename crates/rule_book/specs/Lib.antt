@@ -4,6 +4,8 @@ pub mod Places
 pub mod BookLaws
 pub mod ByteLaws
 pub mod TallyLaws
+pub mod BookGrowth
+pub mod BookGrowthLaws
 pub mod Tallying
 pub mod AnswerLaws
 pub mod Computing

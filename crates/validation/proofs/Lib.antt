@@ -13,3 +13,5 @@ mod MemberOrder
 pub mod ConstantEdges
 pub mod MarkEdges
 pub mod OpeningEdges
+mod Scratches
+mod Functions

@@ -74,7 +74,7 @@ nines-move =
     kernel-to-service (exactRun before) (exactRun after) (rule none none (two 2 8 (number 3 (ascii "9")) (number 4 (ascii "9"))))
     (run-meets before)
     (run-meets after)
-    (record { takes = refl; kind = refl; label = refl; rule = refl; schema = refl; table = refl })
-    refl (omega arith) (omega arith) refl
+    (record { kind = refl; label = refl; rule = refl; schema = refl; table = refl })
+    refl (omega arith) (omega arith) refl refl
     (refl, (refl, tt))
     refl refl

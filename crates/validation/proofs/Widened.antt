@@ -43,7 +43,7 @@ shows {l} {c} {schema′} s s′ e e′ w before after n n′ =
       after = after;
       demand =
           demand-3 (exactRun c) (exactRun c′) (run-meets c) (run-meets c′)
-          (record { asked = refl; table = refl })
+          (record { kind = refl; semantics = refl; label = refl; rule = refl; table = refl })
           widens
           (run-unrefused c n)
           (run-unrefused c′ n′);

@@ -22,7 +22,7 @@ use Rattle.validation.specs.CountLaws.{VerdictIs, every-judged}
 use Rattle.validation.specs.WideningLaws.{VerdictFares, stillAccepted, sameDefect, later, passedOf, judge-fares}
 use Rattle.validation.specs.Result.{Takes, Lent, Call, Defect, Answer, refused, accepted, defect, refusalNumbers, IsRefusal, Heard, refusal, acceptance, finding, answerOf, isTaken, ofSheets, refusals, firstRefusal, Unrefused, settingFor, checked, judged, refusedOr, resultOf, numbersOf, pathAfter, Run, callOf, Meets}
 use Rattle.validation.specs.RefusalLaws.{none-due, none-of-either, refusal-listed, refusal-some, refusal-no-defect}
-use Rattle.validation.specs.Growth.{against, Widens, Writes, SameFinding}
+use Rattle.validation.specs.Growth.{againstBy, Widens, Writes, SameFinding}
 
 -- acceptance or a defect
 abbrev pub NotRefused : Answer → Type 0
@@ -85,19 +85,19 @@ sheets-fare setting label g (some n) refusal′ r h h′ = absurd h
 pub distinct-names : (sheet : List ℕ) (s : Schema) → decodeSchema sheet ≡ some s → DistinctSchema s
 distinct-names sheet s e = schema-distinct s (schema-round-trip sheet s .0 e .1 .rises)
 
-calls-fare : {l : Level} (c : Call) (table′ schema′ : List ℕ) (lent′ : Lent)
+calls-fare : {l : Level} (takes′ : Takes) (c : Call) (table′ schema′ : List ℕ) (lent′ : Lent)
     → tableIn (c .table) ≡ tableIn table′
     → Widens l (c .schema) schema′
     → NotRefused (resultOf c)
-    → NotRefused (resultOf (against c table′ schema′ lent′))
-    → Fared l (resultOf c) (resultOf (against c table′ schema′ lent′))
-unfolding resultOf against
-calls-fare c table′ schema′ lent′ same w =
+    → NotRefused (resultOf (againstBy takes′ c table′ schema′ lent′))
+    → Fared l (resultOf c) (resultOf (againstBy takes′ c table′ schema′ lent′))
+unfolding resultOf againstBy
+calls-fare takes′ c table′ schema′ lent′ same w =
     rw (w .decodesFirst, w .decodesSecond, ← same)
     (sheets-fare (settingFor c) (c .asked .label)
     (record { isWider = w .isWider; isDistinct = distinct-names schema′ (w .second) (w .decodesSecond) })
     (firstRefusal (refusals c))
-    (firstRefusal (refusals (against c table′ schema′ lent′)))
+    (firstRefusal (refusals (againstBy takes′ c table′ schema′ lent′)))
     (decodeRule (c .asked .rule)))
 
 accepts-still : {l : Level} {a a′ : Answer} → Fared l a a′ → (n : ℕ) → a ≡ accepted n → a′ ≡ accepted n
@@ -139,18 +139,19 @@ pub record AnswersFare (l : Level) (a a′ : Answer) : Type 0 where
   pub repeats : (d : Defect) → a ≡ defect d → passed a′ ≡ d .passed → (d′ : Defect) × (a′ ≡ defect d′) × SameDefect d d′
   pub explains : l ≡ marks → (d d′ : Defect) → a ≡ defect d → a′ ≡ defect d′ → d′ .passed ≡ d .passed → d′ .detail ≡ d .detail
 
-pub results-fare : {l : Level} (c : Call) (table′ schema′ : List ℕ) (lent′ : Lent)
+-- whichever function each call is of
+pub results-fare : {l : Level} (takes′ : Takes) (c : Call) (table′ schema′ : List ℕ) (lent′ : Lent)
     → tableIn (c .table) ≡ tableIn table′
     → Widens l (c .schema) schema′
     → NotRefused (resultOf c)
-    → NotRefused (resultOf (against c table′ schema′ lent′))
-    → AnswersFare l (resultOf c) (resultOf (against c table′ schema′ lent′))
-results-fare c table′ schema′ lent′ same w n n′ =
+    → NotRefused (resultOf (againstBy takes′ c table′ schema′ lent′))
+    → AnswersFare l (resultOf c) (resultOf (againstBy takes′ c table′ schema′ lent′))
+results-fare takes′ c table′ schema′ lent′ same w n n′ =
     record {
-      accepts = accepts-still (calls-fare c table′ schema′ lent′ same w n n′);
-      passes = passes-as-many (calls-fare c table′ schema′ lent′ same w n n′);
-      repeats = fails-alike (calls-fare c table′ schema′ lent′ same w n n′);
-      explains = explains-alike (calls-fare c table′ schema′ lent′ same w n n′);
+      accepts = accepts-still (calls-fare takes′ c table′ schema′ lent′ same w n n′);
+      passes = passes-as-many (calls-fare takes′ c table′ schema′ lent′ same w n n′);
+      repeats = fails-alike (calls-fare takes′ c table′ schema′ lent′ same w n n′);
+      explains = explains-alike (calls-fare takes′ c table′ schema′ lent′ same w n n′);
     }
 
 -- Whatever is asked, the caller hears one of the answers that it may hear

@@ -15,7 +15,7 @@ use Rattle.widening.specs.Widening.{Level, marks}
 use Rattle.validation.specs.Check.{IsDefect}
 use Rattle.validation.specs.Result.{scratchWords, Defect, Answer, defect, IsRefusal, isOfSheets, Heard, refusal, acceptance, finding, settingFor, ofSettings, early, ofSheets, refusals, Unrefused, checked, resultOf, numbersOf, pathAfter, keptScratch, ScratchAfter, Run, lentOf, callOf, Meets}
 use Rattle.validation.specs.RefusalLaws.{refusal-some, refusal-no-defect}
-use Rattle.validation.specs.Growth.{against, Widens, SameFinding}
+use Rattle.validation.specs.Growth.{againstBy, Widens, SameFinding}
 use Rattle.validation.specs.DemandLaws.{heard, unrefused-answer, answers-by-checks, AnswersFare, results-fare, number-accepted, number-defect, passed-number, Gives, meets-gives, same-acceptance, same-finding, same-passed}
 
 -- Demand 1: whatever is handed over, the caller hears acceptance, a defect or one of the refusals (`refusalNumbers`); a refusal leaves the path buffer
@@ -116,9 +116,13 @@ demand-2 r s t m e e′ n =
 -- Demand 3: one rule or template under the same settings, checked against two schemas of which the second is a widening of the first, with
 -- whatever buffers, neither call refused. `marks` stands for schemas that differ at most in open marks gone from 0 to 1, with arguments in both or in neither.
 
--- two runs under tables of one meaning that differ at most in the schema, and in what the buffers hold and how long they are
+-- two runs of any two functions under tables of one meaning, which differ at most in the schema, in which rule sheets each function takes, and in what the
+-- buffers hold and how long they are
 pub record SameButSchema (r r′ : Run) : Type 0 where
-  pub asked : r .asked ≡ r′ .asked
+  pub kind : r .asked .kind ≡ r′ .asked .kind
+  pub semantics : r .asked .semantics ≡ r′ .asked .semantics
+  pub label : r .asked .label ≡ r′ .asked .label
+  pub rule : r .asked .rule ≡ r′ .asked .rule
   pub table : tableIn (r .table) ≡ tableIn (r′ .table)
 
 pub record Demand3 (l : Level) (r r′ : Run) : Type 0 where
@@ -161,9 +165,22 @@ runs-fare {l} {a} {a′} r r′ g g′ f = record { accepts = accepts; passes = 
         let (d′, same′, alike) = f .repeats d same q in
         rw (g .result, g′ .result, same, same′) (f .explains m d d′ same same′ (rw same′ at q))
 
-second-call : {r r′ : Run} → SameButSchema r r′ → callOf r′ ≡ against (callOf r) (r′ .table) (r′ .schema) (lentOf r′)
-unfolding callOf against
-second-call {r′ = r′} s = λ i. record { asked = sym (s .asked) i; table = r′ .table; schema = r′ .schema; lent = lentOf r′ }
+second-call : {r r′ : Run} → SameButSchema r r′ → callOf r′ ≡ againstBy (r′ .asked .takes) (callOf r) (r′ .table) (r′ .schema) (lentOf r′)
+unfolding callOf againstBy
+second-call {r′ = r′} s = λ i.
+    record {
+      asked =
+          record {
+            takes = r′ .asked .takes;
+            kind = sym (s .kind) i;
+            semantics = sym (s .semantics) i;
+            label = sym (s .label) i;
+            rule = sym (s .rule) i;
+          };
+      table = r′ .table;
+      schema = r′ .schema;
+      lent = lentOf r′;
+    }
 
 pub demand-3 : {l : Level} (r r′ : Run)
     → Meets r
@@ -176,6 +193,6 @@ pub demand-3 : {l : Level} (r r′ : Run)
 unfolding callOf
 demand-3 r r′ m m′ s w n n′ =
     runs-fare r r′ (meets-gives r m) (rw (second-call s) at (meets-gives r′ m′))
-    (results-fare (callOf r) (r′ .table) (r′ .schema) (lentOf r′) (s .table) w
+    (results-fare (r′ .asked .takes) (callOf r) (r′ .table) (r′ .schema) (lentOf r′) (s .table) w
     (unrefused-answer (callOf r) n)
     (rw (second-call s) at (unrefused-answer (callOf r′) n′)))

@@ -8,11 +8,28 @@ use lib.Seq.{sets}
 use Rattle.definition.specs.Tree.{Schema}
 use Rattle.definition.specs.Decode.{decodeSchema}
 use Rattle.widening.specs.Widening.{Level, WiderSchema}
-use Rattle.validation.specs.Result.{Lent, Call, Run}
+use Rattle.validation.specs.Result.{Takes, Lent, Call, Run}
 
 -- the same rule or template under the same settings, against another schema, with another table and other buffers
 unfoldable pub against : Call → (table schema : List ℕ) → Lent → Call
 against c table schema lent = record { asked = c .asked; table = table; schema = schema; lent = lent }
+
+-- the same, asked of a function that takes these rule sheets
+unfoldable pub againstBy : Takes → Call → (table schema : List ℕ) → Lent → Call
+againstBy takes c table schema lent =
+    record {
+      asked =
+          record {
+            takes = takes;
+            kind = c .asked .kind;
+            semantics = c .asked .semantics;
+            label = c .asked .label;
+            rule = c .asked .rule;
+          };
+      table = table;
+      schema = schema;
+      lent = lent;
+    }
 
 -- the schema of the second sheet is a widening of the first one's
 pub record Widens (l : Level) (sheet sheet′ : List ℕ) : Type 0 where

@@ -14,7 +14,7 @@ use Rattle.definition.specs.Decode.{decodeRule}
 use Rattle.buffer.specs.Bytes.{bytesOf, fieldAt}
 use Rattle.buffer.specs.BytesLaws.{field-written, past-written}
 use Rattle.widening.specs.Widening.{Level}
-use Rattle.validation.specs.Result.{Takes, Asked, Call, markBytes, Answer, refused, accepted, defect, isTaken, early, ofSettings, ofSheets, resultOf, Unrefused, numbersOf, lentOf, callOf}
+use Rattle.validation.specs.Result.{Takes, Call, markBytes, Answer, refused, accepted, defect, isTaken, early, ofSettings, ofSheets, resultOf, Unrefused, numbersOf, lentOf, callOf}
 use Rattle.validation.specs.RefusalLaws.{is-set, none-due, none-of-either}
 use Rattle.validation.specs.Growth.{Widens}
 use Rattle.validation.specs.DemandLaws.{heard, number-accepted}
@@ -157,4 +157,4 @@ pub same-marks : {l : Level} (m m′ : MarkedRun)
     → SameMarks m m′
 same-marks m m′ meets meets′ s w n n′ accepts =
     let fares = demand-3 (m .run) (m′ .run) (meets .meets) (meets′ .meets) s w n n′ in
-    accepting-same m m′ meets meets′ (ap (λ (a : Asked). a .rule) (s .asked)) accepts (fares .accepts accepts .0)
+    accepting-same m m′ meets meets′ (s .rule) accepts (fares .accepts accepts .0)

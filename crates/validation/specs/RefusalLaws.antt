@@ -16,7 +16,8 @@ unfoldable pub use Rattle.call.specs.CallLaws.{every}
 use Rattle.call.specs.Call.{tried}
 use Rattle.call.specs.CallLaws.{latter, neither}
 use Rattle.validation.specs.Check.{isNone, IsDefect}
-use Rattle.validation.specs.Result.{Asked, Widths, areWide, pathBytes, scratchWords, Call, refused, refusalNumbers, IsRefusal, isOfSheets, markBytes, Refusal, ofMarks, ofTable, ofSettings, early, ofSheets, refusals, firstRefusal, numberIn, refusedOr, resultOf}
+use Rattle.definition.specs.Tree.{Rule}
+use Rattle.validation.specs.Result.{Takes, AlsoTakes, theSame, takesAny, isTaken, Asked, Widths, areWide, pathBytes, scratchWords, Call, refused, refusalNumbers, IsRefusal, isOfSheets, markBytes, Refusal, ofMarks, ofTable, ofSettings, early, ofSheets, refusals, firstRefusal, numberIn, refusedOr, resultOf}
 
 -- What a test says.
 
@@ -140,6 +141,14 @@ unfolding refusals
 sheet-refused c n s e =
     latter (firstRefusal (early c)) (firstRefusal (ofSheets c)) n (λ due. false≢true (sym (early-no-sheet c n due) ∙ s))
     (sym (first-append (early c) (ofSheets c)) ∙ e)
+
+-- Where one function takes a rule sheet, so does one that takes as many.
+
+pub also-taken : {t t′ : Takes} → AlsoTakes t t′ → (o : Option Rule) → not (isTaken t o) ≡ false → not (isTaken t′ o) ≡ false
+unfolding isTaken
+also-taken theSame o e = e
+also-taken takesAny none e = e
+also-taken takesAny (some r) e = refl
 
 -- A kind or semantics beyond its range is refusal 1, whatever else the call holds.
 

@@ -22,6 +22,11 @@ use Rattle.validation.specs.Location.{pathOf}
 pub data Takes : Type 0 where
   any rules templates : Takes
 
+-- the second entry point takes every rule sheet that the first takes
+pub data AlsoTakes : Takes → Takes → Type 0 where
+  theSame : {t : Takes} → AlsoTakes t t
+  takesAny : {t : Takes} → AlsoTakes t any
+
 -- what is checked, and how
 pub record Asked : Type 0 where
   pub takes : Takes

@@ -7,7 +7,7 @@ use Rattle.number.specs.Finite.{isFinite}
 use Rattle.definition.specs.Tree.{Rule, rule, template}
 use Rattle.reference.specs.Table.{tableIn}
 use Rattle.validation.specs.Check.{Literal, literals}
-use Rattle.validation.specs.Result.{Lent, Call, Run}
+use Rattle.validation.specs.Result.{Takes, Lent, Call, Run}
 
 -- the numbers that the literal pass meets in a rule or template
 unfoldable pub literalsIn : Rule → List Literal
@@ -18,13 +18,13 @@ abbrev pub AllFinite : List Literal → Type 0
 AllFinite [] = Unit {0}
 AllFinite (l ∷ ls) = (isFinite (l .digits) ≡ true) × AllFinite ls
 
--- the same rule or template under another semantics, with another table and other buffers
-unfoldable pub under : Call → (semantics : ℕ) (table : List ℕ) → Lent → Call
-under c semantics table lent =
+-- the same rule or template under another semantics, with another table and other buffers, asked of a function that takes these rule sheets
+unfoldable pub under : Takes → Call → (semantics : ℕ) (table : List ℕ) → Lent → Call
+under takes c semantics table lent =
     record {
       asked =
           record {
-            takes = c .asked .takes;
+            takes = takes;
             kind = c .asked .kind;
             semantics = semantics;
             label = c .asked .label;
@@ -35,9 +35,9 @@ under c semantics table lent =
       lent = lent;
     }
 
--- two runs under tables of one meaning that differ at most in the semantics, and in what the buffers hold and how long they are
+-- two runs of any two functions under tables of one meaning, which differ at most in the semantics, in which rule sheets each function takes, and in what
+-- the buffers hold and how long they are
 pub record SameButSemantics (r r′ : Run) : Type 0 where
-  pub takes : r .asked .takes ≡ r′ .asked .takes
   pub kind : r .asked .kind ≡ r′ .asked .kind
   pub label : r .asked .label ≡ r′ .asked .label
   pub rule : r .asked .rule ≡ r′ .asked .rule

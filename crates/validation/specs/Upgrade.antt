@@ -1,21 +1,22 @@
 -- An old rule under a new schema, where the decision (widening's SheetDecision) says that the new one is a widening of the old: demand 3 without a
--- premise that the caller would have to know.
-use mathlib.Core.Bool.{false}
+-- premise that the caller would have to know. The second call may be of the same function, or of one that takes any rule sheet (`AlsoTakes`): so it
+-- meets no 5 where the first meets none.
+use mathlib.Core.Bool.{false, not}
 use mathlib.Core.List.{List}
 use mathlib.Core.Option.{Option, none, some}
 use mathlib.Core.Path.{_≡_, refl, ap, _∙_}
 use Prim.Native.Nat.{ℕ}
 use native.Mathlib.Omega.{arith}
 use Rattle.definition.specs.Tree.{Schema}
-use Rattle.definition.specs.Decode.{decodeSchema}
+use Rattle.definition.specs.Decode.{decodeSchema, decodeRule}
 use Rattle.definition.specs.RoundTrip.{schema-rises}
 use Rattle.widening.specs.Widening.{Level, marks, anything}
 use Rattle.widening.specs.Decision.{widening}
 use Rattle.widening.specs.DecisionLaws.{widens-sound, widens-marks, widens-anything}
 use Rattle.widening.specs.SheetDecision.{decision, answerFor, widensSheets}
 use Rattle.validation.specs.Check.{isNone}
-use Rattle.validation.specs.Result.{early, ofSheets, firstRefusal, Unrefused, Run, callOf, Meets}
-use Rattle.validation.specs.RefusalLaws.{none-due, first-none, none-of-either, sheets-first}
+use Rattle.validation.specs.Result.{AlsoTakes, isTaken, early, ofSheets, firstRefusal, Unrefused, Run, callOf, Meets}
+use Rattle.validation.specs.RefusalLaws.{none-due, first-none, none-of-either, sheets-first, also-taken}
 use Rattle.validation.specs.Growth.{Widens}
 use Rattle.validation.specs.Demands.{SameButSchema, Demand3, demand-3}
 
@@ -57,24 +58,27 @@ is-some s x e = rw e
 
 second-unrefused : {l : Level} (r r′ : Run)
     → SameButSchema r r′
+    → AlsoTakes (r .asked .takes) (r′ .asked .takes)
     → Widens l (r .schema) (r′ .schema)
     → Unrefused (callOf r)
     → firstRefusal (early (callOf r′)) ≡ none
     → Unrefused (callOf r′)
 unfolding callOf ofSheets
-second-unrefused r r′ s w n n′ =
+second-unrefused r r′ s also w n n′ =
     let sheets = none-due (ofSheets (callOf r)) (none-of-either (callOf r) n .1) in
+    let taken : not (isTaken (r′ .asked .takes) (decodeRule (r .asked .rule))) ≡ false = also-taken also (decodeRule (r .asked .rule)) (sheets .1 .0) in
     sheets-first (callOf r′) n′
-    ∙ first-none (ofSheets (callOf r′)) (is-some (w .second) (decodeSchema (r′ .schema)) (w .decodesSecond), (rw (s .asked) at (sheets .1 .0), tt))
+    ∙ first-none (ofSheets (callOf r′)) (is-some (w .second) (decodeSchema (r′ .schema)) (w .decodesSecond), (rw (s .rule) at taken, tt))
 
 pub upgrade : {l : Level} (r r′ : Run)
     → Meets r
     → Meets r′
     → SameButSchema r r′
+    → AlsoTakes (r .asked .takes) (r′ .asked .takes)
     → widensSheets (r .schema) (r′ .schema) ≡ decision (widening l)
     → Unrefused (callOf r)
     → firstRefusal (early (callOf r′)) ≡ none
     → Demand3 l r r′
-upgrade r r′ m m′ s d n n′ =
+upgrade r r′ m m′ s also d n n′ =
     let w = decided-widens (r .schema) (r′ .schema) d in
-    demand-3 r r′ m m′ s w n (second-unrefused r r′ s w n n′)
+    demand-3 r r′ m m′ s w n (second-unrefused r r′ s also w n n′)

@@ -7,7 +7,7 @@ use Rattle.definition.specs.Computing.{computing}
 use Rattle.reference.specs.Walk.{entryOf}
 use Rattle.widening.specs.Widening.{marks, anything}
 use Rattle.widening.specs.Decision.{fieldMissing, kindDiffers, itemsDiffer, tagDiffers, markCloses, fieldAdded, argumentsGo, breachIf, sameTag, sameItemsMark, closes, ownDifferences, added, allAdded, missing, sought, fieldDifferences, itemsDifferences, membersDifferences, argumentsMarks, argumentsDifferences, differences, widening, refuted, withGrowth, decided, widens}
-use Rattle.widening.specs.SheetDecision.{DecisionAnswer, malformed, decision, answerFor, widensSheets, reasonNumber, decisionNumbers}
+use Rattle.widening.specs.SheetDecision.{DecisionAnswer, malformed, decision, answerFor, widensSheets, reasonNumber, DecisionNumbers, decisionNumbers}
 
 unfoldable answer : (first second : List ℕ) → DecisionAnswer
 unfolding computing ascii entryOf breachIf sameTag sameItemsMark closes ownDifferences added allAdded missing sought fieldDifferences itemsDifferences membersDifferences argumentsMarks argumentsDifferences differences withGrowth decided widens answerFor widensSheets
@@ -129,3 +129,56 @@ second-malformed = refl
 refuted-numbers : decisionNumbers (answer (ascii "H,0,1,-,0\nF,7,1,0,0,1,-,o\n") (ascii "H,0,2,-,0\nF,2,0,0,0,1,-,a\nF,7,0,0,0,1,-,o\n")) ≡ record { number = 0; answer = 3; reason = 5; first = 2; second = 3 }
 unfolding answer decisionNumbers reasonNumber
 refuted-numbers = refl
+
+-- The numbers of each answer: 1 only marks, 2 a widening, 3 with each reason, and refusal 4 with the sheet that it is about
+unfoldable numbers : (number answer reason first second : ℕ) → DecisionNumbers
+numbers number answer reason first second = record { number = number; answer = answer; reason = reason; first = first; second = second }
+
+-- under `unfolding heard` the numbers of an answer compute
+unfoldable heard : (first second : List ℕ) → DecisionNumbers
+unfolding answer decisionNumbers reasonNumber numbers mill
+heard s s′ = decisionNumbers (answer s s′)
+
+numbers-marks : heard mill mill ≡ numbers 0 1 0 0 0
+unfolding heard
+numbers-marks = refl
+
+numbers-widening : heard (ascii "H,0,0,-,0\n") (ascii "H,0,0,0,0\n") ≡ numbers 0 2 0 0 0
+unfolding heard
+numbers-widening = refl
+
+numbers-missing : heard (ascii "H,0,1,0,1\nF,1,0,0,0,1,-,a\nF,1,0,0,0,1,-,b\n") (ascii "H,0,0,0,0\n") ≡ numbers 0 3 1 2 0
+unfolding heard
+numbers-missing = refl
+
+numbers-kind : heard (ascii "H,0,1,-,0\nF,7,1,0,1,1,-,a\nF,1,0,0,0,1,-,b\n") (ascii "H,0,1,-,0\nF,8,0,0,0,1,-,a\n") ≡ numbers 0 3 2 2 2
+unfolding heard
+numbers-kind = refl
+
+numbers-items : heard (ascii "H,0,1,-,0\nF,6,0,0,0,1,-,a\n") (ascii "H,0,1,-,0\nF,6,0,1,0,1,-,a\nF,1,0,0,0,0,-,\n") ≡ numbers 0 3 3 2 2
+unfolding heard
+numbers-items = refl
+
+numbers-tag : heard (ascii "H,0,1,-,0\nF,11,0,0,0,1,-,u\n") (ascii "H,0,1,-,0\nF,11,0,0,0,1,0,u\n") ≡ numbers 0 3 4 2 2
+unfolding heard
+numbers-tag = refl
+
+numbers-closed : heard (ascii "H,1,0,-,0\n") (ascii "H,0,0,-,0\n") ≡ numbers 0 3 5 1 1
+unfolding heard
+numbers-closed = refl
+
+numbers-added : heard (ascii "H,1,1,-,0\nF,1,0,0,0,1,-,m\n") (ascii "H,1,2,-,0\nF,1,0,0,0,1,-,a\nF,2,0,0,0,1,-,m\n") ≡ numbers 0 3 6 0 2
+unfolding heard
+numbers-added = refl
+
+numbers-arguments : heard (ascii "H,0,0,0,0\n") (ascii "H,0,0,-,0\n") ≡ numbers 0 3 7 1 0
+unfolding heard
+numbers-arguments = refl
+
+numbers-first : heard (ascii "H,0,0,-,1\n") (ascii "H,0,0,-,0\n") ≡ numbers 4 1 0 0 0
+unfolding heard
+numbers-first = refl
+
+numbers-second : heard mill (ascii "H,0,0,-,1\n") ≡ numbers 4 2 0 0 0
+unfolding heard
+numbers-second = refl
