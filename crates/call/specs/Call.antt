@@ -38,6 +38,11 @@ heardBy rs a = refusedOr (firstRefusal rs) a
 unfoldable pub tried : List Refusal → List ℕ
 tried rs = map (λ (r : Refusal). r .number) rs
 
+-- each of these numbers is the first that is due in some call
+pub data EachDue {C : Type 0} (refusals : C → List Refusal) : List ℕ → Type 0 where
+  all-shown : EachDue refusals []
+  by : {n : ℕ} {ns : List ℕ} (c : C) → firstRefusal (refusals c) ≡ some n → EachDue refusals ns → EachDue refusals (n ∷ ns)
+
 -- the number of a reply: 0 where something is told
 unfoldable pub numberOf : {A : Type 0} → Reply A → ℕ
 numberOf (refusedBy n) = n

@@ -302,6 +302,15 @@ all-alike (l ∷ ls) [] bs′ h h′ = tt
 all-alike (l ∷ ls) (b ∷ bs) [] h h′ = tt
 all-alike (l ∷ ls) (b ∷ bs) (b′ ∷ bs′) h h′ = (alike l b b′ (h .0) (h′ .0), all-alike ls bs bs′ (h .1) (h′ .1))
 
+-- one buffer lent to two calls with one reply
+pub left-alike : {A : Type 0} (left : Reply A → Left) → ((r : Reply A) → isWritten (left r) ≡ true) → (before : List ℕ) {r r′ : Reply A} {after after′ : List ℕ}
+    → r ≡ r′
+    → Leaves (left r) before after
+    → Leaves (left r′) before after′
+    → after ≡ after′
+left-alike left written before {r} {r′} {after} {after′} e h h′ =
+    alike (left r) (record { before = before; after = after }) (record { before = before; after = after′ }) h (rw e h′) (written r) refl
+
 pub record SameAnswer {C A : Type 0} (s : Shape C A) (r r′ : Run C) : Type 0 where
   pub result : r .result ≡ r′ .result
   pub buffers : AllAlike (s .leaves (replyTo s (r .call))) (r .buffers) (r′ .buffers)

@@ -12,7 +12,7 @@ use Rattle.openings.specs.CallLaws.{no-room-refused, cappedOpen, capped-open, a
 use Rattle.openings.specs.Runs.{openRunOf}
 use Rattle.entity_rules.specs.Entry.{numbersAfter, pathLent}
 use Rattle.entity_rules.specs.OpenEntry.{openBytes, openCallFor, openEntryAnswer, OpenAnswered}
-use Rattle.entity_rules.specs.OpenEntryLaws.{in-four-bytes}
+use Rattle.openings.specs.ListLaws.{small-marks}
 use Rattle.entity_rules.proofs.Entries.{lent-nothing, lent-within}
 use Rattle.entity_rules.proofs.BookSteps.{path-home, handed}
 
@@ -48,4 +48,4 @@ module _ (kind semantics : ℕ) (table schema rule path list result : List ℕ) 
       let left = rw same at (m .buffers) in
       handed openShape (openRunOf k s table schema rule (take (lent - 0) path) list (replicate scratchWords 0) numbers last listNow scratchNow) m same
       (path-home pathBytes openBytes path result lent last answer el lentNothing (left .0), (left .1 .0, tt))
-      (in-four-bytes _ (answer-low call)) w n
+      (small-marks _ (answer-low call)) w n

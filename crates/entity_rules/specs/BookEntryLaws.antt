@@ -2,7 +2,7 @@
 -- accepted and no fewer checks pass.
 use Prim.Native.Nat.{ℕ, _≤_, _<_}
 use native.Mathlib.Omega.{arith}
-use mathlib.Core.Bool.{false≢true}
+use mathlib.Core.Bool.{true, false≢true}
 use mathlib.Core.List.{List, []}
 use mathlib.Core.Path.{_≡_, refl, ap, sym, _∙_}
 use lib.ListN.{length, getD}
@@ -15,12 +15,14 @@ use Rattle.validation.specs.RefusalLaws.{is-set, none-due}
 use Rattle.validation.specs.Growth.{Widens}
 use Rattle.call.specs.Call.{Reply, refusedBy, told, numberOf, ifTold, numbersWith}
 use Rattle.rule_book.specs.Tally.{BookCall, askedOf, single, bookRefusalNumbers, defectNumbers, Tally, tallyOf, tallyFigures, bookAnswer, tallyNumbers}
-use Rattle.rule_book.specs.TallyLaws.{IsTallied, is-tallied, book-refusal-listed, tally-size}
+use Rattle.rule_book.specs.TallyLaws.{IsTallied, is-tallied, book-refusal-listed, lending, lending-same, tally-size}
 use Rattle.rule_book.specs.BookGrowth.{BookFares}
 use Rattle.rule_book.specs.BookGrowthLaws.{book-demand-3}
 use Rattle.host_numbers.specs.Counts.{countAt}
 use Rattle.host_numbers.specs.CountLaws.{count-of-written}
+use Rattle.entity_rules.specs.Entry.{HasRoom}
 use Rattle.entity_rules.specs.EntryDemands.{and-left, lent-room}
+use Rattle.entity_rules.specs.HandedLaws.{returned-among, returned-alike, room-wide}
 use Rattle.entity_rules.specs.BookEntry.{bookCallFor, tallyBytes, tallyAnswer, TallyAnswered}
 
 -- the number at index i of a written result is the i-th of its eighteen
@@ -41,6 +43,36 @@ module _ (kind semantics : ℕ) (label table schema book pathBefore pathNow resu
 pub tally-refused : {answer : Reply Tally} {pathBefore pathNow resultBefore resultNow : List ℕ} {r n : ℕ} → TallyAnswered answer pathBefore pathNow resultBefore resultNow r → answer ≡ refusedBy n → pathNow ≡ pathBefore
 unfolding ifTold
 tally-refused a e = rw e at (a .buffers .0)
+
+module _ (kind semantics : ℕ) (label table schema book : List ℕ) where
+  -- with room, path buffer and result may be of any length
+  tally-roomy : (path result : List ℕ)
+      → HasRoom tallyBytes path result
+      → tallyAnswer kind semantics label table schema book (length path) (length result) ≡ tallyAnswer kind semantics label table schema book pathBytes tallyBytes
+  unfolding tallyAnswer bookCallFor lending
+  tally-roomy path result room = lending-same (bookCallFor tallyBytes kind semantics label table schema book pathBytes tallyBytes) _ (room-wide tallyBytes path result room)
+
+  module _ {path pathNow result resultNow : List ℕ} {r : ℕ} (a : TallyAnswered (tallyAnswer kind semantics label table schema book (length path) (length result)) path pathNow result resultNow r) where
+    -- what is returned is 0 or a refusal of the list
+    pub tally-returned-listed : (r ≡ 0 → ⊥) → oneOf r bookRefusalNumbers ≡ true
+    unfolding tallyAnswer
+    tally-returned-listed =
+        returned-among a bookRefusalNumbers (book-refusal-listed (bookCallFor tallyBytes kind semantics label table schema book (length path) (length result)))
+
+    -- what path buffer and result held never matters, nor how long they are, if they have room
+    pub tally-any-buffers : {path′ pathNow′ result′ resultNow′ : List ℕ} {r′ : ℕ}
+        → TallyAnswered (tallyAnswer kind semantics label table schema book (length path′) (length result′)) path′ pathNow′ result′ resultNow′ r′
+        → HasRoom tallyBytes path result
+        → HasRoom tallyBytes path′ result′
+        → (r ≡ r′) × ((i : ℕ) → i < 18 → countAt i resultNow ≡ countAt i resultNow′)
+    tally-any-buffers {path′} {pathNow′} {result′} {resultNow′} a′ room room′ =
+        let same = tally-roomy path result room ∙ sym (tally-roomy path′ result′ room′) in (
+          returned-alike a a′ same,
+          λ i less.
+              count-of-tally kind semantics label table schema book path pathNow result resultNow a i less (room .fits)
+              ∙ ap (λ (x : Reply Tally). getD (tallyNumbers x) i 0) same
+              ∙ sym (count-of-tally kind semantics label table schema book path′ pathNow′ result′ resultNow′ a′ i less (room′ .fits)),
+        )
 
 -- A call that returns 0 has tallied the book, and its result had room.
 

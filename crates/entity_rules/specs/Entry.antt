@@ -1,5 +1,5 @@
 -- What a C function of this crate answers, and what both buffers hold after it (docs/FORMAT.md, "The C interface").
-use Prim.Native.Nat.{ℕ, _*_}
+use Prim.Native.Nat.{ℕ, _*_, _≤_}
 use mathlib.Core.Bool.{cond}
 use mathlib.Core.List.{List, [], _∷_}
 use mathlib.Core.Path.{_≡_}
@@ -7,7 +7,7 @@ use lib.Dec.{leb}
 use lib.ListN.{length, replicate}
 use lib.Seq.{sets}
 use Rattle.buffer.specs.Bytes.{bytesOf, InFourBytes, fieldAt}
-use Rattle.validation.specs.Result.{Takes, Call, Answer, Numbers, resultOf, numbersOf, pathAfter, scratchWords, markBytes, Run}
+use Rattle.validation.specs.Result.{Takes, Call, Answer, Numbers, resultOf, numbersOf, pathAfter, pathBytes, scratchWords, markBytes, Run}
 use Rattle.call.specs.Call.{Reply, numberOf, Buffer, Left, AllLeft}
 use Rattle.single_check.specs.declared.outcome.Outcome.{Outcome}
 use Rattle.single_check.specs.Outcomes.{numbersBy}
@@ -40,6 +40,11 @@ numbersAfter numbers before = cond (leb (4 * length numbers) (length before)) (s
 -- 3 then falls due in its place, after 1 and 2 and before the sheets.
 unfoldable pub pathLent : (need pathLength resultLength : ℕ) → ℕ
 pathLent need pathLength resultLength = cond (leb need resultLength) pathLength 0
+
+-- a path buffer and a result buffer of a call whose result needs so many bytes
+pub record HasRoom (need : ℕ) (path result : List ℕ) : Type 0 where
+  pub wide : pathBytes ≤ length path
+  pub fits : need ≤ length result
 
 -- the call that a C function makes whose result needs so many bytes, with a scratch of its own
 unfoldable pub entryCall : Takes → (kind semantics : ℕ) (label table schema rule : List ℕ) (need pathLength marksLength resultLength : ℕ) → Call

@@ -8,6 +8,7 @@ pub mod CheckEntry
 pub mod CheckEntryLaws
 pub mod Exchange
 pub mod EntryDemands
+pub mod HandedLaws
 pub mod BookEntry
 pub mod BookEntryLaws
 pub mod WallEntry

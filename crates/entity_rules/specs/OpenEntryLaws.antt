@@ -5,24 +5,21 @@ use native.Mathlib.Omega.{arith}
 use mathlib.Core.Bool.{true}
 use mathlib.Core.List.{List, [], _∷_}
 use mathlib.Core.Option.{Option}
-use mathlib.Core.Path.{_≡_, ap, sym, _∙_}
+use mathlib.Core.Path.{_≡_, refl, ap, sym, _∙_}
 use lib.ListN.{length, drop, getD}
 use borrow.Author.Tests.{le-leb}
-use Rattle.buffer.specs.Bytes.{bytesOf, InFourBytes, no-more, one-more, fieldAt}
+use Rattle.buffer.specs.Bytes.{bytesOf, fieldAt}
 use Rattle.buffer.specs.BytesLaws.{field-written, past-written}
 use Rattle.reference.specs.Setting.{oneOf}
-use Rattle.validation.specs.Openings.{maxMarks}
-use Rattle.call.specs.Call.{Reply, refusedBy, told, numberOf, ifTold}
-use Rattle.call.specs.CallLaws.{AllWithin}
-use Rattle.openings.specs.CallLaws.{three-numbers, set-fits}
-use Rattle.openings.specs.Call.{opens, nothingHelps, orNoMarks, openNumbers}
-use Rattle.openings.specs.ListLaws.{openHeardNumbers, open-refusal-heard}
-use Rattle.entity_rules.specs.Entry.{numbersAfter}
+use Rattle.validation.specs.Result.{pathBytes}
+use Rattle.call.specs.Call.{Reply, refusedBy, ifTold}
+use Rattle.call.specs.CallLaws.{isWritten, if-told-written, left-alike}
+use Rattle.openings.specs.CallLaws.{lending, lending-same, three-numbers, set-fits}
+use Rattle.openings.specs.Call.{openHeardNumbers, opens, nothingHelps, orNoMarks, listLeft, openNumbers}
+use Rattle.openings.specs.ListLaws.{open-refusal-heard, small-marks}
+use Rattle.entity_rules.specs.Entry.{HasRoom, numbersAfter}
+use Rattle.entity_rules.specs.HandedLaws.{returned-refused, returned-among, returned-alike, room-wide}
 use Rattle.entity_rules.specs.OpenEntry.{openBytes, openCallFor, openEntryAnswer, OpenAnswered}
-
-pub in-four-bytes : (ns : List ℕ) → AllWithin maxMarks ns → InFourBytes ns
-in-four-bytes [] h = no-more
-in-four-bytes (n ∷ ns) h = one-more {n = n} (omega (arith, h .0)) (in-four-bytes ns (h .1))
 
 -- a number of the result
 pub field-of-openings : {answer : Reply (Option (List ℕ))} {pathBefore pathNow listBefore listNow resultBefore resultNow : List ℕ} {r : ℕ}
@@ -57,7 +54,7 @@ module _ (kind semantics : ℕ) (table schema rule : List ℕ) {pathBefore pathN
   mark-of-openings set is i less =
       let fits = set-fits (openCallFor kind semantics table schema rule (length pathBefore) (length listBefore) (length resultBefore)) set is in
       ap (fieldAt i) (rw is at (a .buffers .1 .0))
-      ∙ field-written set listBefore (fits .room) i less (in-four-bytes set (fits .low))
+      ∙ field-written set listBefore (fits .room) i less (small-marks set (fits .low))
 
   -- the elements past the set
   pub past-of-openings : (set : List ℕ)
@@ -75,18 +72,37 @@ module _ (kind semantics : ℕ) (table schema rule : List ℕ) {pathBefore pathN
   kept-after-none is = rw is at (a .buffers .1 .0)
 
   -- and after a refusal, which is what is returned where that is not 0
-  pub returned-refused : (r ≡ 0 → ⊥) → openEntryAnswer kind semantics table schema rule (length pathBefore) (length listBefore) (length resultBefore) ≡ refusedBy r
-  unfolding numberOf
-  returned-refused other = by (openEntryAnswer kind semantics table schema rule (length pathBefore) (length listBefore) (length resultBefore)) (a .number)
-    where
-      by : (x : Reply (Option (List ℕ))) → r ≡ numberOf x → x ≡ refusedBy r
-      by (refusedBy n) e = ap refusedBy (sym e)
-      by (told marks) e = absurd (other e)
-
   pub kept-after-refusal : (r ≡ 0 → ⊥) → listNow ≡ listBefore
-  kept-after-refusal other = openings-refused a (returned-refused other) .1
+  kept-after-refusal other = openings-refused a (returned-refused a other) .1
 
   pub returned-listed : (r ≡ 0 → ⊥) → oneOf r openHeardNumbers ≡ true
   unfolding openEntryAnswer
-  returned-listed other =
-      open-refusal-heard (openCallFor kind semantics table schema rule (length pathBefore) (length listBefore) (length resultBefore)) r (returned-refused other)
+  returned-listed =
+      returned-among a openHeardNumbers (open-refusal-heard (openCallFor kind semantics table schema rule (length pathBefore) (length listBefore) (length resultBefore)))
+
+-- With room, path buffer and result may be of any length, and what they held never matters.
+
+module _ (kind semantics : ℕ) (table schema rule list : List ℕ) where
+  openings-roomy : (path result : List ℕ)
+      → HasRoom openBytes path result
+      → openEntryAnswer kind semantics table schema rule (length path) (length list) (length result) ≡ openEntryAnswer kind semantics table schema rule pathBytes (length list) openBytes
+  unfolding openEntryAnswer openCallFor lending
+  openings-roomy path result room =
+      lending-same (openCallFor kind semantics table schema rule pathBytes (length list) openBytes) _ (room-wide openBytes path result room)
+
+  pub openings-any-buffers : {path pathNow listNow result resultNow path′ pathNow′ listNow′ result′ resultNow′ : List ℕ} {r r′ : ℕ}
+      → OpenAnswered (openEntryAnswer kind semantics table schema rule (length path) (length list) (length result)) path pathNow list listNow result resultNow r
+      → OpenAnswered (openEntryAnswer kind semantics table schema rule (length path′) (length list) (length result′)) path′ pathNow′ list listNow′ result′ resultNow′ r′
+      → HasRoom openBytes path result
+      → HasRoom openBytes path′ result′
+      → (r ≡ r′) × (listNow ≡ listNow′) × ((i : ℕ) → i < 3 → fieldAt i resultNow ≡ fieldAt i resultNow′)
+  unfolding isWritten
+  openings-any-buffers {path = path} {result = result} {path′ = path′} {result′ = result′} a a′ room room′ =
+      let same = openings-roomy path result room ∙ sym (openings-roomy path′ result′ room′) in (
+        returned-alike a a′ same,
+        left-alike listLeft (if-told-written _ (λ marks. refl)) list same (a .buffers .1 .0) (a′ .buffers .1 .0),
+        λ i less.
+            field-of-openings a i less (room .fits)
+            ∙ ap (λ (x : Reply (Option (List ℕ))). getD (openNumbers x) i 0) same
+            ∙ sym (field-of-openings a′ i less (room′ .fits)),
+      )

@@ -1,15 +1,23 @@
--- What a host may rely on where it prints a book's run: `rulecheck_count` gives the two numbers of the answer.
+-- What a host may rely on where it prints a book's run: `rulecheck_count` gives the two numbers of the answer, only refusals of the list are returned, and what
+-- path buffer and result held never matters.
 use Prim.Native.Nat.{ℕ, _≤_, _<_}
 use native.Mathlib.Omega.{arith}
+use mathlib.Core.Bool.{true}
 use mathlib.Core.List.{List}
-use mathlib.Core.Path.{_≡_, ap, _∙_}
+use mathlib.Core.Path.{_≡_, refl, ap, sym, _∙_}
 use lib.ListN.{length, getD}
-use Rattle.validation.specs.Result.{Answer}
+use Rattle.reference.specs.Setting.{oneOf}
+use Rattle.validation.specs.Result.{Answer, pathBytes}
 use Rattle.call.specs.Call.{Reply, refusedBy, ifTold}
-use Rattle.wall.specs.Wall.{wallNumbers}
-use Rattle.wall.specs.WallLaws.{wall-size}
+use Rattle.call.specs.CallLaws.{isWritten, if-told-written, left-alike}
+use Rattle.rule_book.specs.TallyLaws.{lending}
+use Rattle.wall.specs.Wall.{wallRefusalNumbers, pagesLeft, wallNumbers}
+use Rattle.wall.specs.WallLaws.{wall-refusal-listed, lendingWall, lending-wall, wall-size}
 use Rattle.host_numbers.specs.Counts.{countAt}
 use Rattle.host_numbers.specs.CountLaws.{count-of-written}
+use Rattle.entity_rules.specs.Entry.{HasRoom}
+use Rattle.entity_rules.specs.HandedLaws.{returned-among, returned-alike, room-wide}
+use Rattle.entity_rules.specs.BookEntry.{bookCallFor}
 use Rattle.entity_rules.specs.WallEntry.{wallBytes, wallCallFor, wallEntryAnswer, WallAnswered}
 
 -- the number at index i of a written result is the i-th of its two
@@ -33,3 +41,38 @@ pub wall-refused : {answer : Reply (List Answer)} {pathBefore pathNow pagesBefor
     → (pathNow ≡ pathBefore) × (pagesNow ≡ pagesBefore)
 unfolding ifTold
 wall-refused a e = let left = rw e at (a .buffers) in (left .0, left .1 .0)
+
+module _ (kind semantics : ℕ) (label table schema book pages : List ℕ) where
+  -- with room, path buffer and result may be of any length
+  wall-roomy : (path result : List ℕ)
+      → HasRoom wallBytes path result
+      → wallEntryAnswer kind semantics label table schema book (length path) (length pages) (length result)
+      ≡ wallEntryAnswer kind semantics label table schema book pathBytes (length pages) wallBytes
+  unfolding wallEntryAnswer wallCallFor bookCallFor lendingWall lending
+  wall-roomy path result room =
+      lending-wall (wallCallFor kind semantics label table schema book pathBytes (length pages) wallBytes) _ (room-wide wallBytes path result room)
+
+  module _ {path pathNow pagesNow result resultNow : List ℕ} {r : ℕ}
+      (a : WallAnswered (wallEntryAnswer kind semantics label table schema book (length path) (length pages) (length result)) path pathNow pages pagesNow result resultNow r) where
+    -- what is returned is 0 or a refusal of the list
+    pub wall-returned-listed : (r ≡ 0 → ⊥) → oneOf r wallRefusalNumbers ≡ true
+    unfolding wallEntryAnswer
+    wall-returned-listed =
+        returned-among a wallRefusalNumbers (wall-refusal-listed (wallCallFor kind semantics label table schema book (length path) (length pages) (length result)))
+
+    -- what path buffer and result held never matters, nor how long they are, if they have room
+    pub wall-any-buffers : {path′ pathNow′ pagesNow′ result′ resultNow′ : List ℕ} {r′ : ℕ}
+        → WallAnswered (wallEntryAnswer kind semantics label table schema book (length path′) (length pages) (length result′)) path′ pathNow′ pages pagesNow′ result′ resultNow′ r′
+        → HasRoom wallBytes path result
+        → HasRoom wallBytes path′ result′
+        → (r ≡ r′) × (pagesNow ≡ pagesNow′) × ((i : ℕ) → i < 2 → countAt i resultNow ≡ countAt i resultNow′)
+    unfolding isWritten
+    wall-any-buffers {path′} {pathNow′} {pagesNow′} {result′} {resultNow′} a′ room room′ =
+        let same = wall-roomy path result room ∙ sym (wall-roomy path′ result′ room′) in (
+          returned-alike a a′ same,
+          left-alike pagesLeft (if-told-written _ (λ answers. refl)) pages same (a .buffers .1 .0) (a′ .buffers .1 .0),
+          λ i less.
+              count-of-wall kind semantics label table schema book path pathNow pages pagesNow result resultNow a i less (room .fits)
+              ∙ ap (λ (x : Reply (List Answer)). getD (wallNumbers x) i 0) same
+              ∙ sym (count-of-wall kind semantics label table schema book path′ pathNow′ pages pagesNow′ result′ resultNow′ a′ i less (room′ .fits)),
+        )

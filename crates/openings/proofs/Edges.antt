@@ -5,8 +5,10 @@ use mathlib.Core.Path.{_≡_, refl}
 use lib.ListN.{replicate}
 use lib.Seq.{sets}
 use Rattle.sheet.specs.Ascii.{ascii}
-use Rattle.call.specs.Call.{Left, free, holding, unchanged, freeIfTold}
-use Rattle.openings.specs.Call.{OpenCall, openAnswer, openNumbers, listLeft, scratchLeft}
+use Rattle.reference.proofs.Tables.{stockText}
+use Rattle.validation.proofs.TableEdges.{changed, oldAlone}
+use Rattle.call.specs.Call.{EachDue, all-shown, by, Left, free, holding, unchanged, freeIfTold}
+use Rattle.openings.specs.Call.{OpenCall, openRefusals, openHeardNumbers, openAnswer, openNumbers, listLeft, scratchLeft}
 use Rattle.openings.specs.Computing.{computing}
 
 -- a closed object `o` in a closed record, beside closed arguments
@@ -119,3 +121,15 @@ edges =
       scratch-free = refl;
       scratch-kept = refl;
     }
+
+-- each refusal but 2, which an empty label never meets, is heard by some call: 1, 3, 36, 37, 38, 4, 5
+pub each-due : EachDue openRefusals openHeardNumbers
+unfolding heard changed oldAlone stockText openHeardNumbers
+each-due =
+    by (set 9 2 0) refl
+    (by (set 1 2 0) refl
+    (by (set 1 2 32768) refl
+    (by (asked (ascii "N") shut one 32768 4096 4100) refl
+    (by (asked oldAlone shut one 32768 4096 4100) refl
+    (by (asked [] [] one 32768 4096 4100) refl
+    (by (asked [] shut [] 32768 4096 4100) refl all-shown))))))

@@ -47,6 +47,10 @@ openRefusals c = ofSettings (checkOf c .asked) (c .widths) ++ (ofList (c .list) 
 unfoldable pub openRefusalNumbers : List ℕ
 openRefusalNumbers = 1 ∷ 2 ∷ 3 ∷ 36 ∷ 37 ∷ 38 ∷ 4 ∷ 5 ∷ []
 
+-- those of them that are heard
+unfoldable pub openHeardNumbers : List ℕ
+openHeardNumbers = 1 ∷ 3 ∷ 36 ∷ 37 ∷ 38 ∷ 4 ∷ 5 ∷ []
+
 -- the fewest marks, or none where no marks help; that both sheets are well formed is seen before
 unfoldable pub marksFor : Setting → Option Schema → Option Rule → Option (List ℕ)
 marksFor setting none r = none

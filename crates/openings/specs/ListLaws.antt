@@ -16,14 +16,11 @@ use Rattle.reference.specs.Setting.{oneOf}
 use Rattle.validation.specs.Openings.{maxMarks}
 use Rattle.call.specs.Call.{Reply, refusedBy, told, ifTold, numbersWith}
 use Rattle.call.specs.CallLaws.{AllWithin}
-use Rattle.openings.specs.Call.{OpenCall, openRefusalNumbers, opens, nothingHelps, openFigures, orNoMarks, openAnswer, MeetsOpen}
+use Rattle.openings.specs.Call.{OpenCall, openRefusalNumbers, openHeardNumbers, opens, nothingHelps, openFigures, orNoMarks, openAnswer, MeetsOpen}
 use Rattle.openings.specs.CallLaws.{open-refusal-listed, never-2, refused-spares, set-fits}
 use Rattle.openings.specs.Runs.{openRunOf}
 
 -- The refusals: of those that are tried (`open-tries`), all but 2, which an empty label never meets.
-
-unfoldable pub openHeardNumbers : List ℕ
-openHeardNumbers = 1 ∷ 3 ∷ 36 ∷ 37 ∷ 38 ∷ 4 ∷ 5 ∷ []
 
 but-2 : (n : ℕ) → oneOf n openRefusalNumbers ≡ true → (n ≡ 2 → ⊥) → oneOf n openHeardNumbers ≡ true
 unfolding oneOf openRefusalNumbers openHeardNumbers
@@ -35,9 +32,9 @@ open-refusal-heard c n e = but-2 n (open-refusal-listed c n e) (λ same. never-2
 
 -- The list after the call.
 
-small : (ns : List ℕ) → AllWithin maxMarks ns → InFourBytes ns
-small [] h = no-more
-small (n ∷ ns) h = one-more {n = n} (omega (arith, h .0)) (small ns (h .1))
+pub small-marks : (ns : List ℕ) → AllWithin maxMarks ns → InFourBytes ns
+small-marks [] h = no-more
+small-marks (n ∷ ns) h = one-more {n = n} (omega (arith, h .0)) (small-marks ns (h .1))
 
 -- the set stands at the start of the list: it has as many elements as the result says, each is read back from its four bytes, and all bytes after them keep their values
 pub record ListStands (set result listBefore list : List ℕ) : Type 0 where
@@ -58,7 +55,7 @@ module _ (kind semantics : ℕ) (table schema rule path list scratch : List ℕ)
       let written : listNow ≡ sets list 0 (bytesOf set) = rw e at (m .buffers .1 .0) in
       record {
         count = rw (m .result, e) refl;
-        reads = λ i less. rw written (field-written set list (fits .room) i less (small set (fits .low)));
+        reads = λ i less. rw written (field-written set list (fits .room) i less (small-marks set (fits .low)));
         past = rw written (past-written set list (fits .room));
       }
 

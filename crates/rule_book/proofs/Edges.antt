@@ -7,8 +7,11 @@ use lib.ListN.{replicate}
 use Rattle.sheet.specs.Ascii.{ascii}
 use Rattle.validation.proofs.Edges.{empty}
 use Rattle.validation.proofs.Bounds.{met}
+use Rattle.validation.proofs.TableEdges.{changed, oldAlone}
+use Rattle.reference.proofs.Tables.{stockText}
+use Rattle.call.specs.Call.{EachDue, all-shown, by}
 use Rattle.rule_book.specs.Book.{sheetsOf, writeBook}
-use Rattle.rule_book.specs.Tally.{BookCall, bookAnswer, tallyNumbers}
+use Rattle.rule_book.specs.Tally.{BookCall, bookRefusals, bookRefusalNumbers, bookAnswer, tallyNumbers}
 use Rattle.rule_book.specs.Computing.{computing}
 
 -- a rule whose `all` is empty
@@ -92,3 +95,27 @@ edges =
       table-behind-form = refl;
       table-before-schema = refl;
     }
+
+-- a tally of another kind and under another label
+unfoldable pub labelled : (kind : ℕ) (label : List ℕ) → BookCall
+labelled kind label =
+    record {
+      kind = kind;
+      semantics = 2;
+      label = label;
+      table = [];
+      schema = empty;
+      book = [];
+      lent = record { path = 32768; scratch = 4096 };
+    }
+
+-- each refusal is heard by some call: 1, 2, 3, 34, 37, 38
+pub each-due : EachDue bookRefusals bookRefusalNumbers
+unfolding heard labelled empty changed oldAlone stockText bookRefusalNumbers
+each-due =
+    by (labelled 9 []) refl
+    (by (labelled 1 (255 ∷ [])) refl
+    (by (under [] empty [] 4095) refl
+    (by (under [] empty (ascii "1") 4096) refl
+    (by (under (ascii "N") empty [] 4096) refl
+    (by (under oldAlone empty [] 4096) refl all-shown)))))

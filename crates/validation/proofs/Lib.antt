@@ -15,3 +15,4 @@ pub mod MarkEdges
 pub mod OpeningEdges
 mod Scratches
 mod Functions
+mod Refused

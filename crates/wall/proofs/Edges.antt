@@ -6,12 +6,15 @@ use lib.ListN.{length, getD, replicate}
 use Rattle.sheet.specs.Ascii.{ascii}
 use Rattle.validation.proofs.Edges.{empty}
 use Rattle.validation.proofs.Bounds.{met}
+use Rattle.validation.proofs.TableEdges.{changed, oldAlone}
+use Rattle.reference.proofs.Tables.{stockText}
+use Rattle.call.specs.Call.{EachDue, all-shown, by}
 use Rattle.validation.specs.Result.{Answer, refused, accepted, defect}
 use Rattle.rule_book.specs.Book.{writeBook}
 use Rattle.rule_book.specs.Tally.{BookCall}
-use Rattle.rule_book.proofs.Edges.{hollow, lost, under}
+use Rattle.rule_book.proofs.Edges.{hollow, lost, under, labelled}
 use Rattle.wall.specs.Pages.{column, cut, shown, resultLine, heading, foot, pageCount, linesOf, pagesOf}
-use Rattle.wall.specs.Wall.{WallCall, wallAnswers, wallAnswer, wallNumbers}
+use Rattle.wall.specs.Wall.{WallCall, wallAnswers, wallRefusals, wallRefusalNumbers, wallAnswer, wallNumbers}
 use Rattle.wall.specs.Computing.{computing}
 
 -- a defect with that path
@@ -163,3 +166,15 @@ calls =
       pages-before-table = refl;
       table-behind-pages = refl;
     }
+
+-- each refusal is heard by some call: 1, 2, 3, 34, 33, 37, 38
+pub each-due : EachDue wallRefusals wallRefusalNumbers
+unfolding heard lending labelled empty changed oldAlone stockText wallRefusalNumbers
+each-due =
+    by (lending 0 (labelled 9 [])) refl
+    (by (lending 0 (labelled 1 (255 ∷ []))) refl
+    (by (lending 0 (under [] empty [] 4095)) refl
+    (by (lending 0 (under [] empty (ascii "1") 4096)) refl
+    (by (lending 4859 (under [] empty (ascii "0,") 4096)) refl
+    (by (lending 0 (under (ascii "N") empty [] 4096)) refl
+    (by (lending 0 (under oldAlone empty [] 4096)) refl all-shown))))))
