@@ -1,17 +1,24 @@
--- What a host may rely on where it prints a book's run: `rulecheck_count` gives the two numbers of the answer, only refusals of the list are returned, and what
--- path buffer and result held never matters.
+-- What a host may rely on where it prints a book's run: `rulecheck_count` gives the two numbers of the answer, only refusals of the list are returned, what path
+-- buffer and result held never matters, and under a widened schema each line fares as demand 3 says.
 use Prim.Native.Nat.{ℕ, _≤_, _<_}
 use native.Mathlib.Omega.{arith}
-use mathlib.Core.Bool.{true}
+use mathlib.Core.Bool.{true, false≢true}
 use mathlib.Core.List.{List}
 use mathlib.Core.Path.{_≡_, refl, ap, sym, _∙_}
 use lib.ListN.{length, getD}
+use lib.Seq.{sets}
 use Rattle.reference.specs.Setting.{oneOf}
+use Rattle.reference.specs.Table.{tableIn}
+use Rattle.widening.specs.Widening.{Level}
+use Rattle.validation.specs.Growth.{Widens}
 use Rattle.validation.specs.Result.{Answer, pathBytes}
-use Rattle.call.specs.Call.{Reply, refusedBy, ifTold}
+use Rattle.call.specs.Call.{Reply, refusedBy, told, numberOf, ifTold}
 use Rattle.call.specs.CallLaws.{isWritten, if-told-written, left-alike}
 use Rattle.rule_book.specs.TallyLaws.{lending}
-use Rattle.wall.specs.Wall.{wallRefusalNumbers, pagesLeft, wallNumbers}
+use Rattle.wall.specs.Pages.{pagesOf}
+use Rattle.wall.specs.Wall.{WallCall, wallRefusalNumbers, pagesLeft, wallAnswer, wallNumbers}
+use Rattle.wall.specs.WallGrowth.{WallFares}
+use Rattle.wall.specs.WallGrowthLaws.{wall-demand-3}
 use Rattle.wall.specs.WallLaws.{wall-refusal-listed, lendingWall, lending-wall, wall-size}
 use Rattle.host_numbers.specs.Counts.{countAt}
 use Rattle.host_numbers.specs.CountLaws.{count-of-written}
@@ -76,3 +83,41 @@ module _ (kind semantics : ℕ) (label table schema book pages : List ℕ) where
               ∙ ap (λ (x : Reply (List Answer)). getD (wallNumbers x) i 0) same
               ∙ sym (count-of-wall kind semantics label table schema book path′ pathNow′ pages pagesNow′ result′ resultNow′ a′ i less (room′ .fits)),
         )
+
+-- Demand 3 for a wall sheet, at the C function: one book under the same settings and a table of one meaning, neither call refused.
+
+pub record WallsFare (l : Level) (c c′ : WallCall) (pages pagesNow pages′ pagesNow′ : List ℕ) : Type 0 where
+  pub answers : List Answer
+  pub answers′ : List Answer
+  pub printed : pagesNow ≡ sets pages 0 (pagesOf answers)
+  pub printed′ : pagesNow′ ≡ sets pages′ 0 (pagesOf answers′)
+  pub fares : WallFares l c c′ answers answers′
+
+returned-printed : (c : WallCall) (x : Reply (List Answer)) → wallAnswer c ≡ x → numberOf x ≡ 0 → (answers : List Answer) × (wallAnswer c ≡ told answers)
+unfolding numberOf wallRefusalNumbers oneOf
+returned-printed c (refusedBy n) e z = absurd (false≢true (rw z at (wall-refusal-listed c n e)))
+returned-printed c (told answers) e z = (answers, e)
+
+module _ (kind semantics : ℕ) (label book table table′ schema schema′ path path′ pathNow pathNow′ pages pages′ pagesNow pagesNow′ result result′ resultNow resultNow′ : List ℕ) {r r′ : ℕ} {l : Level}
+    (a : WallAnswered (wallEntryAnswer kind semantics label table schema book (length path) (length pages) (length result)) path pathNow pages pagesNow result resultNow r)
+    (a′ : WallAnswered (wallEntryAnswer kind semantics label table′ schema′ book (length path′) (length pages′) (length result′)) path′ pathNow′ pages′ pagesNow′ result′ resultNow′ r′)
+  where
+    pub entry-wall-demand-3 : tableIn table ≡ tableIn table′
+        → Widens l schema schema′
+        → r ≡ 0
+        → r′ ≡ 0
+        → WallsFare l (wallCallFor kind semantics label table schema book (length path) (length pages) (length result))
+        (wallCallFor kind semantics label table′ schema′ book (length path′) (length pages′) (length result′)) pages pagesNow pages′ pagesNow′
+    unfolding wallEntryAnswer wallCallFor bookCallFor ifTold
+    entry-wall-demand-3 same w z z′ =
+        let c = wallCallFor kind semantics label table schema book (length path) (length pages) (length result) in
+        let c′ = wallCallFor kind semantics label table′ schema′ book (length path′) (length pages′) (length result′) in
+        let (answers, e) = returned-printed c (wallAnswer c) refl (sym (a .number) ∙ z) in
+        let (answers′, e′) = returned-printed c′ (wallAnswer c′) refl (sym (a′ .number) ∙ z′) in
+        record {
+          answers = answers;
+          answers′ = answers′;
+          printed = rw e at (a .buffers .1 .0);
+          printed′ = rw e′ at (a′ .buffers .1 .0);
+          fares = wall-demand-3 c c′ answers answers′ (record { kind = refl; semantics = refl; label = refl; book = refl; table = same }) w e e′;
+        }

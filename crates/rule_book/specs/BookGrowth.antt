@@ -11,7 +11,7 @@ use Rattle.validation.specs.Check.{IsDefect}
 use Rattle.validation.specs.Result.{Defect, Answer, defect, numbersOf, resultOf}
 use Rattle.validation.specs.DemandLaws.{SameDefect}
 use Rattle.rule_book.specs.Book.{sheetsOf}
-use Rattle.rule_book.specs.Tally.{BookCall, single, Tally}
+use Rattle.rule_book.specs.Tally.{BookCall, single, sum, Tally}
 
 -- two calls about one book under tables of one meaning that differ at most in the schema, and in how long the buffers are
 pub record SameButBookSchema (c c′ : BookCall) : Type 0 where
@@ -32,6 +32,8 @@ pub record SheetFares (l : Level) (a a′ : Answer) : Type 0 where
   -- and its detail is the same as well where only open marks differ
   pub explains : l ≡ marks → IsDefect (numbersOf a .number) → numbersOf a′ .passed ≡ numbersOf a .passed → numbersOf a′ .detail ≡ numbersOf a .detail
   pub refuses : (numbersOf a .number ≡ 5) ↔ (numbersOf a′ .number ≡ 5)
+  -- the widening brings no defect: where there is one now, there was one before
+  pub brings : IsDefect (numbersOf a′ .number) → IsDefect (numbersOf a .number)
 
 -- what two tallies of one book say, the second under the widened schema
 pub record BookFares (l : Level) (c c′ : BookCall) (t t′ : Tally) : Type 0 where
@@ -46,4 +48,6 @@ pub record BookFares (l : Level) (c c′ : BookCall) (t t′ : Tally) : Type 0 w
   pub accepted : t .accepted ≤ t′ .accepted
   pub ruleRefused : t′ .ruleRefused ≡ t .ruleRefused
   pub schemaRefused : (t .schemaRefused ≡ 0) × (t′ .schemaRefused ≡ 0)
+  -- so there are no more defects than before
+  pub found : sum (t′ .found) ≤ sum (t .found)
   pub passed : t .passed ≤ t′ .passed

@@ -19,7 +19,7 @@ use Rattle.validation.specs.DemandLaws.{NotRefused, passed, SameDefect, heard, 
 use Rattle.call.specs.Call.{told}
 use Rattle.rule_book.specs.Book.{sheetsOf}
 use Rattle.rule_book.specs.Tally.{BookCall, askedOf, single, answersOf, countOf, sum, passedIn, Tally, tallyOf, bookAnswer}
-use Rattle.rule_book.specs.TallyLaws.{is-tallied}
+use Rattle.rule_book.specs.TallyLaws.{is-tallied, adds-up}
 use Rattle.rule_book.specs.BookGrowth.{SameButBookSchema, SheetFares, BookFares}
 
 -- Two answers that are verdicts.
@@ -29,6 +29,13 @@ unfolding numbersOf
 not-5 (refusal p) n e = n
 not-5 acceptance n e = omega arith
 not-5 (finding f) n e = omega (arith, f .low)
+
+-- a verdict that is not acceptance is a defect
+verdict-found : {a : Answer} → Heard a → NotRefused a → (numbersOf a .number ≡ 0 → ⊥) → IsDefect (numbersOf a .number)
+unfolding numbersOf
+verdict-found (refusal p) n other = absurd n
+verdict-found acceptance n other = absurd (other refl)
+verdict-found (finding f) n other = f
 
 passes-as-many : {l : Level} {a′ : Answer} (a : Answer) → NotRefused a → AnswersFare l a a′ → passed a ≤ passed a′
 passes-as-many (refused n) h f = absurd h
@@ -65,6 +72,13 @@ module _ {l : Level} {a a′ : Answer} (h : Heard a) (h′ : Heard a′) (n : No
       let count : d′ .passed ≡ d .passed = sym (ap passed same′) ∙ as-many d same e in
       both-found d d′ same same′ (f .explains m d d′ same same′ count)
 
+  brings : IsDefect (numbersOf a′ .number) → IsDefect (numbersOf a .number)
+  brings there = by (eqb (numbersOf a .number) 0) refl
+    where
+      by : (b : Bool) → eqb (numbersOf a .number) 0 ≡ b → IsDefect (numbersOf a .number)
+      by true e = absurd (omega (arith, there .low, accepts (eqb-true _ 0 e) .0))
+      by false e = verdict-found h n (eqb-false _ 0 e)
+
   verdicts-fare : SheetFares l a a′
   verdicts-fare =
       record {
@@ -73,6 +87,7 @@ module _ {l : Level} {a a′ : Answer} (h : Heard a) (h′ : Heard a′) (n : No
         repeats = repeats;
         explains = explains;
         refuses = (λ e. absurd (not-5 h n e), λ e. absurd (not-5 h′ n′ e));
+        brings = brings;
       }
 
 -- Two that are 5.
@@ -87,6 +102,7 @@ both-5 e e′ =
       repeats = λ d z. absurd (omega (arith, d .low));
       explains = λ m d z. refl;
       refuses = (λ z. refl, λ z. refl);
+      brings = λ d. d;
     })
 
 -- A sheet of the book: by its own check under either schema.
@@ -205,17 +221,20 @@ book-demand-3 {l} c c′ t t′ s w e e′ =
     let same : is′ .sheets ≡ is .sheets = Option·some-injective _ _ (sym (is′ .form) ∙ form′) in
     let tally : t ≡ tallyOf (answersOf c (is .sheets)) = is .tally in
     let tally′ : t′ ≡ tallyOf (answersOf c′ (is .sheets)) = is′ .tally ∙ ap (λ (x : List (List ℕ)). tallyOf (answersOf c′ x)) same in
+    let read : t′ .read ≡ t .read = rw (tally, tally′) (answers-count c′ (is .sheets) ∙ sym (answers-count c (is .sheets))) in
+    let accepted : t .accepted ≤ t′ .accepted = rw (tally, tally′) (accepted-grows c c′ s w (is .unrefused) (is′ .unrefused) (is .sheets)) in
+    let refused : t′ .ruleRefused ≡ t .ruleRefused = rw (tally, tally′) (refused-same c c′ s w (is .unrefused) (is′ .unrefused) (is .sheets)) in
+    let none-by : t .schemaRefused ≡ 0 = rw tally (none-by-4 c (w .first) (w .decodesFirst) (is .unrefused) (is .sheets)) in
+    let none-by′ : t′ .schemaRefused ≡ 0 = rw tally′ (none-by-4 c′ (w .second) (w .decodesSecond) (is′ .unrefused) (is .sheets)) in
     record {
       sheets = is .sheets;
       form = is .form;
       form′ = form′;
       fares = λ k less. sheet-fares c c′ s w (is .unrefused) (is′ .unrefused) (getD (is .sheets) k []);
-      read = rw (tally, tally′) (answers-count c′ (is .sheets) ∙ sym (answers-count c (is .sheets)));
-      accepted = rw (tally, tally′) (accepted-grows c c′ s w (is .unrefused) (is′ .unrefused) (is .sheets));
-      ruleRefused = rw (tally, tally′) (refused-same c c′ s w (is .unrefused) (is′ .unrefused) (is .sheets));
-      schemaRefused = (
-        rw tally (none-by-4 c (w .first) (w .decodesFirst) (is .unrefused) (is .sheets)),
-        rw tally′ (none-by-4 c′ (w .second) (w .decodesSecond) (is′ .unrefused) (is .sheets)),
-      );
+      read = read;
+      accepted = accepted;
+      ruleRefused = refused;
+      schemaRefused = (none-by, none-by′);
+      found = omega (arith, adds-up c t e, adds-up c′ t′ e′, read, accepted, refused, none-by, none-by′);
       passed = rw (tally, tally′) (passed-grows c c′ s w (is .unrefused) (is′ .unrefused) (is .sheets));
     }

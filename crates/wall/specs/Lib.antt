@@ -6,3 +6,5 @@ pub mod PageLaws
 pub mod WallLaws
 pub mod Writing
 pub mod Printing
+pub mod WallGrowth
+pub mod WallGrowthLaws
