@@ -26,7 +26,6 @@ pub mod limits;
 mod number;
 mod numbered;
 mod openings;
-#[allow(unsafe_code)]
 pub mod raw;
 mod settings;
 mod sheets;

@@ -245,7 +245,7 @@ fn the_header_declares_what_the_crate_calls() {
     functions.extend(declared(HEADER, "uint64_t rulecheck_"));
     functions.sort();
     let called = include_str!("../src/raw/functions.rs");
-    assert_eq!(functions, declared(called, "pub fn rulecheck_"));
+    assert_eq!(functions, declared(called, "    rulecheck_"));
     assert_eq!(functions.len(), 14);
     assert!(include_str!("../README.md").contains("declares the fourteen functions"));
 }
