@@ -1,5 +1,5 @@
 //! The library's C functions as `include/entity_rules.h` declares them, each with the slices that it is lent. The folders bench and differential take this file in, so that there is no other declaration in Rust, and no
-//! other place where a slice is taken apart for a call.
+//! other place where a slice is taken apart for one of them.
 
 use std::marker::PhantomData;
 use std::mem::MaybeUninit;
