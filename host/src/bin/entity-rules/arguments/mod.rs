@@ -1,15 +1,15 @@
 //! The command line.
 
-mod commands;
+mod by_command;
 mod help;
 mod options;
 #[cfg(test)]
 mod tests;
 
-pub use commands::missing_kind;
+pub use by_command::missing_kind;
 pub use help::HELP;
 
-use crate::meaning;
+use crate::commands::explain::meaning;
 use crate::near::meant;
 use entity_rules::{Kind, Reader, Semantics};
 use options::Options;

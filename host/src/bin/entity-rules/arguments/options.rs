@@ -7,10 +7,10 @@ use std::ffi::OsString;
 use std::path::PathBuf;
 use std::str::FromStr;
 
-pub(super) const FLAGS: [&str; 5] = ["--json", "--quiet", "--sarif", "--constants", "--write"];
+pub const FLAGS: [&str; 5] = ["--json", "--quiet", "--sarif", "--constants", "--write"];
 
 /// The options that take a value, and those that are asked before any command.
-pub(super) const OTHERS: [&str; 7] = [
+pub const OTHERS: [&str; 7] = [
     "--kind",
     "--semantics",
     "--reader",
@@ -22,20 +22,20 @@ pub(super) const OTHERS: [&str; 7] = [
 
 /// The words and options as they are met.
 #[derive(Default)]
-pub(super) struct Options {
-    pub(super) words: Vec<OsString>,
-    pub(super) kind: Option<Kind>,
-    pub(super) semantics: Option<Semantics>,
-    pub(super) reader: Option<Reader>,
-    pub(super) label: Option<String>,
-    pub(super) table: Option<PathBuf>,
-    pub(super) write: bool,
-    pub(super) output: Output,
+pub struct Options {
+    pub words: Vec<OsString>,
+    pub kind: Option<Kind>,
+    pub semantics: Option<Semantics>,
+    pub reader: Option<Reader>,
+    pub label: Option<String>,
+    pub table: Option<PathBuf>,
+    pub write: bool,
+    pub output: Output,
 }
 
 impl Options {
     /// All words after the command, or the first that is not what was expected.
-    pub(super) fn read(mut words: impl Iterator<Item = OsString>) -> Result<Self, String> {
+    pub fn read(mut words: impl Iterator<Item = OsString>) -> Result<Self, String> {
         let mut options = Self::default();
         while let Some(word) = words.next() {
             if word == "--" {

@@ -7,7 +7,7 @@ use std::ffi::OsString;
 use std::path::PathBuf;
 
 impl Options {
-    pub(super) fn check(self) -> Result<Arguments, String> {
+    pub fn check(self) -> Result<Arguments, String> {
         self.once("check")?;
         not_for("check", &[("--write", self.write)])?;
         if self.output.json && self.output.sarif {
@@ -17,12 +17,12 @@ impl Options {
         self.rules("check", schema, &rules)
     }
 
-    pub(super) fn tally(self) -> Result<BookRun, String> {
+    pub fn tally(self) -> Result<BookRun, String> {
         not_for("tally", &[("--label", self.label.is_some())])?;
         self.book_run("tally")
     }
 
-    pub(super) fn wall(self) -> Result<BookRun, String> {
+    pub fn wall(self) -> Result<BookRun, String> {
         let given = [("--json", self.output.json), ("--quiet", self.output.quiet)];
         not_for("wall", &given)?;
         self.book_run("wall")
@@ -63,7 +63,7 @@ impl Options {
         })
     }
 
-    pub(super) fn widens(self) -> Result<Pair, String> {
+    pub fn widens(self) -> Result<Pair, String> {
         self.only_output("widens")?;
         self.once("widens")?;
         match self.words.as_slice() {
@@ -76,7 +76,7 @@ impl Options {
         }
     }
 
-    pub(super) fn open(self) -> Result<Opening, String> {
+    pub fn open(self) -> Result<Opening, String> {
         self.once("open")?;
         let given = [
             ("--sarif", self.output.sarif),
@@ -94,7 +94,7 @@ impl Options {
         })
     }
 
-    pub(super) fn upgrade(self) -> Result<Upgrade, String> {
+    pub fn upgrade(self) -> Result<Upgrade, String> {
         self.once("upgrade")?;
         let given = [
             ("--sarif", self.output.sarif),
@@ -143,7 +143,7 @@ impl Options {
         self.arguments(command, schema, asked)
     }
 
-    pub(super) fn path(self) -> Result<Arguments, String> {
+    pub fn path(self) -> Result<Arguments, String> {
         let given = [
             ("--kind", self.kind.is_some()),
             ("--label", self.label.is_some()),
@@ -159,7 +159,7 @@ impl Options {
     }
 
     /// What a command is given that takes files and no option.
-    pub(super) fn files(self, command: &str, file: &str) -> Result<Vec<PathBuf>, String> {
+    pub fn files(self, command: &str, file: &str) -> Result<Vec<PathBuf>, String> {
         self.only_output(command)?;
         let given = [("--json", self.output.json), ("--quiet", self.output.quiet)];
         not_for(command, &given)?;
@@ -170,7 +170,7 @@ impl Options {
         }
     }
 
-    pub(super) fn instant(self) -> Result<Instants, String> {
+    pub fn instant(self) -> Result<Instants, String> {
         self.only_output("instant")?;
         match self.words.is_empty() {
             true => Err("instant: expected at least one TEXT".to_owned()),
