@@ -1,6 +1,6 @@
 //! `check`, `path` and `instant`: rules, key paths and texts one by one.
 
-use super::{bar, rules};
+use super::{Told, print_each, rules};
 use crate::arguments::{Arguments, Instants, Output};
 use crate::checked::{Checked, Shared};
 use crate::json;
@@ -35,23 +35,19 @@ fn print<'a>(
 ) -> io::Result<u8> {
     let total = all.len();
     let palette = Palette::new(io::stdout().is_terminal());
-    let mut progress = bar(total, noun);
     let mut counts = Counts::default();
     let mut log = output.sarif.then(Log::default);
-    for checked in all {
+    print_each(all, noun, out, |checked| {
         counts.count(&checked.outcome);
+        let is_shown = log.is_none() && !(output.quiet && checked.outcome.is_plain());
         if let Some(log) = &mut log {
             log.add(&checked);
-        } else if !(output.quiet && checked.outcome.is_plain()) {
-            progress.clear();
-            out.write_all(show(output, &palette, &checked).as_bytes())?;
         }
-        progress.step();
-        if !output.json && checked.outcome.blames_what_is_shared() {
-            break;
+        Told {
+            text: is_shown.then(|| show(output, &palette, &checked)),
+            is_last: !output.json && checked.outcome.blames_what_is_shared(),
         }
-    }
-    progress.clear();
+    })?;
     let status = counts.status();
     let is_for_people = !output.json && log.is_none();
     if let Some(log) = log {

@@ -77,3 +77,32 @@ fn bar(total: usize, noun: &'static str) -> Progress<io::Stderr> {
     let is_shown = io::stderr().is_terminal() && !terminal::is_dumb();
     Progress::new(io::stderr(), is_shown, total, noun)
 }
+
+/// Prints what is told of each, as far as one that is the last, with a bar meanwhile.
+fn print_each<T>(
+    all: impl ExactSizeIterator<Item = T>,
+    noun: &'static str,
+    out: &mut impl Write,
+    mut tell: impl FnMut(T) -> Told,
+) -> io::Result<()> {
+    let mut progress = bar(all.len(), noun);
+    for one in all {
+        let Told { text, is_last } = tell(one);
+        if let Some(text) = text {
+            progress.clear();
+            out.write_all(text.as_bytes())?;
+        }
+        progress.step();
+        if is_last {
+            break;
+        }
+    }
+    progress.clear();
+    Ok(())
+}
+
+/// What is told of one rule, path or text, and whether it is the last: it is where something is at fault that all of them share.
+struct Told {
+    text: Option<String>,
+    is_last: bool,
+}

@@ -1,6 +1,6 @@
 //! `open`: rules, and the objects of the schema that must be opened for them.
 
-use super::{bar, rules};
+use super::{Told, print_each, rules};
 use crate::arguments::{self, Arguments};
 use crate::checked::{Checked, Outcome, Question, Shared};
 use crate::json::{outcome_members, subject_member};
@@ -40,25 +40,19 @@ fn print_openings<'a>(
     let output = arguments.output;
     let total = all.len();
     let palette = Palette::new(io::stdout().is_terminal());
-    let mut progress = bar(total, arguments.asked.noun());
     let mut remedies = Remedies::default();
-    for opened in all {
-        let is_last = !output.json && opened.blames_what_is_shared();
+    print_each(all, arguments.asked.noun(), out, |opened| {
         remedies.count(&opened);
-        if !(output.quiet && opened.is_accepted()) {
-            progress.clear();
-            let text = match output.json {
+        let is_shown = !(output.quiet && opened.is_accepted());
+        let is_last = !output.json && opened.blames_what_is_shared();
+        Told {
+            text: is_shown.then(|| match output.json {
                 true => opened.line(),
                 false => opened.text(&palette, &arguments.schema),
-            };
-            out.write_all(text.as_bytes())?;
+            }),
+            is_last,
         }
-        progress.step();
-        if is_last {
-            break;
-        }
-    }
-    progress.clear();
+    })?;
     if !output.json && total > 1 && !(output.quiet && remedies.is_plain()) {
         writeln!(out, "{}", remedies.summary(total))?;
     }

@@ -1,7 +1,7 @@
 //! `upgrade`: rules, when a new schema takes the place of the one that they were checked against.
 
 use super::widens::{self, Compared, Comparison};
-use super::{bar, rules};
+use super::{Told, print_each, rules};
 use crate::REFUSED;
 use crate::arguments::{Arguments, Upgrade};
 use crate::checked::{Checked, Outcome, Question, Shared};
@@ -52,25 +52,19 @@ fn upgrade_rules<'a>(
     let output = arguments.output;
     let total = all.len();
     let palette = Palette::new(io::stdout().is_terminal());
-    let mut progress = bar(total, arguments.asked.noun());
     let mut fates = Fates::default();
-    for upgraded in all {
-        let is_last = !output.json && upgraded.blames_what_is_shared();
+    print_each(all, arguments.asked.noun(), out, |upgraded| {
         fates.count(&upgraded.fate);
-        if !(output.quiet && upgraded.is_as_before()) {
-            progress.clear();
-            let text = match output.json {
+        let is_shown = !(output.quiet && upgraded.is_as_before());
+        let is_last = !output.json && upgraded.blames_what_is_shared();
+        Told {
+            text: is_shown.then(|| match output.json {
                 true => upgraded.line(),
                 false => upgraded.text(&palette, files),
-            };
-            out.write_all(text.as_bytes())?;
+            }),
+            is_last,
         }
-        progress.step();
-        if is_last {
-            break;
-        }
-    }
-    progress.clear();
+    })?;
     let status = fates.status();
     if !output.json && total > 1 && !(output.quiet && status == 0) {
         writeln!(out, "{}", fates.summary(total))?;
