@@ -1,6 +1,6 @@
 //! Rule books (docs/FORMAT.md, "Rule books").
 
-use crate::verdict::Refusal;
+use crate::refusal::Refusal;
 use std::fmt;
 
 /// A rule book: sheets of rules and templates one after another, each with its length and a comma before it.

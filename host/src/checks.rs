@@ -6,10 +6,11 @@ use crate::limits::{
     WALL_BYTES,
 };
 use crate::openings;
+use crate::refusal::Refusal;
 use crate::settings::{Kind, Semantics};
 use crate::sheets::{RuleBytes, SchemaBytes};
 use crate::tally::{self, Tally};
-use crate::verdict::{self, Refusal, Verdict};
+use crate::verdict::{self, Verdict};
 use crate::{raw, wall};
 
 /// A check of a rule or template, as the first letter of its sheet says, with everything that it can be lent.

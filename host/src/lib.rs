@@ -18,6 +18,8 @@ mod book;
 mod build;
 mod checks;
 mod constants;
+mod defect;
+mod detail;
 pub mod entries;
 mod finite;
 mod identity;
@@ -26,8 +28,8 @@ pub mod limits;
 mod number;
 mod numbered;
 mod openings;
-#[allow(unsafe_code)]
 pub mod raw;
+mod refusal;
 mod settings;
 mod sheets;
 mod table;
@@ -41,18 +43,18 @@ pub use book::{Book, BookError, BookSheet};
 pub use build::{BuildError, Condition, Field, Rule, Schema, Template, Value};
 pub use checks::{Check, Checked};
 pub use constants::Constant;
+pub use defect::{Defect, DefectNumber, Family};
+pub use detail::{CollectionFault, Detail, InstantFault, ReferenceFault, Side};
 pub use finite::{Finite, finite};
 pub use identity::{Identity, Packed, identity};
 pub use instant::{Instant, instant};
 pub use openings::opened;
+pub use refusal::Refusal;
 pub use settings::{Kind, Name, Reader, Semantics, UnknownName};
 pub use sheets::{RuleBytes, RuleSheet, SchemaBytes, SchemaSheet};
 pub use table::{Table, TableError};
 pub use tally::Tally;
-pub use verdict::{
-    CollectionFault, Defect, DefectNumber, Detail, Family, InstantFault, PathVerdict,
-    ReferenceFault, Refusal, Side, Verdict,
-};
+pub use verdict::{PathVerdict, Verdict};
 pub use vocabulary::{CompareOp, FieldKind, Nesting, Operator};
 pub use widening::{Breach, BreachReason, Widening, widens};
 

@@ -3,8 +3,8 @@
 use crate::entries::{Malformed, read_schema};
 use crate::limits::{MAX_SCHEMA_ENTRIES, OPENINGS_BYTES};
 use crate::raw;
+use crate::refusal::Refusal;
 use crate::sheets::{SchemaBytes, SchemaSheet};
-use crate::verdict::Refusal;
 
 /// The schema with these marks at 1, numbered as [`openings`](crate::openings()) has them: 0 is the mark of the arguments, 1 that of the record, any other
 /// that of the field with this entry.

@@ -17,6 +17,7 @@
 //! assert_eq!(path.get(..length as usize), Some(&b"r.assert.exists"[..]));
 //! ```
 
+#[allow(unsafe_code)]
 mod functions;
 
 use functions::{
@@ -45,25 +46,15 @@ pub fn rule(
     path: &mut [u8],
     result: &mut [u8],
 ) -> u32 {
-    // SAFETY: each pointer and length are those of a slice, so the pointer is not null even where the length is 0. The library reads the
-    // first three and writes the last two, none of them beyond its length, and keeps no pointer; as slices lent mutably the last
-    // two overlap nothing.
-    unsafe {
-        rulecheck_rule(
-            kind,
-            semantics,
-            label.as_ptr(),
-            label.len(),
-            schema.as_ptr(),
-            schema.len(),
-            rule.as_ptr(),
-            rule.len(),
-            path.as_mut_ptr(),
-            path.len(),
-            result.as_mut_ptr(),
-            result.len(),
-        )
-    }
+    rulecheck_rule(
+        kind,
+        semantics,
+        label,
+        schema,
+        rule,
+        path.into(),
+        result.into(),
+    )
 }
 
 /// Checks a template; otherwise as [`rule`]. A rule's sheet is refusal 5.
@@ -86,23 +77,15 @@ pub fn template(
     path: &mut [u8],
     result: &mut [u8],
 ) -> u32 {
-    // SAFETY: as in `rule`.
-    unsafe {
-        rulecheck_template(
-            kind,
-            semantics,
-            label.as_ptr(),
-            label.len(),
-            schema.as_ptr(),
-            schema.len(),
-            rule.as_ptr(),
-            rule.len(),
-            path.as_mut_ptr(),
-            path.len(),
-            result.as_mut_ptr(),
-            result.len(),
-        )
-    }
+    rulecheck_template(
+        kind,
+        semantics,
+        label,
+        schema,
+        rule,
+        path.into(),
+        result.into(),
+    )
 }
 
 /// Checks a rule or a template, as the first letter of its sheet says, under a name table, and marks the conditions of an accepted rule that are
@@ -147,27 +130,17 @@ pub fn check(
     marks: &mut [u8],
     result: &mut [u8],
 ) -> u32 {
-    // SAFETY: as in `rule`; the table is a slice that is read, like the sheets, and the marks one that is written, like the path.
-    unsafe {
-        rulecheck_check(
-            kind,
-            semantics,
-            label.as_ptr(),
-            label.len(),
-            table.as_ptr(),
-            table.len(),
-            schema.as_ptr(),
-            schema.len(),
-            rule.as_ptr(),
-            rule.len(),
-            path.as_mut_ptr(),
-            path.len(),
-            marks.as_mut_ptr(),
-            marks.len(),
-            result.as_mut_ptr(),
-            result.len(),
-        )
-    }
+    rulecheck_check(
+        kind,
+        semantics,
+        label,
+        table,
+        schema,
+        rule,
+        path.into(),
+        marks.into(),
+        result.into(),
+    )
 }
 
 /// Copies a name table to the start of a buffer and answers 0; else the buffer stays as it is.
@@ -186,16 +159,7 @@ pub fn check(
 /// # Ok::<(), entity_rules::TableError>(())
 /// ```
 pub fn load_table(table: &[u8], buffer: &mut [u8]) -> u32 {
-    // SAFETY: both pointers and lengths are those of slices. The library reads the first and writes the second, neither beyond its length, and
-    // keeps no pointer; as a slice lent mutably the second does not overlap the first.
-    unsafe {
-        rulecheck_load_table(
-            table.as_ptr(),
-            table.len(),
-            buffer.as_mut_ptr(),
-            buffer.len(),
-        )
-    }
+    rulecheck_load_table(table, buffer.into())
 }
 
 /// Checks one path of the record's fields, without `$fields.` before it; the answer is the number, and `result` takes all seven numbers.
@@ -215,20 +179,7 @@ pub fn load_table(table: &[u8], buffer: &mut [u8]) -> u32 {
 /// assert_eq!(raw::path(2, 2, b"", b"", &mut result), 4);
 /// ```
 pub fn path(semantics: u64, reader: u64, path: &[u8], schema: &[u8], result: &mut [u8]) -> u32 {
-    // SAFETY: each pointer and length are those of a slice. The library reads the first two and writes the last one, none of them beyond
-    // its length, and keeps no pointer; as a slice lent mutably the last one overlaps nothing.
-    unsafe {
-        rulecheck_path(
-            semantics,
-            reader,
-            path.as_ptr(),
-            path.len(),
-            schema.as_ptr(),
-            schema.len(),
-            result.as_mut_ptr(),
-            result.len(),
-        )
-    }
+    rulecheck_path(semantics, reader, path, schema, result.into())
 }
 
 /// Decides whether the second schema is a widening of the first; the answer is 0 whichever it is, and `result` takes five numbers and two zeros: 0, which of
@@ -249,17 +200,7 @@ pub fn path(semantics: u64, reader: u64, path: &[u8], schema: &[u8], result: &mu
 /// assert_eq!(raw::widens(b"", b"", &mut []), 3);
 /// ```
 pub fn widens(first: &[u8], second: &[u8], result: &mut [u8]) -> u32 {
-    // SAFETY: as in `path`.
-    unsafe {
-        rulecheck_widens(
-            first.as_ptr(),
-            first.len(),
-            second.as_ptr(),
-            second.len(),
-            result.as_mut_ptr(),
-            result.len(),
-        )
-    }
+    rulecheck_widens(first, second, result.into())
 }
 
 /// Tallies a rule book; the answer is 0 or a refusal, and `result` takes eighteen numbers of eight bytes, which [`count`] reads: the answer, the sheets read, accepted,
@@ -294,25 +235,16 @@ pub fn tally(
     path: &mut [u8],
     result: &mut [u8],
 ) -> u32 {
-    // SAFETY: as in `rule`; table and book are slices that are read, like the schema.
-    unsafe {
-        rulecheck_tally(
-            kind,
-            semantics,
-            label.as_ptr(),
-            label.len(),
-            table.as_ptr(),
-            table.len(),
-            schema.as_ptr(),
-            schema.len(),
-            book.as_ptr(),
-            book.len(),
-            path.as_mut_ptr(),
-            path.len(),
-            result.as_mut_ptr(),
-            result.len(),
-        )
-    }
+    rulecheck_tally(
+        kind,
+        semantics,
+        label,
+        table,
+        schema,
+        book,
+        path.into(),
+        result.into(),
+    )
 }
 
 /// Prints how the sheets of a rule book fare; the answer is 0 or a refusal, and `result` takes two numbers of eight bytes, which [`count`] reads: the answer and the count of pages,
@@ -347,27 +279,17 @@ pub fn wall(
     pages: &mut [u8],
     result: &mut [u8],
 ) -> u32 {
-    // SAFETY: as in `tally`; the pages are a slice that is written, lent mutably like the other two.
-    unsafe {
-        rulecheck_wall(
-            kind,
-            semantics,
-            label.as_ptr(),
-            label.len(),
-            table.as_ptr(),
-            table.len(),
-            schema.as_ptr(),
-            schema.len(),
-            book.as_ptr(),
-            book.len(),
-            path.as_mut_ptr(),
-            path.len(),
-            pages.as_mut_ptr(),
-            pages.len(),
-            result.as_mut_ptr(),
-            result.len(),
-        )
-    }
+    rulecheck_wall(
+        kind,
+        semantics,
+        label,
+        table,
+        schema,
+        book,
+        path.into(),
+        pages.into(),
+        result.into(),
+    )
 }
 
 /// Finds the fewest marks of a schema to open so that a rule or template is accepted; the answer is 0 or a refusal, and `result` takes three numbers of four bytes, which [`field`] reads: the
@@ -405,25 +327,16 @@ pub fn openings(
     list: &mut [u8],
     result: &mut [u8],
 ) -> u32 {
-    // SAFETY: as in `rule`; the table is a slice that is read, like the schema, and the list one that is written, lent mutably like the other two.
-    unsafe {
-        rulecheck_openings(
-            kind,
-            semantics,
-            table.as_ptr(),
-            table.len(),
-            schema.as_ptr(),
-            schema.len(),
-            rule.as_ptr(),
-            rule.len(),
-            path.as_mut_ptr(),
-            path.len(),
-            list.as_mut_ptr(),
-            list.len(),
-            result.as_mut_ptr(),
-            result.len(),
-        )
-    }
+    rulecheck_openings(
+        kind,
+        semantics,
+        table,
+        schema,
+        rule,
+        path.into(),
+        list.into(),
+        result.into(),
+    )
 }
 
 /// One of the eighteen numbers that [`tally`] leaves, or of the two of [`wall`].
@@ -440,8 +353,7 @@ pub fn openings(
 /// ```
 #[must_use]
 pub fn count(result: &[u8], index: u32) -> u64 {
-    // SAFETY: pointer and length are those of a slice, which the library only reads.
-    unsafe { rulecheck_count(result.as_ptr(), result.len(), index) }
+    rulecheck_count(result, index)
 }
 
 /// One of the numbers in a result: 0 number, 1 family, 2 detail, 3 place, 4 over place, 5 passed, 6 path length, after [`check`] 7 how many marks; after
@@ -459,8 +371,7 @@ pub fn count(result: &[u8], index: u32) -> u64 {
 /// ```
 #[must_use]
 pub fn field(result: &[u8], index: u32) -> u32 {
-    // SAFETY: pointer and length are those of a slice, which the library only reads.
-    unsafe { rulecheck_field(result.as_ptr(), result.len(), index) }
+    rulecheck_field(result, index)
 }
 
 /// The seven numbers of a result, or fields of an instant.
@@ -475,8 +386,7 @@ pub(crate) fn numbers(result: &[u8]) -> [u32; 7] {
 /// ```
 #[must_use]
 pub fn version() -> u32 {
-    // SAFETY: the function takes nothing and touches no memory of the caller.
-    unsafe { rulecheck_version() }
+    rulecheck_version()
 }
 
 /// Twice the number of digits that were compared with those of 2^1024 - 2^970, and 1 more if the text is a finite number.
@@ -493,8 +403,7 @@ pub fn version() -> u32 {
 /// ```
 #[must_use]
 pub fn finite(text: &[u8]) -> u32 {
-    // SAFETY: pointer and length are those of a slice, which the library only reads.
-    unsafe { rulecheck_finite(text.as_ptr(), text.len()) }
+    rulecheck_finite(text)
 }
 
 /// Reads an instant and answers 0; `fields` takes its year, month, day, hour, minute, second and nanoseconds as seven numbers, which [`field`] reads.
@@ -513,7 +422,5 @@ pub fn finite(text: &[u8]) -> u32 {
 /// assert_eq!(raw::field(&fields, 0), 2024);
 /// ```
 pub fn instant(text: &[u8], fields: &mut [u8]) -> u32 {
-    // SAFETY: both pointers and lengths are those of slices. The library reads the first and writes the second, neither beyond its length, and
-    // keeps no pointer; as a slice lent mutably the second does not overlap the first.
-    unsafe { rulecheck_instant(text.as_ptr(), text.len(), fields.as_mut_ptr(), fields.len()) }
+    rulecheck_instant(text, fields.into())
 }

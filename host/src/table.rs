@@ -3,8 +3,8 @@
 use crate::entries::{Content, Malformed, read_table};
 use crate::limits::TABLE_BYTES;
 use crate::raw;
+use crate::refusal::Refusal;
 use crate::settings::{Kind, Name};
-use crate::verdict::Refusal;
 use std::collections::BTreeSet;
 use std::fmt;
 

@@ -1,8 +1,9 @@
 //! The tally of a rule book (docs/FORMAT.md, "Rule books").
 
+use crate::defect::DefectNumber;
 use crate::limits::TALLY_BYTES;
 use crate::raw;
-use crate::verdict::{DefectNumber, Refusal};
+use crate::refusal::Refusal;
 use std::fmt;
 use std::iter::Sum;
 

@@ -3,7 +3,7 @@
 use crate::book::Book;
 use crate::limits::{PAGE_BYTES, PAGE_SHEETS, WALL_BYTES};
 use crate::raw;
-use crate::verdict::Refusal;
+use crate::refusal::Refusal;
 
 /// A buffer for the pages of a book. What is not a book has none.
 pub(crate) fn buffer(book: &[u8]) -> Vec<u8> {

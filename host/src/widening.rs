@@ -3,8 +3,8 @@
 use crate::limits::RESULT_BYTES;
 use crate::numbered::numbered;
 use crate::raw;
+use crate::refusal::Refusal;
 use crate::sheets::SchemaBytes;
-use crate::verdict::Refusal;
 use std::fmt;
 
 numbered! {

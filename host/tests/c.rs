@@ -1,5 +1,7 @@
 //! The C header and the C example.
 
+mod support;
+
 use entity_rules::limits::{
     CHECK_RESULT_BYTES, MARKS_BYTES, MAX_KEY_BYTES, OPENING_LIST_BYTES, OPENINGS_BYTES, PAGE_BYTES,
     PAGE_SHEETS, PATH_BYTES, RESULT_BYTES, TABLE_BYTES, TALLY_BYTES, WALL_BYTES,
@@ -10,6 +12,7 @@ use entity_rules::{
 };
 use std::path::{Path, PathBuf};
 use std::process::Command;
+use support::skipped;
 
 const HEADER: &str = include_str!("../include/entity_rules.h");
 
@@ -85,10 +88,15 @@ fn is_cpp(file: &Path) -> bool {
 
 #[test]
 fn the_header_and_the_library_serve_cpp_too() {
-    if is_cpp(Path::new("/dev/null")) {
-        assert!(is_cpp(&host().join("include/entity_rules.h")));
-        runs(&built("check_cpp", &["-x", "c++"]));
+    if !is_cpp(Path::new("/dev/null")) {
+        skipped(
+            "the_header_and_the_library_serve_cpp_too",
+            "`cc` does not compile C++",
+        );
+        return;
     }
+    assert!(is_cpp(&host().join("include/entity_rules.h")));
+    runs(&built("check_cpp", &["-x", "c++"]));
 }
 
 /// A name of Rust as the header spells it: `CreateSet` as `CREATE_SET`, `Service1` as `SERVICE_1`.
@@ -237,7 +245,7 @@ fn the_header_declares_what_the_crate_calls() {
     functions.extend(declared(HEADER, "uint64_t rulecheck_"));
     functions.sort();
     let called = include_str!("../src/raw/functions.rs");
-    assert_eq!(functions, declared(called, "pub fn rulecheck_"));
+    assert_eq!(functions, declared(called, "    rulecheck_"));
     assert_eq!(functions.len(), 14);
     assert!(include_str!("../README.md").contains("declares the fourteen functions"));
 }

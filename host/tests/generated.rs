@@ -250,6 +250,7 @@ fn generated_schemas_read_back() {
 #[test]
 fn generated_rules_read_back() {
     let mut random = Random(0x5EED_0002);
+    let mut read = 0;
     for _ in 0..5_000 {
         let (condition, contents) = condition(&mut random, 1);
         let mut rule = Rule::new(condition);
@@ -264,7 +265,9 @@ fn generated_rules_read_back() {
         let entries = read_rule(&sheet).expect("what was written is read");
         let expected = [vec![Content::Rule { name, message }], contents].concat();
         assert_eq!(contents_of(&entries), expected);
+        read += 1;
     }
+    assert!(read > 4_900, "{read}");
 }
 
 #[test]
@@ -286,6 +289,7 @@ fn generated_templates_read_back() {
 #[test]
 fn the_reader_of_entries_agrees_on_damaged_sheets() {
     let mut random = Random(0x5EED_0004);
+    let mut pairs = 0;
     for _ in 0..60 {
         let (condition, _) = condition(&mut random, 4);
         let Ok(sheet) = Rule::new(condition).name("n").sheet() else {
@@ -315,7 +319,9 @@ fn the_reader_of_entries_agrees_on_damaged_sheets() {
                 String::from_utf8_lossy(&damaged)
             );
         }
+        pairs += 1;
     }
+    assert!(pairs > 50, "{pairs}");
 }
 
 fn damage(random: &mut Random, sheet: &[u8]) -> Vec<u8> {

@@ -122,6 +122,7 @@ fn all_marks() -> Vec<u32> {
 /// By checks alone: the set gives acceptance, and without one of its marks all others together do not.
 #[test]
 fn a_set_is_enough_and_every_mark_of_it_is_needed() {
+    let (mut answered, mut needed) = (0, 0);
     for_each_case(|case| {
         let Some(check) = check(case).filter(|_| case.number == 0) else {
             return;
@@ -132,17 +133,21 @@ fn a_set_is_enough_and_every_mark_of_it_is_needed() {
             checked.verdict.is_accepted()
         };
         assert_eq!(accepts(&all_marks()), case.set.is_some());
+        answered += 1;
         let Some(set) = &case.set else { return };
         assert!(accepts(set));
         for mark in set {
             let others: Vec<u32> = all_marks().into_iter().filter(|one| one != mark).collect();
             assert!(!accepts(&others), "{mark}");
+            needed += 1;
         }
     });
+    assert_eq!((answered, needed), (1_138, 889));
 }
 
 #[test]
 fn a_schema_that_is_opened_is_a_widening_with_nothing_to_open() {
+    let mut sets = 0;
     for_each_case(|case| {
         let (Some(check), Some(set)) = (check(case), &case.set) else {
             return;
@@ -150,7 +155,9 @@ fn a_schema_that_is_opened_is_a_widening_with_nothing_to_open() {
         let wider = opened(case.schema, set).expect("a schema");
         assert_eq!(widens(case.schema, &wider), Ok(Widening::Marks));
         assert_eq!(check.openings(&wider, case.rule), Ok(Some(Vec::new())));
+        sets += 1;
     });
+    assert_eq!(sets, 931);
 }
 
 /// A schema with as many closed objects as it can have, and a template that needs every one of them, the record and the arguments open.

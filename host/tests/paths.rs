@@ -137,6 +137,7 @@ fn the_list_has_every_detail_of_both_readers() {
 /// A key that the kernel reads is a reference without its root: the details are those of a rule.
 #[test]
 fn a_key_is_a_reference_without_its_root() {
+    let mut compared = 0;
     for_each_case(|case| {
         let Some((semantics, Reader::Kernel)) = case.settings() else {
             return;
@@ -154,7 +155,9 @@ fn a_key_is_a_reference_without_its_root() {
             .expected()
             .map(|verdict| verdict.fault().map(Detail::Reference));
         assert_eq!(detail, expected);
+        compared += 1;
     });
+    assert_eq!(compared, 982);
 }
 
 fn schema() -> SchemaSheet {

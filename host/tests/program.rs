@@ -1,12 +1,14 @@
 //! The program `rulecheck`, run on files that are as long as may be, too long, of another form, and missing.
 //!
-//! It is the one below the repository's `target/`, which `rt check rulecheck` proves and writes. Where the library comes from another folder there is
-//! no such program, and nothing to run.
+//! It is the one below the repository's `target/`, which `rt check rulecheck` proves and writes. What is packed has no tests, so wherever these are, the
+//! repository is, and a program that is missing there is a test that fails.
 
-use std::path::{Path, PathBuf};
+mod support;
+
+use std::fs;
+use std::path::Path;
 use std::process::{Command, Output};
-use std::sync::atomic::{AtomicUsize, Ordering};
-use std::{env, fs, process};
+use support::tool::folder;
 
 /// The longest file that is read.
 const MAX_FILE_BYTES: usize = 65_536;
@@ -15,66 +17,31 @@ const SCHEMA: &str = "H,0,1,-,0\nF,6,0,1,0,4,-,bars\nF,2,0,0,0,0,-,\n";
 const RULE: &str = "R,-,-,\nC,20,1,b\nV,5,12,$fields.bars\nC,12,0,\nV,5,8,$b.count\nV,4,1,9\n";
 const LINE: &str = "18,8,9,5,3,9,r.assert.for_all.that.lt[0]\n";
 
-fn program() -> Option<PathBuf> {
-    if env::var_os("ENTITY_RULES_LIB_DIR").is_some() {
-        return None;
-    }
+/// The answer to a file whose rule sheet is longer than a sheet may be.
+const REFUSED: &str = "5,0,0,0,0,0,\n";
+
+/// What the program prints in a folder of that name, whose `check.in` has these bytes, or that has none.
+fn printed(name: &str, file: Option<&[u8]>) -> String {
     let program = Path::new(env!("CARGO_MANIFEST_DIR")).join("../target/bin/rulecheck");
     assert!(
         program.is_file(),
-        "`rt check rulecheck` writes {}",
+        "{} is missing: `rt check rulecheck` writes it",
         program.display()
     );
-    Some(program)
-}
-
-/// A new folder, which goes with the value.
-struct Folder(PathBuf);
-
-impl Folder {
-    fn new() -> Folder {
-        static COUNT: AtomicUsize = AtomicUsize::new(0);
-        let name = format!(
-            "rulecheck-{}-{}",
-            process::id(),
-            COUNT.fetch_add(1, Ordering::Relaxed)
-        );
-        let folder = env::temp_dir().join(name);
-        fs::create_dir(&folder).expect("a new folder");
-        Folder(folder)
-    }
-}
-
-impl Drop for Folder {
-    fn drop(&mut self) {
-        let _ = fs::remove_dir_all(&self.0);
-    }
-}
-
-/// What the program prints in a folder whose `check.in` has these bytes, or that has none.
-fn printed(file: Option<&[u8]>) -> Option<String> {
-    let program = program()?;
-    let folder = Folder::new();
+    let folder = folder(name);
     if let Some(bytes) = file {
-        fs::write(folder.0.join("check.in"), bytes).expect("a file");
+        fs::write(folder.join("check.in"), bytes).expect("a file");
     }
     let Output {
         status,
         stdout,
         stderr,
     } = Command::new(program)
-        .current_dir(&folder.0)
+        .current_dir(folder)
         .output()
         .expect("the program runs");
-    assert!(status.success());
-    assert!(stderr.is_empty());
-    Some(String::from_utf8(stdout).expect("ASCII"))
-}
-
-fn prints(file: Option<&[u8]>, expected: &str) {
-    if let Some(printed) = printed(file) {
-        assert_eq!(printed, expected);
-    }
+    assert!(status.success() && stderr.is_empty());
+    String::from_utf8(stdout).expect("ASCII")
 }
 
 fn check_in(schema: &str, rule: &str) -> String {
@@ -91,34 +58,47 @@ fn file_of_bytes(bytes: usize) -> String {
 
 #[test]
 fn a_file_is_answered() {
-    prints(Some(check_in(SCHEMA, RULE).as_bytes()), LINE);
+    let file = check_in(SCHEMA, RULE);
+    assert_eq!(printed("program_file", Some(file.as_bytes())), LINE);
 }
 
 #[test]
 fn the_longest_file_is_answered() {
-    prints(
-        Some(file_of_bytes(MAX_FILE_BYTES).as_bytes()),
-        "5,0,0,0,0,0,\n",
-    );
+    for bytes in [MAX_FILE_BYTES - 1, MAX_FILE_BYTES] {
+        let file = file_of_bytes(bytes);
+        assert_eq!(printed("program_longest", Some(file.as_bytes())), REFUSED);
+    }
 }
 
+/// Of their own form, or the longest file with something after it: a program that reads no byte past the limit would answer the latter.
 #[test]
 fn a_longer_file_gives_nothing() {
-    prints(Some(file_of_bytes(MAX_FILE_BYTES + 1).as_bytes()), "");
-    prints(Some(file_of_bytes(99_000).as_bytes()), "");
+    let longest = file_of_bytes(MAX_FILE_BYTES);
+    for file in [
+        file_of_bytes(MAX_FILE_BYTES + 1),
+        file_of_bytes(99_000),
+        format!("{longest}x"),
+        longest.repeat(2),
+    ] {
+        assert_eq!(printed("program_longer", Some(file.as_bytes())), "");
+    }
 }
 
 #[test]
 fn a_file_of_another_form_gives_nothing() {
     let file = check_in(SCHEMA, RULE);
-    prints(Some(b""), "");
-    prints(Some(b"{}"), "");
-    prints(Some(&file.as_bytes()[1..]), "");
-    prints(Some(&file.as_bytes()[..file.len() - 1]), "");
-    prints(Some(format!("{file}\n").as_bytes()), "");
+    for other in [
+        "",
+        "{}",
+        &file[1..],
+        &file[..file.len() - 1],
+        &format!("{file}\n"),
+    ] {
+        assert_eq!(printed("program_form", Some(other.as_bytes())), "");
+    }
 }
 
 #[test]
 fn no_file_gives_nothing() {
-    prints(None, "");
+    assert_eq!(printed("program_none", None), "");
 }

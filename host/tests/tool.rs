@@ -3,6 +3,7 @@
 mod support;
 
 use entity_rules::{Kind, Name, Semantics, Table, check_template};
+use std::collections::BTreeSet;
 use std::fs;
 use std::io::Write;
 use std::path::Path;
@@ -371,7 +372,6 @@ fn machines_read_json_of_paths() {
     );
 }
 
-#[cfg(unix)]
 #[test]
 fn a_path_that_is_no_text_is_refused() {
     use std::os::unix::ffi::OsStrExt;
@@ -519,6 +519,7 @@ fn the_readme_has_every_key() {
     let words = "pattern.schema release.rule misspelt.rule missing.rule pattern.schema --json";
     let (_, rules, _) = run_check(&mill(), words);
     let (_, instants) = run_instant(&["2024-02-29", "2023-02-29", "--json"]);
+    let mut keys = BTreeSet::new();
     for line in rules.lines().chain(instants.lines()) {
         for key in line
             .split(['{', ','])
@@ -526,8 +527,10 @@ fn the_readme_has_every_key() {
         {
             let key = key.0.trim_start_matches('"');
             assert!(readme.contains(&format!("| `{key}` |")), "{key}");
+            keys.insert(key);
         }
     }
+    assert_eq!(keys.len(), 29);
 }
 
 #[test]

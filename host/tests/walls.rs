@@ -115,9 +115,14 @@ fn the_typed_function_prints_every_case() {
             return;
         };
         let check = Check::new(kind, semantics, case.label).table(case.table);
-        match check.wall(case.schema, case.book) {
-            // Its buffer is never too short.
-            _ if case.number == 33 => {}
+        let printed = check.wall(case.schema, case.book);
+        if case.number == 33 {
+            // Its buffer is never too short, so that only what is tried after that is refused.
+            let tables = [Refusal::TableForm, Refusal::TableMark];
+            assert!(printed.map_or_else(|refusal| tables.contains(&refusal), |_| true));
+            return;
+        }
+        match printed {
             Err(refusal) => assert_eq!(refusal.number(), case.number),
             Ok(pages) => assert_eq!((pages.as_bytes(), 0), (&case.pages[..], case.number)),
         }

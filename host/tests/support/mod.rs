@@ -5,6 +5,7 @@
 pub mod tool;
 
 use entity_rules::{Kind, Refusal, Semantics, check};
+use std::io::Write;
 
 const EMPTY_SCHEMA: &[u8] = b"H,0,0,-,0\n";
 const NO_REFERENCE: &[u8] = b"T\nV,1,0,\n";
@@ -17,6 +18,11 @@ pub fn takes_schema(sheet: &[u8]) -> bool {
 /// Whether the library takes a rule sheet.
 pub fn takes_rule(sheet: &[u8]) -> bool {
     check(Kind::Invariant, Semantics::Kernel1, "", EMPTY_SCHEMA, sheet) != Err(Refusal::RuleSheet)
+}
+
+/// Says that a test is skipped and why, past what cargo keeps back of a test that passes.
+pub fn skipped(test: &str, why: &str) {
+    let _ = writeln!(std::io::stderr(), "skipped: {test}: {why}");
 }
 
 /// A fixed list of the folder vectors, after its first lines.

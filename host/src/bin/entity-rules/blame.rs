@@ -1,10 +1,10 @@
 //! Which part of a reference is at fault, and what was likely meant. Whether there is a fault, and which, the library decides; this follows the same path
 //! through the schema to explain it.
 
+use crate::members::{Holder, Tree};
 use crate::near::nearest;
 use crate::outline::Binder;
 use crate::printed::visible;
-use crate::widened::{Holder, Tree};
 use entity_rules::{FieldKind, Kind, Name, ReferenceFault, Semantics, Table};
 use std::ops::Range;
 

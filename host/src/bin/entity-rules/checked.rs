@@ -6,10 +6,10 @@ use crate::constant::{self, Always};
 use crate::files::{Fault, NoSheet, Rule, Rules, Sheet, Unreadable, fault, read_sheet};
 use crate::folders::Settings;
 use crate::hint::{hint, no_member};
+use crate::members::Tree;
 use crate::outline::reached;
 use crate::region::Region;
 use crate::subject::Subject;
-use crate::widened::Tree;
 use entity_rules::entries::{Content, read_rule, read_schema};
 use entity_rules::limits::TABLE_BYTES;
 use entity_rules::{

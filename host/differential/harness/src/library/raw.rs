@@ -3,7 +3,7 @@
 use crate::library::entry::Entry;
 use crate::library::functions::{
     rulecheck_check, rulecheck_count, rulecheck_field, rulecheck_finite, rulecheck_instant, rulecheck_load_table, rulecheck_openings,
-    rulecheck_path, rulecheck_rule, rulecheck_tally, rulecheck_template, rulecheck_wall, rulecheck_widens,
+    rulecheck_path, rulecheck_rule, rulecheck_tally, rulecheck_template, rulecheck_wall, rulecheck_widens, Lent,
 };
 use cases::books::BookCase;
 use cases::case::Case;
@@ -15,60 +15,19 @@ use cases::widens::WidensCase;
 use model::{TallyNumbers, MARKS_BYTES, OPENINGS_BYTES, PAGE_BYTES, TALLY_BYTES, WALL_BYTES};
 use std::mem::MaybeUninit;
 
-/// An entry that takes one sort of sheet.
-type Alone = unsafe extern "C" fn(u64, u64, *const u8, usize, *const u8, usize, *const u8, usize, *mut u8, usize, *mut u8, usize) -> u32;
-
 /// One call of the case, the slices lent as they are, and the table from a place of its own. An entry without marks is lent none.
 pub fn check(case: &Case, entry: Entry, table: &[u8], path: &mut [u8], marks: &mut [u8], result: &mut [u8]) -> u32 {
     let inputs = [case.label.as_slice(), table, &case.schema, &case.rule];
-    let buffers = [path, marks, result].map(|buffer| (buffer.as_mut_ptr(), buffer.len()));
-    // SAFETY: pointers and lengths are those of slices, and no two of them overlap.
-    unsafe { call(case, entry, inputs, buffers) }
+    call(case, entry, inputs, [path, marks, result].map(Lent::from))
 }
 
-/// # Safety
-///
-/// Each pointer of a buffer leads to as many bytes as its length says, and nothing else refers to these.
-unsafe fn call(case: &Case, entry: Entry, inputs: [&[u8]; 4], buffers: [(*mut u8, usize); 3]) -> u32 {
-    let ([label, table, schema, rule], [path, marks, result]) = (inputs, buffers);
-    let entry: Alone = match entry {
-        Entry::Rule => rulecheck_rule,
-        Entry::Template => rulecheck_template,
-        Entry::Check => {
-            return rulecheck_check(
-                case.kind,
-                case.semantics,
-                label.as_ptr(),
-                label.len(),
-                table.as_ptr(),
-                table.len(),
-                schema.as_ptr(),
-                schema.len(),
-                rule.as_ptr(),
-                rule.len(),
-                path.0,
-                path.1,
-                marks.0,
-                marks.1,
-                result.0,
-                result.1,
-            )
-        }
-    };
-    entry(
-        case.kind,
-        case.semantics,
-        label.as_ptr(),
-        label.len(),
-        schema.as_ptr(),
-        schema.len(),
-        rule.as_ptr(),
-        rule.len(),
-        path.0,
-        path.1,
-        result.0,
-        result.1,
-    )
+fn call(case: &Case, entry: Entry, [label, table, schema, rule]: [&[u8]; 4], [path, marks, result]: [Lent<'_>; 3]) -> u32 {
+    let (kind, semantics) = (case.kind, case.semantics);
+    match entry {
+        Entry::Rule => rulecheck_rule(kind, semantics, label, schema, rule, path, result),
+        Entry::Template => rulecheck_template(kind, semantics, label, schema, rule, path, result),
+        Entry::Check => rulecheck_check(kind, semantics, label, table, schema, rule, path, marks, result),
+    }
 }
 
 /// A call with buffers fresh from the allocator, which nobody wrote yet, and copies of the inputs that are exactly as long as these: the number, the
@@ -78,9 +37,8 @@ pub fn fresh(case: &Case, entry: Entry, result_length: usize) -> (u32, Option<[u
     let (mut path, mut result) = (Box::<[u8]>::new_uninit_slice(case.path_len), Box::<[u8]>::new_uninit_slice(result_length));
     let [label, table, schema, rule] = &inputs;
     let mut marks = Box::<[u8]>::new_uninit_slice(MARKS_BYTES);
-    let buffers = [&mut path, &mut marks, &mut result].map(|buffer| (buffer.as_mut_ptr().cast(), buffer.len()));
-    // SAFETY: the boxes are as long as said, and only read again after the call.
-    let number = unsafe { call(case, entry, [label, table, schema, rule], buffers) };
+    let buffers = [&mut path, &mut marks, &mut result].map(|buffer| Lent::from(&mut buffer[..]));
+    let number = call(case, entry, [label, table, schema, rule], buffers);
     // SAFETY: the call wrote the result, if it has room.
     let Some(numbers) = (unsafe { written(result.get(..entry.result_bytes()).unwrap_or_default()) }) else {
         return (number, None, Vec::new(), Vec::new());
@@ -119,81 +77,46 @@ unsafe fn written(result: &[MaybeUninit<u8>]) -> Option<[u32; 7]> {
 pub fn fresh_key(case: &KeyCase) -> (u32, Option<[u32; 7]>) {
     let [path, schema] = [&case.path, &case.schema].map(|input| input.clone().into_boxed_slice());
     let mut result = Box::<[u8]>::new_uninit_slice(case.result_len);
-    let lent = (result.as_mut_ptr().cast(), result.len());
-    // SAFETY: the boxes are as long as said, and only read again after the call, which wrote the result if it has room.
-    unsafe {
-        let number = call_key(case.semantics, case.reader, &path, &schema, lent);
-        (number, written(&result))
-    }
+    let number = rulecheck_path(case.semantics, case.reader, &path, &schema, Lent::from(&mut result[..]));
+    // SAFETY: the call wrote the result, if it has room.
+    (number, unsafe { written(&result) })
 }
 
 pub fn key(semantics: u64, reader: u64, path: &[u8], schema: &[u8], result: &mut [u8]) -> u32 {
-    // SAFETY: pointer and length are those of a slice that overlaps nothing.
-    unsafe { call_key(semantics, reader, path, schema, (result.as_mut_ptr(), result.len())) }
-}
-
-/// # Safety
-///
-/// The pointer of the result leads to as many bytes as its length says, and nothing else refers to these.
-unsafe fn call_key(semantics: u64, reader: u64, path: &[u8], schema: &[u8], result: (*mut u8, usize)) -> u32 {
-    rulecheck_path(semantics, reader, path.as_ptr(), path.len(), schema.as_ptr(), schema.len(), result.0, result.1)
+    rulecheck_path(semantics, reader, path, schema, result.into())
 }
 
 pub fn widens(first: &[u8], second: &[u8], result: &mut [u8]) -> u32 {
-    // SAFETY: pointers and lengths are those of slices, and the result overlaps nothing.
-    unsafe { rulecheck_widens(first.as_ptr(), first.len(), second.as_ptr(), second.len(), result.as_mut_ptr(), result.len()) }
+    rulecheck_widens(first, second, result.into())
 }
 
 /// A call for two schemas with a result fresh from the allocator and copies of the inputs, as `fresh`.
 pub fn fresh_widens(case: &WidensCase) -> (u32, Option<[u32; 7]>) {
     let [first, second] = [&case.first, &case.second].map(|input| input.clone().into_boxed_slice());
     let mut result = Box::<[u8]>::new_uninit_slice(case.result_len);
-    let lent: *mut u8 = result.as_mut_ptr().cast();
-    // SAFETY: the boxes are as long as said, and only read again after the call, which wrote the result if it has room.
-    unsafe {
-        let number = rulecheck_widens(first.as_ptr(), first.len(), second.as_ptr(), second.len(), lent, result.len());
-        (number, written(&result))
-    }
+    let number = rulecheck_widens(&first, &second, Lent::from(&mut result[..]));
+    // SAFETY: the call wrote the result, if it has room.
+    (number, unsafe { written(&result) })
 }
 
 /// Tallies the book of a case: label, table, schema and book are lent from places of their own.
 pub fn tally(case: &BookCase, inputs: [&[u8]; 4], path: &mut [u8], result: &mut [u8]) -> u32 {
-    // SAFETY: pointers and lengths are those of slices, and no two of them overlap.
-    unsafe { call_tally(case, inputs, (path.as_mut_ptr(), path.len()), (result.as_mut_ptr(), result.len())) }
+    call_tally(case, inputs, [path, result].map(Lent::from))
 }
 
-/// # Safety
-///
-/// Each pointer of a buffer leads to as many bytes as its length says, and nothing else refers to these.
-unsafe fn call_tally(case: &BookCase, inputs: [&[u8]; 4], path: (*mut u8, usize), result: (*mut u8, usize)) -> u32 {
-    let [label, table, schema, book] = inputs;
-    rulecheck_tally(
-        case.kind,
-        case.semantics,
-        label.as_ptr(),
-        label.len(),
-        table.as_ptr(),
-        table.len(),
-        schema.as_ptr(),
-        schema.len(),
-        book.as_ptr(),
-        book.len(),
-        path.0,
-        path.1,
-        result.0,
-        result.1,
-    )
+fn call_tally(case: &BookCase, [label, table, schema, book]: [&[u8]; 4], [path, result]: [Lent<'_>; 2]) -> u32 {
+    rulecheck_tally(case.kind, case.semantics, label, table, schema, book, path, result)
 }
 
 /// A tally with buffers fresh from the allocator and copies of the inputs, as `fresh`.
 pub fn fresh_tally(case: &BookCase) -> (u32, Option<TallyNumbers>) {
     let inputs = case.inputs().map(|input| input.to_vec().into_boxed_slice());
-    let (mut path, mut result) = (Box::<[u8]>::new_uninit_slice(case.path_len), Box::<[u8]>::new_uninit_slice(case.result_len));
-    let (path_lent, result_lent) = ((path.as_mut_ptr().cast(), path.len()), (result.as_mut_ptr().cast(), result.len()));
+    let [mut path, mut result] = [case.path_len, case.result_len].map(Box::<[u8]>::new_uninit_slice);
     let [label, table, schema, book] = &inputs;
-    // SAFETY: the boxes are as long as said, and only read again after the call, which wrote the result if it has room.
+    let buffers = [&mut path, &mut result].map(|buffer| Lent::from(&mut buffer[..]));
+    let number = call_tally(case, [label, table, schema, book], buffers);
+    // SAFETY: the call wrote the result, if it has room.
     unsafe {
-        let number = call_tally(case, [label, table, schema, book], path_lent, result_lent);
         let written = result.get(..TALLY_BYTES).map(|written| std::slice::from_raw_parts(written.as_ptr().cast::<u8>(), TALLY_BYTES));
         (number, written.map(|written| std::array::from_fn(|index| count(written, index as u32))))
     }
@@ -201,44 +124,22 @@ pub fn fresh_tally(case: &BookCase) -> (u32, Option<TallyNumbers>) {
 
 /// Prints the book of a case, whose inputs are lent from places of their own; path buffer, pages and result are written.
 pub fn wall(case: &WallCase, inputs: [&[u8]; 4], buffers: [&mut [u8]; 3]) -> u32 {
-    // SAFETY: pointers and lengths are those of slices, and no two of them overlap.
-    unsafe { call_wall(case, inputs, buffers.map(|buffer| (buffer.as_mut_ptr(), buffer.len()))) }
+    call_wall(case, inputs, buffers.map(Lent::from))
 }
 
-/// # Safety
-///
-/// Each pointer of a buffer leads to as many bytes as its length says, and nothing else refers to these.
-unsafe fn call_wall(case: &WallCase, inputs: [&[u8]; 4], [path, pages, result]: [(*mut u8, usize); 3]) -> u32 {
-    let [label, table, schema, book] = inputs;
-    rulecheck_wall(
-        case.book.kind,
-        case.book.semantics,
-        label.as_ptr(),
-        label.len(),
-        table.as_ptr(),
-        table.len(),
-        schema.as_ptr(),
-        schema.len(),
-        book.as_ptr(),
-        book.len(),
-        path.0,
-        path.1,
-        pages.0,
-        pages.1,
-        result.0,
-        result.1,
-    )
+fn call_wall(case: &WallCase, [label, table, schema, book]: [&[u8]; 4], [path, pages, result]: [Lent<'_>; 3]) -> u32 {
+    rulecheck_wall(case.book.kind, case.book.semantics, label, table, schema, book, path, pages, result)
 }
 
 /// A wall sheet with buffers fresh from the allocator and copies of the inputs, as `fresh`: the number, both numbers of the result where it has room, and the pages.
 pub fn fresh_wall(case: &WallCase) -> (u32, Option<[u64; 2]>, Vec<u8>) {
     let inputs = case.book.inputs().map(|input| input.to_vec().into_boxed_slice());
     let [mut path, mut pages, mut result] = [case.book.path_len, case.pages_len, case.book.result_len].map(Box::<[u8]>::new_uninit_slice);
-    let buffers = [&mut path, &mut pages, &mut result].map(|buffer| (buffer.as_mut_ptr().cast(), buffer.len()));
+    let buffers = [&mut path, &mut pages, &mut result].map(|buffer| Lent::from(&mut buffer[..]));
     let [label, table, schema, book] = &inputs;
-    // SAFETY: the boxes are as long as said, and only read again after the call, which wrote the result if it has room, and as many pages as that says.
+    let number = call_wall(case, [label, table, schema, book], buffers);
+    // SAFETY: the call wrote the result, if it has room, and as many pages as that says.
     unsafe {
-        let number = call_wall(case, [label, table, schema, book], buffers);
         let Some(written) = result.get(..WALL_BYTES) else {
             return (number, None, Vec::new());
         };
@@ -251,42 +152,22 @@ pub fn fresh_wall(case: &WallCase) -> (u32, Option<[u64; 2]>, Vec<u8>) {
 
 /// Asks which marks to open: table, schema and rule are lent from places of their own; path buffer, list and result are written.
 pub fn openings(case: &OpeningsCase, inputs: [&[u8]; 3], buffers: [&mut [u8]; 3]) -> u32 {
-    // SAFETY: pointers and lengths are those of slices, and no two of them overlap.
-    unsafe { call_openings(case, inputs, buffers.map(|buffer| (buffer.as_mut_ptr(), buffer.len()))) }
+    call_openings(case, inputs, buffers.map(Lent::from))
 }
 
-/// # Safety
-///
-/// Each pointer of a buffer leads to as many bytes as its length says, and nothing else refers to these.
-unsafe fn call_openings(case: &OpeningsCase, inputs: [&[u8]; 3], [path, list, result]: [(*mut u8, usize); 3]) -> u32 {
-    let [table, schema, rule] = inputs;
-    rulecheck_openings(
-        case.kind,
-        case.semantics,
-        table.as_ptr(),
-        table.len(),
-        schema.as_ptr(),
-        schema.len(),
-        rule.as_ptr(),
-        rule.len(),
-        path.0,
-        path.1,
-        list.0,
-        list.1,
-        result.0,
-        result.1,
-    )
+fn call_openings(case: &OpeningsCase, [table, schema, rule]: [&[u8]; 3], [path, list, result]: [Lent<'_>; 3]) -> u32 {
+    rulecheck_openings(case.kind, case.semantics, table, schema, rule, path, list, result)
 }
 
 /// The same with buffers fresh from the allocator and copies of the inputs, as `fresh`: the number, and what is answered where the result has room.
 pub fn fresh_openings(case: &OpeningsCase) -> (u32, Option<Opened>) {
     let inputs = case.inputs().map(|input| input.to_vec().into_boxed_slice());
     let [mut path, mut list, mut result] = [case.path_len, case.list_len, case.result_len].map(Box::<[u8]>::new_uninit_slice);
-    let buffers = [&mut path, &mut list, &mut result].map(|buffer| (buffer.as_mut_ptr().cast(), buffer.len()));
+    let buffers = [&mut path, &mut list, &mut result].map(|buffer| Lent::from(&mut buffer[..]));
     let [table, schema, rule] = &inputs;
-    // SAFETY: the boxes are as long as said, and only read again after the call, which wrote the result if it has room, and as many marks as that says.
+    let number = call_openings(case, [table, schema, rule], buffers);
+    // SAFETY: the call wrote the result, if it has room, and as many marks as that says.
     unsafe {
-        let number = call_openings(case, [table, schema, rule], buffers);
         let Some(written) = result.get(..OPENINGS_BYTES) else {
             return (number, None);
         };
@@ -298,14 +179,12 @@ pub fn fresh_openings(case: &OpeningsCase) -> (u32, Option<Opened>) {
 }
 
 pub fn count(result: &[u8], index: u32) -> u64 {
-    // SAFETY: pointer and length are those of a slice.
-    unsafe { rulecheck_count(result.as_ptr(), result.len(), index) }
+    rulecheck_count(result, index)
 }
 
 /// Loads a table into a buffer.
 pub fn load(table: &[u8], buffer: &mut [u8]) -> u32 {
-    // SAFETY: pointers and lengths are those of slices that do not overlap.
-    unsafe { rulecheck_load_table(table.as_ptr(), table.len(), buffer.as_mut_ptr(), buffer.len()) }
+    rulecheck_load_table(table, buffer.into())
 }
 
 /// Loads a copy of a table into a buffer fresh from the allocator, as `fresh_write`.
@@ -319,34 +198,30 @@ pub fn fresh_instant(text: &[u8], length: usize) -> (u32, Option<Vec<u8>>) {
 }
 
 /// A function that reads one slice, and writes to the start of another where it answers 0.
-type Writes = unsafe extern "C" fn(*const u8, usize, *mut u8, usize) -> u32;
+type Writes = fn(&[u8], Lent<'_>) -> u32;
 
 /// Calls one of the library's functions with a copy of an input that is exactly as long as it and a buffer fresh from the allocator: the number, and
 /// the bytes at the buffer's start if they were written.
 fn fresh_write(function: Writes, input: &[u8], length: usize, written: usize) -> (u32, Option<Vec<u8>>) {
     let input = input.to_vec().into_boxed_slice();
     let mut buffer = Box::<[u8]>::new_uninit_slice(length);
-    // SAFETY: the boxes are as long as said.
-    let number = unsafe { function(input.as_ptr(), input.len(), buffer.as_mut_ptr().cast(), buffer.len()) };
+    let number = function(&input, Lent::from(&mut buffer[..]));
     // SAFETY: so many bytes of the buffer were written where the answer is 0.
     let found = (number == 0).then(|| unsafe { std::slice::from_raw_parts(buffer.as_ptr().cast::<u8>(), written) }.to_vec());
     (number, found)
 }
 
 pub fn field(result: &[u8], index: u32) -> u32 {
-    // SAFETY: pointer and length are those of a slice.
-    unsafe { rulecheck_field(result.as_ptr(), result.len(), index) }
+    rulecheck_field(result, index)
 }
 
 /// Whether a text is a finite number, and how many of its digits were compared.
 pub fn finite(text: &[u8]) -> (bool, usize) {
-    // SAFETY: pointer and length are those of a slice.
-    let answer = unsafe { rulecheck_finite(text.as_ptr(), text.len()) };
+    let answer = rulecheck_finite(text);
     (answer % 2 == 1, answer as usize / 2)
 }
 
 /// Reads an instant, whose fields are written.
 pub fn instant(text: &[u8], fields: &mut [u8]) -> u32 {
-    // SAFETY: pointers and lengths are those of slices that do not overlap.
-    unsafe { rulecheck_instant(text.as_ptr(), text.len(), fields.as_mut_ptr(), fields.len()) }
+    rulecheck_instant(text, fields.into())
 }

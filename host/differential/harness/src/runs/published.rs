@@ -36,7 +36,8 @@ pub fn published(program: Option<&str>) -> Result<(), String> {
     for (what, count) in counts {
         println!("{what}: {count} cases");
     }
-    println!("no disagreement{}", if program.is_some() { ", and the program prints each answer" } else { "" });
+    let of_program = if program.is_some() { ", and the program prints each answer" } else { "; the program is not run without --program" };
+    println!("no disagreement{of_program}");
     Ok(())
 }
 

@@ -1,6 +1,7 @@
 //! Two schemas in words.
 
-use super::{Compared, Comparison, Growth, Member};
+use super::{Compared, Comparison};
+use crate::members::{Growth, Member};
 use crate::printed::{name, visible};
 use crate::report::{Colour, Palette, not_read, refused_text};
 use std::path::Path;

@@ -1,7 +1,8 @@
 //! `explain`: what a number of an answer means, with an example that is checked on the spot.
 
+pub mod meaning;
+
 use crate::checked::{Checked, sheets_outcome};
-use crate::meaning::{Asked, details, mend};
 use crate::report::{self, Palette};
 use crate::subject::Subject;
 use entity_rules::limits::TABLE_BYTES;
@@ -9,6 +10,7 @@ use entity_rules::{
     Book, Check, DefectNumber, Kind, PathVerdict, Reader, ReferenceFault, Semantics, Table,
     Verdict, check_path,
 };
+use meaning::{Asked, details, mend};
 use std::path::Path;
 
 /// What is printed for a number.
@@ -290,8 +292,8 @@ fn indented(text: &str) -> String {
 #[cfg(test)]
 #[allow(clippy::unwrap_used, clippy::panic)]
 mod tests {
+    use super::meaning::parse;
     use super::*;
-    use crate::meaning::parse;
     use entity_rules::Detail;
 
     fn asked(word: &str) -> Asked {

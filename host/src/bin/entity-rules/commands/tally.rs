@@ -1,18 +1,19 @@
-//! A rule book, tallied or printed for the wall.
+//! `tally`: how the sheets of a rule book, or of the files of a folder, fare.
 
+use super::whole_book::{Counted, Read, nothing, read_book, refused};
+use super::{bar, not_settled};
 use crate::arguments::BookRun;
-use crate::checked::{Checked, Outcome, Shared};
-use crate::files::{Fault, NoSheet, Rules, Sheet, fault, read_sheet};
-use crate::folders::{RuleFile, Settings};
+use crate::checked::{Checked, Outcome};
+use crate::files::{NoSheet, Rules};
+use crate::folders::{RuleFile, Settings, settle};
 use crate::json::{fault_members, outcome_members, subject_member};
 use crate::object::Object;
 use crate::progress::Progress;
 use crate::report::{self, Colour, Palette, refused_text};
 use crate::subject::Subject;
-use entity_rules::entries::read_schema;
-use entity_rules::{Book, BookSheet, Check, DefectNumber, Kind, Refusal, Tally};
-use std::io::Write;
-use std::path::Path;
+use entity_rules::{Book, BookSheet, DefectNumber, Kind, Refusal, Tally};
+use std::io::{self, IsTerminal, Write};
+use std::slice;
 
 /// So many sheets are tallied by one call, between which a bar can show how far it is. The schema is read once in each.
 const PART: usize = 256;
@@ -20,32 +21,35 @@ const PART: usize = 256;
 /// How many characters the bar of a row has at most.
 const WIDTH: usize = 30;
 
+/// Tallies a rule book, or the files of a folder, and prints what comes of it.
+pub fn run(asked: &BookRun, out: &mut impl Write) -> io::Result<u8> {
+    let files = match settle(slice::from_ref(&asked.book), Some(asked.kind), None) {
+        Ok(files) => files,
+        Err(why) => return Ok(not_settled("tally", why)),
+    };
+    let tallied = Tallied::new(asked, files, |sheets| bar(sheets, "sheets"));
+    let status = tallied.status();
+    if !(asked.output.quiet && status == 0) {
+        let palette = Palette::new(io::stdout().is_terminal());
+        let text = match asked.output.json {
+            true => tallied.line(),
+            false => tallied.text(&palette),
+        };
+        out.write_all(text.as_bytes())?;
+    }
+    out.flush()?;
+    Ok(status)
+}
+
 /// A book and what came of it.
-pub struct Tallied<'a> {
+struct Tallied<'a> {
     subject: Subject<'a>,
     result: Result<Counted, NoSheet>,
 }
 
-struct Counted {
-    tally: Tally,
-    /// Where the schema stops being one, if the sheets are refused for that.
-    fault: Option<Fault>,
-}
-
-impl Counted {
-    /// The exit status: that of the worst sheet.
-    fn status(&self) -> u8 {
-        match (self.tally.defects(), self.tally.refused()) {
-            (0, 0) => 0,
-            (_, 0) => 1,
-            _ => 2,
-        }
-    }
-}
-
 impl<'a> Tallied<'a> {
     /// Reads what is asked for, a book or these files of a folder, and tallies it; the bar is for that many sheets.
-    pub fn new<W: Write>(
+    fn new<W: Write>(
         asked: &'a BookRun,
         files: Vec<RuleFile<Settings>>,
         bar: impl FnOnce(usize) -> Progress<W>,
@@ -57,12 +61,12 @@ impl<'a> Tallied<'a> {
     }
 
     /// The exit status: that of the worst sheet, or of what keeps the book from being tallied.
-    pub fn status(&self) -> u8 {
+    fn status(&self) -> u8 {
         self.result.as_ref().map_or(2, Counted::status)
     }
 
     /// What is printed for it.
-    pub fn text(self, palette: &Palette) -> String {
+    fn text(self, palette: &Palette) -> String {
         let subject = self.subject;
         match self.result {
             Ok(counted) => table(palette, &report::subject(subject), &counted),
@@ -74,7 +78,7 @@ impl<'a> Tallied<'a> {
     }
 
     /// Its line of JSON.
-    pub fn line(self) -> String {
+    fn line(self) -> String {
         let mut object = Object::new();
         subject_member(&mut object, self.subject);
         match self.result {
@@ -111,10 +115,6 @@ fn counted<W: Write>(
     Ok(read.counted(tally?))
 }
 
-fn read_book(file: &Path) -> Result<Vec<u8>, NoSheet> {
-    Ok(read_sheet(file, Sheet::Book)?)
-}
-
 /// The sheets of these files as books, one for each run of sheets of the same kind; or why a file has none.
 fn books(files: Vec<RuleFile<Settings>>) -> Result<Vec<(Kind, Vec<u8>)>, NoSheet> {
     let rules = Rules::read_whole(files);
@@ -128,95 +128,6 @@ fn books(files: Vec<RuleFile<Settings>>) -> Result<Vec<(Kind, Vec<u8>)>, NoSheet
         Some((run.first()?.0, book.bytes().to_vec()))
     };
     Ok(runs.filter_map(book).collect())
-}
-
-/// A refusal of a book, with its fault if it is that one.
-fn refused(file: &Path, book: &[u8], refusal: Refusal) -> NoSheet {
-    let fault = match (refusal, Book::read(book)) {
-        (Refusal::BookForm, Err(error)) => Some(Fault::of_book(file, book, &error)),
-        _ => None,
-    };
-    NoSheet::Refused { refusal, fault }
-}
-
-/// What a command about a book names besides the book.
-struct Read<'a> {
-    asked: &'a BookRun,
-    /// The name table as it is lent.
-    table: Vec<u8>,
-    schema: Vec<u8>,
-}
-
-impl<'a> Read<'a> {
-    fn new(asked: &'a BookRun) -> Result<Self, NoSheet> {
-        let shared = Shared::new(&asked.schema, asked.table.as_deref());
-        let (names, schema) = shared.ready()?;
-        Ok(Self {
-            asked,
-            table: names.lent.clone(),
-            schema: schema.to_vec(),
-        })
-    }
-
-    fn check<'b>(&'b self, kind: Kind, label: &'b [u8]) -> Check<'b> {
-        Check::new(kind, self.asked.semantics, label).table(&self.table)
-    }
-
-    /// A tally, with the schema's fault if sheets are refused for that.
-    fn counted(&self, tally: Tally) -> Counted {
-        let fault = match tally.schema_refused {
-            0 => None,
-            _ => fault(&self.asked.schema, &self.schema, read_schema),
-        };
-        Counted { tally, fault }
-    }
-}
-
-/// A book, printed for the wall.
-pub struct Walled {
-    pub pages: String,
-    pub status: u8,
-    /// What else is to be said.
-    pub note: Option<String>,
-}
-
-impl Walled {
-    /// Reads what is asked for and prints it; an error is the text of what keeps it from that.
-    pub fn new(asked: &BookRun) -> Result<Self, String> {
-        let subject = Subject::File(&asked.book);
-        let own = subject.label();
-        let label = asked.label.as_deref().map_or(&*own, str::as_bytes);
-        let walled = || {
-            let read = Read::new(asked)?;
-            let book = read_book(&asked.book)?;
-            let check = read.check(asked.kind, label);
-            let refused = |refusal| refused(&asked.book, &book, refusal);
-            let tally = check.tally(&read.schema, &book).map_err(refused)?;
-            let pages = check.wall(&read.schema, &book).map_err(refused)?;
-            Ok((pages, read.counted(tally)))
-        };
-        let plain = Palette::new(false);
-        let (pages, counted) = walled().map_err(|why: NoSheet| {
-            let outcome = why.into();
-            report::text(&plain, &Checked { subject, outcome })
-        })?;
-        let name = report::subject(subject);
-        let note = match &counted {
-            Counted { tally, .. } if tally.read == 0 => Some(nothing(&name)),
-            Counted { fault, .. } => fault
-                .as_ref()
-                .map(|fault| refused_text(&plain, &name, Refusal::SchemaSheet, Some(fault))),
-        };
-        Ok(Self {
-            pages,
-            status: counted.status(),
-            note,
-        })
-    }
-}
-
-fn nothing(subject: &str) -> String {
-    format!("{subject}: no sheets, nothing to check\n")
 }
 
 /// The book in parts that are books, each with the number of its sheets; all of it where it has none or is not a book, for the library to say so.

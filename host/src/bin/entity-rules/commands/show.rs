@@ -1,11 +1,47 @@
-//! Sheets as trees, an entry on each line with its number.
+//! `show`: sheets as trees, an entry on each line with its number.
 
-use crate::files::{NoSheet, Rule, SheetReader};
+use crate::checked::Checked;
+use crate::files::{NoSheet, Rule, Rules, SheetReader};
+use crate::folders::expand;
 use crate::outline::{Standing, standings};
 use crate::printed::visible;
+use crate::report::{self, Palette};
 use crate::subject::Subject;
+use crate::{REFUSED, complain};
 use entity_rules::entries::{Content, Entry, read_rule, read_schema, read_table};
 use entity_rules::{Name, Operator, Refusal};
+use std::io::{self, IsTerminal, Write};
+use std::path::PathBuf;
+
+/// Prints every sheet as a tree, under its name where there are several.
+pub fn run(files: &[PathBuf], out: &mut impl Write) -> io::Result<u8> {
+    let palette = Palette::new(io::stdout().is_terminal());
+    let files = match expand(files) {
+        Ok(files) => files,
+        Err(message) => return Ok(complain(&message)),
+    };
+    let sheets = Rules::read_any(files);
+    let sheets = sheets.all();
+    let (is_named, mut status) = (sheets.len() > 1, 0);
+    for (sheet, _) in sheets {
+        let (subject, shown) = match sheet {
+            Ok(sheet) => (sheet.subject, text(sheet)),
+            Err((file, why)) => (Subject::File(file), Err(why.clone())),
+        };
+        let text = match shown {
+            Ok(tree) if is_named => format!("{}\n{tree}", report::subject(subject)),
+            Ok(tree) => tree,
+            Err(why) => {
+                status = REFUSED;
+                let outcome = why.into();
+                report::text(&palette, &Checked { subject, outcome })
+            }
+        };
+        out.write_all(text.as_bytes())?;
+    }
+    out.flush()?;
+    Ok(status)
+}
 
 /// The tree of a sheet, or why it has none. A book holds rules and templates only.
 pub fn text(sheet: Rule<'_>) -> Result<String, NoSheet> {

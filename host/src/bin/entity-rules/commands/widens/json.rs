@@ -1,7 +1,8 @@
 //! Two schemas as JSON, one object on one line.
 
-use super::{Compared, Comparison, Growth, Member};
+use super::{Compared, Comparison};
 use crate::json::{refused_members, unreadable_members};
+use crate::members::{Growth, Member};
 use crate::object::Object;
 
 /// The line for two schemas.

@@ -1,13 +1,77 @@
-//! Rules, when a new schema takes the place of the one that they were checked against.
+//! `upgrade`: rules, when a new schema takes the place of the one that they were checked against.
 
-use crate::arguments::Arguments;
+use super::widens::{self, Compared, Comparison};
+use super::{Told, print_each, rules};
+use crate::REFUSED;
+use crate::arguments::{Arguments, Upgrade};
 use crate::checked::{Checked, Outcome, Question, Shared};
+use crate::files::{Sheet, read_sheet};
 use crate::json::{outcome_members, subject_member};
 use crate::object::Object;
 use crate::printed::name;
 use crate::report::{self, Colour, Palette, accepted};
 use crate::subject::Subject;
+use std::io::{self, IsTerminal, Write};
 use std::path::Path;
+
+/// Compares two schemas, then checks every rule for which the comparison does not already give the answer.
+pub fn run(asked: &Upgrade, out: &mut impl Write) -> io::Result<u8> {
+    let (arguments, files) = (&asked.check, [&*asked.check.schema, &*asked.new]);
+    let [old_file, new_file] = files;
+    let rules = match rules("upgrade", &arguments.asked) {
+        Ok(rules) => rules,
+        Err(status) => return Ok(status),
+    };
+    let shared = Shared::of(arguments);
+    let new = read_sheet(new_file, Sheet::Schema);
+    let compared = match (shared.schema(), &new) {
+        (Ok(old), Ok(new)) => Compared::of((old_file, old), (new_file, new)),
+        (Err(unreadable), _) | (_, Err(unreadable)) => {
+            Compared::unreadable(old_file, new_file, unreadable.clone())
+        }
+    };
+    widens::show(&compared, arguments.output, out)?;
+    let is_widening = matches!(compared.comparison, Comparison::Widening { .. });
+    match new {
+        Ok(new) if compared.status() < REFUSED => {
+            let questions = arguments.asked.questions(&rules);
+            let fares = |question| Upgraded::new(arguments, &shared, &new, is_widening, question);
+            upgrade_rules(arguments, questions.into_iter().map(fares), files, out)
+        }
+        _ => Ok(REFUSED),
+    }
+}
+
+/// Prints how every rule fares.
+fn upgrade_rules<'a>(
+    arguments: &Arguments,
+    all: impl ExactSizeIterator<Item = Upgraded<'a>>,
+    files: [&Path; 2],
+    out: &mut impl Write,
+) -> io::Result<u8> {
+    let output = arguments.output;
+    let total = all.len();
+    let palette = Palette::new(io::stdout().is_terminal());
+    let mut fates = Fates::default();
+    print_each(all, arguments.asked.noun(), out, |upgraded| {
+        fates.count(&upgraded.fate);
+        let is_shown = !(output.quiet && upgraded.is_as_before());
+        let is_last = !output.json && upgraded.blames_what_is_shared();
+        Told {
+            text: is_shown.then(|| match output.json {
+                true => upgraded.line(),
+                false => upgraded.text(&palette, files),
+            }),
+            is_last,
+        }
+    })?;
+    let status = fates.status();
+    if !output.json && total > 1 && !(output.quiet && status == 0) {
+        writeln!(out, "{}", fates.summary(total))?;
+    }
+    out.flush()?;
+    Ok(status)
+}
 
 /// A rule and how it fares.
 pub struct Upgraded<'a> {

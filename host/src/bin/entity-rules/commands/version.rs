@@ -1,6 +1,6 @@
 //! `--version`: what the tool is, and which library it is linked with.
 
-use crate::explain::replayed;
+use super::explain::replayed;
 use entity_rules::{identity, raw};
 
 /// The version of the tool and of its crate.

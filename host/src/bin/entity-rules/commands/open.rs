@@ -1,16 +1,99 @@
-//! Rules, and the objects of the schema that must be opened for them.
+//! `open`: rules, and the objects of the schema that must be opened for them.
 
-use crate::arguments::Arguments;
+use super::{Told, print_each, rules};
+use crate::arguments::{self, Arguments};
 use crate::checked::{Checked, Outcome, Question, Shared};
 use crate::json::{outcome_members, subject_member};
+use crate::members::{Member, Tree};
 use crate::object::Object;
 use crate::printed::{name, visible};
 use crate::report::{self, Colour, Palette};
 use crate::subject::Subject;
-use crate::widened::{Member, Tree};
+use crate::{REFUSED, complain};
 use entity_rules::limits::MAX_SCHEMA_ENTRIES;
 use entity_rules::opened;
+use std::io::{self, IsTerminal, Write};
 use std::path::Path;
+
+/// Finds what must be opened for every rule, and prints that or the schema with all of it open.
+pub fn run(asked: &arguments::Opening, out: &mut impl Write) -> io::Result<u8> {
+    let arguments = &asked.check;
+    let rules = match rules("open", &arguments.asked) {
+        Ok(rules) => rules,
+        Err(status) => return Ok(status),
+    };
+    let shared = Shared::of(arguments);
+    let questions = arguments.asked.questions(&rules).into_iter();
+    let all = questions.map(|question| Opened::new(arguments, &shared, question));
+    match asked.write {
+        true => write_opened(arguments, &shared, all, out),
+        false => print_openings(arguments, all, out),
+    }
+}
+
+/// Prints what must be opened for every rule.
+fn print_openings<'a>(
+    arguments: &Arguments,
+    all: impl ExactSizeIterator<Item = Opened<'a>>,
+    out: &mut impl Write,
+) -> io::Result<u8> {
+    let output = arguments.output;
+    let total = all.len();
+    let palette = Palette::new(io::stdout().is_terminal());
+    let mut remedies = Remedies::default();
+    print_each(all, arguments.asked.noun(), out, |opened| {
+        remedies.count(&opened);
+        let is_shown = !(output.quiet && opened.is_accepted());
+        let is_last = !output.json && opened.blames_what_is_shared();
+        Told {
+            text: is_shown.then(|| match output.json {
+                true => opened.line(),
+                false => opened.text(&palette, &arguments.schema),
+            }),
+            is_last,
+        }
+    })?;
+    if !output.json && total > 1 && !(output.quiet && remedies.is_plain()) {
+        writeln!(out, "{}", remedies.summary(total))?;
+    }
+    out.flush()?;
+    Ok(remedies.status())
+}
+
+/// Prints the schema with everything opened that the rules need, unless one of them cannot be checked. Which these are, and those that no opening helps, is said on standard error.
+fn write_opened<'a>(
+    arguments: &Arguments,
+    shared: &Shared,
+    all: impl Iterator<Item = Opened<'a>>,
+    out: &mut impl Write,
+) -> io::Result<u8> {
+    let (mut marks, mut remedies) = (Vec::new(), Remedies::default());
+    for opened in all {
+        let is_last = opened.blames_what_is_shared();
+        remedies.count(&opened);
+        match &opened.remedy {
+            Remedy::Open(openings) => marks.extend(openings.iter().map(|one| one.mark)),
+            Remedy::None(_) | Remedy::NotChecked(_) => {
+                let text = opened.text(&Palette::new(false), &arguments.schema);
+                complain(text.trim_end());
+            }
+        }
+        if is_last {
+            break;
+        }
+    }
+    let status = remedies.status();
+    match shared.schema().map(|schema| opened(schema, &marks)) {
+        Ok(Ok(sheet)) if status < REFUSED => out.write_all(&sheet)?,
+        _ => {
+            return Ok(complain(
+                "open: the schema is not written, since a rule cannot be checked",
+            ));
+        }
+    }
+    out.flush()?;
+    Ok(status)
+}
 
 /// A rule and what opening objects makes of it.
 pub struct Opened<'a> {

@@ -1,16 +1,36 @@
-//! Two schemas compared, with what a person wants to know about the answer.
+//! `widens`: two schemas compared, with what a person wants to know about the answer.
 
-pub mod json;
-mod members;
-pub mod report;
+mod json;
+mod report;
 
+use crate::arguments::{Output, Pair};
 use crate::files::{Fault, Sheet, Unreadable, fault, read_sheet};
+use crate::members::{Growth, Member, Tree, grown};
+use crate::report::Palette;
 use entity_rules::entries::read_schema;
 use entity_rules::{Breach, BreachReason, FieldKind, Refusal, Widening, widens};
+use std::io::{self, IsTerminal, Write};
 use std::path::Path;
 
-use members::grown;
-pub use members::{Growth, Holder, Member, Tree};
+/// Compares two schemas, and prints what comes of it.
+pub fn run(pair: &Pair, out: &mut impl Write) -> io::Result<u8> {
+    let compared = Compared::new(&pair.old, &pair.new);
+    show(&compared, pair.output, out)?;
+    out.flush()?;
+    Ok(compared.status())
+}
+
+/// Prints what came of two schemas.
+pub fn show(compared: &Compared, output: Output, out: &mut impl Write) -> io::Result<()> {
+    let palette = Palette::new(io::stdout().is_terminal());
+    let is_hidden = output.quiet && matches!(compared.comparison, Comparison::Widening { .. });
+    let text = match output.json {
+        _ if is_hidden => String::new(),
+        true => json::line(compared),
+        false => report::text(&palette, compared),
+    };
+    out.write_all(text.as_bytes())
+}
 
 /// Two files and what came of them.
 pub struct Compared<'a> {
