@@ -322,3 +322,14 @@ same-answer s r r′ m m′ e =
       result = m .result ∙ ap (resultNumbers s) e ∙ sym (m′ .result);
       buffers = all-alike (s .leaves (replyTo s (r .call))) (r .buffers) (r′ .buffers) (m .buffers) (rw e (m′ .buffers));
     }
+
+-- A call that leaves free elements as they were, and so changes no more than it must, meets its shape.
+
+unfoldable pub least : Left → List ℕ → List ℕ
+least (free count) before = before
+least (holding elements) before = sets before 0 elements
+
+pub least-left : (l : Left) (before : List ℕ) → Leaves l before (least l before)
+unfolding least
+least-left (free count) before = record { size = refl; kept = refl }
+least-left (holding elements) before = refl

@@ -3,11 +3,11 @@ use Prim.Native.Nat.{ℕ}
 use mathlib.Core.List.{List, [], _∷_}
 use mathlib.Core.Path.{_≡_, refl}
 use lib.ListN.{replicate}
-use lib.Seq.{sets}
 use Rattle.sheet.specs.Ascii.{ascii}
 use Rattle.reference.proofs.Tables.{stockText}
 use Rattle.validation.proofs.TableEdges.{changed, oldAlone}
-use Rattle.call.specs.Call.{EachDue, all-shown, by, Left, free, holding, unchanged, freeIfTold}
+use Rattle.call.specs.Call.{EachDue, all-shown, by, free, unchanged, freeIfTold}
+use Rattle.call.specs.CallLaws.{least}
 use Rattle.openings.specs.Call.{OpenCall, openRefusals, openHeardNumbers, openAnswer, openNumbers, listLeft, scratchLeft}
 use Rattle.openings.specs.Computing.{computing}
 
@@ -59,15 +59,10 @@ unfoldable heard : OpenCall → List ℕ
 unfolding computing asked set shut one all nothing hollow
 heard c = openNumbers (openAnswer c)
 
--- what a buffer holds where something is written to it
-abbrev written : Left → List ℕ → List ℕ
-written (free n) before = before
-written (holding elements) before = sets before 0 elements
-
 -- what a list of zeros holds after the call
 unfoldable listed : (n : ℕ) → OpenCall → List ℕ
-unfolding heard
-listed n c = written (listLeft (openAnswer c)) (replicate n 0)
+unfolding heard least
+listed n c = least (listLeft (openAnswer c)) (replicate n 0)
 
 pub record Edges : Type 0 where
   -- a set, its marks in the list from its start on, the arguments' mark first

@@ -3,3 +3,4 @@ pub mod RoundSteps
 pub mod ListSteps
 pub mod SearchSteps
 pub mod CallSteps
+mod Lent

@@ -3,3 +3,4 @@ pub mod SheetSteps
 pub mod TallySteps
 pub mod CallSteps
 mod Grown
+mod Lent

@@ -2,3 +2,4 @@ pub mod Edges
 pub mod LineSteps
 pub mod PageSteps
 pub mod CallSteps
+mod Lent
