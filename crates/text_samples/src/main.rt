@@ -8,6 +8,9 @@ ghost use lib.ListN.{length};
 // The longest sample in hexadecimal, in bytes.
 const SAMPLE_BYTES: usize = 128;
 
+// The digits before an instant that is read: its seven fields.
+const FIELD_DIGITS: usize = 23;
+
 fn hex_value(b: u8) -> u8
     ensures { λ r. ⌜ r ≤ 15 ⌝ }
 {
@@ -35,17 +38,65 @@ fn bytes_of(hex: &[u8], out: &mut [u8]) -> usize
     n
 }
 
-fn is_instant(s: &[u8]) -> bool {
-    match timestamp::parse(s) {
-        timestamp::Parsed::Instant(_) => true,
+// Whether the digits write that number.
+fn writes(digits: &[u8], n: u32) -> bool {
+    let mut left = n;
+    let mut i = digits.len();
+    while i > 0 {
+        i -= 1;
+        if digits[i] != b'0' + (left % 10) as u8 {
+            return false;
+        }
+        left /= 10;
+    }
+    left == 0
+}
+
+// Whether a sample's digits are the fields: four of the year, two each of month, day, hour, minute and second, nine of the nanoseconds.
+fn are_fields(sample: &[u8], fields: timestamp::Fields) -> bool {
+    if sample.len() < FIELD_DIGITS {
+        return false;
+    }
+    if !writes(&sample[0..4], fields.year) {
+        return false;
+    }
+    if !writes(&sample[4..6], fields.month) {
+        return false;
+    }
+    if !writes(&sample[6..8], fields.day) {
+        return false;
+    }
+    if !writes(&sample[8..10], fields.hour) {
+        return false;
+    }
+    if !writes(&sample[10..12], fields.minute) {
+        return false;
+    }
+    if !writes(&sample[12..14], fields.second) {
+        return false;
+    }
+    writes(&sample[14..23], fields.nanoseconds)
+}
+
+// Whether a text is read as the instant that the digits before it say.
+fn is_read(sample: &[u8]) -> bool {
+    if sample.len() < FIELD_DIGITS {
+        return false;
+    }
+    match timestamp::parse(&sample[FIELD_DIGITS..]) {
+        timestamp::Parsed::Instant(fields) => are_fields(sample, fields),
         timestamp::Parsed::Unreadable => false,
     }
 }
 
-fn passes(list: u8, sample: &[u8]) -> bool {
-    if list == b'i' {
-        return is_instant(sample);
+fn is_unreadable(s: &[u8]) -> bool {
+    match timestamp::parse(s) {
+        timestamp::Parsed::Instant(_) => false,
+        timestamp::Parsed::Unreadable => true,
     }
+}
+
+fn passes(list: u8, sample: &[u8]) -> bool {
     let mut bytes = [0u8; SAMPLE_BYTES];
     let n = bytes_of(sample, &mut bytes);
     if list == b'u' {
@@ -55,13 +106,23 @@ fn passes(list: u8, sample: &[u8]) -> bool {
     }
 }
 
+// Whether a sample of a list comes out as it should: read or passed where `said`, else not.
+fn is_right(list: u8, said: bool, sample: &[u8]) -> bool {
+    if list == b'i' {
+        if said {
+            return is_read(sample);
+        }
+        return is_unreadable(sample);
+    }
+    passes(list, sample) == said
+}
+
 // Whether a sample comes out as its line says. Otherwise the line is written.
 fn is_as_said(line: &[u8]) -> bool {
     if line.len() < 2 {
         return false;
     }
-    let said = line[1];
-    if passes(line[0], &line[2..]) == (said == b'+') {
+    if is_right(line[0], line[1] == b'+', &line[2..]) {
         return true;
     }
     io::write_all(STDOUT_FILENO, b"differs: ");

@@ -5,12 +5,6 @@ use lib.Seq.{length-take-le}
 use Rattle.text_samples.proofs.passes.Statement.{statement}
 use Rattle.text_samples.proofs.passes.Tie as tie
 
-is-instant-requires : tie.Need-is-instant-requires
-is-instant-requires c κs = search needs
-
-returns : tie.Need-returns
-returns c = search needs
-
 slice-aggregate-bytes-of : tie.Need-slice-aggregate-bytes-of
 slice-aggregate-bytes-of c = search needs
 
@@ -38,15 +32,13 @@ is-blank-requires c κs = search needs
 returns-2 : tie.Need-returns-2
 returns-2 c = search needs
 
-returns-3 : tie.Need-returns-3
-returns-3 c = search needs
+returns : tie.Need-returns
+returns c = search needs
 
 pub passes-spec : {M : Type 1} → statement M
 passes-spec =
     tie.close
     (tie.spec
-    is-instant-requires
-    returns
     slice-aggregate-bytes-of
     bytes-of-requires
     array-share-prefix-bytes
@@ -55,5 +47,5 @@ passes-spec =
     array-share-prefix-bytes-2
     slice-aggregate-is-blank
     is-blank-requires
-    returns-2
-    returns-3)
+    returns
+    returns-2)
