@@ -10,6 +10,7 @@ pub mod keys;
 pub mod limits;
 pub mod longest;
 pub mod marks;
+pub mod messages;
 pub mod openings;
 pub mod random;
 pub mod samples;

@@ -3,7 +3,7 @@
 use cases::case::Case;
 use cases::generate::{names::STOCK, profiles};
 use cases::random::Random;
-use cases::{books, edges, keys, longest, marks, openings, slips, tables, walls, widens};
+use cases::{books, edges, keys, longest, marks, messages, openings, slips, tables, walls, widens};
 use model::{check, check_key, decode_rule, tally, wall, Answer};
 
 const GENERATED: u64 = 1_000;
@@ -36,6 +36,15 @@ fn generated_cases_are_answered_as_they_were_made() {
         hold(&profiles::case(&mut random, &STOCK).1);
         hold(&tables::generate::case(&mut random).1);
         hold(&marks::generate::case(&mut random).1);
+        hold(&messages::generate::case(&mut random).1);
+    }
+}
+
+#[test]
+fn messages_are_those_that_are_known() {
+    for (case, known) in messages::edges::edges().into_iter().chain([messages::edges::longest()]) {
+        hold(&case);
+        assert_eq!(model::explain(&case.call()).1, Some(known), "{case:?}");
     }
 }
 

@@ -5,6 +5,12 @@ pub fn answer(call: &::model::Call) -> ::model::Answer {
     own(check(&Call { kind, semantics, label, table, schema, rule, path_len, scratch_len }))
 }
 
+/// The message of its defect, if it has one.
+pub fn message(call: &::model::Call) -> Option<String> {
+    let &::model::Call { kind, semantics, label, table, schema, rule, path_len, scratch_len } = call;
+    explain(&Call { kind, semantics, label, table, schema, rule, path_len, scratch_len }).1
+}
+
 /// The same for a key.
 pub fn key_answer(call: &::model::KeyCall) -> ::model::Answer {
     let &::model::KeyCall { semantics, reader, path, schema, scratch_len } = call;

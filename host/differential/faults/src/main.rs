@@ -1,5 +1,5 @@
-//! Asks each faulty model until it answers otherwise than the library: on the known edges, on generated cases, on the published samples, on
-//! keys, on rule books and their wall sheets, on openings, and last on tables: `faults [CASES] [SEED]`.
+//! Asks each faulty model until it answers otherwise than the library, or has another message than the Rust: on the known edges, on messages, on
+//! generated cases, on the published samples, on keys, on rule books and their wall sheets, on openings, and last on tables: `faults [CASES] [SEED]`.
 
 use cases::books::{self, BookCase};
 use cases::case::Case;
@@ -7,11 +7,13 @@ use cases::edges::edges;
 use cases::generate::{names::STOCK, profiles};
 use cases::keys::{self, KeyCase};
 use cases::longest::longest;
+use cases::messages;
 use cases::openings::{self, Opened, OpeningsCase};
 use cases::random::Random;
 use cases::tables::{self, LoadCase};
 use cases::walls::{self, Printed, WallCase};
 use harness::library::{self, lent::Extent};
+use harness::runs::agreement::rust_message;
 use harness::runs::published::sample_cases;
 use model::{Answer, BookCall, Call, KeyCall, OpeningsCall, TallyNumbers, WallCall};
 use std::panic::{catch_unwind, AssertUnwindSafe};
@@ -26,11 +28,14 @@ struct Faulty {
     tally_answer: fn(&BookCall) -> TallyNumbers,
     wall_answer: fn(&WallCall) -> Printed,
     openings_answer: fn(&OpeningsCall) -> Opened,
+    message: fn(&Call) -> Option<String>,
 }
 
 /// What the models are asked.
 enum Question {
     Case(Case),
+    /// A case, and the Rust's message of its defect.
+    Message(Case, String),
     Key(KeyCase),
     Load(LoadCase),
     Book(BookCase),
@@ -72,11 +77,17 @@ fn main() -> ExitCode {
     }
 }
 
-/// All questions, each with the words for it: so many generated cases, as many keys, a twentieth as many books and openings, known wall sheets, as many cases under a table, and as many
+/// All questions, each with the words for it: messages, a tenth as many as cases; so many generated cases, as many keys, a twentieth as many books and openings, known wall sheets, as many cases under a table, and as many
 /// tables to load.
 fn questions(cases: u64, seed: u64) -> impl Iterator<Item = (String, Question)> {
     let named = |name: &'static str| move |case| (name.to_owned(), Question::Case(case));
     let known = edges().into_iter().chain(longest()).map(named("a known edge"));
+    let known_messages = messages::edges::edges().into_iter().map(|(case, _)| case);
+    let message = move |number| messages::generate::case(&mut Random::of_case(seed, number)).1;
+    let told = known_messages.chain((0..cases / 10).map(message)).filter_map(|case| {
+        let message = rust_message(&case)?;
+        Some(("a message".to_owned(), Question::Message(case, message)))
+    });
     let made = move |number| {
         (format!("case {number} of seed {seed}"), Question::Case(profiles::case(&mut Random::of_case(seed, number), &STOCK).1))
     };
@@ -103,7 +114,7 @@ fn questions(cases: u64, seed: u64) -> impl Iterator<Item = (String, Question)> 
         let load = tables::generate::load(&mut random);
         [(format!("table {number} of seed {seed}"), Question::Case(case)), (format!("load {number} of seed {seed}"), Question::Load(load))]
     };
-    let cases_and_keys = known.chain((0..cases).map(made)).chain(samples).chain(known_keys).chain((0..cases).map(key));
+    let cases_and_keys = known.chain(told).chain((0..cases).map(made)).chain(samples).chain(known_keys).chain((0..cases).map(key));
     let cases_and_keys = cases_and_keys.chain(known_books).chain((0..cases / 20).map(book)).chain(known_walls);
     let cases_and_keys = cases_and_keys.chain(known_openings).chain((0..cases / 20).map(opening));
     cases_and_keys.chain(known_tables).chain(known_loads).chain((0..cases).flat_map(table))
@@ -113,6 +124,10 @@ fn questions(cases: u64, seed: u64) -> impl Iterator<Item = (String, Question)> 
 fn difference(question: &Question, faulty: Faulty) -> Option<String> {
     let held = || match question {
         Question::Case(case) => library::checks::hold(case, &(faulty.answer)(&case.call()), Extent::Some),
+        Question::Message(case, message) => match (faulty.message)(&case.call()) {
+            Some(found) if found == *message => Ok(()),
+            found => Err(format!("the faulty model's message is {found:?}, the Rust's {message:?}")),
+        },
         Question::Key(case) => library::keys::hold(case, &(faulty.key_answer)(&case.call()), Extent::Some),
         Question::Book(case) => library::books::hold(case, &(faulty.tally_answer)(&case.call()), Extent::Some),
         Question::Wall(case) => library::walls::hold(case, &(faulty.wall_answer)(&case.call()), Extent::Some),

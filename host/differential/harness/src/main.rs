@@ -1,8 +1,8 @@
 //! The commands of the comparison. See README.md beside the script `run`.
 
 use harness::runs::{
-    books, compare, exhaustive, fuzzed, instants, keys, marks, memory, moved, openings, published, tables, text_samples, vectors, walls,
-    widened, widens,
+    books, compare, exhaustive, fuzzed, instants, keys, marks, memory, messages, moved, openings, published, tables, text_samples, vectors,
+    walls, widened, widens,
 };
 use std::collections::BTreeMap;
 use std::process::ExitCode;
@@ -40,6 +40,9 @@ const USAGE: &str = "usage: differential COMMAND [OPTION..]
   marks [--cases N] [--seed S]     known rules that compare instants, then N generated ones: which conditions are constant
   marks-vectors --out FILE [--seed S]
                                    writes the fixed list of rules and their marks
+  messages [--cases N] [--seed S]  a known defect for each sentence, then N generated ones: the messages of library, model and Rust
+  messages-vectors --out FILE [--seed S]
+                                   writes the fixed list of defects and their messages
   openings [--cases N] [--seed S]  known rules for schemas that are too closed for them, then N generated ones (200,000): the fewest marks to
                                    open by library and model, and every set of openings by the Rust
   openings-vectors --out FILE [--seed S]
@@ -171,6 +174,15 @@ fn run(arguments: &[String]) -> Result<(), Trouble> {
             let options = options(rest, &["out", "seed"])?;
             let file = options.get("out").ok_or_else(|| Trouble::Usage("marks-vectors needs --out FILE".to_owned()))?;
             marks::vectors::vectors(file, numeral(&options, "seed", 1)?).map_err(Trouble::Failed)
+        }
+        "messages" => {
+            let options = options(rest, &["cases", "seed"])?;
+            messages::run::messages(numeral(&options, "cases", 1_000_000)?, numeral(&options, "seed", 1)?).map_err(Trouble::Failed)
+        }
+        "messages-vectors" => {
+            let options = options(rest, &["out", "seed"])?;
+            let file = options.get("out").ok_or_else(|| Trouble::Usage("messages-vectors needs --out FILE".to_owned()))?;
+            messages::vectors::vectors(file, numeral(&options, "seed", 1)?).map_err(Trouble::Failed)
         }
         "openings" => {
             let options = options(rest, &["cases", "seed"])?;

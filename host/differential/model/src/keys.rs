@@ -44,9 +44,9 @@ pub fn check_key(call: &KeyCall) -> Answer {
             passed: 1,
             ..Answer::default()
         },
-        Err(detail) => Answer {
+        Err(fault) => Answer {
             number: 18,
-            detail,
+            detail: fault.detail,
             ..Answer::default()
         },
     }

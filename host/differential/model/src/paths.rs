@@ -21,7 +21,7 @@ pub fn path(label: &[u8], sheet: &Sheet, number: u32, place: u32) -> Vec<u8> {
 }
 
 /// The operators' spelling, by number.
-fn operator_name(operator: &Operator) -> &'static str {
+pub fn operator_name(operator: &Operator) -> &'static str {
     const NAMES: [&str; 21] = [
         "literal",
         "all",

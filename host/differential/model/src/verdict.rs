@@ -6,13 +6,22 @@ use super::settings::Setting;
 use super::sheets::{decode_rule, decode_schema};
 use super::table::Table;
 use super::trees::{Field, Schema, Sheet};
-use super::{paths, text, walks};
+use super::walks::{self, Fault};
+use super::{messages, paths, text};
 
 /// Refusals 1, 2, 3, 37, 38, 4 and 5 in this order, then the check list.
 pub fn check(call: &Call) -> Answer {
-    let refused = |number| Answer {
-        number,
-        ..Answer::default()
+    explain(call).0
+}
+
+/// The answer, and the message of its defect; none under acceptance or a refusal.
+pub fn explain(call: &Call) -> (Answer, Option<String>) {
+    let refused = |number| {
+        let answer = Answer {
+            number,
+            ..Answer::default()
+        };
+        (answer, None)
     };
     let Some(setting) = Setting::new(call.kind, call.semantics) else {
         return refused(1);
@@ -35,36 +44,44 @@ pub fn check(call: &Call) -> Answer {
     let Some(rule) = decode_rule(call.rule) else {
         return refused(5);
     };
-    judge(&setting.under(&table), call.label, &schema, &rule)
+    judge(&setting.under(&table), call, &schema, &rule)
 }
 
 /// The first failing check, or acceptance.
-fn judge(setting: &Setting, label: &[u8], schema: &Schema, rule: &Sheet) -> Answer {
+fn judge(
+    setting: &Setting,
+    call: &Call,
+    schema: &Schema,
+    rule: &Sheet,
+) -> (Answer, Option<String>) {
     let list = checks::checks(rule, setting);
     for (passed, check) in list.iter().enumerate() {
-        if let Err(detail) = outcome(check, setting, schema) {
+        if let Err(fault) = outcome(check, setting, schema) {
             let (family, over_place) = family(check, setting);
-            return Answer {
+            let answer = Answer {
                 number: check.number,
                 family,
-                detail,
+                detail: fault.detail,
                 place: check.place,
                 over_place,
                 passed: passed as u32,
-                path: paths::path(label, rule, check.number, check.place),
+                path: paths::path(call.label, rule, check.number, check.place),
             };
+            let message = messages::message(call.kind, rule, check.number, check.place, &fault);
+            return (answer, Some(message));
         }
     }
-    Answer {
+    let accepted = Answer {
         passed: list.len() as u32,
         ..Answer::default()
-    }
+    };
+    (accepted, None)
 }
 
-/// Whether one check passes against a schema; else its detail.
-fn outcome(check: &Check, setting: &Setting, schema: &Schema) -> Result<(), u32> {
+/// Whether one check passes against a schema; else the fault.
+fn outcome<'t>(check: &Check<'t>, setting: &Setting, schema: &'t Schema) -> Result<(), Fault<'t>> {
     match check.question {
-        Question::Settled(answer) => answer,
+        Question::Settled(answer) => answer.map_err(Fault::settled),
         Question::Reference(text) => {
             walks::validate_reference(text, setting, schema, &environment(&check.binders, schema))
         }

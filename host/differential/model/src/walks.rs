@@ -13,6 +13,43 @@ const UNION: u8 = 11;
 /// The binders around a condition, outermost first: name, and the element's field where it is known.
 pub type Environment<'t> = [(&'t str, Option<&'t Field>)];
 
+/// Why something cannot be read: the detail, and where that showed, for the message.
+#[derive(Clone, Copy, Debug)]
+pub struct Fault<'t> {
+    pub detail: u32,
+    /// The field that refuses; none at a root, and where no path was walked.
+    pub field: Option<&'t Field>,
+    /// What is left of the path, from the segment at fault on.
+    pub left: &'t str,
+    /// Whether the path began at a binder's element.
+    pub is_bound: bool,
+}
+
+impl Fault<'_> {
+    /// Found without a walk.
+    pub fn settled(detail: u32) -> Self {
+        early(detail, "")
+    }
+}
+
+/// A fault that shows before any field is reached.
+fn early(detail: u32, left: &str) -> Fault<'_> {
+    Fault {
+        detail,
+        field: None,
+        left,
+        is_bound: false,
+    }
+}
+
+/// A fault at a field.
+fn at<'t>(field: &'t Field, detail: u32, left: &'t str) -> Fault<'t> {
+    Fault {
+        field: Some(field),
+        ..early(detail, left)
+    }
+}
+
 /// The innermost binder of that name.
 fn bound<'t>(name: &str, binders: &Environment<'t>) -> Option<Option<&'t Field>> {
     binders
@@ -23,7 +60,7 @@ fn bound<'t>(name: &str, binders: &Environment<'t>) -> Option<Option<&'t Field>>
 }
 
 /// Up to the first dot, and what follows it.
-fn split(path: &str) -> (&str, Option<&str>) {
+pub fn split(path: &str) -> (&str, Option<&str>) {
     match path.split_once('.') {
         Some((first, rest)) => (first, Some(rest)),
         None => (path, None),
@@ -43,25 +80,29 @@ pub fn is_ordinal(segment: &str) -> bool {
 }
 
 /// Where a union keeps its payload.
-fn content_key(tag: &str) -> &'static str {
+pub fn content_key(tag: &str) -> &'static str {
     match tag {
         "value" => "content",
         _ => "value",
     }
 }
 
-/// Whether a text that begins with `$` can be read; else the detail of 18.
-pub fn validate_reference(
-    expression: &str,
+/// Whether a text that begins with `$` can be read; else a fault of 18.
+pub fn validate_reference<'t>(
+    expression: &'t str,
     setting: &Setting,
-    schema: &Schema,
-    binders: &Environment,
-) -> Result<(), u32> {
+    schema: &'t Schema,
+    binders: &Environment<'t>,
+) -> Result<(), Fault<'t>> {
     let (name, path) = split(&expression[1..]);
     if let Some(element) = bound(name, binders) {
         return match (element, path) {
             (Some(field), Some(path)) => {
-                walk_field_path(field, path, Reader::Kernel, setting.service)
+                let bound = |fault| Fault {
+                    is_bound: true,
+                    ..fault
+                };
+                walk_field_path(field, path, Reader::Kernel, setting.service).map_err(bound)
             }
             _ => Ok(()),
         };
@@ -70,36 +111,36 @@ pub fn validate_reference(
         return if setting.allows(name) {
             Ok(())
         } else {
-            Err(12)
+            Err(Fault::settled(12))
         };
     };
     let holder = match name {
         "fields" | "old_fields" => Some(&schema.record),
         "args" => schema.arguments.as_ref(),
-        _ => return Err(12),
+        _ => return Err(Fault::settled(12)),
     };
     match holder {
         Some(holder) if setting.allows(name) => {
             validate_reference_path(holder, path, Reader::Kernel, setting.service)
         }
-        _ => Err(11),
+        _ => Err(Fault::settled(11)),
     }
 }
 
 /// The lookup at a root, and the walk on from the field found there.
-pub fn validate_reference_path(
-    holder: &Holder,
-    path: &str,
+pub fn validate_reference_path<'t>(
+    holder: &'t Holder,
+    path: &'t str,
     reader: Reader,
     service: bool,
-) -> Result<(), u32> {
+) -> Result<(), Fault<'t>> {
     let (root, rest) = split(path);
     if root.is_empty() {
-        return Err(1);
+        return Err(early(1, path));
     }
     match (named(root, &holder.fields), rest) {
         (None, _) if holder.open => Ok(()),
-        (None, _) => Err(2),
+        (None, _) => Err(early(2, path)),
         (Some(_), None) => Ok(()),
         (Some(field), Some(rest)) => walk_field_path(field, rest, reader, service),
     }
@@ -117,10 +158,15 @@ enum Step<'t> {
 }
 
 /// Walks a path from a field, segment by segment.
-fn walk_field_path(field: &Field, path: &str, reader: Reader, service: bool) -> Result<(), u32> {
+fn walk_field_path<'t>(
+    field: &'t Field,
+    path: &'t str,
+    reader: Reader,
+    service: bool,
+) -> Result<(), Fault<'t>> {
     let (segment, rest) = split(path);
     if segment.is_empty() {
-        return Err(1);
+        return Err(at(field, 1, path));
     }
     let step = if service {
         service_step(field, segment, reader)
@@ -128,7 +174,7 @@ fn walk_field_path(field: &Field, path: &str, reader: Reader, service: bool) -> 
         kernel_step(field, segment)
     };
     match (step, rest) {
-        (Step::Fail(detail), _) | (Step::Last(detail), Some(_)) => Err(detail),
+        (Step::Fail(detail), _) | (Step::Last(detail), Some(_)) => Err(at(field, detail, path)),
         (Step::Into(next), Some(rest)) => walk_field_path(next, rest, reader, service),
         (Step::Last(_), None) | (Step::Free, _) | (Step::Into(_), None) => Ok(()),
     }
@@ -177,14 +223,14 @@ fn union_step<'t>(field: &'t Field, segment: &str) -> Step<'t> {
     }
 }
 
-/// The element of the collection that `in` names, none where it is not known; else the detail of 22.
+/// The element of the collection that `in` names, none where it is not known; else a fault of 22.
 pub fn collection_element<'t>(
-    over: &Value,
+    over: &'t Value,
     schema: &'t Schema,
     binders: &Environment<'t>,
-) -> Result<Option<&'t Field>, u32> {
+) -> Result<Option<&'t Field>, Fault<'t>> {
     let Data::String(expression) = &over.data else {
-        return Err(1);
+        return Err(Fault::settled(1));
     };
     // The first character is dropped unseen; where it has more than one byte, or there is none, no name is left.
     let (name, path) = split(expression.get(1..).unwrap_or_default());
@@ -197,10 +243,10 @@ pub fn collection_element<'t>(
     let holder = match (expression.starts_with('$'), name) {
         (true, "fields" | "old_fields") => Some(&schema.record),
         (true, "args") => schema.arguments.as_ref(),
-        _ => return Err(5),
+        _ => return Err(Fault::settled(5)),
     };
     let Some(path) = path else {
-        return Err(5);
+        return Err(Fault::settled(5));
     };
     let (root, rest) = split(path);
     let holder = holder
@@ -216,16 +262,16 @@ pub fn collection_element<'t>(
 }
 
 /// The field that a path leads to from another, none where no schema describes it.
-fn field_at<'t>(field: &'t Field, path: &str) -> Result<Option<&'t Field>, u32> {
+fn field_at<'t>(field: &'t Field, path: &'t str) -> Result<Option<&'t Field>, Fault<'t>> {
     let (segment, rest) = split(path);
     let next = match field.kind {
         JSON | UNION => None,
         OBJECT => match named(segment, &field.properties) {
-            None if !field.open => return Err(2),
+            None if !field.open => return Err(at(field, 2, path)),
             property => property,
         },
         ARRAY if is_ordinal(segment) => field.items.as_deref(),
-        _ => return Err(3),
+        _ => return Err(at(field, 3, path)),
     };
     match (next, rest) {
         (Some(next), Some(rest)) => field_at(next, rest),
@@ -234,10 +280,10 @@ fn field_at<'t>(field: &'t Field, path: &str) -> Result<Option<&'t Field>, u32> 
 }
 
 /// The element of a field that is an array or a map.
-fn element_of(field: Option<&Field>) -> Result<Option<&Field>, u32> {
+fn element_of(field: Option<&Field>) -> Result<Option<&Field>, Fault<'_>> {
     match field {
         None => Ok(None),
         Some(field) if matches!(field.kind, ARRAY | MAP) => Ok(field.items.as_deref()),
-        Some(_) => Err(4),
+        Some(field) => Err(at(field, 4, "")),
     }
 }

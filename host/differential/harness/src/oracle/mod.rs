@@ -81,7 +81,8 @@ fn call(sheet: &Sheet, setting: &Setting<'_>) -> Result<(), DefinitionError> {
 /// Family from the variant; number and detail from the message, or from the variant where it has none.
 fn read_error(error: DefinitionError, frame: Frame<'_>, sheet: &Sheet) -> Result<Defect, String> {
     let table = sentences::Table::new(frame.kind, sheet);
-    let plain = |number, family, detail, path, quoted| Defect { number, family, detail, path, quoted, over: None };
+    let message = message(&error).ok_or_else(|| format!("the Rust answers with a variant that has no family: {error:?}"))?;
+    let plain = |number, family, detail, path, quoted| Defect { number, family, detail, path, message, quoted, over: None };
     Ok(match error {
         DefinitionError::InvalidRule { path, message } => {
             let found = table.of_rule(&message)?;
@@ -104,6 +105,19 @@ fn read_error(error: DefinitionError, frame: Frame<'_>, sheet: &Sheet) -> Result
             Defect { over: Some(expression), ..plain(found.number, 8, found.detail, path, found.quoted) }
         }
         other => return Err(format!("the Rust answers with a variant that has no family: {other:?}")),
+    })
+}
+
+/// What each variant carries as its message; none of one that has no family.
+fn message(error: &DefinitionError) -> Option<String> {
+    Some(match error {
+        DefinitionError::InvalidRule { message, .. } | DefinitionError::InvalidTemplate { message, .. } => message.clone(),
+        DefinitionError::SemanticsKeyNotAvailable { key, .. } => key.clone(),
+        DefinitionError::ConditionTooDeep { depth, .. } => depth.to_string(),
+        DefinitionError::CompareOperandNotAddressable { side, .. } => (*side).to_owned(),
+        DefinitionError::QuantifierBindInvalid { bind, .. } => bind.clone(),
+        DefinitionError::QuantifierOverNotCollection { detail, .. } | DefinitionError::QuantifierBodyScope { detail, .. } => detail.clone(),
+        _ => return None,
     })
 }
 

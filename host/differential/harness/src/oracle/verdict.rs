@@ -13,6 +13,8 @@ pub struct Defect {
     pub family: u32,
     pub detail: u32,
     pub path: String,
+    /// The raw field of the variant that says what is wrong, as the Rust has it.
+    pub message: String,
     /// What the Rust quotes of the entry at fault, to be compared with the entry at the place.
     pub quoted: Quoted,
     /// Family 8: the text of the quantifier's `in`, to be compared with the entry at the over place.

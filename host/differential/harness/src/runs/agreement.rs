@@ -37,7 +37,7 @@ pub fn hold(case: &Case) -> Result<Held, String> {
 
 /// As `hold`, with more or fewer calls of the library.
 pub fn hold_with(case: &Case, extent: Extent) -> Result<Held, String> {
-    let answer = catch_unwind(|| model::check(&case.call())).map_err(|_| "the model panics".to_owned())?;
+    let (answer, message) = catch_unwind(|| model::explain(&case.call())).map_err(|_| "the model panics".to_owned())?;
     if !case.expect.allows(answer.number, answer.detail) {
         return Err(format!("the case was made for {:?}, the model answers {}", case.expect, line(&answer)));
     }
@@ -48,7 +48,7 @@ pub fn hold_with(case: &Case, extent: Extent) -> Result<Held, String> {
     }
     if refused > 0 {
         let bare = Answer { number: answer.number, ..Answer::default() };
-        return if answer == bare {
+        return if answer == bare && message.is_none() {
             Ok(Held::Refused(answer.number))
         } else {
             Err(format!("a refusal with more than its number: {}", line(&answer)))
@@ -66,8 +66,21 @@ pub fn hold_with(case: &Case, extent: Extent) -> Result<Held, String> {
     let label = std::str::from_utf8(&case.label).map_err(|_| "a label that is not UTF-8 was accepted".to_owned())?;
     let frame = Frame { kind: case.kind, semantics: case.semantics, label, table: &case.table };
     let verdict = oracle::ask(frame, &Schemas::new(&schema), &sheet)?;
-    same(&answer, &verdict, &sheet)?;
+    same(&answer, message.as_deref(), &verdict, &sheet)?;
     Ok(Held::Agreed(answer))
+}
+
+/// The Rust's message of the case's defect; none where the case has none or is not run on the Rust.
+pub fn rust_message(case: &Case) -> Option<String> {
+    if REFUSALS.contains(&model::check(&case.call()).number) {
+        return None;
+    }
+    let (schema, sheet) = trees(case).ok().filter(|(_, sheet)| !oracle::is_kept_out(sheet))?;
+    let frame = Frame { kind: case.kind, semantics: case.semantics, label: std::str::from_utf8(&case.label).ok()?, table: &case.table };
+    match oracle::ask(frame, &Schemas::new(&schema), &sheet).ok()? {
+        Verdict::Accepted => None,
+        Verdict::Defect(defect) => Some(defect.message),
+    }
 }
 
 /// Both trees. A sheet that is read must be the writing of what was read.
@@ -104,15 +117,18 @@ fn shape(sheet: &Sheet, answer: &Answer, service: bool) -> Result<(), String> {
     Ok(())
 }
 
-/// Acceptance, number, family, detail and path are the same, and what the Rust quotes is at the places.
-pub fn same(answer: &Answer, verdict: &Verdict, sheet: &Sheet) -> Result<(), String> {
+/// Acceptance, number, family, detail, path and message are the same, and what the Rust quotes is at the places.
+pub fn same(answer: &Answer, message: Option<&str>, verdict: &Verdict, sheet: &Sheet) -> Result<(), String> {
     let differ = || Err(format!("the model answers {}, the Rust {verdict:?}", line(answer)));
     let Verdict::Defect(defect) = verdict else {
-        return if answer.number == 0 { Ok(()) } else { differ() };
+        return if answer.number == 0 && message.is_none() { Ok(()) } else { differ() };
     };
     let told = (answer.number, answer.family, answer.detail, answer.path.as_slice());
     if told != (defect.number, defect.family, defect.detail, defect.path.as_bytes()) {
         return differ();
+    }
+    if message != Some(&defect.message) {
+        return Err(format!("the model's message is {message:?}, the Rust's {:?}", defect.message));
     }
     if !is_quoted(defect, answer.place, sheet) {
         return Err(format!("place {} is not what the Rust speaks of: {defect:?}", answer.place));

@@ -14,7 +14,7 @@ use cases::generate::build::{
 };
 use cases::generate::names::STOCK;
 use model::trees::{Field, Holder, Schema, Sheet};
-use model::{check, decode_rule, write_rule, write_schema};
+use model::{decode_rule, explain, write_rule, write_schema};
 
 const TOKENS: [&str; 10] = ["$", "b", ".", "0", "1", "é", "fields", "args", "count", "value"];
 
@@ -56,9 +56,9 @@ impl World {
         let read = decode_rule(&rule).ok_or("a generated rule sheet is not read")?;
         for &(kind, semantics) in settings {
             let case = Case::new(kind, semantics, LABEL.as_bytes(), self.sheet.clone(), rule.clone());
-            let answer = check(&case.call());
+            let (answer, message) = explain(&case.call());
             let verdict = oracle::ask(Frame { kind, semantics, label: LABEL, table: &[] }, &self.rust, &read);
-            let agreed = verdict.and_then(|verdict| same(&answer, &verdict, &read));
+            let agreed = verdict.and_then(|verdict| same(&answer, message.as_deref(), &verdict, &read));
             let agreed = agreed.and_then(|()| library::checks::hold(&case, &answer, Extent::Some));
             agreed.map_err(|trouble| report(&case, &trouble, "exhaustive"))?;
             tally.add((answer.number, answer.family, answer.detail), 1);

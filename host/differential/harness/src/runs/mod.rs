@@ -10,6 +10,7 @@ pub mod instants;
 pub mod keys;
 pub mod marks;
 pub mod memory;
+pub mod messages;
 pub mod moved;
 pub mod openings;
 pub mod published;
