@@ -28,8 +28,8 @@ use Rattle.walk.specs.declared.answer.Collected.the-variants as Collected
 use Rattle.walk.specs.declared.answer.CollectionFault.the-variants.{NotAString}
 use Rattle.validation.specs.Check.{Binder, check, failsIf, entryOf, isString, hasDot, operatorCheck, isEmpty, body, bodies, depth, depthOfConditions}
 use Rattle.validation.specs.Judge.{failure, unasked, outcome}
-use Rattle.value_checks.specs.Kinds.{OperatorAt}
-use Rattle.value_checks.specs.Nodes.{IsCondition, AreConditions, Behind}
+use Rattle.rule.specs.Kinds.{OperatorAt}
+use Rattle.rule.specs.Nodes.{IsCondition, AreConditions, Behind}
 use Rattle.value_checks.specs.Verdicts.{numberOf, failureOf, failed, going, GoesOn, PassedOn, Failed, Required}
 use Rattle.scope.specs.Collections.{CollectionIs}
 use Rattle.value_checks.specs.Frames.{Frame, frame, Stands, OperandsJudged}
@@ -43,7 +43,7 @@ use Rattle.value_checks.specs.declared.verdict.Fault.the-variants.{Operator, Em
 use Rattle.value_checks.specs.declared.verdict.Verdict.the-variants.{Defect}
 use Rattle.value_checks.specs.declared.verdict.Progress.{Progress}
 use Rattle.value_checks.proofs.Going.{goes-nothing, goes-then, goes-stopped, passed-on}
-use Rattle.value_checks.proofs.NodeSteps.{has-operator, condition-size, tailOf, first-stands, tail-stands, none-left, none-ends}
+use Rattle.rule.proofs.NodeSteps.{has-operator, condition-size, tailOf, first-stands, tail-stands, none-left, none-ends}
 use Rattle.value_checks.proofs.LiteralSteps.{settled-outcome}
 use Rattle.value_checks.proofs.OperandSteps.{asked-outcome}
 use Rattle.condition_checks.proofs.OperandLaws.{operands-none, operands-one, operands-two, operands-sides}

@@ -10,7 +10,7 @@ use Rattle.reference.specs.Setting.{Setting}
 use Rattle.reference.specs.Reference.{Environment}
 use Rattle.validation.specs.Check.{Binder, references, compareSide, operand}
 use Rattle.validation.specs.Judge.{outcome}
-use Rattle.value_checks.specs.Nodes.{IsValue, AreValues}
+use Rattle.rule.specs.Nodes.{IsValue, AreValues}
 use Rattle.value_checks.specs.Verdicts.{sideDetail, GoesOn}
 use Rattle.value_checks.specs.Frames.{Frame, Stands, asked, askedOf, OperandsJudged}
 use Rattle.value_checks.specs.declared.verdict.Side.the-variants.{Left, Right}

@@ -19,7 +19,7 @@ use Rattle.walk.specs.Answers.{CollectedIs}
 use Rattle.walk.specs.declared.answer.Collected.{Collected}
 use Rattle.validation.specs.Check.{Binder, check, failsIf, walkable, references, hasDot, operatorCheck, body, bodies, depth, depthOfConditions}
 use Rattle.validation.specs.Judge.{outcome}
-use Rattle.value_checks.specs.Nodes.{IsCondition, AreConditions}
+use Rattle.rule.specs.Nodes.{IsCondition, AreConditions}
 use Rattle.value_checks.specs.Verdicts.{GoesOn, Required}
 use Rattle.scope.specs.Scopes.{ScopeAt}
 use Rattle.value_checks.specs.Frames.{Frame, frame, Stands, OperandsJudged}

@@ -1,5 +1,7 @@
 // The checks of a condition. A condition that is a quantifier has a condition as its body: the functions call one another, with one level less left.
 use rule::index::start_of;
+use rule::kind::operator_at;
+use rule::node::behind;
 use scope::binder::Element;
 use scope::binder::Scope;
 use scope::binder::bind;
@@ -14,8 +16,6 @@ use sheet::rule_heads::LITERAL;
 use sheet::rule_heads::NOT;
 use sheet::rule_heads::TRUTHY;
 use sheet::rule_heads::condition_head;
-use value_checks::kind::operator_at;
-use value_checks::node::behind;
 use value_checks::operand::Form;
 use value_checks::operand::form_of;
 use value_checks::operand::validate_operands;

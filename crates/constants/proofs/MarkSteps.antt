@@ -19,10 +19,10 @@ use Rattle.buffer.specs.WroteLaws.{sets-append}
 use Rattle.buffer.specs.Bytes.{littleEndian, bytesOf}
 use Rattle.buffer.specs.BytesLaws.{bytes-append, bytes-of-one, bytes-length}
 use Rattle.validation.specs.Constant.{markOf, markIf, marksOf, marksOfConditions, marksIn}
-use Rattle.value_checks.specs.Kinds.{OperatorAt}
-use Rattle.value_checks.specs.Nodes.{AreConditions, Behind, childrenOf, ChildrenFrom}
-use Rattle.value_checks.proofs.NodeSteps.{same-head, has-operator, none-left, none-ends}
-use Rattle.value_checks.proofs.Opening.{beside, opened, opened-stand}
+use Rattle.rule.specs.Kinds.{OperatorAt}
+use Rattle.rule.specs.Nodes.{AreConditions, Behind, childrenOf, ChildrenFrom}
+use Rattle.rule.proofs.NodeSteps.{same-head, has-operator, none-left, none-ends}
+use Rattle.rule.proofs.Opening.{beside, opened, opened-stand}
 use Rattle.validation.specs.Marking.{MarksAre}
 use Rattle.constants.specs.Marks.{truthBy, PairIs, ConstantAt, MarkedOn, Unmarked, ConditionsMarked, RuleMarked}
 use Rattle.constants.specs.declared.Constant.{Constant}

@@ -9,9 +9,9 @@ use borrow.Author.Tests.{leb-true, eqb-true}
 use Rattle.definition.specs.Tree.{Condition, literal, many, negation, one, two, comparison, quantifier, Conditions, noConditions, condition}
 use Rattle.rule.specs.Index.{startOf, ConditionAt}
 use Rattle.validation.specs.Constant.{markIf, constantOf, literalInstant, marksOf, marksOfConditions}
-use Rattle.value_checks.specs.Kinds.{OperatorAt}
-use Rattle.value_checks.specs.Nodes.{AreConditions, Behind}
-use Rattle.value_checks.proofs.NodeSteps.{has-operator, tailOf, tail-stands, none-ends}
+use Rattle.rule.specs.Kinds.{OperatorAt}
+use Rattle.rule.specs.Nodes.{AreConditions, Behind}
+use Rattle.rule.proofs.NodeSteps.{has-operator, tailOf, tail-stands, none-ends}
 use Rattle.constants.specs.Marks.{PlainOperator, Plain, Unmarked}
 use Rattle.constants.proofs.ConstantSteps.{other-none}
 

@@ -13,7 +13,7 @@ use Rattle.rule.specs.Index.{ValueAt, RuleAt}
 use Rattle.buffer.specs.Bytes.{bytesOf}
 use Rattle.validation.specs.Constant.{literalInstant, constantOf, markIf, marksOfConditions, marksIn}
 use Rattle.validation.specs.Marking.{MarksAre}
-use Rattle.value_checks.specs.Nodes.{AreConditions}
+use Rattle.rule.specs.Nodes.{AreConditions}
 use Rattle.constants.specs.declared.Literal.{Literal}
 use Rattle.constants.specs.declared.Literal.the-variants as Literal
 use Rattle.constants.specs.declared.Constant.{Constant}

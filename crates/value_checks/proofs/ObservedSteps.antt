@@ -14,9 +14,9 @@ use Rattle.rule.specs.Index.{startOf, endOf, ValueAt}
 use Rattle.rule.specs.IndexLaws.{value-next}
 use Rattle.validation.specs.Check.{Check, Literal, literalCheck, numbers, numbersOfValues, numbersOfPairs, literals, literalsOfConditions}
 use Rattle.validation.specs.Judge.{outcome}
-use Rattle.value_checks.specs.Leaves.{leaves, leavesOfValues, leavesOfPairs, saidIn, said-append, said-value}
-use Rattle.value_checks.specs.Kinds.{OperatorAt}
-use Rattle.value_checks.specs.Nodes.{EntriesIn, IsCondition, AreConditions, Behind, childrenOf, ChildrenFrom}
+use Rattle.rule.specs.Leaves.{leaves, leavesOfValues, leavesOfPairs, saidIn, said-append, said-value}
+use Rattle.rule.specs.Kinds.{OperatorAt}
+use Rattle.rule.specs.Nodes.{EntriesIn, IsCondition, AreConditions, Behind, childrenOf, ChildrenFrom}
 use Rattle.value_checks.specs.Verdicts.{GoesOn}
 use Rattle.value_checks.specs.Literals.{literalSays, LiteralsJudged, isObserved, ObservedJudged, ConditionLiterals}
 use Rattle.value_checks.specs.declared.verdict.Fault.{Fault}
@@ -24,9 +24,9 @@ use Rattle.value_checks.specs.declared.verdict.Over.{Over}
 use Rattle.value_checks.specs.declared.verdict.Verdict.the-variants.{Defect}
 use Rattle.value_checks.specs.declared.verdict.Progress.{Progress}
 use Rattle.value_checks.proofs.Going.{goes-nothing, goes-then, goes-stopped}
-use Rattle.value_checks.proofs.NodeSteps.{has-operator, value-size, first-stands, none-left, none-ends}
-use Rattle.value_checks.proofs.EntrySteps.{entries-none, entries-both, entries-value}
-use Rattle.value_checks.proofs.Opening.{beside, opened, opened-stand}
+use Rattle.rule.proofs.NodeSteps.{has-operator, value-size, first-stands, none-left, none-ends}
+use Rattle.rule.proofs.EntrySteps.{entries-none, entries-both, entries-value}
+use Rattle.rule.proofs.Opening.{beside, opened, opened-stand}
 
 module _ {rule words : List ℕ} {op start end : ℕ} {a : Progress} {flag : Bool} (said : flag ≡ isObserved op) where
   pub observed-yes : {r : Progress} → flag ≡ true → LiteralsJudged rule words start (end - start) a r → ObservedJudged rule words op start end a r

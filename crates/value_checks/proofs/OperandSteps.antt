@@ -23,8 +23,8 @@ use Rattle.validation.specs.Check.{Binder, Question, settled, Check, check, fai
 use Rattle.validation.specs.Constant.{literalText, literalInstant}
 use Rattle.validation.specs.Judge.{failure, unasked, outcome, environment, answer, answerIn}
 use Rattle.scope.specs.declared.binder.Scope.{Scope}
-use Rattle.value_checks.specs.Kinds.{typeIn, TypeAt, TextAt}
-use Rattle.value_checks.specs.Nodes.{AreValues, Behind}
+use Rattle.rule.specs.Kinds.{typeIn, TypeAt, TextAt}
+use Rattle.rule.specs.Nodes.{AreValues, Behind}
 use Rattle.value_checks.specs.Verdicts.{numberOf, detailOf, refusedAt, failureOf, sideDetail, instantDetail, failed, GoesOn, PassedOn, Failed, Required}
 use Rattle.value_checks.specs.Frames.{Frame, frame, Stands, IsReference, ReferencesIn, instantCheck, affixCheck, askedBefore, askedAfter, asked, askedOf, ValueJudged, OperandJudged, OperandsJudged, FormIs, formOf, literalBy, ReadAs}
 use Rattle.value_checks.specs.declared.operand.Form.{Form}
@@ -42,7 +42,7 @@ use Rattle.value_checks.specs.declared.verdict.Over.{Over}
 use Rattle.value_checks.specs.declared.verdict.Verdict.the-variants.{Defect}
 use Rattle.value_checks.specs.declared.verdict.Progress.{Progress}
 use Rattle.value_checks.proofs.Going.{goes-nothing, goes-then, goes-stopped}
-use Rattle.value_checks.proofs.NodeSteps.{othersOf, value-stands, others-stand, no-values-left, no-values-end}
+use Rattle.rule.proofs.NodeSteps.{othersOf, value-stands, others-stand, no-values-left, no-values-end}
 use Rattle.value_checks.proofs.LiteralSteps.{settled-outcome}
 use Rattle.value_checks.proofs.ReferenceSteps.{references-judged, reference-begins}
 

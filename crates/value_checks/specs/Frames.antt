@@ -15,9 +15,9 @@ use Rattle.reference.specs.Reference.{Environment}
 use Rattle.validation.specs.Check.{Binder, Question, settled, Check, check, failsIf, entryOf, isString, isHolder, referenceText, referenceCheck, references, instantForm}
 use Rattle.validation.specs.Judge.{outcome, environment}
 use Rattle.validation.specs.Result.{overOf}
-use Rattle.value_checks.specs.Leaves.{saidIn}
+use Rattle.rule.specs.Leaves.{saidIn}
 use Rattle.rule.specs.Index.{ValueAt}
-use Rattle.value_checks.specs.Nodes.{IsValue, AreValues, EntriesIn}
+use Rattle.rule.specs.Nodes.{IsValue, AreValues, EntriesIn}
 use Rattle.value_checks.specs.Verdicts.{GoesOn, overBy, sideDetail, instantDetail}
 use Rattle.scope.specs.Scopes.{ScopeAt}
 use Rattle.scope.specs.declared.binder.Scope.{Scope}

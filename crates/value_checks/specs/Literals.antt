@@ -8,8 +8,8 @@ use Rattle.sheet.specs.Entries.{ValueHead, constantHead, numberHead, stringHead
 use Rattle.reference.specs.Setting.{Setting}
 use Rattle.validation.specs.Check.{Check, literalCheck, literalsOfConditions}
 use Rattle.validation.specs.Judge.{outcome}
-use Rattle.value_checks.specs.Leaves.{saidIn}
-use Rattle.value_checks.specs.Nodes.{EntriesIn, AreConditions}
+use Rattle.rule.specs.Leaves.{saidIn}
+use Rattle.rule.specs.Nodes.{EntriesIn, AreConditions}
 use Rattle.value_checks.specs.Verdicts.{GoesOn}
 use Rattle.value_checks.specs.declared.verdict.Progress.{Progress}
 

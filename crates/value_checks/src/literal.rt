@@ -1,10 +1,4 @@
 // The literal pass: whether the numbers that a condition compares are finite.
-use crate::kind::NUMBER;
-use crate::kind::has_type;
-use crate::kind::operator_at;
-use crate::kind::text_at;
-use crate::node::behind;
-use crate::node::children_from;
 use crate::verdict::Fault;
 use crate::verdict::Over;
 use crate::verdict::Progress;
@@ -12,6 +6,12 @@ use crate::verdict::Verdict;
 use crate::verdict::going;
 use crate::verdict::require;
 use rule::index::start_of;
+use rule::kind::NUMBER;
+use rule::kind::has_type;
+use rule::kind::operator_at;
+use rule::kind::text_at;
+use rule::node::behind;
+use rule::node::children_from;
 use sheet::part::bytes_of;
 use sheet::rule_heads::COMPARE;
 use sheet::rule_heads::CONTAINS;

@@ -1,8 +1,4 @@
 // Operands: what a value is asked besides its references.
-use crate::kind::STRING;
-use crate::kind::text_at;
-use crate::kind::type_at;
-use crate::node::behind;
 use crate::references::is_reference;
 use crate::references::validate_references;
 use crate::verdict::Fault;
@@ -16,6 +12,10 @@ use crate::verdict::going;
 use crate::verdict::pass;
 use crate::verdict::require;
 use rule::index::start_of;
+use rule::kind::STRING;
+use rule::kind::text_at;
+use rule::kind::type_at;
+use rule::node::behind;
 use scope::binder::Scope;
 use scope::collections::begins_with_dollar;
 use sheet::part::Part;

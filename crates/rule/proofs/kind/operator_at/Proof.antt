@@ -1,8 +1,8 @@
--- `value_checks::kind::operator_at` meets its contract: a comma after the first digit, or a second digit.
+-- `rule::kind::operator_at` meets its contract: a comma after the first digit, or a second digit.
 use borrow.Author.Needs.{needs}
-use Rattle.value_checks.proofs.KindSteps.{operator-one, operator-two}
-use Rattle.value_checks.proofs.kind.operator_at.Statement.{statement}
-use Rattle.value_checks.proofs.kind.operator_at.Tie as tie
+use Rattle.rule.proofs.KindSteps.{operator-one, operator-two}
+use Rattle.rule.proofs.kind.operator_at.Statement.{statement}
+use Rattle.rule.proofs.kind.operator_at.Tie as tie
 
 byte-after-requires : tie.Need-byte-after-requires
 byte-after-requires c κs = search needs

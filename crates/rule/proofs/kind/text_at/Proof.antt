@@ -1,9 +1,9 @@
--- `value_checks::kind::text_at` meets its contract: the text comes after its length.
+-- `rule::kind::text_at` meets its contract: the text comes after its length.
 use borrow.Author.Needs.{needs}
 use native.Mathlib.Omega.{arith}
-use Rattle.value_checks.proofs.KindSteps.{text-known, text-unread, text-past}
-use Rattle.value_checks.proofs.kind.text_at.Statement.{statement}
-use Rattle.value_checks.proofs.kind.text_at.Tie as tie
+use Rattle.rule.proofs.KindSteps.{text-known, text-unread, text-past}
+use Rattle.rule.proofs.kind.text_at.Statement.{statement}
+use Rattle.rule.proofs.kind.text_at.Tie as tie
 
 returns : tie.Need-returns
 returns c = text-past (c .if1 .taken)

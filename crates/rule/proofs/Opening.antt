@@ -5,10 +5,10 @@ use mathlib.Core.List.{List}
 use mathlib.Core.Path.{_≡_, sym}
 use Rattle.definition.specs.Tree.{Conditions, noConditions, condition}
 use Rattle.definition.specs.Within.{conditionEntries, conditionsEntries}
 use Rattle.rule.specs.Index.{startOf}
-use Rattle.value_checks.specs.Kinds.{OperatorAt}
-use Rattle.value_checks.specs.Nodes.{AreConditions, Behind, childrenOf, ChildrenFrom}
-use Rattle.value_checks.proofs.NodeSteps.{children-stand, tailOf, first-stands, tail-stands, none-ends}
+use Rattle.rule.specs.Kinds.{OperatorAt}
+use Rattle.rule.specs.Nodes.{AreConditions, Behind, childrenOf, ChildrenFrom}
+use Rattle.rule.proofs.NodeSteps.{children-stand, tailOf, first-stands, tail-stands, none-ends}
 
 unfoldable pub beside : Conditions → Conditions → Conditions
 beside noConditions ds = ds

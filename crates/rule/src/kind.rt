@@ -6,7 +6,7 @@ use sheet::part::Part;
 ghost use mathlib.Core.Path.{_≡_};
 ghost use Prim.Native.Nat.{_+_};
 ghost use lib.ListN.{getD};
-ghost use Rattle.value_checks.specs.Kinds.{OperatorAt, TypeAt, HasType, TextAt};
+ghost use Rattle.rule.specs.Kinds.{OperatorAt, TypeAt, HasType, TextAt};
 
 // The type's digits that the checks tell apart (docs/FORMAT.md, "The rule sheet").
 pub const NUMBER: u8 = b'0' + sheet::rule_heads::NUMBER as u8;

@@ -1,8 +1,8 @@
--- `value_checks::node::children_from` meets its contract: the operator says where the children begin.
+-- `rule::node::children_from` meets its contract: the operator says where the children begin.
 use native.Mathlib.Omega.{arith}
 use borrow.Author.Needs.{needs}
-use Rattle.value_checks.proofs.node.children_from.Statement.{statement}
-use Rattle.value_checks.proofs.node.children_from.Tie as tie
+use Rattle.rule.proofs.node.children_from.Statement.{statement}
+use Rattle.rule.proofs.node.children_from.Tie as tie
 
 returns : tie.Need-returns
 returns c = search needs

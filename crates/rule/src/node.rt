@@ -1,11 +1,11 @@
 // Where the words of an index lead.
-use rule::index::end_of;
+use crate::index::end_of;
 use sheet::rule_heads::LITERAL;
 use sheet::rule_heads::NOT;
 use sheet::rule_heads::TRUTHY;
 ghost use Prim.Native.Nat.{_<_, _≤_};
 ghost use Rattle.definition.specs.Limits.{wordEntries};
-ghost use Rattle.value_checks.specs.Nodes.{Behind, ChildrenFrom};
+ghost use Rattle.rule.specs.Nodes.{Behind, ChildrenFrom};
 
 // The word after the subtree of word `i`, `end` at most.
 pub fn behind(words: &[u32], i: usize, end: usize) -> usize

@@ -1,10 +1,10 @@
--- `value_checks::kind::byte_after` meets its contract.
+-- `rule::kind::byte_after` meets its contract.
 use native.Mathlib.Omega.{arith}
 use borrow.Author.Needs.{needs}
 use Prim.Native.Nat.{_+_}
-use Rattle.value_checks.proofs.KindSteps.{past-end}
-use Rattle.value_checks.proofs.kind.byte_after.Statement.{statement}
-use Rattle.value_checks.proofs.kind.byte_after.Tie as tie
+use Rattle.rule.proofs.KindSteps.{past-end}
+use Rattle.rule.proofs.kind.byte_after.Statement.{statement}
+use Rattle.rule.proofs.kind.byte_after.Tie as tie
 
 returns : tie.Need-returns
 returns c = let a = c .before .args in past-end (a .s .now) (a .at + a .n) (omega arith)

@@ -12,10 +12,10 @@ use Rattle.sheet.specs.Places.{ReadsTo}
 use Rattle.sheet.specs.RuleHeadLaws.{ConditionHeadFits, conditionHead-exact}
 use Rattle.definition.specs.Tree.{Value, constant, number, string, array, object, Values, noValues, value, Condition, literal, many, negation, one, two, comparison, quantifier, Conditions, noConditions, condition}
 use Rattle.definition.specs.Within.{conditionEntries, conditionsEntries, valueEntries, valuesEntries}
 use Rattle.rule.specs.Index.{startOf, endOf, EntryAt, ConditionAt}
 use Rattle.rule.specs.IndexLaws.{value-next, condition-next}
-use Rattle.value_checks.specs.Kinds.{operatorIn, OperatorAt}
-use Rattle.value_checks.specs.Nodes.{IsValue, AreValues, IsCondition, AreConditions, Behind, childrenOf, ChildrenFrom}
+use Rattle.rule.specs.Kinds.{operatorIn, OperatorAt}
+use Rattle.rule.specs.Nodes.{IsValue, AreValues, IsCondition, AreConditions, Behind, childrenOf, ChildrenFrom}
 
 pub same-head : {H : Type 0} {reader : Reader (List ℕ) H} {rule words : List ℕ} {i at next size e : ℕ} {h k : H}
     → at ≡ startOf words i

@@ -1,8 +1,8 @@
--- `value_checks::kind::has_type` meets its contract.
+-- `rule::kind::has_type` meets its contract.
 use borrow.Author.Needs.{needs}
-use Rattle.value_checks.proofs.KindSteps.{type-byte, type-tested, type-otherwise}
-use Rattle.value_checks.proofs.kind.has_type.Statement.{statement}
-use Rattle.value_checks.proofs.kind.has_type.Tie as tie
+use Rattle.rule.proofs.KindSteps.{type-byte, type-tested, type-otherwise}
+use Rattle.rule.proofs.kind.has_type.Statement.{statement}
+use Rattle.rule.proofs.kind.has_type.Tie as tie
 
 byte-after-requires : tie.Need-byte-after-requires
 byte-after-requires c κs = search needs

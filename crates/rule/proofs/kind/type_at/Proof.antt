@@ -1,8 +1,8 @@
--- `value_checks::kind::type_at` meets its contract.
+-- `rule::kind::type_at` meets its contract.
 use borrow.Author.Needs.{needs}
-use Rattle.value_checks.proofs.KindSteps.{type-byte}
-use Rattle.value_checks.proofs.kind.type_at.Statement.{statement}
-use Rattle.value_checks.proofs.kind.type_at.Tie as tie
+use Rattle.rule.proofs.KindSteps.{type-byte}
+use Rattle.rule.proofs.kind.type_at.Statement.{statement}
+use Rattle.rule.proofs.kind.type_at.Tie as tie
 
 byte-after-requires : tie.Need-byte-after-requires
 byte-after-requires c κs = search needs

@@ -10,8 +10,8 @@ use Rattle.sheet.specs.ReaderLaws.{by-test}
 use Rattle.sheet.specs.Entries.{ValueHead, valueHead, keyHead}
 use Rattle.definition.specs.Tree.{Text, Value, constant, number, string, array, object, Values, noValues, value, Pairs, noPairs, pair}
 use Rattle.definition.specs.Within.{valueEntries, valuesEntries, pairsEntries}
 use Rattle.rule.specs.Index.{EntryAt, ValueAt, ValuesAt, PairsAt}
-use Rattle.value_checks.specs.Nodes.{EntryIn, EntriesIn}
+use Rattle.rule.specs.Nodes.{EntryIn, EntriesIn}
 
 module _ {rule words : List ℕ} where
   entries-one : {i : ℕ} → EntryIn rule words i → EntriesIn rule words i 1

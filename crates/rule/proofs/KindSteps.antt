@@ -20,7 +20,7 @@ use Rattle.sheet.specs.Entries.{maxText, item, ConditionHead, literalHead, many
 use Rattle.sheet.specs.Write.{writeItem, writeEnd, writeLast, writeOperator, writeConditionHead, writeType, writeValueHead, writeKeyHead}
 use Rattle.sheet.specs.ReaderLaws.{by-test}
 use Rattle.sheet.specs.RuleHeadLaws.{ConditionHeadFits, conditionHead-exact, ValueHeadFits, valueHead-exact, keyHead-exact}
-use Rattle.value_checks.specs.Kinds.{operatorIn, typeIn, OperatorAt, TypeAt, HasType, TextAt}
+use Rattle.rule.specs.Kinds.{operatorIn, typeIn, OperatorAt, TypeAt, HasType, TextAt}
 
 -- The entry as it is written.
 
