@@ -6,18 +6,19 @@ use mathlib.Core.Option.{some}
 use mathlib.Core.Path.{_≡_}
 use lib.ListN.{drop}
 use Rattle.sheet.specs.Parts.{partOf}
+use Rattle.sheet.specs.Operators.{literalOperator, notOperator, compareOperator}
 use Rattle.sheet.specs.declared.part.Part.{Part}
 use Rattle.definition.specs.Tree.{Text}
 use Rattle.sheet.specs.Entries.{ConditionHead, literalHead, manyHead, negationHead, oneHead, twoHead, comparisonHead, quantifierHead, conditionHead, ValueHead, constantHead, numberHead, stringHead, arrayHead, objectHead, valueHead, keyHead}
 
 -- the operator's number, which a literal's, a negation's and a comparison's head leave out
 unfoldable pub operatorIn : ConditionHead → ℕ
-operatorIn (literalHead truth) = 1
+operatorIn (literalHead truth) = literalOperator
 operatorIn (manyHead op count) = op
-operatorIn negationHead = 4
+operatorIn negationHead = notOperator
 operatorIn (oneHead op) = op
 operatorIn (twoHead op) = op
-operatorIn (comparisonHead which) = 18
+operatorIn (comparisonHead which) = compareOperator
 operatorIn (quantifierHead op bind) = op
 
 -- the type's number

@@ -6,6 +6,7 @@ use mathlib.Core.Option.{some}
 use mathlib.Core.Path.{_≡_}
 use lib.ListN.{drop}
 use Rattle.sheet.specs.Entries.{ValueHead, valueHead, keyHead}
+use Rattle.sheet.specs.Operators.{literalOperator, notOperator, truthyOperator}
 use Rattle.definition.specs.Tree.{Text, Value, Values, Condition, literal, many, negation, one, two, comparison, quantifier, Conditions, noConditions, condition}
 use Rattle.definition.specs.Within.{conditionEntries, conditionsEntries, valueEntries, valuesEntries}
 use Rattle.rule.specs.Index.{startOf, endOf, ValueAt, ValuesAt, ConditionAt, ConditionsAt}
@@ -58,10 +59,10 @@ pub record ChildrenFrom (words : List ℕ) (op i end r : ℕ) : Type 0 where
   pub past : i < r
   pub most : r ≤ end
   -- a literal holds none
-  pub literal : op ≤ 1 → r ≡ end
+  pub literal : op ≤ literalOperator → r ≡ end
   -- `all`, `any` and `not` hold conditions alone
-  pub inner : 2 ≤ op → op ≤ 4 → r ≡ i + 1
-  -- operators 5 to 19 hold values
-  pub values : 5 ≤ op → op ≤ 19 → r ≡ end
+  pub inner : literalOperator < op → op ≤ notOperator → r ≡ i + 1
+  -- those after them up to `truthy` hold values
+  pub values : notOperator < op → op ≤ truthyOperator → r ≡ end
   -- a quantifier holds a value, and its body after that
-  pub body : 20 ≤ op → Behind words (i + 1) end r
+  pub body : truthyOperator < op → Behind words (i + 1) end r

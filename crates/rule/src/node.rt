@@ -1,8 +1,8 @@
 // Where the words of an index lead.
 use crate::index::end_of;
-use sheet::rule_heads::LITERAL;
-use sheet::rule_heads::NOT;
-use sheet::rule_heads::TRUTHY;
+use sheet::operators::LITERAL;
+use sheet::operators::NOT;
+use sheet::operators::TRUTHY;
 ghost use Prim.Native.Nat.{_<_, _≤_};
 ghost use Rattle.definition.specs.Limits.{wordEntries};
 ghost use Rattle.rule.specs.Nodes.{Behind, ChildrenFrom};
