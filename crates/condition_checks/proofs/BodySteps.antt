@@ -8,7 +8,9 @@ use mathlib.Core.Option.{Option, none, some, Option·none-ne-some, Option·some-
 use mathlib.Core.Path.{_≡_, refl, sym, ap, subst, _∙_}
 use lib.ListN.{drop}
 use lib.Dec.{leb, eqb}
-use borrow.Author.Tests.{eq-eqb, ne-eqb, le-leb, lt-leb, leb-true, leb-false}
+use borrow.Author.Tests.{eq-eqb, ne-eqb, leb-true, leb-false}
+use Rattle.sheet.specs.Operators.{isServiceOperator}
+use Rattle.sheet.specs.OperatorLaws.{service-operator-range}
 use Rattle.sheet.specs.Entries.{ConditionHead, literalHead, manyHead, negationHead, oneHead, twoHead, comparisonHead, quantifierHead, conditionHead}
 use Rattle.sheet.specs.Parts.{partOf}
 use Rattle.sheet.specs.Places.{ReadsTo}
@@ -28,8 +30,8 @@ use Rattle.walk.specs.declared.answer.Collected.the-variants as Collected
 use Rattle.walk.specs.declared.answer.CollectionFault.the-variants.{NotAString}
 use Rattle.validation.specs.Check.{Binder, check, failsIf, entryOf, isString, hasDot, operatorCheck, isEmpty, body, bodies, depth, depthOfConditions}
 use Rattle.validation.specs.Judge.{failure, unasked, outcome}
-use Rattle.value_checks.specs.Kinds.{OperatorAt}
-use Rattle.value_checks.specs.Nodes.{IsCondition, AreConditions, Behind}
+use Rattle.rule.specs.Kinds.{OperatorAt}
+use Rattle.rule.specs.Nodes.{IsCondition, AreConditions, Behind}
 use Rattle.value_checks.specs.Verdicts.{numberOf, failureOf, failed, going, GoesOn, PassedOn, Failed, Required}
 use Rattle.scope.specs.Collections.{CollectionIs}
 use Rattle.value_checks.specs.Frames.{Frame, frame, Stands, OperandsJudged}
@@ -43,48 +45,51 @@ use Rattle.value_checks.specs.declared.verdict.Fault.the-variants.{Operator, Em
 use Rattle.value_checks.specs.declared.verdict.Verdict.the-variants.{Defect}
 use Rattle.value_checks.specs.declared.verdict.Progress.{Progress}
 use Rattle.value_checks.proofs.Going.{goes-nothing, goes-then, goes-stopped, passed-on}
-use Rattle.value_checks.proofs.NodeSteps.{has-operator, condition-size, tailOf, first-stands, tail-stands, none-left, none-ends}
+use Rattle.rule.proofs.NodeSteps.{has-operator, condition-size, tailOf, first-stands, tail-stands, none-left, none-ends}
 use Rattle.value_checks.proofs.LiteralSteps.{settled-outcome}
 use Rattle.value_checks.proofs.OperandSteps.{asked-outcome}
 use Rattle.condition_checks.proofs.OperandLaws.{operands-none, operands-one, operands-two, operands-sides}
 
 -- Operators.
 
-module _ {scope : Scope} {over : Over} {op i : ℕ} {a r : Progress} where
-  pub operator-early : op < 18 → PassedOn a r → OperatorJudged scope over op i a r
+module _ {scope : Scope} {over : Over} {op i : ℕ} {a r : Progress} {test : Bool} (said : test ≡ isServiceOperator op) where
+  operator-early : test ≡ false → PassedOn a r → OperatorJudged scope over op i a r
   unfolding operatorCheck failsIf unasked
-  operator-early l p =
+  operator-early f p =
       record {
         atMost = p .atMost;
         goes =
             λ schema rule words setting tree binders env s.
+            let l : isServiceOperator op ≡ false = sym said ∙ f in
             p .goes (outcome setting tree) _
-            (asked-outcome setting tree binders env 15 (i + 1) _ none (s .bound) (rw (lt-leb 18 op l)));
+            (asked-outcome setting tree binders env 15 (i + 1) _ none (s .bound) (rw l));
       }
 
-  pub operator-service : 18 ≤ op → scope .service ≡ true → PassedOn a r → OperatorJudged scope over op i a r
+  pub operator-service : test ≡ true → scope .service ≡ true → PassedOn a r → OperatorJudged scope over op i a r
   unfolding operatorCheck failsIf unasked
-  operator-service l t p =
+  operator-service f t p =
       record {
         atMost = p .atMost;
         goes =
             λ schema rule words setting tree binders env s.
+            let l : isServiceOperator op ≡ true = sym said ∙ f in
             let m : setting .isService ≡ true = sym (s .scoped .set .service) ∙ t in
             p .goes (outcome setting tree) _
-            (asked-outcome setting tree binders env 15 (i + 1) _ none (s .bound) (rw (le-leb 18 op l, m)));
+            (asked-outcome setting tree binders env 15 (i + 1) _ none (s .bound) (rw (l, m)));
       }
 
-  pub operator-fails : 18 ≤ op → scope .service ≡ false → Failed a Operator (i + 1) over r → OperatorJudged scope over op i a r
+  pub operator-fails : test ≡ true → scope .service ≡ false → Failed a Operator (i + 1) over r → OperatorJudged scope over op i a r
   unfolding operatorCheck failsIf check numberOf failureOf unasked
-  operator-fails l t p =
+  operator-fails f t p =
       record {
         atMost = omega (arith, p .same);
         goes =
             λ schema rule words setting tree binders env s.
+            let l : isServiceOperator op ≡ true = sym said ∙ f in
             let m : setting .isService ≡ false = sym (s .scoped .set .service) ∙ t in
             p .goes (outcome setting tree) _ []
             (record { numbered = refl; placed = refl; held = s .held })
-            (asked-outcome setting tree binders env 15 (i + 1) _ (some 0) (s .bound) (rw (le-leb 18 op l, m)));
+            (asked-outcome setting tree binders env 15 (i + 1) _ (some 0) (s .bound) (rw (l, m)));
       }
 
 -- A condition's own entry.
@@ -92,24 +97,27 @@ module _ {scope : Scope} {over : Over} {op i : ℕ} {a r : Progress} where
 module _ {over : Over} {op i end : ℕ} {a : Progress} where
   pub nonempty-many : {r : Progress} → 1 < op → op < 4 → Required a (eqb (i + 1) end) Empty (i + 1) over r → NonemptyJudged over op i end a r
   nonempty-many low high p =
-      record { atMost = p .atMost; many = λ h k. p; other = λ h. absurd (⊎-elim (λ e. omega arith) (λ e. omega arith) h) }
+      record { atMost = p .atMost; many = λ h. p; other = λ h. absurd (⊎-elim (λ e. omega arith) (λ e. omega arith) h) }
 
   pub nonempty-other : (op ≤ 1) ⊎ (4 ≤ op) → NonemptyJudged over op i end a a
   nonempty-other h =
-      record { atMost = omega arith; many = λ low high. absurd (⊎-elim (λ e. omega arith) (λ e. omega arith) h); other = λ e. refl }
+      record { atMost = omega arith; many = λ k. absurd (⊎-elim (λ e. omega arith) (λ e. omega arith) h); other = λ e. refl }
 
--- operators below 18 are always there
-pub entry-early : {scope : Scope} {over : Over} {op i end n : ℕ} {r : Progress}
-    → op < 18
+pub entry-early : {scope : Scope} {over : Over} {op i end n : ℕ} {r : Progress} {test : Bool}
+    → test ≡ isServiceOperator op
+    → test ≡ false
     → NonemptyJudged over op i end (going (n + 1)) r
     → EntryJudged scope over op i end (going n) r
-entry-early {n = n} l p = record { between = going (n + 1); operator = operator-early l passed-on; nonempty = p }
+entry-early {n = n} said f p = record { between = going (n + 1); operator = operator-early said f passed-on; nonempty = p }
 
-pub entry-late : {scope : Scope} {over : Over} {op i end : ℕ} {a r : Progress}
-    → 18 ≤ op
+pub entry-late : {scope : Scope} {over : Over} {op i end : ℕ} {a r : Progress} {test : Bool}
+    → test ≡ isServiceOperator op
+    → test ≡ true
     → OperatorJudged scope over op i a r
     → EntryJudged scope over op i end a r
-entry-late {r = r} l p = record { between = r; operator = p; nonempty = nonempty-other (inr (omega arith)) }
+entry-late {op = op} {r = r} said t p =
+    let h : 18 ≤ op = leb-true 18 op (service-operator-range op ∙ sym said ∙ t) in
+    record { between = r; operator = p; nonempty = nonempty-other (inr (omega arith)) }
 
 -- Binds.
 
@@ -305,7 +313,7 @@ module _ (schema rule words : List ℕ) (scope : Scope) (over : Over) (i end lef
         rw (w .stands .0 .isEntry)
         (goes-then (operator-goes own (p .0))
         (goes-then
-        (entry .nonempty .many (p .1) (p .2) .goes (outcome setting tree) (check 16 (i + 1) binders (failsIf (isEmpty children) 0))
+        (entry .nonempty .many (p .1, p .2) .goes (outcome setting tree) (check 16 (i + 1) binders (failsIf (isEmpty children) 0))
         (record { numbered = refl; placed = refl; held = s .held })
         (settled-outcome setting tree binders env 16 (i + 1) (isEmpty children) 0 (s .bound)
         ∙ ap (λ (x : Bool). failed x (failure 0 0)) (empty-end children i end (omega (arith, w .ends)))))
@@ -326,7 +334,7 @@ module _ (schema rule words : List ℕ) (scope : Scope) (over : Over) (i end lef
         let g : OperandsJudged (frame schema rule words scope over) own (i + 1) end b r = rw (p .0) at n in
         rw (w .stands .0 .isEntry)
         (goes-then (entry-goes own (p .0) (inr (omega (arith, p .1))))
-        (operands-two (omega (arith, p .0, p .1)) (omega (arith, p .0, p .2)) g setting tree binders env left right s
+        (operands-two (omega (arith, p .0, p .2)) g setting tree binders env left right s
         (record { stands = w .stands .1; ends = refl })
         (record { stands = w .stands .2; ends = omega (arith, w .ends) })))
     body-goes (comparison e which left right) w d k =

@@ -6,10 +6,10 @@ use mathlib.Core.Path.{_≡_, refl, sym, ap, _∙_}
 use Rattle.definition.specs.Tree.{Condition, literal, many, negation, one, two, comparison, quantifier, Conditions, noConditions, condition}
 use Rattle.rule.specs.Index.{startOf}
 use Rattle.validation.specs.Check.{depth, depthOfConditions}
-use Rattle.value_checks.specs.Kinds.{OperatorAt}
-use Rattle.value_checks.specs.Nodes.{AreConditions, Behind, childrenOf, ChildrenFrom}
+use Rattle.rule.specs.Kinds.{OperatorAt}
+use Rattle.rule.specs.Nodes.{AreConditions, Behind, childrenOf, ChildrenFrom}
 use Rattle.condition_checks.specs.Depth.{DepthIs, DepthsAre}
-use Rattle.value_checks.proofs.NodeSteps.{children-stand, tailOf, first-stands, tail-stands, none-left, none-ends}
+use Rattle.rule.proofs.NodeSteps.{children-stand, tailOf, first-stands, tail-stands, none-left, none-ends}
 
 depth-children : (c : Condition) → depth c ≡ 1 + depthOfConditions (childrenOf c)
 unfolding depth depthOfConditions childrenOf

@@ -10,7 +10,7 @@ use Rattle.reference.specs.Setting.{Setting}
 use Rattle.reference.specs.Reference.{Environment}
 use Rattle.validation.specs.Check.{Binder, references, compareSide, operand}
 use Rattle.validation.specs.Judge.{outcome}
-use Rattle.value_checks.specs.Nodes.{IsValue, AreValues}
+use Rattle.rule.specs.Nodes.{IsValue, AreValues}
 use Rattle.value_checks.specs.Verdicts.{sideDetail, GoesOn}
 use Rattle.value_checks.specs.Frames.{Frame, Stands, asked, askedOf, OperandsJudged}
 use Rattle.value_checks.specs.declared.verdict.Side.the-variants.{Left, Right}
@@ -48,14 +48,14 @@ module _ {f : Frame} {op start end : ℕ} {a r : Progress} where
       let e : askedOf op Left binders (value v noValues) ≡ references binders v = append-nil (asked op Left binders v) ∙ asked-one op Left binders v h in
       rw e at (p .goes setting tree binders env (value v noValues) s (one-value v w))
 
-  pub operands-two : 6 ≤ op → op ≤ 17 → OperandsJudged f op start end a r → (setting : Setting) (tree : Schema) (binders : List Binder) (env : Environment) {mid : ℕ} (left right : Value)
+  pub operands-two : op ≤ 17 → OperandsJudged f op start end a r → (setting : Setting) (tree : Schema) (binders : List Binder) (env : Environment) {mid : ℕ} (left right : Value)
       → Stands f setting tree binders env
       → IsValue (f .rule) (f .words) start mid left
       → IsValue (f .rule) (f .words) mid end right
       → GoesOn (outcome setting tree) a (operand op binders left ++ operand op binders right) r
-  operands-two low high p setting tree binders env left right s w u =
+  operands-two high p setting tree binders env left right s w u =
       let e : askedOf op Left binders (value left (value right noValues)) ≡ operand op binders left ++ operand op binders right =
-      asked-pair op binders left right ∙ ap₂ _++_ (asked-two op Left binders left low high) (asked-two op Right binders right low high) in
+      asked-pair op binders left right ∙ ap₂ _++_ (asked-two op Left binders left high) (asked-two op Right binders right high) in
       rw e at (p .goes setting tree binders env (value left (value right noValues)) s (two-values left right w u))
 
 pub operands-sides : {f : Frame} {start end : ℕ} {a r : Progress} → OperandsJudged f 18 start end a r → (setting : Setting) (tree : Schema) (binders : List Binder) (env : Environment) {mid : ℕ} (left right : Value)

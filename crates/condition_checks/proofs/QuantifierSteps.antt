@@ -27,7 +27,7 @@ use Rattle.validation.specs.Check.{Binder, walkable, readable, Check, check, fa
 use Rattle.validation.specs.Judge.{Failure, failure, CheckOutcome, outcome, verdict, extend, enter, environment, answer, answerIn, decide, judgeFrom}
 use Rattle.validation.specs.Result.{overOf}
 use Rattle.value_checks.specs.Shown.{Shown, passes, fails, shownOf, goOn}
-use Rattle.value_checks.specs.Nodes.{Behind}
+use Rattle.rule.specs.Nodes.{Behind}
 use Rattle.value_checks.specs.Verdicts.{numberOf, failureOf, overBy, shownWith, shownBy, failed, GoesOn, PassedOn, Failed, Required}
 use Rattle.scope.specs.Scopes.{BoundElement, Binds}
 use Rattle.scope.specs.ScopeLaws.{scope-bound}
@@ -43,7 +43,7 @@ use Rattle.value_checks.specs.declared.verdict.Fault.the-variants.{Bind, Collec
 use Rattle.value_checks.specs.declared.verdict.Verdict.the-variants.{Pass, Defect}
 use Rattle.value_checks.specs.declared.verdict.Progress.{Progress}
 use Rattle.value_checks.proofs.Going.{goes-then, goes-stopped}
-use Rattle.value_checks.proofs.NodeSteps.{value-size}
+use Rattle.rule.proofs.NodeSteps.{value-size}
 use Rattle.value_checks.proofs.LiteralSteps.{settled-outcome}
 use Rattle.value_checks.proofs.ReferenceSteps.{readable-outcome}
 use Rattle.condition_checks.proofs.OperandLaws.{value-references}

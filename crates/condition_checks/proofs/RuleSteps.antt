@@ -34,7 +34,7 @@ use Rattle.value_checks.specs.declared.verdict.Fault.the-variants.{Name, Messag
 use Rattle.value_checks.specs.declared.verdict.Over.the-variants.{Outside}
 use Rattle.value_checks.specs.declared.verdict.Progress.{Progress}
 use Rattle.value_checks.proofs.Going.{goes-nothing, goes-then}
-use Rattle.value_checks.proofs.NodeSteps.{same-head, condition-size}
+use Rattle.rule.proofs.NodeSteps.{same-head, condition-size}
 use Rattle.value_checks.proofs.LiteralSteps.{settled-outcome}
 use Rattle.condition_checks.proofs.OperandLaws.{value-references}
 

@@ -1,5 +1,5 @@
 -- What the checks of a condition ask, by what the code is given.
-use Prim.Native.Nat.{ℕ, suc, _+_, _*_, _-_, _≤_}
+use Prim.Native.Nat.{ℕ, suc, _+_, _*_, _-_, _≤_, _<_}
 use mathlib.Core.Bool.{Bool, true, false, _||_}
 use mathlib.Core.List.{List, [], _∷_, _++_}
 use mathlib.Core.Logic.{_⊎_}
@@ -7,6 +7,8 @@ use mathlib.Core.Option.{Option, none, some}
 use mathlib.Core.Path.{_≡_}
 use lib.Dec.{eqb}
 use lib.ListN.{drop}
+use Rattle.sheet.specs.Operators as Operators
+use Rattle.sheet.specs.Operators.{literalOperator, notOperator, truthyOperator, InShape}
 use Rattle.text.specs.Blank.{isBlank}
 use Rattle.sheet.specs.Entries.{quantifierHead, conditionHead}
 use Rattle.sheet.specs.Parts.{partOf}
@@ -19,7 +21,7 @@ use Rattle.walk.specs.Answers.{CollectedIs}
 use Rattle.walk.specs.declared.answer.Collected.{Collected}
 use Rattle.validation.specs.Check.{Binder, check, failsIf, walkable, references, hasDot, operatorCheck, body, bodies, depth, depthOfConditions}
 use Rattle.validation.specs.Judge.{outcome}
-use Rattle.value_checks.specs.Nodes.{IsCondition, AreConditions}
+use Rattle.rule.specs.Nodes.{IsCondition, AreConditions}
 use Rattle.value_checks.specs.Verdicts.{GoesOn, Required}
 use Rattle.scope.specs.Scopes.{ScopeAt}
 use Rattle.value_checks.specs.Frames.{Frame, frame, Stands, OperandsJudged}
@@ -36,11 +38,11 @@ pub record OperatorJudged (scope : Scope) (over : Over) (op i : ℕ) (a r : Prog
       → Stands (frame schema rule words scope over) setting tree binders env
       → GoesOn (outcome setting tree) a (operatorCheck setting binders (i + 1) op ∷ []) r
 
--- `all` and `any` (2 and 3) are asked whether they end right after their own word
+-- `all` and `any` are asked whether they end right after their own word
 pub record NonemptyJudged (over : Over) (op i end : ℕ) (a r : Progress) : Type 0 where
   pub atMost : r .passed ≤ a .passed + 1
-  pub many : 2 ≤ op → op ≤ 3 → Required a (eqb (i + 1) end) Empty (i + 1) over r
-  pub other : (op ≤ 1) ⊎ (4 ≤ op) → r ≡ a
+  pub many : InShape op Operators.many → Required a (eqb (i + 1) end) Empty (i + 1) over r
+  pub other : (op ≤ literalOperator) ⊎ (notOperator ≤ op) → r ≡ a
 
 -- the checks of a condition's own entry, one after the other
 pub record EntryJudged (scope : Scope) (over : Over) (op i end : ℕ) (a r : Progress) : Type 0 where
@@ -48,10 +50,10 @@ pub record EntryJudged (scope : Scope) (over : Over) (op i end : ℕ) (a r : Pro
   pub operator : OperatorJudged scope over op i a between
   pub nonempty : NonemptyJudged over op i end between r
 
--- whether conditions with operator `op` hold no condition: 1, and 5 to 19
+-- whether conditions with operator `op` hold no condition
 abbrev pub Leaf : ℕ → Bool → Type 0
-Leaf op true = ((op ≤ 1) ⊎ (5 ≤ op)) × (op ≤ 19)
-Leaf op false = (2 ≤ op) × ((op ≤ 4) ⊎ (20 ≤ op))
+Leaf op true = ((op ≤ literalOperator) ⊎ (notOperator < op)) × (op ≤ truthyOperator)
+Leaf op false = (literalOperator < op) × ((op ≤ notOperator) ⊎ (truthyOperator < op))
 
 -- the checks of a condition that holds none: those of its own entry, then those of its operands
 pub record LeafJudged (f : Frame) (op i end : ℕ) (a r : Progress) : Type 0 where

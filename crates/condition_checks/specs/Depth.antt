@@ -4,7 +4,7 @@ use mathlib.Core.List.{List}
 use mathlib.Core.Path.{_≡_}
 use Rattle.definition.specs.Tree.{Condition, Conditions}
 use Rattle.validation.specs.Check.{depth, depthOfConditions}
-use Rattle.value_checks.specs.Nodes.{IsCondition, AreConditions}
+use Rattle.rule.specs.Nodes.{IsCondition, AreConditions}
 
 -- the depth of the condition, or `left` where it is deeper
 pub record DepthIs (rule words : List ℕ) (i end left r : ℕ) : Type 0 where

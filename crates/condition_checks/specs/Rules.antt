@@ -12,7 +12,7 @@ use Rattle.validation.specs.Check.{literalChecks, checks}
 use Rattle.validation.specs.Judge.{outcome, judge}
 use Rattle.scope.specs.Scopes.{ScopeAt}
 use Rattle.scope.specs.declared.binder.Scope.{Scope}
-use Rattle.value_checks.specs.Nodes.{IsCondition}
+use Rattle.rule.specs.Nodes.{IsCondition}
 use Rattle.value_checks.specs.Shown.{shownOf}
 use Rattle.value_checks.specs.Verdicts.{shownBy, GoesOn}
 use Rattle.value_checks.specs.declared.verdict.Progress.{Progress}

@@ -1,21 +1,21 @@
 // The checks of a condition. A condition that is a quantifier has a condition as its body: the functions call one another, with one level less left.
 use rule::index::start_of;
+use rule::kind::operator_at;
+use rule::node::behind;
 use scope::binder::Element;
 use scope::binder::Scope;
 use scope::binder::bind;
 use scope::collections::collection_element;
+use sheet::operators::EXISTS;
+use sheet::operators::LITERAL;
+use sheet::operators::NOT;
+use sheet::operators::TRUTHY;
+use sheet::operators::is_service_operator;
 use sheet::part::Part;
 use sheet::part::bytes_of;
-use sheet::rule_heads::COMPARE;
 use sheet::rule_heads::ConditionHead;
 use sheet::rule_heads::ConditionRead;
-use sheet::rule_heads::EXISTS;
-use sheet::rule_heads::LITERAL;
-use sheet::rule_heads::NOT;
-use sheet::rule_heads::TRUTHY;
 use sheet::rule_heads::condition_head;
-use value_checks::kind::operator_at;
-use value_checks::node::behind;
 use value_checks::operand::Form;
 use value_checks::operand::form_of;
 use value_checks::operand::validate_operands;
@@ -61,7 +61,7 @@ fn validate_nonempty(passed: usize, over: Over, op: usize, i: usize, end: usize)
     going(passed)
 }
 
-// The checks of the own entry of a condition that ends at `end`. Operators from 18 on exist only under service.
+// The checks of the own entry of a condition that ends at `end`: service operators exist only under service.
 fn validate_entry(
     passed: usize,
     scope: Scope,
@@ -73,13 +73,13 @@ fn validate_entry(
     requires { ⌜ HasRoom (going passed) 2 × (i < wordEntries) ⌝ }
     ensures { λ r. ⌜ EntryJudged scope over op i end (going passed) r ⌝ }
 {
-    if op < COMPARE {
-        return validate_nonempty(passed + 1, over, op, i, end);
+    if is_service_operator(op) {
+        if scope.service {
+            return pass(passed);
+        }
+        return fail(passed, Fault::Operator, i + 1, over);
     }
-    if scope.service {
-        return pass(passed);
-    }
-    fail(passed, Fault::Operator, i + 1, over)
+    validate_nonempty(passed + 1, over, op, i, end)
 }
 
 // Whether a condition with that operator holds no condition.

@@ -1,8 +1,8 @@
 // How deep conditions nest: siblings by a loop, children by recursion.
 use rule::index::start_of;
-use value_checks::kind::operator_at;
-use value_checks::node::behind;
-use value_checks::node::children_from;
+use rule::kind::operator_at;
+use rule::node::behind;
+use rule::node::children_from;
 ghost use mathlib.Core.Path.{_≡_};
 ghost use Prim.Native.Nat.{_<_, _≤_, max};
 ghost use Rattle.definition.specs.Limits.{wordEntries};

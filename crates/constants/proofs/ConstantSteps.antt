@@ -1,11 +1,13 @@
 -- Which conditions are constant, step by step.
 use Prim.Native.Nat.{ℕ, _+_, _≤_}
 use native.Mathlib.Omega.{arith}
-use mathlib.Core.Bool.{Bool}
+use mathlib.Core.Bool.{Bool, true, false, false≢true}
 use mathlib.Core.List.{List}
 use mathlib.Core.Option.{Option, none, some, Option·none-ne-some}
-use mathlib.Core.Path.{_≡_, refl, _∙_}
-use borrow.Author.Tests.{ne-eqb}
+use mathlib.Core.Path.{_≡_, refl, sym, _∙_}
+use borrow.Author.Tests.{ne-eqb, lt-leb}
+use Rattle.sheet.specs.Operators.{isInstantTest}
+use Rattle.sheet.specs.OperatorLaws.{instant-early, instant-late}
 use Rattle.timestamp.specs.Order.{isEarlier}
 use Rattle.timestamp.specs.declared.Fields.{Fields}
 use Rattle.definition.specs.Tree.{Value, constant, number, string, array, object}
@@ -53,24 +55,29 @@ one-entry (array e values) f h = absurd (Option·none-ne-some f h)
 one-entry (object e pairs) f h = absurd (Option·none-ne-some f h)
 
 -- no other operator makes a condition constant
-pub other-none : (op : ℕ) → (op ≡ 6 → ⊥) → (op ≡ 7 → ⊥) → (o p : Option Fields) → truthIn op o p ≡ none
-unfolding truthIn truthBy
-other-none op before after none p = refl
-other-none op before after (some f) none = refl
-other-none op before after (some f) (some g) = truth-none op f g before after
+pub none-early : (op : ℕ) → op ≤ 5 → isInstantTest op ≡ false
+none-early op h = sym (instant-early (omega arith))
 
-module _ {rule words : List ℕ} {op i : ℕ} where
-  pub constant-not : (op ≡ 6 → ⊥) → (op ≡ 7 → ⊥) → ConstantAt rule words op i Constant.No
+pub none-late : (op : ℕ) → 8 ≤ op → isInstantTest op ≡ false
+none-late op h = sym (instant-late (omega arith)) ∙ lt-leb op 7 (omega arith)
+
+pub other-none : (op : ℕ) → isInstantTest op ≡ false → (o p : Option Fields) → truthIn op o p ≡ none
+unfolding truthIn truthBy isInstantTest
+other-none op h none p = refl
+other-none op h (some f) none = refl
+other-none op h (some f) (some g) = truth-none op f g (λ e. false≢true (sym (rw e at h))) (λ e. false≢true (sym (rw e at h)))
+
+module _ {rule words : List ℕ} {i : ℕ} (op : ℕ) {test : Bool} (said : test ≡ isInstantTest op) where
+  pub constant-not : test ≡ false → ConstantAt rule words op i Constant.No
   unfolding constantOf truthBy
-  constant-not before after =
+  constant-not h =
       record {
-        pair = record { truth = λ left right a b. other-none op before after (literalInstant left) (literalInstant right) };
-        early = λ h. refl;
-        late = λ h. refl;
+        pair = record { truth = λ left right a b. other-none op (sym said ∙ h) (literalInstant left) (literalInstant right) };
+        other = λ k. refl;
       }
 
-  pub constant-by : {r : Constant} → 6 ≤ op → op ≤ 7 → PairIs rule words op (i + 1) r → ConstantAt rule words op i r
-  constant-by low high p = record { pair = p; early = λ h. absurd (omega arith); late = λ h. absurd (omega arith) }
+  pub constant-by : {r : Constant} → test ≡ true → PairIs rule words op (i + 1) r → ConstantAt rule words op i r
+  constant-by t p = record { pair = p; other = λ h. absurd (false≢true (sym h ∙ sym said ∙ t)) }
 
 right-none : (op : ℕ) (o : Option Fields) → truthIn op o none ≡ none
 unfolding truthIn

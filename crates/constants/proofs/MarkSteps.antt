@@ -19,14 +19,15 @@ use Rattle.buffer.specs.WroteLaws.{sets-append}
 use Rattle.buffer.specs.Bytes.{littleEndian, bytesOf}
 use Rattle.buffer.specs.BytesLaws.{bytes-append, bytes-of-one, bytes-length}
 use Rattle.validation.specs.Constant.{markOf, markIf, marksOf, marksOfConditions, marksIn}
-use Rattle.value_checks.specs.Kinds.{OperatorAt}
-use Rattle.value_checks.specs.Nodes.{AreConditions, Behind, childrenOf, ChildrenFrom}
-use Rattle.value_checks.proofs.NodeSteps.{same-head, has-operator, none-left, none-ends}
-use Rattle.value_checks.proofs.Opening.{beside, opened, opened-stand}
+use Rattle.rule.specs.Kinds.{OperatorAt}
+use Rattle.rule.specs.Nodes.{AreConditions, Behind, childrenOf, ChildrenFrom}
+use Rattle.rule.proofs.NodeSteps.{same-head, has-operator, none-left, none-ends}
+use Rattle.rule.proofs.Opening.{beside, opened, opened-stand}
 use Rattle.validation.specs.Marking.{MarksAre}
 use Rattle.constants.specs.Marks.{truthBy, PairIs, ConstantAt, MarkedOn, Unmarked, ConditionsMarked, RuleMarked}
 use Rattle.constants.specs.declared.Constant.{Constant}
 use Rattle.constants.specs.declared.Constant.the-variants as Constant
+use Rattle.constants.proofs.ConstantSteps.{none-early, none-late}
 
 -- One entry's mark.
 
@@ -73,16 +74,16 @@ module _ (rule words : List ℕ) (i : ℕ) (k : Constant) {at op : ℕ} (start :
   unfolding marksOf markIf childrenOf
   marks-parts (literal e truth) a =
       let p = has-operator rule words i start kind (literal e truth) a in
-      rw (by .early (omega arith))
+      rw (by .other (none-early op (omega arith)))
   marks-parts (many e own children) a =
       let p = has-operator rule words i start kind (many e own children) a in
-      rw (by .early (omega (arith, p .2)))
+      rw (by .other (none-early op (omega (arith, p .2))))
   marks-parts (negation e child) a =
       let p = has-operator rule words i start kind (negation e child) a in
-      rw (by .early (omega arith), append-nil)
+      rw (by .other (none-early op (omega arith)), append-nil)
   marks-parts (one e own v) a =
       let p = has-operator rule words i start kind (one e own v) a in
-      let n : truthBy k ≡ none = ⊎-elim (λ q. by .early (omega arith)) (λ q. by .late (omega arith)) (p .1) in
+      let n : truthBy k ≡ none = ⊎-elim (λ q. by .other (none-early op (omega arith))) (λ q. by .other (none-late op (omega arith))) (p .1) in
       rw n
   marks-parts (two e own left right) a =
       let p = has-operator rule words i start kind (two e own left right) a in
@@ -90,10 +91,10 @@ module _ (rule words : List ℕ) (i : ℕ) (k : Constant) {at op : ℕ} (start :
       rw (a .0 .isEntry, n .truth left right (a .1) (a .2), append-nil)
   marks-parts (comparison e which left right) a =
       let p = has-operator rule words i start kind (comparison e which left right) a in
-      rw (by .late (omega arith))
+      rw (by .other (none-late op (omega arith)))
   marks-parts (quantifier e own bind over body) a =
       let p = has-operator rule words i start kind (quantifier e own bind over body) a in
-      rw (by .late (omega (arith, p .1)), append-nil)
+      rw (by .other (none-late op (omega (arith, p .1))), append-nil)
 
 -- What is left at word `i`.
 

@@ -6,14 +6,18 @@ use mathlib.Core.List.{List, []}
 use mathlib.Core.Path.{_≡_, refl, _∙_}
 use lib.Dec.{leb, eqb}
 use borrow.Author.Tests.{leb-true, eqb-true}
+use Rattle.sheet.specs.Operators.{isInstantTest}
 use Rattle.definition.specs.Tree.{Condition, literal, many, negation, one, two, comparison, quantifier, Conditions, noConditions, condition}
 use Rattle.rule.specs.Index.{startOf, ConditionAt}
 use Rattle.validation.specs.Constant.{markIf, constantOf, literalInstant, marksOf, marksOfConditions}
-use Rattle.value_checks.specs.Kinds.{OperatorAt}
-use Rattle.value_checks.specs.Nodes.{AreConditions, Behind}
-use Rattle.value_checks.proofs.NodeSteps.{has-operator, tailOf, tail-stands, none-ends}
+use Rattle.rule.specs.Kinds.{OperatorAt}
+use Rattle.rule.specs.Nodes.{AreConditions, Behind}
+use Rattle.rule.proofs.NodeSteps.{has-operator, tailOf, tail-stands, none-ends}
 use Rattle.constants.specs.Marks.{PlainOperator, Plain, Unmarked}
-use Rattle.constants.proofs.ConstantSteps.{other-none}
+use Rattle.constants.proofs.ConstantSteps.{none-early, none-late, other-none}
+
+pub plain-literal : (op : ℕ) → op ≤ 1 → Plain op true
+plain-literal op h = record { holdsNone = λ k. omega arith; comparesNone = none-early op (omega arith); walksNone = omega arith }
 
 pub plain-exists : (op : ℕ) → Plain op (eqb op 5)
 plain-exists op = by (eqb op 5) refl
@@ -21,14 +25,14 @@ plain-exists op = by (eqb op 5) refl
     by : (b : Bool) → eqb op 5 ≡ b → Plain op b
     by true e =
         let f : op ≡ 5 = eqb-true op 5 e in
-        record { holdsNone = λ h. omega arith; comparesNone = λ h. omega arith; walksNone = omega arith }
+        record { holdsNone = λ h. omega arith; comparesNone = none-early op (omega arith); walksNone = omega arith }
     by false e = tt
 
 pub plain-late : (op last : ℕ) → 7 < op → last ≤ 19 → Plain op (leb op last)
 plain-late op last late most = by (leb op last) refl
   where
     by : (b : Bool) → leb op last ≡ b → Plain op b
-    by true e = record { holdsNone = λ h. omega arith; comparesNone = λ h. omega arith; walksNone = omega (arith, leb-true op last e) }
+    by true e = record { holdsNone = λ h. omega arith; comparesNone = none-late op (omega arith); walksNone = omega (arith, leb-true op last e) }
     by false e = tt
 
 module _ (rule words : List ℕ) (i : ℕ) {at op : ℕ} (start : at ≡ startOf words i) (kind : OperatorAt rule at op) (plain : PlainOperator op) where
@@ -44,8 +48,8 @@ module _ (rule words : List ℕ) (i : ℕ) {at op : ℕ} (start : at ≡ startOf
   plain-marks (one e own v) a = refl
   plain-marks (two e own left right) a =
       let p = has-operator rule words i start kind (two e own left right) a in
-      let h = plain .comparesNone (p .1) in
-      rw (other-none own (λ q. omega (arith, p .0)) (λ q. omega (arith, p .0)) (literalInstant left) (literalInstant right))
+      let h : isInstantTest own ≡ false = rw (p .0) at (plain .comparesNone) in
+      rw (other-none own h (literalInstant left) (literalInstant right))
   plain-marks (comparison e which left right) a = refl
   plain-marks (quantifier e own bind over body) a =
       let p = has-operator rule words i start kind (quantifier e own bind over body) a in

@@ -1,5 +1,5 @@
 -- What the mark pass answers for the words of an index.
-use Prim.Native.Nat.{ℕ, _+_, _*_, _≤_}
+use Prim.Native.Nat.{ℕ, _+_, _*_, _≤_, _<_}
 use mathlib.Core.Bool.{Bool, true, false}
 use mathlib.Core.List.{List}
 use mathlib.Core.Option.{Option, none, some}
@@ -7,13 +7,14 @@ use mathlib.Core.Path.{_≡_}
 use lib.ListN.{length}
 use lib.Seq.{sets}
 use Rattle.timestamp.specs.declared.Fields.{Fields}
+use Rattle.sheet.specs.Operators.{literalOperator, notOperator, truthyOperator, isInstantTest}
 use Rattle.definition.specs.Tree.{Value, Conditions, Rule}
 use Rattle.definition.specs.Within.{valueEntries}
 use Rattle.rule.specs.Index.{ValueAt, RuleAt}
 use Rattle.buffer.specs.Bytes.{bytesOf}
 use Rattle.validation.specs.Constant.{literalInstant, constantOf, markIf, marksOfConditions, marksIn}
 use Rattle.validation.specs.Marking.{MarksAre}
-use Rattle.value_checks.specs.Nodes.{AreConditions}
+use Rattle.rule.specs.Nodes.{AreConditions}
 use Rattle.constants.specs.declared.Literal.{Literal}
 use Rattle.constants.specs.declared.Literal.the-variants as Literal
 use Rattle.constants.specs.declared.Constant.{Constant}
@@ -39,8 +40,7 @@ pub record PairIs (rule words : List ℕ) (op start : ℕ) (r : Constant) : Type
 -- a condition at word `i` with operator `op`: `before` and `after` alone can be constant
 pub record ConstantAt (rule words : List ℕ) (op i : ℕ) (r : Constant) : Type 0 where
   pub pair : PairIs rule words op (i + 1) r
-  pub early : op ≤ 5 → truthBy r ≡ none
-  pub late : 8 ≤ op → truthBy r ≡ none
+  pub other : isInstantTest op ≡ false → truthBy r ≡ none
 
 -- an entry's mark after so many others, where it has one
 pub record MarkedOn (count entry : ℕ) (constant : Constant) (before after : List ℕ) (r : ℕ) : Type 0 where
@@ -48,11 +48,11 @@ pub record MarkedOn (count entry : ℕ) (constant : Constant) (before after : Li
   pub counted : r ≡ count + length (markIf entry (truthBy constant))
   pub written : after ≡ sets before (4 * count) (bytesOf (markIf entry (truthBy constant)))
 
--- a condition with that operator holds no condition, as 2 to 4, 20 and 21 do, and is neither `before` nor `after`, which are 6 and 7
+-- a condition with that operator holds no condition, as those up to `not` and those from `for_all` on do, and is neither `before` nor `after`
 pub record PlainOperator (op : ℕ) : Type 0 where
-  pub holdsNone : 2 ≤ op → 5 ≤ op
-  pub comparesNone : 6 ≤ op → 8 ≤ op
-  pub walksNone : op ≤ 19
+  pub holdsNone : literalOperator < op → notOperator < op
+  pub comparesNone : isInstantTest op ≡ false
+  pub walksNone : op ≤ truthyOperator
 
 abbrev pub Plain : (op : ℕ) (r : Bool) → Type 0
 Plain op true = PlainOperator op

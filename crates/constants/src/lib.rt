@@ -2,19 +2,20 @@
 use buffer::put_u32;
 use rule::index::end_of;
 use rule::index::start_of;
-use sheet::rule_heads::AFTER;
-use sheet::rule_heads::BEFORE;
-use sheet::rule_heads::EXISTS;
-use sheet::rule_heads::LITERAL;
+use rule::kind::operator_at;
+use rule::node::behind;
+use rule::node::children_from;
+use sheet::operators::AFTER;
+use sheet::operators::BEFORE;
+use sheet::operators::EXISTS;
+use sheet::operators::LITERAL;
+use sheet::operators::TRUTHY;
+use sheet::operators::is_instant_test;
 use sheet::rule_heads::RuleHead;
 use sheet::rule_heads::RuleHeadRead;
-use sheet::rule_heads::TRUTHY;
 use sheet::rule_heads::rule_head;
 use timestamp::Fields;
 use timestamp::is_earlier;
-use value_checks::kind::operator_at;
-use value_checks::node::behind;
-use value_checks::node::children_from;
 use value_checks::operand::InstantRead;
 use value_checks::operand::instant_form;
 ghost use mathlib.Core.Path.{_≡_};
@@ -76,13 +77,10 @@ fn constant_at(rule: &[u8], words: &[u32], op: usize, i: usize) -> Constant
     requires { ⌜ i + 1 < wordEntries ⌝ }
     ensures { λ r. ⌜ ConstantAt (now (rule .entry)) (now (words .entry)) op i r ⌝ }
 {
-    if op < BEFORE {
-        return Constant::No;
+    if is_instant_test(op) {
+        return constant_pair(rule, words, op, i + 1);
     }
-    if AFTER < op {
-        return Constant::No;
-    }
-    constant_pair(rule, words, op, i + 1)
+    Constant::No
 }
 
 fn mark_of(entry: usize, truth: bool) -> u32

@@ -17,7 +17,8 @@ use Rattle.definition.specs.Write.{countOfConditions}
 use Rattle.rule.specs.Index.{startOf, endOf, ValueAt, ConditionAt, ConditionsAt}
 use Rattle.rule.specs.IndexLaws.{value-next, condition-next}
 use Rattle.validation.specs.Check.{entryOf}
-use Rattle.validation.specs.Location.{operatorName, dotted, index, through, hereOr, hereAs, inValue, inSide, atQuantifier, inCondition, inConditions}
+use Rattle.sheet.specs.Operators.{operatorName}
+use Rattle.validation.specs.Location.{dotted, index, through, hereOr, hereAs, inValue, inSide, atQuantifier, inCondition, inConditions}
 use Rattle.buffer.specs.Wrote.{Wrote}
 use Rattle.defect_path.specs.Siblings.{Reaches}
 use Rattle.defect_path.specs.Heads.{partAt, isValueAt, isWhole, ownPart}

@@ -13,7 +13,8 @@ use Rattle.definition.specs.Tree.{Text, Value, constant, number, string, array,
 use Rattle.definition.specs.Within.{conditionEntries, conditionsEntries, pairsEntries, valueEntries, valuesEntries}
 use Rattle.rule.specs.Index.{ValueAt, ValuesAt, PairsAt, ConditionAt, ConditionsAt}
 use Rattle.validation.specs.Check.{entryOf}
-use Rattle.validation.specs.Location.{operatorName, dotted, index, through, hereOr, hereAs, inValue, inValues, inPairs, inSide, atQuantifier, inCondition, inConditions}
+use Rattle.sheet.specs.Operators.{operatorName}
+use Rattle.validation.specs.Location.{dotted, index, through, hereOr, hereAs, inValue, inValues, inPairs, inSide, atQuantifier, inCondition, inConditions}
 
 -- `place` is the number of one of the `n` entries from word `i` on
 pub record Among (place i n : ℕ) : Type 0 where

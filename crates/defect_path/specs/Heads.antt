@@ -6,7 +6,8 @@ use lib.Dec.{eqb}
 use Rattle.sheet.specs.Ascii.{ascii}
 use Rattle.sheet.specs.Entries.{ConditionHead, literalHead, manyHead, negationHead, oneHead, twoHead, comparisonHead, quantifierHead}
 use Rattle.definition.specs.Tree.{Text}
-use Rattle.validation.specs.Location.{operatorName, dotted, index, atQuantifier}
+use Rattle.sheet.specs.Operators.{operatorName}
+use Rattle.validation.specs.Location.{dotted, index, atQuantifier}
 
 -- its part with index `k`
 unfoldable pub partAt : ConditionHead → (k : ℕ) → Text

@@ -1,5 +1,5 @@
 -- A path without its label is no longer than the rule's sheet: each part of the path is paid for by entries on the way to the defect.
-use Prim.Native.Nat.{ℕ, zero, suc, _+_, _/_, _%_, _≤_}
+use Prim.Native.Nat.{ℕ, zero, suc, _+_, _/_, _%_, _≤_, _<_}
 use native.Mathlib.Omega.{arith}
 use mathlib.Core.Bool.{Bool, true, false, cond}
 use mathlib.Core.List.{List, [], _∷_, _++_}
@@ -7,11 +7,14 @@ use mathlib.Core.Option.{Option, none, some, Option·getD}
 use mathlib.Core.Path.{_≡_, refl, ap, _∙_}
 use lib.Dec.{ltb, leb, eqb}
 use lib.ListN.{length, length-append}
-use borrow.Author.Tests.{eqb-true, eqb-false}
+use borrow.Author.Tests.{leb-true, leb-false}
 use Rattle.sheet.specs.Ascii.{ascii}
 use Rattle.sheet.specs.Reader.{orElse}
 use Rattle.sheet.specs.Numeral.{decimalIn, decimalOf}
 use Rattle.sheet.specs.NumeralLaws.{decimalOf-begins}
+use Rattle.sheet.specs.ReaderLaws.{by-test}
+use Rattle.sheet.specs.Operators.{operatorName}
+use Rattle.sheet.specs.OperatorLaws.{over, alike, name-past}
 use Rattle.sheet.specs.Write.{writeEnd, writeItem, writeLength, writeLast, writeOperator, writeType, writeRuleHead, writeConditionHead, writeValueHead, writeKeyHead}
 use Rattle.sheet.specs.Entries.{ConditionHead, literalHead, manyHead, negationHead, oneHead, twoHead, comparisonHead, quantifierHead, ValueHead, constantHead, numberHead, stringHead, arrayHead, objectHead}
 use Rattle.sheet.specs.Entries as entries
@@ -19,7 +22,7 @@ use Rattle.definition.specs.Tree.{Text, Value, constant, number, string, array,
 use Rattle.definition.specs.Write.{countOfValues, countOfPairs, countOfConditions, writeValue, writeValues, writePairs, writeCondition, writeConditions, writeRule}
 use Rattle.definition.specs.Within.{ConditionFits, ConditionsFit, RuleFits, RuleWithin}
 use Rattle.validation.specs.Check.{entryOf}
-use Rattle.validation.specs.Location.{operatorName, dotted, index, through, hereOr, hereAs, inValue, inValues, inPairs, inSide, atQuantifier, inCondition, inConditions, behindLabel, pathOf}
+use Rattle.validation.specs.Location.{dotted, index, through, hereOr, hereAs, inValue, inValues, inPairs, inSide, atQuantifier, inCondition, inConditions, behindLabel, pathOf}
 
 -- Numerals and indexes
 
@@ -128,50 +131,27 @@ condition-least (quantifier e op bind over body) = let h = condition-head-least 
 
 -- Names
 
-short-if : (b : Bool) (x y : Text) → length x ≤ 11 → length y ≤ 11 → length (cond b x y) ≤ 11
-short-if true x y p q = p
-short-if false x y p q = q
+short-over : (low n most : ℕ) → over (λ op. leb (length (operatorName op)) most) low n ≡ over (λ op. true) low n
+    → (op : ℕ)
+    → low ≤ op
+    → op < low + n
+    → length (operatorName op) ≤ most
+short-over low n most e op l h = leb-true (length (operatorName op)) most (alike (λ op. leb (length (operatorName op)) most) (λ op. true) low n e op l h)
 
 name-short : (op : ℕ) → length (operatorName op) ≤ 11
-unfolding operatorName ascii
+unfolding operatorName over
 name-short op =
-    short-if (eqb op 2) (ascii "all") _ (omega arith)
-    (short-if (eqb op 3) (ascii "any") _ (omega arith)
-    (short-if (eqb op 4) (ascii "not") _ (omega arith)
-    (short-if (eqb op 5) (ascii "exists") _ (omega arith)
-    (short-if (eqb op 6) (ascii "before") _ (omega arith)
-    (short-if (eqb op 7) (ascii "after") _ (omega arith)
-    (short-if (eqb op 8) (ascii "eq") _ (omega arith)
-    (short-if (eqb op 9) (ascii "ne") _ (omega arith)
-    (short-if (eqb op 10) (ascii "gt") _ (omega arith)
-    (short-if (eqb op 11) (ascii "gte") _ (omega arith)
-    (short-if (eqb op 12) (ascii "lt") _ (omega arith)
-    (short-if (eqb op 13) (ascii "lte") _ (omega arith)
-    (short-if (eqb op 14) (ascii "in") _ (omega arith)
-    (short-if (eqb op 15) (ascii "contains") _ (omega arith)
-    (short-if (eqb op 16) (ascii "starts_with") _ (omega arith)
-    (short-if (eqb op 17) (ascii "ends_with") _ (omega arith)
-    (short-if (eqb op 18) (ascii "compare") _ (omega arith)
-    (short-if (eqb op 19) (ascii "truthy") _ (omega arith)
-    (short-if (eqb op 20) (ascii "for_all") (ascii "for_any") (omega arith) (omega arith)))))))))))))))))))
-
-either-of : (op k : ℕ) (P : ℕ → Type 0) → k ≤ op → op ≤ k + 1 → P k → P (k + 1) → P op
-either-of op k P low high p q = by-first (eqb op k) refl
-  where
-    by-first : (b : Bool) → eqb op k ≡ b → P op
-    by-first true e = rw (eqb-true op k e) p
-    by-first false e =
-        let other = eqb-false op k e in
-        let next : op ≡ k + 1 = omega arith in
-        rw next q
+    by-test (leb 21 op)
+    (λ q. rw (name-past op (leb-true 21 op q)) (omega arith))
+    (λ q. let l = leb-false 21 op q in short-over 0 21 11 refl op (omega arith) (omega arith))
 
 many-name : (op : ℕ) → 2 ≤ op → op ≤ 3 → length (operatorName op) ≤ 3
-unfolding operatorName ascii
-many-name op low high = either-of op 2 (λ n. length (operatorName n) ≤ 3) low high (omega arith) (omega arith)
+unfolding operatorName over
+many-name op low high = short-over 2 2 3 refl op low (omega arith)
 
 quantifier-name : (op : ℕ) → 20 ≤ op → op ≤ 21 → length (operatorName op) ≤ 7
-unfolding operatorName ascii
-quantifier-name op low high = either-of op 20 (λ n. length (operatorName n) ≤ 7) low high (omega arith) (omega arith)
+unfolding operatorName over
+quantifier-name op low high = short-over 20 2 7 refl op low (omega arith)
 
 -- What is found, and how long it is
 

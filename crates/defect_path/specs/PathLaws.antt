@@ -1,6 +1,6 @@
 -- Every check of a rule has a path: its place is the number of an entry that its path can reach.
 use Prim.Native.Nat.{ℕ, _+_}
-use mathlib.Core.Bool.{Bool, true, false, cond, _&&_}
+use mathlib.Core.Bool.{Bool, true, false, cond}
 use mathlib.Core.List.{List, [], _∷_, _++_, map}
 use mathlib.Core.Option.{Option, none, some, IsSome}
 use mathlib.Core.Path.{_≡_, refl}
@@ -13,7 +13,8 @@ use Rattle.definition.specs.Within.{ConditionFrom, RuleFrom}
 use Rattle.reference.specs.Setting.{Setting}
 use Rattle.validation.specs.Check.{Binder, Question, Check, check, referenceText, referenceCheck, references, referencesOfValues, referencesOfPairs, Literal, numbers, numbersOfValues, numbersOfPairs, literals, literalsOfConditions, literalCheck, entryOf, instantForm, instantOperand, affixOperand, compareSide, operand, operatorCheck, body, bodies, literalChecks, checks}
 use Rattle.validation.specs.CheckLaws.{Every, every-append, every-if}
-use Rattle.validation.specs.Location.{operatorName, dotted, index, through, hereOr, hereAs, inValue, inValues, inPairs, inSide, atQuantifier, inCondition, inConditions, behindLabel}
+use Rattle.sheet.specs.Operators.{operatorName, isInstantTest, isAffix, isObserved}
+use Rattle.validation.specs.Location.{dotted, index, through, hereOr, hereAs, inValue, inValues, inPairs, inSide, atQuantifier, inCondition, inConditions, behindLabel}
 
 every-weaker : (P Q : Check → Type 0) (xs : List Check) → ((c : Check) → P c → Q c) → Every P xs → Every Q xs
 every-weaker P Q [] f h = tt
@@ -136,8 +137,8 @@ HasPlace v c = IsSome (inValue (c .place) v)
 operand-found : (op : ℕ) (bs : List Binder) (v : Value) → Every (HasPlace v) (operand op bs v)
 unfolding operand instantOperand affixOperand check
 operand-found op bs v =
-    every-if (HasPlace v) (leb op 7) _ _ (with-own 20 (instantForm v))
-    (every-if (HasPlace v) (leb 16 op) _ _ (with-own 19 _) refs)
+    every-if (HasPlace v) (isInstantTest op) _ _ (with-own 20 (instantForm v))
+    (every-if (HasPlace v) (isAffix op) _ _ (with-own 19 _) refs)
   where
     refs : Every (HasPlace v) (references bs v)
     refs = every-weaker (InValue v) (HasPlace v) (references bs v) (λ c h. h .found) (references-found bs v)
@@ -340,12 +341,12 @@ mutual
       (λ l h. inside-some (eqb e (l .entry)) _ (through-some (ascii ".not") (inCondition 14 (l .entry) child) h))
       (literals-found child)
   literals-found (one e op v) =
-      all-if (LiteralIn (one e op v)) (eqb op 19) (numbers v)
+      all-if (LiteralIn (one e op v)) (isObserved op) (numbers v)
       (all-weaker (NumberIn v) (LiteralIn (one e op v)) (numbers v)
       (λ l h. inside-some (eqb e (l .entry)) _ (through-some (dotted (operatorName op)) (inValue (l .entry) v) h))
       (numbers-found v))
   literals-found (two e op left right) =
-      all-if (LiteralIn (two e op left right)) (leb 8 op && leb op 15) (numbers left ++ numbers right)
+      all-if (LiteralIn (two e op left right)) (isObserved op) (numbers left ++ numbers right)
       (all-append (LiteralIn (two e op left right)) (numbers left) (numbers right)
       (all-weaker (NumberIn left) (LiteralIn (two e op left right)) (numbers left)
       (λ l h. inside-some (eqb e (l .entry)) _

@@ -2,12 +2,13 @@
 use buffer::push;
 use buffer::put;
 ghost use Prim.Native.Nat.{_≤_, _<_};
-ghost use Rattle.validation.specs.Location.{operatorName, dotted};
+ghost use Rattle.sheet.specs.Operators.{operatorName};
+ghost use Rattle.validation.specs.Location.{dotted};
 ghost use Rattle.buffer.specs.Wrote.{Wrote};
 
-// 2 all to 7 after.
+// Up to 7 after.
 fn put_first(path: &mut [u8], at: usize, op: usize) -> usize
-    requires { ⌜ (2 ≤ op) × (op < 8) ⌝ }
+    requires { ⌜ op < 8 ⌝ }
     ensures { λ r. ⌜ Wrote (now (path .entry)) (now (path .exit)) at (operatorName op) r ⌝ }
 {
     match op {
@@ -16,7 +17,8 @@ fn put_first(path: &mut [u8], at: usize, op: usize) -> usize
         4 => put(path, at, b"not"),
         5 => put(path, at, b"exists"),
         6 => put(path, at, b"before"),
-        _ => put(path, at, b"after"),
+        7 => put(path, at, b"after"),
+        _ => put(path, at, b"literal"),
     }
 }
 
@@ -36,9 +38,9 @@ fn put_second(path: &mut [u8], at: usize, op: usize) -> usize
     }
 }
 
-// 15 contains to 21 for_any; there are no others.
+// From 15 contains on; no operator comes after for_any.
 fn put_third(path: &mut [u8], at: usize, op: usize) -> usize
-    requires { ⌜ (2 ≤ op → 15 ≤ op) ⌝ }
+    requires { ⌜ 15 ≤ op ⌝ }
     ensures { λ r. ⌜ Wrote (now (path .entry)) (now (path .exit)) at (operatorName op) r ⌝ }
 {
     match op {
@@ -63,8 +65,5 @@ pub fn put_operator(path: &mut [u8], at: usize, op: usize) -> usize
     if 8 <= op {
         return put_second(path, next, op);
     }
-    if 2 <= op {
-        return put_first(path, next, op);
-    }
-    put_third(path, next, op)
+    put_first(path, next, op)
 }

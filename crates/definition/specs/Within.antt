@@ -3,11 +3,12 @@
 use Prim.Native.Nat.{ℕ, _+_, _≤_, max}
 use mathlib.Core.Bool.{true}
 use mathlib.Core.Option.{Option, none, some}
-use mathlib.Core.Logic.{_⊎_}
 use mathlib.Core.Path.{_≡_}
 use lib.ListN.{length}
 use Rattle.number.specs.Grammar.{isNumber}
 use Rattle.sheet.specs.Order.{precedes}
+use Rattle.sheet.specs.Operators as Operators
+use Rattle.sheet.specs.Operators.{InShape}
 use Rattle.sheet.specs.Within.{TextWithin, OptionWithin}
 use Rattle.definition.specs.Tree.{Text, Field, field, Items, absent, element, Members, noMembers, member, Holder, Schema, Value, constant, number, string, array, object, Values, noValues, value, Pairs, noPairs, pair, Condition, literal, many, negation, one, two, comparison, quantifier, Conditions, noConditions, condition, Rule, rule, template}
 use Rattle.definition.specs.Limits.{maxSheetBytes, maxSchemaEntries, maxRuleEntries, maxFieldNesting, maxConditionNesting, maxValueNesting}
@@ -197,12 +198,12 @@ pub record OperandFits (v : Value) : Type 0 where
 abbrev mutual
   pub ConditionFits : Condition → Type 0
   ConditionFits (literal e truth) = Unit {0}
-  ConditionFits (many e op children) = ((2 ≤ op) × (op ≤ 3)) × ConditionsFit children
+  ConditionFits (many e op children) = InShape op Operators.many × ConditionsFit children
   ConditionFits (negation e child) = ConditionFits child
-  ConditionFits (one e op v) = ((op ≡ 5) ⊎ (op ≡ 19)) × OperandFits v
-  ConditionFits (two e op left right) = ((6 ≤ op) × (op ≤ 17)) × OperandFits left × OperandFits right
+  ConditionFits (one e op v) = InShape op Operators.one × OperandFits v
+  ConditionFits (two e op left right) = InShape op Operators.two × OperandFits left × OperandFits right
   ConditionFits (comparison e which left right) = ((1 ≤ which) × (which ≤ 6)) × OperandFits left × OperandFits right
-  ConditionFits (quantifier e op bind over body) = ((20 ≤ op) × (op ≤ 21)) × TextWithin bind × OperandFits over × ConditionFits body
+  ConditionFits (quantifier e op bind over body) = InShape op Operators.quantifier × TextWithin bind × OperandFits over × ConditionFits body
 
   pub ConditionsFit : Conditions → Type 0
   ConditionsFit noConditions = Unit {0}

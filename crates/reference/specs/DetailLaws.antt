@@ -6,12 +6,11 @@ use mathlib.Core.List.{List, [], _∷_}
 use mathlib.Core.Logic.{_⊎_, inl, inr}
 use mathlib.Core.Option.{Option, none, some}
 use mathlib.Core.Path.{_≡_, refl}
-use lib.Dec.{eqb}
-use Rattle.definition.specs.Tree.{Text, Field, field, Items, absent, element, Holder, Schema}
+use Rattle.definition.specs.Tree.{Text, Field, field, Items, absent, element, Members, Holder, Schema}
 use Rattle.sheet.specs.Order.{sameBytes}
 use Rattle.reference.specs.Setting.{Name, nameOf, Reader, kernel, projection, Setting}
 use Rattle.reference.specs.Path.{Segments, split, isOrdinal, isCount}
-use Rattle.reference.specs.Walk.{Step, refuse, leaf, free, into, lookup, memberStep, itemStep, Reached, refused, unknown, known, lastOr, arrive, entryOf, travel, isEmpty, arrayStep, mapStep, isTag, contentKey, unionStep, textCount, walkStep}
+use Rattle.reference.specs.Walk.{Step, refuse, leaf, free, into, lookup, memberStep, itemStep, Reached, refused, unknown, known, lastOr, arrive, entryOf, travel, isEmpty, arrayStep, mapStep, isTag, contentKey, unionStep, textCount, FieldForm, jsonField, objectField, arrayField, mapField, stringField, unionField, otherField, formOfKind, walkInto, walkStep}
 use Rattle.reference.specs.Reference.{Environment, bound, Root, noRoot, missing, root, rootOf, fromHolder, rootWalk, fromRoot, fromName, fromElement, fromBound, reference, keyWalk}
 
 abbrev pub StepHas : (ℕ → Type 0) → Step → Type 0
@@ -103,23 +102,36 @@ module _ (reader : Reader) where
   one : (d : ℕ) → 1 ≤ d → d ≤ 10 → Detail d
   one = common reader
 
-  step-detail : (isService : Bool) (f : Field) (s : Text) → StepHas Detail (walkStep reader isService f s)
-  unfolding walkStep arrayStep mapStep unionStep
-  step-detail b (field e kind isOpen tag items members) s =
-      step-if Detail (isEmpty s) (refuse 1) _ (one 1 (omega arith) (omega arith))
-      (step-if Detail (b && eqb kind 6) (arrayStep items s) _
+  into-detail : (isService isOpen : Bool) (tag : Option Text) (items : Items) (members : Members) (s : Text) (form : FieldForm)
+      → StepHas Detail (walkInto reader isService isOpen tag items members s form)
+  unfolding walkInto arrayStep mapStep unionStep
+  into-detail b isOpen tag items members s jsonField = tt
+  into-detail b isOpen tag items members s objectField =
+      member-has Detail (lookup s members) isOpen 3 (one 3 (omega arith) (omega arith))
+  into-detail b isOpen tag items members s arrayField =
+      step-if Detail b (arrayStep items s) _
       (step-if Detail (isCount s) (leaf 6) _ (one 6 (omega arith) (omega arith))
       (step-if Detail (isOrdinal s) (itemStep items) (refuse 4) (item-has Detail items) (one 4 (omega arith) (omega arith))))
-      (step-if Detail (b && eqb kind 10) (mapStep s) _
+      (one 10 (omega arith) (omega arith))
+  into-detail b isOpen tag items members s mapField =
+      step-if Detail b (mapStep s) _
       (step-if Detail (isCount s) (leaf 6) (refuse 5) (one 6 (omega arith) (omega arith)) (one 5 (omega arith) (omega arith)))
-      (step-if Detail (b && (eqb kind 1 && isCount s)) (textCount reader) _ (text-detail reader)
-      (step-if Detail (eqb kind 8) free _ tt
-      (step-if Detail (eqb kind 7) (memberStep (lookup s members) isOpen 3) _
-      (member-has Detail (lookup s members) isOpen 3 (one 3 (omega arith) (omega arith)))
-      (step-if Detail (b && eqb kind 11) (unionStep tag s) _
+      (one 10 (omega arith) (omega arith))
+  into-detail b isOpen tag items members s stringField =
+      step-if Detail (b && isCount s) (textCount reader) _ (text-detail reader) (one 10 (omega arith) (omega arith))
+  into-detail b isOpen tag items members s unionField =
+      step-if Detail b (unionStep tag s) _
       (step-if Detail (isTag tag s) (leaf 7) _ (one 7 (omega arith) (omega arith))
       (step-if Detail (sameBytes (contentKey tag) s) free (refuse 8) tt (one 8 (omega arith) (omega arith))))
-      (step-if Detail (b && isCount s) (refuse 9) (refuse 10) (one 9 (omega arith) (omega arith)) (one 10 (omega arith) (omega arith)))))))))
+      (one 10 (omega arith) (omega arith))
+  into-detail b isOpen tag items members s otherField =
+      step-if Detail (b && isCount s) (refuse 9) (refuse 10) (one 9 (omega arith) (omega arith)) (one 10 (omega arith) (omega arith))
+
+  step-detail : (isService : Bool) (f : Field) (s : Text) → StepHas Detail (walkStep reader isService f s)
+  unfolding walkStep
+  step-detail b (field e kind isOpen tag items members) s =
+      step-if Detail (isEmpty s) (refuse 1) _ (one 1 (omega arith) (omega arith))
+      (into-detail b isOpen tag items members s (formOfKind kind))
 
   root-detail : (isService : Bool) (at : ℕ) (h : Holder) (s : Text) (path : List Text) → Has Detail (rootWalk reader isService at h s path)
   unfolding rootWalk

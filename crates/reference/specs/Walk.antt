@@ -7,6 +7,7 @@ use lib.Dec.{eqb}
 use Rattle.definition.specs.Tree.{Text, Field, field, Items, absent, element, Members, noMembers, member}
 use Rattle.sheet.specs.Ascii.{ascii}
 use Rattle.sheet.specs.Order.{sameBytes}
+use Rattle.sheet.specs.FieldKinds.{stringKind, arrayKind, objectKind, jsonKind, mapKind, unionKind}
 use Rattle.reference.specs.Setting.{Reader, kernel, projection}
 use Rattle.reference.specs.Path.{isOrdinal, isCount}
 
@@ -87,24 +88,47 @@ unfoldable pub textCount : Reader → Step
 textCount kernel = leaf 6
 textCount projection = refuse 13
 
+-- the fields that a walk tells apart
+pub data FieldForm : Type 0 where
+  jsonField : FieldForm
+  objectField : FieldForm
+  arrayField : FieldForm
+  mapField : FieldForm
+  stringField : FieldForm
+  unionField : FieldForm
+  otherField : FieldForm
+
+unfoldable pub formOfKind : ℕ → FieldForm
+formOfKind kind =
+    cond (eqb kind jsonKind) jsonField
+    (cond (eqb kind objectKind) objectField
+    (cond (eqb kind arrayKind) arrayField
+    (cond (eqb kind mapKind) mapField
+    (cond (eqb kind stringKind) stringField
+    (cond (eqb kind unionKind) unionField otherField)))))
+
+-- a segment that is not empty, by the field (docs/FORMAT.md, "References")
+module _ (reader : Reader) (isService isOpen : Bool) (tag : Option Text) (items : Items) (members : Members) (s : Text) where
+  unfoldable pub walkInto : FieldForm → Step
+  walkInto jsonField = free
+  walkInto objectField = memberStep (lookup s members) isOpen 3
+  walkInto arrayField = cond isService (arrayStep items s) (refuse 10)
+  walkInto mapField = cond isService (mapStep s) (refuse 10)
+  walkInto stringField = cond (isService && isCount s) (textCount reader) (refuse 10)
+  walkInto unionField = cond isService (unionStep tag s) (refuse 10)
+  walkInto otherField = cond (isService && isCount s) (refuse 9) (refuse 10)
+
 -- `walk_field_path`; the details are those of number 18
 unfoldable pub walkStep : Reader → (isService : Bool) → Field → Text → Step
 walkStep reader isService (field e kind isOpen tag items members) s =
-    cond (isEmpty s) (refuse 1)
-    (cond (isService && eqb kind 6) (arrayStep items s)
-    (cond (isService && eqb kind 10) (mapStep s)
-    (cond (isService && (eqb kind 1 && isCount s)) (textCount reader)
-    (cond (eqb kind 8) free
-    (cond (eqb kind 7) (memberStep (lookup s members) isOpen 3)
-    (cond (isService && eqb kind 11) (unionStep tag s)
-    (cond (isService && isCount s) (refuse 9) (refuse 10))))))))
+    cond (isEmpty s) (refuse 1) (walkInto reader isService isOpen tag items members s (formOfKind kind))
 
 -- `field_at`; the details are those of number 22
 unfoldable pub fieldStep : Field → Text → Step
 fieldStep (field e kind isOpen tag items members) s =
-    cond (eqb kind 8 || eqb kind 11) free
-    (cond (eqb kind 7) (memberStep (lookup s members) isOpen 2)
-    (cond (eqb kind 6 && isOrdinal s) (itemStep items) (refuse 3)))
+    cond (eqb kind jsonKind || eqb kind unionKind) free
+    (cond (eqb kind objectKind) (memberStep (lookup s members) isOpen 2)
+    (cond (eqb kind arrayKind && isOrdinal s) (itemStep items) (refuse 3)))
 
 unfoldable pub elementOr : Items → Reached
 elementOr absent = unknown
@@ -112,7 +136,7 @@ elementOr (element f) = known f
 
 -- `element_of`: arrays and maps have elements
 unfoldable pub elementOfField : Field → Reached
-elementOfField (field e kind isOpen tag items members) = cond (eqb kind 6 || eqb kind 10) (elementOr items) (refused 4 e [])
+elementOfField (field e kind isOpen tag items members) = cond (eqb kind arrayKind || eqb kind mapKind) (elementOr items) (refused 4 e [])
 
 unfoldable pub elementOf : Reached → Reached
 elementOf (refused d at left) = refused d at left

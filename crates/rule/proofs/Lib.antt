@@ -13,3 +13,7 @@ mod SiblingLaws
 mod TableLaws
 mod ValueAnswers
 mod ValueLaws
+pub mod KindSteps
+pub mod NodeSteps
+pub mod EntrySteps
+pub mod Opening

@@ -4,3 +4,6 @@ pub mod Read
 pub mod Rule
 pub mod Keys
 pub mod Table
+pub mod Kinds
+pub mod Nodes
+pub mod Leaves

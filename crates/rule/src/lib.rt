@@ -1,9 +1,11 @@
-// A rule sheet, read once: whether it is well formed, and an index of its entries in the lent scratch.
+// A rule sheet, read once: whether it is well formed, and an index of its entries in the lent scratch, with the way through it.
 pub mod index; // index.rt: the words of the index
 mod cursor; // cursor.rt: where reading is
 mod keys; // keys.rt: the keys of an object
 mod value; // value.rt: values, with all that they hold
 mod condition; // condition.rt: conditions, with all that they hold
+pub mod kind; // kind.rt: the kind of an entry
+pub mod node; // node.rt: where the words of an index lead
 
 use cursor::Cursor;
 use cursor::TreeRead;

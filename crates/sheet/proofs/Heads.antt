@@ -12,7 +12,8 @@ use Rattle.text.specs.Utf8.{isUtf8, codePoints, codePointsIn, isSome}
 use Rattle.number.specs.Grammar.{isNumber}
 use Rattle.sheet.specs.Reader.{Reader, _>>=_, _>>_, andThen, ensure, pure, either, orElse}
 use Rattle.sheet.specs.Entries as entries
-use Rattle.sheet.specs.Entries.{maxText, maxCount, byte, comma, dash, lineEnd, item, mark, textLength, bytes, text, optionalText, holderHead, argumentsHead, schemaHead, fieldHead, ruleHead, Shape, shapeOf, literal, many, negation, one, two, comparison, quantifier, behindOperator, conditionHead, constantRest, numberRest, stringRest, arrayRest, objectRest, behindType, valueHead, keyHead}
+use Rattle.sheet.specs.Operators.{Shape, shapeOf, literal, many, negation, one, two, comparison, quantifier}
+use Rattle.sheet.specs.Entries.{maxText, maxCount, byte, comma, dash, lineEnd, item, mark, textLength, bytes, text, optionalText, holderHead, argumentsHead, schemaHead, fieldHead, ruleHead, behindOperator, conditionHead, constantRest, numberRest, stringRest, arrayRest, objectRest, behindType, valueHead, keyHead}
 use Rattle.sheet.specs.Parts.{partOf, optionalOf}
 use Rattle.sheet.specs.Pieces.{first, dashed, lastText, fieldMarks, fieldTexts, ruleTexts, conditionRow, conditionBy, conditionFrom, kindOf, valueRow, valueBy, valueFrom}
 use Rattle.sheet.specs.Places.{ReadsTo, Refuses, TextIs, LastTextIs, holderOf, fieldOf, RuleTextsAre, RuleIs, conditionOf, conditionCount, valueOf, valueCount}

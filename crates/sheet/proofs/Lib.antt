@@ -6,3 +6,4 @@ pub mod Plain
 pub mod Comparing
 pub mod Known
 pub mod Sizes
+mod Tables

@@ -4,7 +4,8 @@ use mathlib.Core.Path.{_≡_, refl}
 use mathlib.Core.Bool.{true, false, cond}
 use mathlib.Core.List.{List}
 use native.Mathlib.Omega.{arith}
-use Rattle.sheet.specs.Entries.{item, Shape, shapeOf, literal, many, negation, one, two, comparison, quantifier}
+use Rattle.sheet.specs.Operators.{Shape, shapeOf, literal, many, negation, one, two, comparison, quantifier}
+use Rattle.sheet.specs.Entries.{item}
 use Rattle.sheet.specs.Parts.{partOf}
 use Rattle.sheet.specs.Pieces.{first, conditionRow, conditionFrom, valuesAfter}
 use Rattle.sheet.specs.Places.{ReadsTo, LastTextIs, PlainRead, PlainIs, operandCount, conditionCount}

@@ -10,6 +10,8 @@ use Rattle.text.specs.Utf8.{isUtf8}
 use Rattle.number.specs.Grammar.{isNumber}
 use Rattle.sheet.specs.Reader.{Reader, _>>=_, _>>_, ensure, pure, either}
 use Rattle.sheet.specs.Numeral.{numeral}
+use Rattle.sheet.specs.Operators.{Shape, literal, many, negation, one, two, comparison, quantifier, operatorCount, shapeOf}
+use Rattle.sheet.specs.FieldKinds.{kindCount}
 
 -- a name, tag, message, bind, key, string or number has at most this many bytes
 abbrev pub maxText : ℕ
@@ -124,7 +126,7 @@ pub record FieldHead : Type 0 where
 unfoldable pub fieldHead : Reader (List ℕ) FieldHead
 fieldHead = do
   letter "F"
-  kind ← item 1 12
+  kind ← item 1 kindCount
   isOpen ← mark
   hasItems ← mark
   count ← item 0 maxCount
@@ -157,34 +159,6 @@ ruleHead =
       letter "T"
       lineEnd
       pure template)
-
--- what follows the operator of a condition
-pub data Shape : Type 0 where
-  -- the truth of a literal
-  literal : Shape
-  -- so many conditions
-  many : Shape
-  -- one condition
-  negation : Shape
-  -- one value
-  one : Shape
-  -- two values
-  two : Shape
-  -- which comparison, and two values
-  comparison : Shape
-  -- a bind, the `in` value and the body
-  quantifier : Shape
-
--- 1 literal, 2 all, 3 any, 4 not, 5 exists, 6 before to 17 ends_with, 18 compare, 19 truthy, 20 for_all, 21 for_any
-unfoldable pub shapeOf : ℕ → Shape
-shapeOf op =
-    cond (leb op 1) literal
-    (cond (leb op 3) many
-    (cond (leb op 4) negation
-    (cond (leb op 5) one
-    (cond (leb op 17) two
-    (cond (leb op 18) comparison
-    (cond (leb op 19) one quantifier))))))
 
 -- C,op,n,text
 pub data ConditionHead : Type 0 where
@@ -230,7 +204,7 @@ behindOperator op quantifier = do
 unfoldable pub conditionHead : Reader (List ℕ) ConditionHead
 conditionHead = do
   letter "C"
-  op ← item 1 21
+  op ← item 1 operatorCount
   h ← behindOperator op (shapeOf op)
   lineEnd
   pure h

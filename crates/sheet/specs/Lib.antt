@@ -2,6 +2,8 @@ pub mod Ascii
 pub mod Reader
 pub mod Numeral
 pub mod Order
+pub mod Operators
+pub mod FieldKinds
 pub mod Entries
 pub mod Parts
 pub mod Compares
@@ -14,5 +16,6 @@ pub mod NumeralLaws
 pub mod OrderLaws
 pub mod ItemLaws
 pub mod HeadLaws
+pub mod OperatorLaws
 pub mod RuleHeadLaws
 pub mod Computing

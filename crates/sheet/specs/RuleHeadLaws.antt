@@ -13,7 +13,9 @@ use Rattle.number.specs.Grammar.{isNumber}
 use Rattle.sheet.specs.Ascii.{ascii}
 use Rattle.sheet.specs.Reader.{Reader, _>>=_, _>>_, andThen, pure, either, orElse}
 use Rattle.sheet.specs.ReaderLaws.{Reads, by-test, bind-inv, then-inv, bind-reads, then-reads, pure-inv, ensure-inv, ensure-reads, either-inv, either-first}
-use Rattle.sheet.specs.Entries.{maxText, maxCount, byte, comma, item, text, RuleHead, rule, template, ruleHead, Shape, literal, many, negation, one, two, comparison, quantifier, shapeOf, ConditionHead, literalHead, manyHead, negationHead, oneHead, twoHead, comparisonHead, quantifierHead, behindOperator, conditionHead, ValueHead, constantHead, numberHead, stringHead, arrayHead, objectHead, constantRest, numberRest, stringRest, arrayRest, objectRest, behindType, valueHead, keyHead}
+use Rattle.sheet.specs.OperatorLaws.{over, alike, shapeByTests, shape-tests}
+use Rattle.sheet.specs.Operators.{Shape, literal, many, negation, one, two, comparison, quantifier, literalOperator, notOperator, compareOperator, shapeOf, InShape}
+use Rattle.sheet.specs.Entries.{maxText, maxCount, byte, comma, item, text, RuleHead, rule, template, ruleHead, ConditionHead, literalHead, manyHead, negationHead, oneHead, twoHead, comparisonHead, quantifierHead, behindOperator, conditionHead, ValueHead, constantHead, numberHead, stringHead, arrayHead, objectHead, constantRest, numberRest, stringRest, arrayRest, objectRest, behindType, valueHead, keyHead}
 use Rattle.sheet.specs.Write.{writeItem, writeMark, markOf, writeLength, writeText, writeEnd, writeLast, writeRuleHead, writeOperator, writeConditionHead, writeType, writeValueHead, writeKeyHead}
 use Rattle.sheet.specs.Within.{TextWithin, OptionWithin}
 use Rattle.sheet.specs.ItemLaws.{Exact, anything, past, step, item-exact, item-complete, mark-exact, mark-complete, byte-complete, text-sound, text-complete, textLength-sound, textLength-complete, optionalText-sound, optionalText-complete, item-begins, length-begins, comma-begins}
@@ -141,20 +143,11 @@ keyHead-exact = record { sound = keyHead-sound; complete = keyHead-complete }
 
 -- C,op,n,text
 
--- the operators of each shape
-abbrev pub InShape : ℕ → Shape → Type 0
-InShape op literal = op ≡ 1
-InShape op many = (2 ≤ op) × (op ≤ 3)
-InShape op negation = op ≡ 4
-InShape op one = (op ≡ 5) ⊎ (op ≡ 19)
-InShape op two = (6 ≤ op) × (op ≤ 17)
-InShape op comparison = op ≡ 18
-InShape op quantifier = (20 ≤ op) × (op ≤ 21)
-
 shapeOf-sound : (op : ℕ) → (1 ≤ op) × (op ≤ 21) → InShape op (shapeOf op)
-unfolding shapeOf
+unfolding shapeByTests
 shapeOf-sound op h =
-    by-test (leb op 1) (λ q. let l = leb-true op 1 q in rw q (omega arith)) λ q₁.
+    rw (shape-tests op)
+    (by-test (leb op 1) (λ q. let l = leb-true op 1 q in rw q (omega arith)) λ q₁.
     let l₁ = leb-false op 1 q₁ in
     rw q₁
     (by-test (leb op 3) (λ q. let l = leb-true op 3 q in rw q (omega arith)) λ q₃.
@@ -174,29 +167,27 @@ shapeOf-sound op h =
     rw q₁₈
     (by-test (leb op 19) (λ q. let l = leb-true op 19 q in rw q (inr (omega arith))) λ q₁₉.
     let l₁₉ = leb-false op 19 q₁₉ in
-    rw q₁₉ (omega arith)))))))
+    rw q₁₉ (omega arith))))))))
 
 shapeOf-complete : (op : ℕ) (shape : Shape) → InShape op shape → shapeOf op ≡ shape
-unfolding shapeOf
+unfolding shapeOf over
 shapeOf-complete op literal h = rw h
-shapeOf-complete op many h = rw (lt-leb op 1 (omega arith), le-leb op 3 (omega arith))
+shapeOf-complete op many h = alike shapeOf (λ op. many) 2 2 refl op (h .0) (omega (arith, h .1))
 shapeOf-complete op negation h = rw h
 shapeOf-complete op one (inl h) = rw h
 shapeOf-complete op one (inr h) = rw h
-shapeOf-complete op two h =
-    rw (lt-leb op 1 (omega arith), lt-leb op 3 (omega arith), lt-leb op 4 (omega arith), lt-leb op 5 (omega arith), le-leb op 17 (omega arith))
+shapeOf-complete op two h = alike shapeOf (λ op. two) 6 12 refl op (h .0) (omega (arith, h .1))
 shapeOf-complete op comparison h = rw h
-shapeOf-complete op quantifier h =
-    rw (lt-leb op 1 (omega arith), lt-leb op 3 (omega arith), lt-leb op 4 (omega arith), lt-leb op 5 (omega arith), lt-leb op 17 (omega arith), lt-leb op 18 (omega arith), lt-leb op 19 (omega arith))
+shapeOf-complete op quantifier h = alike shapeOf (λ op. quantifier) 20 2 refl op (h .0) (omega (arith, h .1))
 
 -- what the fields of such an entry hold
 operatorOf : ConditionHead → ℕ
-operatorOf (literalHead truth) = 1
+operatorOf (literalHead truth) = literalOperator
 operatorOf (manyHead op count) = op
-operatorOf negationHead = 4
+operatorOf negationHead = notOperator
 operatorOf (oneHead op) = op
 operatorOf (twoHead op) = op
-operatorOf (comparisonHead which) = 18
+operatorOf (comparisonHead which) = compareOperator
 operatorOf (quantifierHead op bind) = op
 
 numberOf : ConditionHead → ℕ

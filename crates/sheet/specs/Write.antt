@@ -6,6 +6,7 @@ use mathlib.Core.Option.{Option, none, some}
 use lib.ListN.{length}
 use Rattle.sheet.specs.Ascii.{ascii}
 use Rattle.sheet.specs.Numeral.{decimalOf}
+use Rattle.sheet.specs.Operators.{literalOperator, notOperator, compareOperator}
 use Rattle.sheet.specs.Entries.{HolderHead, SchemaHead, FieldHead, RuleHead, rule, template, ConditionHead, literalHead, manyHead, negationHead, oneHead, twoHead, comparisonHead, quantifierHead, ValueHead, constantHead, numberHead, stringHead, arrayHead, objectHead}
 
 -- byte 0A ends an entry
@@ -64,12 +65,12 @@ unfoldable pub writeOperator : (op n : ℕ) → List ℕ → List ℕ
 writeOperator op n text = ascii "C" ++ writeItem op ++ writeItem n ++ writeLast text
 
 unfoldable pub writeConditionHead : ConditionHead → List ℕ
-writeConditionHead (literalHead truth) = writeOperator 1 (markOf truth) []
+writeConditionHead (literalHead truth) = writeOperator literalOperator (markOf truth) []
 writeConditionHead (manyHead op count) = writeOperator op count []
-writeConditionHead negationHead = writeOperator 4 0 []
+writeConditionHead negationHead = writeOperator notOperator 0 []
 writeConditionHead (oneHead op) = writeOperator op 0 []
 writeConditionHead (twoHead op) = writeOperator op 0 []
-writeConditionHead (comparisonHead which) = writeOperator 18 which []
+writeConditionHead (comparisonHead which) = writeOperator compareOperator which []
 writeConditionHead (quantifierHead op bind) = writeOperator op (length bind) bind
 
 -- V,type,n,text

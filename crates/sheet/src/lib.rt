@@ -3,6 +3,7 @@
 pub mod numeral; // numeral.rt: numerals
 pub mod part; // part.rt: texts as places in a sheet
 pub mod entry; // entry.rt: what entries are made of
+pub mod operators; // operators.rt: the operators of conditions
 pub mod schema_heads; // schema_heads.rt: the entries H and F
 pub mod rule_heads; // rule_heads.rt: the entries R, T, C, V and K
 pub mod order; // order.rt: the order of names

@@ -6,6 +6,14 @@ use crate::entry::MAX_TEXT;
 use crate::entry::OptionalRead;
 use crate::numeral;
 use crate::numeral::NumeralRead;
+use crate::operators::ANY;
+use crate::operators::COMPARE;
+use crate::operators::ENDS_WITH;
+use crate::operators::EXISTS;
+use crate::operators::LITERAL;
+use crate::operators::NOT;
+use crate::operators::OPERATOR_COUNT;
+use crate::operators::TRUTHY;
 use crate::part;
 use crate::part::OptionalPart;
 use crate::part::Part;
@@ -13,36 +21,10 @@ ghost use mathlib.Core.Bool.{true, cond};
 ghost use mathlib.Core.Path.{_≡_};
 ghost use lib.Dec.{leb};
 ghost use Rattle.number.specs.Grammar.{isNumber};
-ghost use Rattle.sheet.specs.Entries.{maxText, shapeOf};
+ghost use Rattle.sheet.specs.Entries.{maxText};
+ghost use Rattle.sheet.specs.Operators.{shapeOf};
 ghost use Rattle.sheet.specs.Pieces.{shapeFor, conditionRow, conditionFrom, valuesAfter, kindOf, valueRow, valueFrom};
 ghost use Rattle.sheet.specs.Places.{RuleTextsAre, RuleIs, ConditionIs, PlainIs, ValueIs, LeafTypeIs, LeafEnds, KeyIs};
-
-// Operators that are told apart, by their numbers (docs/FORMAT.md, "The rule sheet").
-pub const LITERAL: usize = 1;
-
-const ANY: usize = 3;
-
-pub const NOT: usize = 4;
-
-pub const EXISTS: usize = 5;
-
-pub const BEFORE: usize = 6;
-
-pub const AFTER: usize = 7;
-
-pub const EQ: usize = 8;
-
-pub const CONTAINS: usize = 15;
-
-pub const STARTS_WITH: usize = 16;
-
-const ENDS_WITH: usize = 17;
-
-pub const COMPARE: usize = 18;
-
-pub const TRUTHY: usize = 19;
-
-const FOR_ANY: u32 = 21;
 
 // Types of values that are told apart, by their numbers; those up to TRUE are constants.
 const TRUE: usize = 3;
@@ -280,7 +262,7 @@ fn condition_from(shape: Shape, op: usize, n: usize, bind: Part) -> ConditionHea
 pub fn condition_head(s: &[u8], at: usize) -> ConditionRead
     ensures { λ r. ⌜ ConditionIs (now (s .entry)) at r ⌝ }
 {
-    let NumeralRead::Is(op, behind) = entry::first(s, at, b'C', 1, FOR_ANY) else {
+    let NumeralRead::Is(op, behind) = entry::first(s, at, b'C', 1, OPERATOR_COUNT) else {
         return ConditionRead::Bad;
     };
     let shape = shape_of(op);
@@ -335,7 +317,7 @@ pub fn plain_condition(s: &[u8], at: usize) -> usize
     if seems_to_hold(s, at) {
         return 0;
     }
-    let NumeralRead::Is(op, behind) = entry::first(s, at, b'C', 1, FOR_ANY) else {
+    let NumeralRead::Is(op, behind) = entry::first(s, at, b'C', 1, OPERATOR_COUNT) else {
         return 0;
     };
     let shape = shape_of(op);

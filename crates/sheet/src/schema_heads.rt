@@ -25,6 +25,9 @@ pub const MAP: usize = 10;
 
 pub const UNION: usize = 11;
 
+// Numbers go from 1 to this one, `binary64`.
+const KIND_COUNT: u32 = 12;
+
 // The open mark and the field count of the record or of the arguments.
 pub struct HolderHead {
     pub opened: bool,
@@ -150,7 +153,7 @@ pub fn schema_head(s: &[u8], at: usize) -> SchemaHeadRead
 fn field_marks(s: &[u8], at: usize) -> FieldMarksRead
     ensures { λ r. ⌜ FieldMarksAre (now (s .entry)) at r ⌝ }
 {
-    let NumeralRead::Is(kind, a) = entry::first(s, at, b'F', 1, 12) else {
+    let NumeralRead::Is(kind, a) = entry::first(s, at, b'F', 1, KIND_COUNT) else {
         return FieldMarksRead::Bad;
     };
     let MarkRead::Is(opened, b) = entry::mark(s, a) else {
@@ -202,7 +205,7 @@ fn field_texts(s: &[u8], at: usize) -> FieldTextsRead
 pub fn field_head(s: &[u8], at: usize) -> FieldRead
     ensures { λ r. ⌜ FieldIs (now (s .entry)) at r ⌝ }
 {
-    let NumeralRead::Is(kind, after) = entry::first(s, at, b'F', 1, 12) else {
+    let NumeralRead::Is(kind, after) = entry::first(s, at, b'F', 1, KIND_COUNT) else {
         return FieldRead::Bad;
     };
     let MarkRead::Is(opened, b) = entry::mark(s, after) else {

@@ -8,6 +8,7 @@ use lib.Dec.{leb, eqb}
 use Rattle.text.specs.Blank.{isBlank}
 use Rattle.number.specs.Finite.{isFinite}
 use Rattle.timestamp.specs.Instant.{instant}
+use Rattle.sheet.specs.Operators.{literalOperator, notOperator, compareOperator, isServiceOperator, isInstantTest, isAffix, isObserved}
 use Rattle.definition.specs.Tree.{Text, Value, constant, number, string, array, object, Values, noValues, value, Pairs, noPairs, pair, Condition, literal, many, negation, one, two, comparison, quantifier, Conditions, noConditions, condition, Rule, rule, template}
 use Rattle.reference.specs.Setting.{Setting}
 use Rattle.reference.specs.Reference.{beginsWithDollar}
@@ -101,8 +102,8 @@ unfoldable mutual
   literals (literal e truth) = []
   literals (many e op children) = literalsOfConditions children
   literals (negation e child) = literals child
-  literals (one e op v) = cond (eqb op 19) (numbers v) []
-  literals (two e op left right) = cond (leb 8 op && leb op 15) (numbers left ++ numbers right) []
+  literals (one e op v) = cond (isObserved op) (numbers v) []
+  literals (two e op left right) = cond (isObserved op) (numbers left ++ numbers right) []
   literals (comparison e which left right) = numbers left ++ numbers right
   literals (quantifier e op bind over body) = literals body
 
@@ -156,10 +157,9 @@ affixOperand binders v = references binders v ++ (check 19 (entryOf v) binders (
 unfoldable pub compareSide : List Binder → (detail : ℕ) → Value → List Check
 compareSide binders detail v = check 17 (entryOf v) binders (failsIf (isHolder v) detail) ∷ references binders v
 
--- 6 before and 7 after, 16 starts_with and 17 ends_with, the others
 unfoldable pub operand : ℕ → List Binder → Value → List Check
 operand op binders v =
-    cond (leb op 7) (instantOperand binders v) (cond (leb 16 op) (affixOperand binders v) (references binders v))
+    cond (isInstantTest op) (instantOperand binders v) (cond (isAffix op) (affixOperand binders v) (references binders v))
 
 -- Conditions
 
@@ -167,9 +167,9 @@ unfoldable pub hasDot : Text → Bool
 hasDot [] = false
 hasDot (b ∷ t) = eqb b (code ".") || hasDot t
 
--- 18 to 21 are service operators
+-- service operators exist only under service
 unfoldable pub operatorCheck : Setting → List Binder → (entry op : ℕ) → Check
-operatorCheck setting binders e op = check 15 e binders (failsIf (leb 18 op && not (setting .isService)) 0)
+operatorCheck setting binders e op = check 15 e binders (failsIf (isServiceOperator op && not (setting .isService)) 0)
 
 unfoldable pub isEmpty : Conditions → Bool
 isEmpty noConditions = true
@@ -177,17 +177,17 @@ isEmpty (condition c others) = false
 
 unfoldable mutual
   pub body : Setting → List Binder → Condition → List Check
-  body setting binders (literal e truth) = operatorCheck setting binders e 1 ∷ []
+  body setting binders (literal e truth) = operatorCheck setting binders e literalOperator ∷ []
   body setting binders (many e op children) =
       operatorCheck setting binders e op
       ∷ check 16 e binders (failsIf (isEmpty children) 0)
       ∷ bodies setting binders children
-  body setting binders (negation e child) = operatorCheck setting binders e 4 ∷ body setting binders child
+  body setting binders (negation e child) = operatorCheck setting binders e notOperator ∷ body setting binders child
   body setting binders (one e op v) = operatorCheck setting binders e op ∷ references binders v
   body setting binders (two e op left right) =
       operatorCheck setting binders e op ∷ (operand op binders left ++ operand op binders right)
   body setting binders (comparison e which left right) =
-      operatorCheck setting binders e 18 ∷ (compareSide binders 1 left ++ compareSide binders 2 right)
+      operatorCheck setting binders e compareOperator ∷ (compareSide binders 1 left ++ compareSide binders 2 right)
   body setting binders (quantifier e op bind over that) =
       operatorCheck setting binders e op
       ∷ check 21 e binders (failsIf (isBlank bind || hasDot bind) 0)

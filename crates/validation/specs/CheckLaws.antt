@@ -7,8 +7,8 @@ use mathlib.Core.List.{List, [], _∷_, _++_, map}
 use mathlib.Core.Option.{Option, none, some, IsSome}
 use mathlib.Core.Path.{_≡_, refl}
 use native.Mathlib.Omega.{arith}
-use lib.Dec.{leb}
 use borrow.Author.Tests.{ne-eqb}
+use Rattle.sheet.specs.Operators.{isInstantTest, isAffix}
 use Rattle.definition.specs.Tree.{Text, Schema, Value, constant, number, string, array, object, Values, noValues, value, Pairs, noPairs, pair, Condition, literal, many, negation, one, two, comparison, quantifier, Conditions, noConditions, condition, Rule, rule, template}
 use Rattle.reference.specs.Setting.{Setting}
 use Rattle.reference.specs.Walk.{Reached, refused, unknown, known}
@@ -79,8 +79,8 @@ module _ (P : Check → Type 0) (bs : List Binder) (h : (n p : ℕ) (q : Questio
   every-operand : (op : ℕ) (v : Value) → Every P (operand op bs v)
   unfolding operand instantOperand affixOperand
   every-operand op v =
-      every-if P (leb op 7) (instantOperand bs v) _ (every-with v 20 (instantForm v) (omega arith) (λ e. absurd (omega arith)))
-      (every-if P (leb 16 op) (affixOperand bs v) _ (every-with v 19 (failsIf (not (isString v)) 0) (omega arith) (λ e. absurd (omega arith))) (every-references v))
+      every-if P (isInstantTest op) (instantOperand bs v) _ (every-with v 20 (instantForm v) (omega arith) (λ e. absurd (omega arith)))
+      (every-if P (isAffix op) (affixOperand bs v) _ (every-with v 19 (failsIf (not (isString v)) 0) (omega arith) (λ e. absurd (omega arith))) (every-references v))
 
   every-side : (d : ℕ) (v : Value) → Every P (compareSide bs d v)
   unfolding compareSide

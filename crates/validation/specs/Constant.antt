@@ -5,6 +5,7 @@ use mathlib.Core.Bool.{Bool, cond}
 use mathlib.Core.List.{List, [], _∷_, _++_}
 use mathlib.Core.Option.{Option, none, some}
 use lib.Dec.{eqb}
+use Rattle.sheet.specs.Operators.{beforeOperator, afterOperator}
 use Rattle.timestamp.specs.Instant.{instant}
 use Rattle.timestamp.specs.Order.{isEarlier}
 use Rattle.timestamp.specs.declared.Fields.{Fields}
@@ -23,10 +24,9 @@ literalInstant (string e t) = literalText t
 literalInstant (array e values) = none
 literalInstant (object e pairs) = none
 
--- 6 before, 7 after
 unfoldable pub truthOf : (op : ℕ) (left right : Fields) → Option Bool
 truthOf op left right =
-    cond (eqb op 6) (some (isEarlier left right)) (cond (eqb op 7) (some (isEarlier right left)) none)
+    cond (eqb op beforeOperator) (some (isEarlier left right)) (cond (eqb op afterOperator) (some (isEarlier right left)) none)
 
 unfoldable pub truthIn : (op : ℕ) (left right : Option Fields) → Option Bool
 truthIn op none right = none

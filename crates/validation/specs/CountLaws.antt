@@ -1,11 +1,11 @@
 -- How many checks a rule or template makes, how many of them pass, and how far their places reach.
 use Prim.Native.Nat.{ℕ, _+_, _*_, _≤_}
 use native.Mathlib.Omega.{arith}
-use mathlib.Core.Bool.{Bool, true, false, cond, _&&_}
+use mathlib.Core.Bool.{Bool, true, false, cond}
 use mathlib.Core.List.{List, [], _∷_, _++_, map}
 use mathlib.Core.Option.{Option, none, some}
 use lib.ListN.{length, length-append, length-map}
-use lib.Dec.{leb, eqb}
+use Rattle.sheet.specs.Operators.{isInstantTest, isAffix, isObserved}
 use Rattle.definition.specs.Tree.{Text, Schema, Value, constant, number, string, array, object, Values, noValues, value, Pairs, noPairs, pair, Condition, literal, many, negation, one, two, comparison, quantifier, Conditions, noConditions, condition, Rule, rule, template}
 use Rattle.definition.specs.Within.{valueEntries, valuesEntries, pairsEntries, conditionEntries, conditionsEntries, ruleEntries, ValueFrom, ValuesFrom, PairsFrom, ConditionFrom, ConditionsFrom, RuleFrom}
 use Rattle.reference.specs.Setting.{Setting}
@@ -96,8 +96,8 @@ counts-if false xs ys m p q = q
 operand-counts : (op : ℕ) (bs : List Binder) (v : Value) → length (operand op bs v) ≤ length (references bs v) + 1
 unfolding operand instantOperand affixOperand
 operand-counts op bs v =
-    counts-if (leb op 7) _ _ _ (rw length-append (omega arith))
-    (counts-if (leb 16 op) _ _ _ (rw length-append (omega arith)) (omega arith))
+    counts-if (isInstantTest op) _ _ _ (rw length-append (omega arith))
+    (counts-if (isAffix op) _ _ _ (rw length-append (omega arith)) (omega arith))
 
 module _ (setting : Setting) where
   mutual
@@ -108,7 +108,7 @@ module _ (setting : Setting) where
     condition-counts bs (many e op children) = omega (arith, conditions-count bs children)
     condition-counts bs (negation e child) = omega (arith, condition-counts bs child)
     condition-counts bs (one e op v) =
-        omega (arith, value-counts bs v, counts-if (eqb op 19) (numbers v) [] (length (numbers v)) (omega arith) (omega arith))
+        omega (arith, value-counts bs v, counts-if (isObserved op) (numbers v) [] (length (numbers v)) (omega arith) (omega arith))
     condition-counts bs (two e op left right) =
         simp length-append
         (omega (
@@ -119,7 +119,7 @@ module _ (setting : Setting) where
           some-entries right,
           operand-counts op bs left,
           operand-counts op bs right,
-          counts-if (leb 8 op && leb op 15) (numbers left ++ numbers right) [] (length (numbers left) + length (numbers right))
+          counts-if (isObserved op) (numbers left ++ numbers right) [] (length (numbers left) + length (numbers right))
               (omega (arith, length-append (numbers left) (numbers right)))
               (omega arith),
         ))
@@ -235,7 +235,7 @@ module _ (m : ℕ) where
       → BothSmall (operand op bs v) (numbers v)
   unfolding operand instantOperand affixOperand
   operand-small op bs held n v from h =
-      (every-if (Small m) (leb op 7) _ _ (with-own 20 _) (every-if (Small m) (leb 16 op) _ _ (with-own 19 _) (inner .0)), inner .1)
+      (every-if (Small m) (isInstantTest op) _ _ (with-own 20 _) (every-if (Small m) (isAffix op) _ _ (with-own 19 _) (inner .0)), inner .1)
     where
       inner : BothSmall (references bs v) (numbers v)
       inner = value-small bs held n v from h
@@ -271,13 +271,13 @@ module _ (m : ℕ) where
           ((small _ _ bs _ held (omega (arith, from .0)), inner .0), inner .1)
       condition-small bs held n (one e op v) from h =
           let inner = value-small bs held (n + 1) v (from .1) (omega arith) in
-          ((small _ _ bs _ held (omega (arith, from .0)), inner .0), literals-if (Small m) (eqb op 19) (numbers v) (inner .1))
+          ((small _ _ bs _ held (omega (arith, from .0)), inner .0), literals-if (Small m) (isObserved op) (numbers v) (inner .1))
       condition-small bs held n (two e op left right) from h =
           let inner = both-small (operand op bs left) (operand op bs right) (numbers left) (numbers right)
           (operand-small op bs held (n + 1) left (from .1) (omega arith))
           (operand-small op bs held (n + 1 + valueEntries left) right (from .2) (omega arith)) in (
             (small _ _ bs _ held (omega (arith, from .0)), inner .0),
-            literals-if (Small m) (leb 8 op && leb op 15) (numbers left ++ numbers right) (inner .1),
+            literals-if (Small m) (isObserved op) (numbers left ++ numbers right) (inner .1),
           )
       condition-small bs held n (comparison e which left right) from h =
           let inner = both-small (compareSide bs 1 left) (compareSide bs 2 right) (numbers left) (numbers right)

@@ -8,31 +8,9 @@ use lib.Dec.{leb, eqb}
 use Rattle.sheet.specs.Ascii.{ascii}
 use Rattle.sheet.specs.Reader.{orElse}
 use Rattle.sheet.specs.Numeral.{decimalOf}
+use Rattle.sheet.specs.Operators.{operatorName}
 use Rattle.definition.specs.Tree.{Text, Value, constant, number, string, array, object, Values, noValues, value, Pairs, noPairs, pair, Condition, literal, many, negation, one, two, comparison, quantifier, Conditions, noConditions, condition, Rule, rule, template}
 use Rattle.validation.specs.Check.{entryOf}
-
--- operators by number, as they are spelled in a path
-unfoldable pub operatorName : ℕ → Text
-operatorName op =
-    cond (eqb op 2) (ascii "all")
-    (cond (eqb op 3) (ascii "any")
-    (cond (eqb op 4) (ascii "not")
-    (cond (eqb op 5) (ascii "exists")
-    (cond (eqb op 6) (ascii "before")
-    (cond (eqb op 7) (ascii "after")
-    (cond (eqb op 8) (ascii "eq")
-    (cond (eqb op 9) (ascii "ne")
-    (cond (eqb op 10) (ascii "gt")
-    (cond (eqb op 11) (ascii "gte")
-    (cond (eqb op 12) (ascii "lt")
-    (cond (eqb op 13) (ascii "lte")
-    (cond (eqb op 14) (ascii "in")
-    (cond (eqb op 15) (ascii "contains")
-    (cond (eqb op 16) (ascii "starts_with")
-    (cond (eqb op 17) (ascii "ends_with")
-    (cond (eqb op 18) (ascii "compare")
-    (cond (eqb op 19) (ascii "truthy")
-    (cond (eqb op 20) (ascii "for_all") (ascii "for_any")))))))))))))))))))
 
 unfoldable pub dotted : Text → Text
 dotted t = code "." ∷ t

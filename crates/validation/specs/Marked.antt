@@ -5,6 +5,7 @@ use mathlib.Core.List.{List, [], _∷_}
 use mathlib.Core.Logic.{_⊎_}
 use mathlib.Core.Option.{some}
 use mathlib.Core.Path.{_≡_}
+use Rattle.sheet.specs.Operators.{beforeOperator, afterOperator}
 use Rattle.timestamp.specs.Order.{isEarlier}
 use Rattle.timestamp.specs.declared.Fields.{Fields}
 use Rattle.definition.specs.Tree.{Value, Condition, literal, many, negation, one, two, comparison, quantifier, Conditions, noConditions, condition, Rule, rule, template}
@@ -39,7 +40,7 @@ pub record IsConstant (Stands : Condition → Type 0) (e : ℕ) (truth : Bool) :
   pub second : Fields
   pub isFirst : literalInstant left ≡ some first
   pub isSecond : literalInstant right ≡ some second
-  pub holds : ((op ≡ 6) × (truth ≡ isEarlier first second)) ⊎ ((op ≡ 7) × (truth ≡ isEarlier second first))
+  pub holds : ((op ≡ beforeOperator) × (truth ≡ isEarlier first second)) ⊎ ((op ≡ afterOperator) × (truth ≡ isEarlier second first))
 
 -- each number is above the one before it, the first not below `low`
 abbrev pub Rises : (low : ℕ) → List ℕ → Type 0

@@ -5,14 +5,12 @@ use mathlib.Core.Bool.{Bool, true, false, cond, _&&_}
 use mathlib.Core.List.{List, [], _∷_, _++_, map}
 use mathlib.Core.Option.{Option, none, some}
 use mathlib.Core.Path.{_≡_, refl, ap, _∙_}
-use lib.Dec.{leb, eqb}
 use lib.ListN.{length, length-append, length-map}
-use borrow.Author.Tests.{eqb-true}
-use Rattle.sheet.specs.ReaderLaws.{by-test}
-use Rattle.definition.specs.Tree.{Text, Field, field, Schema, Condition, literal, many, negation, one, two, comparison, quantifier, Conditions, noConditions, condition, Rule, rule, template}
+use Rattle.sheet.specs.Operators.{isServiceOperator}
+use Rattle.definition.specs.Tree.{Text, Field, field, Items, Members, Schema, Condition, literal, many, negation, one, two, comparison, quantifier, Conditions, noConditions, condition, Rule, rule, template}
 use Rattle.reference.specs.Setting.{Name, nameOf, Reader, kernel, Setting}
 use Rattle.reference.specs.Path.{Segments, split}
-use Rattle.reference.specs.Walk.{Step, refuse, leaf, free, into, lookup, memberStep, Reached, refused, unknown, known, arrive, entryOf, travel, isEmpty, walkStep}
+use Rattle.reference.specs.Walk.{Step, refuse, leaf, free, into, lookup, memberStep, Reached, refused, unknown, known, arrive, entryOf, travel, isEmpty, FieldForm, jsonField, objectField, arrayField, mapField, stringField, unionField, otherField, formOfKind, walkInto, walkStep}
 use Rattle.reference.specs.Reference.{Environment, bound, Root, noRoot, missing, root, rootOf, fromHolder, rootWalk, fromRoot, fromName, fromElement, fromBound, reference}
 use Rattle.reference.specs.CollectionLaws.{Reads}
 use Rattle.validation.specs.Check.{Binder, Question, settled, readable, walkable, Check, check, failsIf, references, Literal, literals, literalCheck, operand, compareSide, operatorCheck, body, bodies, literalChecks, checks}
@@ -29,12 +27,21 @@ rises-if : {t t′ : Step} (b : Bool) (d : ℕ) → Rises t t′ → Rises (cond
 rises-if true d h = alike
 rises-if false d h = h
 
+into-rises : (reader : Reader) (isOpen : Bool) (tag : Option Text) (items : Items) (members : Members) (s : Text) (form : FieldForm)
+    → Rises (walkInto reader false isOpen tag items members s form) (walkInto reader true isOpen tag items members s form)
+unfolding walkInto
+into-rises reader isOpen tag items members s jsonField = alike
+into-rises reader isOpen tag items members s objectField = alike
+into-rises reader isOpen tag items members s arrayField = refusedBefore
+into-rises reader isOpen tag items members s mapField = refusedBefore
+into-rises reader isOpen tag items members s stringField = refusedBefore
+into-rises reader isOpen tag items members s unionField = refusedBefore
+into-rises reader isOpen tag items members s otherField = refusedBefore
+
 step-rises : (reader : Reader) (f : Field) (s : Text) → Rises (walkStep reader false f s) (walkStep reader true f s)
 unfolding walkStep
 step-rises reader (field e kind isOpen tag items members) s =
-    rises-if (isEmpty s) 1
-    (by-test (eqb kind 8) (λ j. rw (eqb-true kind 8 j) alike)
-    (λ j. by-test (eqb kind 7) (λ o. rw (eqb-true kind 7 o) alike) (λ o. rw (j, o) refusedBefore)))
+    rises-if (isEmpty s) 1 (into-rises reader isOpen tag items members s (formOfKind kind))
 
 arrive-alike : (at : ℕ) (s : Text) (path : List Text) (onward onward′ : Field → Reached) (t : Step)
     → ((g : Field) → Reads (onward g) → Reads (onward′ g))
@@ -167,7 +174,7 @@ module _ (mayRead : Name → Bool) (reader : Reader) (isRuleKind : Bool) (schema
 
   operator-rises : (bs : List Binder) (e op : ℕ) → outcome underKernel schema (operatorCheck underKernel bs e op) ≡ none → outcome underService schema (operatorCheck underService bs e op) ≡ none
   unfolding operatorCheck check outcome
-  operator-rises bs e op h = operator-in (leb 18 op) (failsIf (leb 18 op && true) 0) (environment schema bs) h
+  operator-rises bs e op h = operator-in (isServiceOperator op) (failsIf (isServiceOperator op && true) 0) (environment schema bs) h
 
   mutual
     unfolding body bodies

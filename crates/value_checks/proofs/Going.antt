@@ -10,7 +10,7 @@ use Rattle.validation.specs.Check.{Check}
 use Rattle.validation.specs.Judge.{CheckOutcome, allPass, decide, judgeFrom}
 use Rattle.value_checks.specs.Shown.{Shown, passes, fails, shownOf, goOn, judge-append}
 use Rattle.value_checks.specs.Verdicts.{failureOf, shownWith, shownBy, going, GoesOn, FailsWith, PassedOn, Failed, failed, Required}
-use Rattle.value_checks.specs.Leaves.{saidIn, said-append}
+use Rattle.rule.specs.Leaves.{saidIn, said-append}
 use Rattle.value_checks.specs.declared.verdict.Fault.{Fault}
 use Rattle.value_checks.specs.declared.verdict.Over.{Over}
 use Rattle.value_checks.specs.declared.verdict.Verdict.{Verdict}

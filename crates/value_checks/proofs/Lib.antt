@@ -1,8 +1,4 @@
-pub mod KindSteps
 pub mod Going
-pub mod NodeSteps
-pub mod EntrySteps
-pub mod Opening
 pub mod LiteralSteps
 pub mod ObservedSteps
 pub mod ReferenceSteps

@@ -18,10 +18,10 @@ use Rattle.reference.specs.Reference.{Environment}
 use Rattle.rule.specs.Index.{startOf}
 use Rattle.validation.specs.Check.{Binder, check, failsIf, literalCheck}
 use Rattle.validation.specs.Judge.{failure, outcome, environment, answer, answerIn}
-use Rattle.value_checks.specs.Leaves.{saysAt, saysIf, saidIn}
+use Rattle.rule.specs.Leaves.{saysAt, saysIf, saidIn}
 use Rattle.validation.specs.Result.{overOf}
-use Rattle.value_checks.specs.Kinds.{typeIn, HasType, TextAt}
-use Rattle.value_checks.specs.Nodes.{EntriesIn}
+use Rattle.rule.specs.Kinds.{typeIn, HasType, TextAt}
+use Rattle.rule.specs.Nodes.{EntriesIn}
 use Rattle.value_checks.specs.Verdicts.{numberOf, failureOf, overBy, failed, Required}
 use Rattle.value_checks.specs.Literals.{literalSays, LiteralsJudged}
 use Rattle.value_checks.specs.declared.verdict.Fault.{Fault}
@@ -31,7 +31,7 @@ use Rattle.value_checks.specs.declared.verdict.Over.the-variants.{Outsid
 use Rattle.value_checks.specs.declared.verdict.Verdict.the-variants.{Defect}
 use Rattle.value_checks.specs.declared.verdict.Progress.{Progress}
 use Rattle.value_checks.proofs.Going.{goes-nothing, goes-then, goes-stopped, said-next}
-use Rattle.value_checks.proofs.EntrySteps.{entries-part}
+use Rattle.rule.proofs.EntrySteps.{entries-part}
 
 fails-answer : (setting : Setting) (schema : Schema) (env : Environment) (b : Bool) (d : ℕ) → answer setting schema env (failsIf b d) ≡ failed b (failure d 0)
 unfolding answer failsIf failed

@@ -1,12 +1,13 @@
 -- The literal pass over conditions, step by step: what is left is a list of conditions side by side, and each step puts a condition's children in its place.
 use Prim.Native.Nat.{ℕ, _+_, _-_, _≤_, _<_}
 use native.Mathlib.Omega.{arith}
-use mathlib.Core.Bool.{Bool, true, false, cond, _&&_}
+use mathlib.Core.Bool.{Bool, true, false, cond}
 use mathlib.Core.List.{List, [], _++_, map, append-nil, append-assoc, map-append}
 use mathlib.Core.Logic.{⊎-elim, _⊎_, inl, inr}
-use mathlib.Core.Path.{_≡_, refl, sym, ap₂, _∙_}
-use lib.Dec.{leb, eqb}
-use borrow.Author.Tests.{le-leb, lt-leb}
+use mathlib.Core.Path.{_≡_, refl, sym, ap, ap₂, _∙_}
+use borrow.Author.Tests.{lt-leb}
+use Rattle.sheet.specs.Operators.{isObserved}
+use Rattle.sheet.specs.OperatorLaws.{observed-early, observed-late}
 use Rattle.definition.specs.Tree.{Schema, Value, constant, number, string, array, object, Values, noValues, value, Pairs, noPairs, pair, Condition, literal, many, negation, one, two, comparison, quantifier, Conditions, noConditions, condition}
 use Rattle.reference.specs.Setting.{Setting}
 use Rattle.definition.specs.Within.{conditionEntries, valueEntries}
@@ -14,19 +15,19 @@ use Rattle.rule.specs.Index.{startOf, endOf, ValueAt}
 use Rattle.rule.specs.IndexLaws.{value-next}
 use Rattle.validation.specs.Check.{Check, Literal, literalCheck, numbers, numbersOfValues, numbersOfPairs, literals, literalsOfConditions}
 use Rattle.validation.specs.Judge.{outcome}
-use Rattle.value_checks.specs.Leaves.{leaves, leavesOfValues, leavesOfPairs, saidIn, said-append, said-value}
-use Rattle.value_checks.specs.Kinds.{OperatorAt}
-use Rattle.value_checks.specs.Nodes.{EntriesIn, IsCondition, AreConditions, Behind, childrenOf, ChildrenFrom}
+use Rattle.rule.specs.Leaves.{leaves, leavesOfValues, leavesOfPairs, saidIn, said-append, said-value}
+use Rattle.rule.specs.Kinds.{OperatorAt}
+use Rattle.rule.specs.Nodes.{EntriesIn, IsCondition, AreConditions, Behind, childrenOf, ChildrenFrom}
 use Rattle.value_checks.specs.Verdicts.{GoesOn}
-use Rattle.value_checks.specs.Literals.{literalSays, LiteralsJudged, isObserved, ObservedJudged, ConditionLiterals}
+use Rattle.value_checks.specs.Literals.{literalSays, LiteralsJudged, ObservedJudged, ConditionLiterals}
 use Rattle.value_checks.specs.declared.verdict.Fault.{Fault}
 use Rattle.value_checks.specs.declared.verdict.Over.{Over}
 use Rattle.value_checks.specs.declared.verdict.Verdict.the-variants.{Defect}
 use Rattle.value_checks.specs.declared.verdict.Progress.{Progress}
 use Rattle.value_checks.proofs.Going.{goes-nothing, goes-then, goes-stopped}
-use Rattle.value_checks.proofs.NodeSteps.{has-operator, value-size, first-stands, none-left, none-ends}
-use Rattle.value_checks.proofs.EntrySteps.{entries-none, entries-both, entries-value}
-use Rattle.value_checks.proofs.Opening.{beside, opened, opened-stand}
+use Rattle.rule.proofs.NodeSteps.{has-operator, value-size, first-stands, none-left, none-ends}
+use Rattle.rule.proofs.EntrySteps.{entries-none, entries-both, entries-value}
+use Rattle.rule.proofs.Opening.{beside, opened, opened-stand}
 
 module _ {rule words : List ℕ} {op start end : ℕ} {a : Progress} {flag : Bool} (said : flag ≡ isObserved op) where
   pub observed-yes : {r : Progress} → flag ≡ true → LiteralsJudged rule words start (end - start) a r → ObservedJudged rule words op start end a r
@@ -42,22 +43,11 @@ module _ {rule words : List ℕ} {op start end : ℕ} {a : Progress} {flag : Boo
 
 -- Operators by what they hold.
 
-observed-early : {op : ℕ} → op < 8 → isObserved op ≡ false
-unfolding isObserved
-observed-early {op} h = rw (lt-leb 18 op (omega arith), lt-leb 8 op h)
+unobserved-early : {op : ℕ} → op < 8 → isObserved op ≡ false
+unobserved-early h = sym (observed-early (omega arith) h)
 
-observed-late : {op : ℕ} → 20 ≤ op → isObserved op ≡ false
-unfolding isObserved
-observed-late {op} h = rw (le-leb 18 op (omega arith), lt-leb op 19 (omega arith))
-
-observed-one : {op own : ℕ} → op ≡ own → (op ≡ 5) ⊎ (op ≡ 19) → isObserved op ≡ eqb own 19
-unfolding isObserved
-observed-one e (inl h) = rw (← e, h)
-observed-one e (inr h) = rw (← e, h)
-
-observed-two : {op own : ℕ} → op ≡ own → op ≤ 17 → isObserved op ≡ (leb 8 own && leb own 15)
-unfolding isObserved
-observed-two {op} e h = rw (← e, lt-leb 18 op (omega arith))
+unobserved-late : {op : ℕ} → 20 ≤ op → isObserved op ≡ false
+unobserved-late {op} h = sym (observed-late (omega arith)) ∙ lt-leb op 19 (omega arith)
 
 observed-comparison : {op : ℕ} → op ≡ 18 → isObserved op ≡ true
 unfolding isObserved
@@ -117,24 +107,26 @@ module _ (rule words : List ℕ) where
     unfolding literals literalsOfConditions childrenOf saidIn conditionEntries
     literals-parts (literal e truth) w =
         let p = has-operator rule words i start kind (literal e truth) (w .stands) in
-        rw (observed-early {op = op} (omega arith))
+        rw (unobserved-early {op = op} (omega arith))
     literals-parts (many e own children) w =
         let p = has-operator rule words i start kind (many e own children) (w .stands) in
-        rw (observed-early {op = op} (omega (arith, p .2)))
+        rw (unobserved-early {op = op} (omega (arith, p .2)))
     literals-parts (negation e child) w =
         let p = has-operator rule words i start kind (negation e child) (w .stands) in
-        rw (observed-early {op = op} (omega arith), append-nil)
+        rw (unobserved-early {op = op} (omega arith), append-nil)
     literals-parts (one e own v) w =
         let p = has-operator rule words i start kind (one e own v) (w .stands) in
         let f : next ≡ end = ⊎-elim (λ q. k .values (omega arith) (omega arith)) (λ q. k .values (omega arith) (omega arith)) (p .1) in
         let n : next - (i + 1) ≡ valueEntries v = omega (arith, w .ends) in
-        rw (observed-one (p .0) (p .1), n) (if-observed (eqb own 19) (i + 1) (valueEntries v) (numbers v) (value-said (i + 1) v (w .stands .1)))
+        let o : isObserved op ≡ isObserved own = ap isObserved (p .0) in
+        rw (o, n) (if-observed (isObserved own) (i + 1) (valueEntries v) (numbers v) (value-said (i + 1) v (w .stands .1)))
     literals-parts (two e own left right) w =
         let p = has-operator rule words i start kind (two e own left right) (w .stands) in
         let f : next ≡ end = k .values (omega (arith, p .1)) (omega (arith, p .2)) in
         let n : next - (i + 1) ≡ valueEntries left + valueEntries right = omega (arith, w .ends) in
-        rw (observed-two (p .0) (p .2), n)
-        (if-observed (leb 8 own && leb own 15) (i + 1) (valueEntries left + valueEntries right) (numbers left ++ numbers right)
+        let o : isObserved op ≡ isObserved own = ap isObserved (p .0) in
+        rw (o, n)
+        (if-observed (isObserved own) (i + 1) (valueEntries left + valueEntries right) (numbers left ++ numbers right)
         (both-said (i + 1) left right (w .stands .1) (w .stands .2)))
     literals-parts (comparison e which left right) w =
         let p = has-operator rule words i start kind (comparison e which left right) (w .stands) in
@@ -145,7 +137,7 @@ module _ (rule words : List ℕ) where
         (both-said (i + 1) left right (w .stands .1) (w .stands .2)))
     literals-parts (quantifier e own bind over body) w =
         let p = has-operator rule words i start kind (quantifier e own bind over body) (w .stands) in
-        rw (observed-late {op = op} (p .1), append-nil)
+        rw (unobserved-late {op = op} (p .1), append-nil)
 
     -- the words of a condition up to its children are those of its values
     values-entries : (c : Condition) → IsCondition rule words i end c → EntriesIn rule words (i + 1) (next - (i + 1))

@@ -1,17 +1,18 @@
 -- Operands, step by step.
 use Prim.Native.Nat.{ℕ, _+_, _*_, _-_, _≤_, _<_}
 use native.Mathlib.Omega.{arith}
-use native.Mathlib.Nat.{eq-zero-or-pos}
 use mathlib.Core.Bool.{Bool, true, false, false≢true}
 use mathlib.Core.List.{List, [], _∷_, append-nil}
-use mathlib.Core.Logic.{_⊎_, inl, inr, ⊎-elim}
+use mathlib.Core.Logic.{_⊎_, inl, inr}
 use mathlib.Core.Option.{Option, none, some}
 use mathlib.Core.Path.{_≡_, refl, sym, ap, _∙_}
 use lib.ListN.{drop}
 use lib.Dec.{ltb}
-use borrow.Author.Tests.{eq-eqb, ne-eqb, le-leb, lt-leb, le-ltb, lt-ltb}
+use borrow.Author.Tests.{eq-eqb, ne-eqb, le-ltb, lt-ltb}
 use Rattle.timestamp.specs.Instant.{instant}
 use Rattle.timestamp.specs.declared.Fields.{Fields}
+use Rattle.sheet.specs.ReaderLaws.{by-test}
+use Rattle.sheet.specs.Operators.{isInstantTest, isAffix}
 use Rattle.sheet.specs.Entries.{ValueHead, valueHead}
 use Rattle.sheet.specs.RuleHeadLaws.{ValueHeadFits, valueHead-exact}
 use Rattle.sheet.specs.declared.part.Part.{Part}
@@ -23,8 +24,8 @@ use Rattle.validation.specs.Check.{Binder, Question, settled, Check, check, fai
 use Rattle.validation.specs.Constant.{literalText, literalInstant}
 use Rattle.validation.specs.Judge.{failure, unasked, outcome, environment, answer, answerIn}
 use Rattle.scope.specs.declared.binder.Scope.{Scope}
-use Rattle.value_checks.specs.Kinds.{typeIn, TypeAt, TextAt}
-use Rattle.value_checks.specs.Nodes.{AreValues, Behind}
+use Rattle.rule.specs.Kinds.{typeIn, TypeAt, TextAt}
+use Rattle.rule.specs.Nodes.{AreValues, Behind}
 use Rattle.value_checks.specs.Verdicts.{numberOf, detailOf, refusedAt, failureOf, sideDetail, instantDetail, failed, GoesOn, PassedOn, Failed, Required}
 use Rattle.value_checks.specs.Frames.{Frame, frame, Stands, IsReference, ReferencesIn, instantCheck, affixCheck, askedBefore, askedAfter, asked, askedOf, ValueJudged, OperandJudged, OperandsJudged, FormIs, formOf, literalBy, ReadAs}
 use Rattle.value_checks.specs.declared.operand.Form.{Form}
@@ -42,7 +43,7 @@ use Rattle.value_checks.specs.declared.verdict.Over.{Over}
 use Rattle.value_checks.specs.declared.verdict.Verdict.the-variants.{Defect}
 use Rattle.value_checks.specs.declared.verdict.Progress.{Progress}
 use Rattle.value_checks.proofs.Going.{goes-nothing, goes-then, goes-stopped}
-use Rattle.value_checks.proofs.NodeSteps.{othersOf, value-stands, others-stand, no-values-left, no-values-end}
+use Rattle.rule.proofs.NodeSteps.{othersOf, value-stands, others-stand, no-values-left, no-values-end}
 use Rattle.value_checks.proofs.LiteralSteps.{settled-outcome}
 use Rattle.value_checks.proofs.ReferenceSteps.{references-judged, reference-begins}
 
@@ -257,37 +258,27 @@ module _ {rule words : List ℕ} {over : Over} {i : ℕ} {a : Progress} where
   unfolding askedBefore
   side-unasked op which n = nothing-asked (λ binders v. rw (ne-eqb op 18 n))
 
-  module _ {op : ℕ} where
-    pub after-exists : op ≤ 5 → ValueJudged rule words over (askedAfter op) i a a
+  module _ (op : ℕ) {instants : Bool} (said : instants ≡ isInstantTest op) where
+    pub after-instant : {r : Progress} → instants ≡ true → ValueJudged rule words over instantCheck i a r → ValueJudged rule words over (askedAfter op) i a r
     unfolding askedAfter
-    after-exists h = nothing-asked (λ binders v. rw (le-leb op 5 h))
+    after-instant t p =
+        let q : isInstantTest op ≡ true = sym said ∙ t in
+        record { atMost = p .atMost; goes = λ schema scope setting tree binders env v s w. rw q (p .goes schema scope setting tree binders env v s w) }
 
-    pub after-instant : {r : Progress} → 5 < op → op ≤ 7 → ValueJudged rule words over instantCheck i a r → ValueJudged rule words over (askedAfter op) i a r
-    unfolding askedAfter
-    after-instant h k p =
-        record {
-          atMost = p .atMost;
-          goes = λ schema scope setting tree binders env v s w. rw (lt-leb op 5 h, le-leb op 7 k) (p .goes schema scope setting tree binders env v s w);
-        }
+    module _ {affixes : Bool} (also : affixes ≡ isAffix op) (none : instants ≡ false) where
+      pub after-affix : {r : Progress} → affixes ≡ true → ValueJudged rule words over affixCheck i a r → ValueJudged rule words over (askedAfter op) i a r
+      unfolding askedAfter
+      after-affix t p =
+          let q : isInstantTest op ≡ false = sym said ∙ none in
+          let k : isAffix op ≡ true = sym also ∙ t in
+          record { atMost = p .atMost; goes = λ schema scope setting tree binders env v s w. rw (q, k) (p .goes schema scope setting tree binders env v s w) }
 
-    pub after-plain : 7 < op → op < 16 → ValueJudged rule words over (askedAfter op) i a a
-    unfolding askedAfter
-    after-plain h k = nothing-asked (λ binders v. rw (lt-leb op 5 (omega arith), lt-leb op 7 h, lt-leb 16 op k))
-
-    pub after-affix : {r : Progress} → 16 ≤ op → op < 18 → ValueJudged rule words over affixCheck i a r → ValueJudged rule words over (askedAfter op) i a r
-    unfolding askedAfter
-    after-affix h k p =
-        record {
-          atMost = p .atMost;
-          goes =
-              λ schema scope setting tree binders env v s w.
-              rw (lt-leb op 5 (omega arith), lt-leb op 7 (omega arith), le-leb 16 op h, lt-leb 18 op k)
-              (p .goes schema scope setting tree binders env v s w);
-        }
-
-    pub after-late : 18 ≤ op → ValueJudged rule words over (askedAfter op) i a a
-    unfolding askedAfter
-    after-late h = nothing-asked (λ binders v. rw (lt-leb op 5 (omega arith), lt-leb op 7 (omega arith), le-leb 16 op (omega arith), le-leb 18 op h))
+      pub after-other : affixes ≡ false → ValueJudged rule words over (askedAfter op) i a a
+      unfolding askedAfter
+      after-other t =
+          let q : isInstantTest op ≡ false = sym said ∙ none in
+          let k : isAffix op ≡ false = sym also ∙ t in
+          nothing-asked (λ binders v. rw (q, k))
 
 -- One operand.
 
@@ -402,40 +393,32 @@ unfolding asked
 asked-plain op which binders v e f = rw (e, f) (append-nil (references binders v))
 
 pub asked-one : (op : ℕ) (which : Side) (binders : List Binder) (v : Value) → (op ≡ 5) ⊎ (op ≡ 19) → asked op which binders v ≡ references binders v
-unfolding askedBefore askedAfter
+unfolding askedBefore askedAfter isInstantTest isAffix
 asked-one op which binders v (inl e) = asked-plain op which binders v (rw e) (rw e)
 asked-one op which binders v (inr e) = asked-plain op which binders v (rw e) (rw e)
 
 pub asked-side : (which : Side) (binders : List Binder) (v : Value) → asked 18 which binders v ≡ compareSide binders (sideDetail which) v
-unfolding asked askedBefore askedAfter compareSide
+unfolding asked askedBefore askedAfter compareSide isInstantTest isAffix
 asked-side which binders v = ap (λ (l : List Check). check 17 (entryOf v) binders (failsIf (isHolder v) (sideDetail which)) ∷ l) (append-nil (references binders v))
 
-module _ (op : ℕ) (which : Side) (binders : List Binder) (v : Value) (low : 6 ≤ op) (high : op ≤ 17) where
+module _ (op : ℕ) (which : Side) (binders : List Binder) (v : Value) (high : op ≤ 17) where
   no-side : askedBefore op which binders v ≡ []
   unfolding askedBefore
   no-side = rw (ne-eqb op 18 (λ e. omega arith))
 
-  asked-instant : op ≤ 7 → asked op which binders v ≡ operand op binders v
+  asked-instant : isInstantTest op ≡ true → asked op which binders v ≡ operand op binders v
   unfolding asked askedAfter instantCheck operand instantOperand
-  asked-instant h = rw (no-side, lt-leb op 5 (omega arith), le-leb op 7 h)
+  asked-instant h = rw (no-side, h)
 
-  asked-middle : 7 < op → op < 16 → asked op which binders v ≡ operand op binders v
-  unfolding askedAfter operand
-  asked-middle h k =
-      let p : askedAfter op binders v ≡ [] = rw (lt-leb op 5 (omega arith), lt-leb op 7 h, lt-leb 16 op k) in
-      rw (lt-leb op 7 h, lt-leb 16 op k) (asked-plain op which binders v no-side p)
-
-  asked-affix : 7 < op → 16 ≤ op → asked op which binders v ≡ operand op binders v
+  asked-affix : isInstantTest op ≡ false → isAffix op ≡ true → asked op which binders v ≡ operand op binders v
   unfolding asked askedAfter affixCheck operand affixOperand
-  asked-affix h k = rw (no-side, lt-leb op 5 (omega arith), lt-leb op 7 h, le-leb 16 op k, lt-leb 18 op (omega arith))
+  asked-affix h k = rw (no-side, h, k)
+
+  asked-other : isInstantTest op ≡ false → isAffix op ≡ false → asked op which binders v ≡ operand op binders v
+  unfolding askedAfter operand
+  asked-other h k =
+      let p : askedAfter op binders v ≡ [] = rw (h, k) in
+      rw (h, k) (asked-plain op which binders v no-side p)
 
   pub asked-two : asked op which binders v ≡ operand op binders v
-  asked-two =
-      ⊎-elim
-      (λ (h : op - 7 ≡ 0). asked-instant (omega arith))
-      (λ (h : 0 < op - 7).
-      ⊎-elim
-      (λ (k : op - 15 ≡ 0). asked-middle (omega arith) (omega arith))
-      (λ (k : 0 < op - 15). asked-affix (omega arith) (omega arith))
-      (eq-zero-or-pos (op - 15)))
-      (eq-zero-or-pos (op - 7))
+  asked-two = by-test (isInstantTest op) asked-instant (λ h. by-test (isAffix op) (asked-affix h) (asked-other h))

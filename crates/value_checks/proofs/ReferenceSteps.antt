@@ -23,9 +23,9 @@ use Rattle.walk.specs.declared.answer.Readable.{Readable}
 use Rattle.walk.specs.declared.answer.Readable.the-variants.{Yes, No}
 use Rattle.validation.specs.Check.{Binder, readable, check, referenceText, referenceCheck, references, referencesOfValues, referencesOfPairs}
 use Rattle.validation.specs.Judge.{outcome, environment, verdict, answer, answerIn}
-use Rattle.value_checks.specs.Leaves.{leaves, leavesOfValues, leavesOfPairs, saidIn, said-value}
-use Rattle.value_checks.specs.Kinds.{typeIn, HasType, TextAt}
-use Rattle.value_checks.specs.Nodes.{IsValue, EntriesIn}
+use Rattle.rule.specs.Leaves.{leaves, leavesOfValues, leavesOfPairs, saidIn, said-value}
+use Rattle.rule.specs.Kinds.{typeIn, HasType, TextAt}
+use Rattle.rule.specs.Nodes.{IsValue, EntriesIn}
 use Rattle.value_checks.specs.Verdicts.{numberOf, failureOf, GoesOn, PassedOn, Failed}
 use Rattle.scope.specs.References.{ReferenceReads}
 use Rattle.value_checks.specs.Frames.{Frame, Stands, IsReference, referenceSays, ReferencesIn}
@@ -35,7 +35,7 @@ use Rattle.value_checks.specs.declared.verdict.Over.{Over}
 use Rattle.value_checks.specs.declared.verdict.Verdict.the-variants.{Defect}
 use Rattle.value_checks.specs.declared.verdict.Progress.{Progress}
 use Rattle.value_checks.proofs.Going.{goes-nothing, goes-then, goes-stopped, said-next}
-use Rattle.value_checks.proofs.EntrySteps.{entries-part, entries-value}
+use Rattle.rule.proofs.EntrySteps.{entries-part, entries-value}
 use Rattle.value_checks.proofs.LiteralSteps.{says-other, says-typed}
 
 -- Texts.

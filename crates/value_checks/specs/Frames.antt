@@ -5,8 +5,9 @@ use mathlib.Core.List.{List, [], _∷_, _++_}
 use mathlib.Core.Option.{Option, none, some}
 use mathlib.Core.Path.{_≡_}
 use lib.ListN.{drop}
-use lib.Dec.{leb, eqb}
+use lib.Dec.{eqb}
 use Rattle.timestamp.specs.declared.Fields.{Fields}
+use Rattle.sheet.specs.Operators.{compareOperator, isInstantTest, isAffix}
 use Rattle.sheet.specs.Entries.{ValueHead, constantHead, numberHead, stringHead, arrayHead, objectHead}
 use Rattle.sheet.specs.Parts.{partOf}
 use Rattle.definition.specs.Tree.{Text, Schema, Value, string, Values, noValues, value}
@@ -15,9 +16,9 @@ use Rattle.reference.specs.Reference.{Environment}
 use Rattle.validation.specs.Check.{Binder, Question, settled, Check, check, failsIf, entryOf, isString, isHolder, referenceText, referenceCheck, references, instantForm}
 use Rattle.validation.specs.Judge.{outcome, environment}
 use Rattle.validation.specs.Result.{overOf}
-use Rattle.value_checks.specs.Leaves.{saidIn}
+use Rattle.rule.specs.Leaves.{saidIn}
 use Rattle.rule.specs.Index.{ValueAt}
-use Rattle.value_checks.specs.Nodes.{IsValue, AreValues, EntriesIn}
+use Rattle.rule.specs.Nodes.{IsValue, AreValues, EntriesIn}
 use Rattle.value_checks.specs.Verdicts.{GoesOn, overBy, sideDetail, instantDetail}
 use Rattle.scope.specs.Scopes.{ScopeAt}
 use Rattle.scope.specs.declared.binder.Scope.{Scope}
@@ -75,17 +76,14 @@ instantCheck binders v = check 20 (entryOf v) binders (instantForm v) ∷ []
 unfoldable pub affixCheck : List Binder → Value → List Check
 affixCheck binders v = check 19 (entryOf v) binders (failsIf (not (isString v)) 0) ∷ []
 
--- what an operand is asked before its references: a side of a comparison, 18, holds nothing
+-- what an operand is asked before its references: a side of a comparison holds nothing
 unfoldable pub askedBefore : (op : ℕ) → Side → List Binder → Value → List Check
-askedBefore op which binders v = cond (eqb op 18) (check 17 (entryOf v) binders (failsIf (isHolder v) (sideDetail which)) ∷ []) []
+askedBefore op which binders v = cond (eqb op compareOperator) (check 17 (entryOf v) binders (failsIf (isHolder v) (sideDetail which)) ∷ []) []
 
--- and after them, by the operator: 6 before and 7 after, 16 starts_with and 17 ends_with
+-- and after them
 unfoldable pub askedAfter : (op : ℕ) → List Binder → Value → List Check
 askedAfter op binders v =
-    cond (leb op 5) []
-    (cond (leb op 7) (instantCheck binders v)
-    (cond (leb 16 op) (cond (leb 18 op) [] (affixCheck binders v))
-    []))
+    cond (isInstantTest op) (instantCheck binders v) (cond (isAffix op) (affixCheck binders v) [])
 
 unfoldable pub asked : (op : ℕ) → Side → List Binder → Value → List Check
 asked op which binders v = askedBefore op which binders v ++ (references binders v ++ askedAfter op binders v)

@@ -1,15 +1,15 @@
 -- What the literal pass asks of the words of an index.
 use Prim.Native.Nat.{ℕ, _+_, _-_, _≤_}
-use mathlib.Core.Bool.{Bool, cond, _&&_}
+use mathlib.Core.Bool.{cond}
 use mathlib.Core.List.{List, [], _∷_, map}
-use lib.Dec.{leb}
 use Rattle.definition.specs.Tree.{Schema, Conditions}
+use Rattle.sheet.specs.Operators.{isObserved}
 use Rattle.sheet.specs.Entries.{ValueHead, constantHead, numberHead, stringHead, arrayHead, objectHead}
 use Rattle.reference.specs.Setting.{Setting}
 use Rattle.validation.specs.Check.{Check, literalCheck, literalsOfConditions}
 use Rattle.validation.specs.Judge.{outcome}
-use Rattle.value_checks.specs.Leaves.{saidIn}
-use Rattle.value_checks.specs.Nodes.{EntriesIn, AreConditions}
+use Rattle.rule.specs.Leaves.{saidIn}
+use Rattle.rule.specs.Nodes.{EntriesIn, AreConditions}
 use Rattle.value_checks.specs.Verdicts.{GoesOn}
 use Rattle.value_checks.specs.declared.verdict.Progress.{Progress}
 
@@ -24,10 +24,6 @@ literalSays e (objectHead count) = []
 pub record LiteralsJudged (rule words : List ℕ) (i n : ℕ) (a r : Progress) : Type 0 where
   pub atMost : r .passed ≤ a .passed + n
   pub goes : (setting : Setting) (schema : Schema) → EntriesIn rule words i n → GoesOn (outcome setting schema) a (saidIn literalSays rule words n i) r
-
--- the literal pass looks into the values of conditions with these operators: 8 to 15, 18 and 19
-unfoldable pub isObserved : ℕ → Bool
-isObserved op = cond (leb 18 op) (leb op 19) (leb 8 op && leb op 15)
 
 -- the words of a condition's values, where the pass looks into them
 pub record ObservedJudged (rule words : List ℕ) (op start end : ℕ) (a r : Progress) : Type 0 where

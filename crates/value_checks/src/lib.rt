@@ -1,7 +1,5 @@
 // The checks of values in code: references, operands and literals. Each takes how many checks passed before it, of which none failed: a defect is answered at once.
 pub mod verdict; // verdict.rt: what judging answers
-pub mod kind; // kind.rt: the kind of an entry
-pub mod node; // node.rt: where the words of an index lead
 pub mod literal; // literal.rt: the literal pass
 pub mod references; // references.rt: the references of a value
 pub mod operand; // operand.rt: the operands of a condition

@@ -1,10 +1,4 @@
 // The literal pass: whether the numbers that a condition compares are finite.
-use crate::kind::NUMBER;
-use crate::kind::has_type;
-use crate::kind::operator_at;
-use crate::kind::text_at;
-use crate::node::behind;
-use crate::node::children_from;
 use crate::verdict::Fault;
 use crate::verdict::Over;
 use crate::verdict::Progress;
@@ -12,16 +6,18 @@ use crate::verdict::Verdict;
 use crate::verdict::going;
 use crate::verdict::require;
 use rule::index::start_of;
+use rule::kind::NUMBER;
+use rule::kind::has_type;
+use rule::kind::operator_at;
+use rule::kind::text_at;
+use rule::node::behind;
+use rule::node::children_from;
+use sheet::operators::is_observed;
 use sheet::part::bytes_of;
-use sheet::rule_heads::COMPARE;
-use sheet::rule_heads::CONTAINS;
-use sheet::rule_heads::EQ;
-use sheet::rule_heads::TRUTHY;
-ghost use mathlib.Core.Path.{_≡_};
 ghost use Prim.Native.Nat.{_-_, _<_, _≤_};
 ghost use Rattle.definition.specs.Limits.{wordEntries};
 ghost use Rattle.value_checks.specs.Verdicts.{going, HasRoom};
-ghost use Rattle.value_checks.specs.Literals.{isObserved, LiteralsJudged, ObservedJudged, ConditionLiterals};
+ghost use Rattle.value_checks.specs.Literals.{LiteralsJudged, ObservedJudged, ConditionLiterals};
 
 // The entry of word `i`, if it is a number.
 fn validate_literal(passed: usize, rule: &[u8], words: &[u32], i: usize) -> Progress
@@ -59,19 +55,6 @@ fn validate_literals(
         i += 1;
     }
     going(so_far)
-}
-
-// Whether the literal pass looks into the values of a condition with that operator.
-fn is_observed(op: usize) -> bool
-    ensures { λ r. ⌜ r ≡ isObserved op ⌝ }
-{
-    if COMPARE <= op {
-        return op <= TRUTHY;
-    }
-    if op < EQ {
-        return false;
-    }
-    op <= CONTAINS
 }
 
 // The numbers from word `start` up to word `end`, where they are the values of a condition that the pass looks into.

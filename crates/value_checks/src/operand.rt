@@ -1,8 +1,4 @@
 // Operands: what a value is asked besides its references.
-use crate::kind::STRING;
-use crate::kind::text_at;
-use crate::kind::type_at;
-use crate::node::behind;
 use crate::references::is_reference;
 use crate::references::validate_references;
 use crate::verdict::Fault;
@@ -16,14 +12,17 @@ use crate::verdict::going;
 use crate::verdict::pass;
 use crate::verdict::require;
 use rule::index::start_of;
+use rule::kind::STRING;
+use rule::kind::text_at;
+use rule::kind::type_at;
+use rule::node::behind;
 use scope::binder::Scope;
 use scope::collections::begins_with_dollar;
+use sheet::operators::COMPARE;
+use sheet::operators::is_affix;
+use sheet::operators::is_instant_test;
 use sheet::part::Part;
 use sheet::part::bytes_of;
-use sheet::rule_heads::AFTER;
-use sheet::rule_heads::COMPARE;
-use sheet::rule_heads::EXISTS;
-use sheet::rule_heads::STARTS_WITH;
 use timestamp::Fields;
 use timestamp::Parsed;
 ghost use Prim.Native.Nat.{_*_, _-_, _<_, _≤_};
@@ -134,7 +133,7 @@ fn validate_side(
     going(passed)
 }
 
-// What an operand is asked after its references, by the operator: 6 before and 7 after, 16 starts_with and 17 ends_with.
+// What an operand is asked after its references, by the operator.
 fn validate_form(
     passed: usize,
     rule: &[u8],
@@ -146,16 +145,10 @@ fn validate_form(
     requires { ⌜ HasRoom (going passed) 1 × (i < wordEntries) ⌝ }
     ensures { λ r. ⌜ ValueJudged (now (rule .entry)) (now (words .entry)) over (askedAfter op) i (going passed) r ⌝ }
 {
-    if op <= EXISTS {
-        return going(passed);
-    }
-    if op <= AFTER {
+    if is_instant_test(op) {
         return validate_instant(passed, rule, words, over, i);
     }
-    if op < STARTS_WITH {
-        return going(passed);
-    }
-    if op < COMPARE {
+    if is_affix(op) {
         return validate_affix(passed, rule, words, over, i);
     }
     going(passed)

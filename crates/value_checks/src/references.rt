@@ -1,7 +1,4 @@
 // The references of a value: its strings that begin with `$`, but not with `$$`.
-use crate::kind::STRING;
-use crate::kind::has_type;
-use crate::kind::text_at;
 use crate::verdict::Fault;
 use crate::verdict::Over;
 use crate::verdict::Progress;
@@ -10,6 +7,9 @@ use crate::verdict::fail;
 use crate::verdict::going;
 use crate::verdict::pass;
 use rule::index::start_of;
+use rule::kind::STRING;
+use rule::kind::has_type;
+use rule::kind::text_at;
 use scope::binder::Scope;
 use scope::collections::begins_with_dollar;
 use scope::references::validate_reference;

@@ -13,7 +13,7 @@ use Rattle.sheet.specs.Ascii.{ascii}
 use Rattle.sheet.specs.Order.{sameBytes}
 use Rattle.reference.specs.Path.{isCount, isOrdinal}
 use Rattle.reference.specs.Setting.{Reader}
-use Rattle.reference.specs.Walk.{Step, refuse, free, lookup, memberStep, itemStep, isEmpty, arrayStep, mapStep, isTag, contentKey, unionStep, textCount, walkStep}
+use Rattle.reference.specs.Walk.{Step, refuse, free, lookup, memberStep, itemStep, isEmpty, arrayStep, mapStep, isTag, contentKey, unionStep, textCount, arrayField, mapField, stringField, unionField, otherField, formOfKind, walkInto, walkStep}
 use Rattle.sheet.specs.Parts.{partOf, optionalOf}
 use Rattle.schema.specs.Slot.{HolderAt, ElementAt, FieldParts, PartsOf}
 use Rattle.schema.specs.Lookup.{FoundAt, LookedUp}
@@ -164,12 +164,6 @@ scalar-other kind s b reader p q = record { leads = λ sheet words. rw (sym p �
 
 -- The step on the tree, by the field's kind
 
-two-tests : (a b : Bool) (x y z : Step) → cond (a && b) x (cond b y z) ≡ cond b (cond a x y) z
-two-tests true true x y z = refl
-two-tests true false x y z = refl
-two-tests false true x y z = refl
-two-tests false false x y z = refl
-
 module _ (e k : ℕ) (o : Bool) (tag : Option Text) (items : Items) (members : Members) (s : List ℕ) (reader : Reader) where
   abbrev here : Field
   here = field e k o tag items members
@@ -179,36 +173,53 @@ module _ (e k : ℕ) (o : Bool) (tag : Option Text) (items : Items) (members : M
   step-empty service h = rw h
 
   step-array : isEmpty s ≡ false → k ≡ 6 → walkStep reader true here s ≡ arrayStep items s
-  unfolding walkStep
+  unfolding walkStep walkInto formOfKind
   step-array h q = rw (h, q)
 
   step-map : isEmpty s ≡ false → k ≡ 10 → walkStep reader true here s ≡ mapStep s
-  unfolding walkStep
+  unfolding walkStep walkInto formOfKind
   step-map h q = rw (h, q)
 
   step-json : (service : Bool) → isEmpty s ≡ false → k ≡ 8 → walkStep reader service here s ≡ free
-  unfolding walkStep
+  unfolding walkStep walkInto formOfKind
   step-json true h q = rw (h, q)
   step-json false h q = rw (h, q)
 
   step-object : (service : Bool) → isEmpty s ≡ false → k ≡ 7 → walkStep reader service here s ≡ memberStep (lookup s members) o 3
-  unfolding walkStep
+  unfolding walkStep walkInto formOfKind
   step-object true h q = rw (h, q)
   step-object false h q = rw (h, q)
 
   step-union : isEmpty s ≡ false → k ≡ 11 → walkStep reader true here s ≡ unionStep tag s
-  unfolding walkStep
+  unfolding walkStep walkInto formOfKind
   step-union h q = rw (h, q)
 
+  -- a field without members, of which only a string has a count
+  into-scalar : (isString : Bool) → walkInto reader true o tag items members s (cond isString stringField otherField)
+      ≡ cond (isCount s) (cond isString (textCount reader) (refuse 9)) (refuse 10)
+  unfolding walkInto
+  into-scalar true = refl
+  into-scalar false = refl
+
   step-scalar : isEmpty s ≡ false → (k ≡ 6 → ⊥) → (k ≡ 10 → ⊥) → (k ≡ 8 → ⊥) → (k ≡ 7 → ⊥) → (k ≡ 11 → ⊥) → walkStep reader true here s ≡ scalarStep k s reader
-  unfolding walkStep scalarStep
-  step-scalar h a b c d f =
-      rw (h, ne-eqb k 6 a, ne-eqb k 10 b, ne-eqb k 8 c, ne-eqb k 7 d, ne-eqb k 11 f)
-      (two-tests (eqb k 1) (isCount s) (textCount reader) (refuse 9) (refuse 10))
+  unfolding walkStep formOfKind scalarStep
+  step-scalar h a b c d f = rw (h, ne-eqb k 6 a, ne-eqb k 10 b, ne-eqb k 8 c, ne-eqb k 7 d, ne-eqb k 11 f) (into-scalar (eqb k 1))
+
+  -- under kernel/1 every other field is without members
+  into-plain : (isArray isMap isString isUnion : Bool)
+      → walkInto reader false o tag items members s
+      (cond isArray arrayField (cond isMap mapField (cond isString stringField (cond isUnion unionField otherField))))
+      ≡ refuse 10
+  unfolding walkInto
+  into-plain true b c d = refl
+  into-plain false true c d = refl
+  into-plain false false true d = refl
+  into-plain false false false true = refl
+  into-plain false false false false = refl
 
   step-plain : isEmpty s ≡ false → (k ≡ 8 → ⊥) → (k ≡ 7 → ⊥) → walkStep reader false here s ≡ refuse 10
-  unfolding walkStep
-  step-plain h c d = rw (h, ne-eqb k 8 c, ne-eqb k 7 d)
+  unfolding walkStep formOfKind
+  step-plain h c d = rw (h, ne-eqb k 8 c, ne-eqb k 7 d) (into-plain (eqb k 6) (eqb k 10) (eqb k 1) (eqb k 11))
 
 -- The code's step, by the kind that the index gives
 

@@ -10,7 +10,7 @@ use Rattle.sheet.specs.Order.{sameBytes}
 use Rattle.sheet.specs.OrderLaws.{sameBytes-equal}
 use Rattle.reference.specs.Setting.{Reader, kernel, projection}
 use Rattle.reference.specs.Path.{isOrdinal, isCount}
-use Rattle.reference.specs.Walk.{Step, refuse, leaf, free, into, lookup, memberStep, itemStep, Reached, refused, unknown, known, lastOr, arrive, entryOf, travel, isEmpty, arrayStep, mapStep, isTag, contentKey, unionStep, textCount, walkStep, fieldStep, elementOr, elementOfField, elementOf}
+use Rattle.reference.specs.Walk.{Step, refuse, leaf, free, into, lookup, memberStep, itemStep, Reached, refused, unknown, known, lastOr, arrive, entryOf, travel, isEmpty, arrayStep, mapStep, isTag, contentKey, unionStep, textCount, FieldForm, jsonField, objectField, arrayField, mapField, stringField, unionField, otherField, formOfKind, walkInto, walkStep, fieldStep, elementOr, elementOfField, elementOf}
 use Rattle.widening.specs.Widening.{Level, anything, MayOpen, anyMark, Opened, kept, opened, MayGrow, closed, WiderField, wider, WiderItems, neither, both, WiderMembers, end, keep, more}
 use Rattle.widening.specs.Distinct.{DistinctField, DistinctItems, DistinctMembers}
 
@@ -130,20 +130,29 @@ unfolding textCount
 text-fares kernel = sameLeaf
 text-fares projection = sameRefusal
 
+into-fares : {l : Level} {at : ℕ} {o o′ : Bool} {i i′ : Items} {m m′ : Members} (reader : Reader) (isService : Bool) (tag : Option Text) (s : Text) (form : FieldForm)
+    → Opened l at o o′
+    → WiderMembers l o m m′
+    → DistinctMembers m′
+    → WiderItems l i i′
+    → DistinctItems i′
+    → StepFares l at (walkInto reader isService o tag i m s form) (walkInto reader isService o′ tag i′ m′ s form)
+unfolding walkInto
+into-fares reader b tag s jsonField p ms ds w d = stillFree
+into-fares reader b tag s objectField p ms ds w d = member-fares 3 p (lookup-finds s ms ds)
+into-fares reader b tag s arrayField p ms ds w d = either-fares b (array-fares s w d) sameRefusal
+into-fares reader b tag s mapField p ms ds w d = either-fares b (map-fares s) sameRefusal
+into-fares reader b tag s stringField p ms ds w d = either-fares (b && isCount s) (text-fares reader) sameRefusal
+into-fares reader b tag s unionField p ms ds w d = either-fares b (union-fares tag s) sameRefusal
+into-fares reader b tag s otherField p ms ds w d = either-fares (b && isCount s) sameRefusal sameRefusal
+
 pub walk-step-fares : {l : Level} {f f′ : Field} (reader : Reader) (isService : Bool) (s : Text)
     → WiderField l f f′
     → DistinctField f′
     → StepFares l (entryOf f) (walkStep reader isService f s) (walkStep reader isService f′ s)
 unfolding walkStep entryOf
 walk-step-fares reader b s (wider {kind = k} {tag = tag} p wi wm) d =
-    either-fares (isEmpty s) sameRefusal
-    (either-fares (b && eqb k 6) (array-fares s wi (d .0))
-    (either-fares (b && eqb k 10) (map-fares s)
-    (either-fares (b && (eqb k 1 && isCount s)) (text-fares reader)
-    (either-fares (eqb k 8) stillFree
-    (either-fares (eqb k 7) (member-fares 3 p (lookup-finds s wm (d .1)))
-    (either-fares (b && eqb k 11) (union-fares tag s)
-    (either-fares (b && isCount s) sameRefusal sameRefusal)))))))
+    either-fares (isEmpty s) sameRefusal (into-fares reader b tag s (formOfKind k) p wm (d .1) wi (d .0))
 
 pub field-step-fares : {l : Level} {f f′ : Field} (s : Text)
     → WiderField l f f′

@@ -1,12 +1,11 @@
 -- `constants::is_plain` meets its contract.
-use borrow.Author.Needs.{needs}
 use native.Mathlib.Omega.{arith}
-use Rattle.constants.proofs.PlainSteps.{plain-exists, plain-late}
+use Rattle.constants.proofs.PlainSteps.{plain-literal, plain-exists, plain-late}
 use Rattle.constants.proofs.is_plain.Statement.{statement}
 use Rattle.constants.proofs.is_plain.Tie as tie
 
 returns : tie.Need-returns
-returns c = search needs
+returns c = plain-literal (c .before .args .op) (omega (arith, c .if1 .taken))
 
 returns-2 : tie.Need-returns-2
 returns-2 c = plain-exists (c .before .before .args .op)

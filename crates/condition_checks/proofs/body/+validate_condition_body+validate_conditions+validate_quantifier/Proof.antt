@@ -26,8 +26,8 @@ use Rattle.condition_checks.proofs.body.is_leaf.Reads as is-leaf-reads
 use Rattle.condition_checks.proofs.body.is_wrong_bind.Reads as is-wrong-bind-reads
 use Rattle.condition_checks.proofs.body.validate_entry.Reads as validate-entry-reads
 use Rattle.condition_checks.proofs.body.validate_leaf.Reads as validate-leaf-reads
-use Rattle.value_checks.proofs.kind.operator_at.Reads as operator-at-reads
-use Rattle.value_checks.proofs.node.behind.Reads as behind-reads
+use Rattle.rule.proofs.kind.operator_at.Reads as operator-at-reads
+use Rattle.rule.proofs.node.behind.Reads as behind-reads
 use Rattle.value_checks.proofs.operand.validate_operands.Reads as validate-operands-reads
 use Rattle.scope.proofs.binder.bind.Reads as bind-reads
 use Rattle.value_checks.proofs.verdict.fail.Reads as fail-reads

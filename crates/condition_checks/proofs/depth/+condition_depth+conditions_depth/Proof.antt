@@ -12,10 +12,10 @@ use Rattle.condition_checks.proofs.depth.conditions_depth.Reads as cond
 use Rattle.condition_checks.proofs.depth.conditions_depth.Kinds as conditions-depth-kinds
 use Rattle.condition_checks.proofs.depth.+condition_depth+conditions_depth.Lts-conditions_depth as conditions-depth-lts
 use Rattle.condition_checks.proofs.depth.greater.Reads as greater-reads
-use Rattle.value_checks.proofs.node.behind.Reads as behind-reads
-use Rattle.value_checks.proofs.node.children_from.Reads as children-from-reads
+use Rattle.rule.proofs.node.behind.Reads as behind-reads
+use Rattle.rule.proofs.node.children_from.Reads as children-from-reads
 use Rattle.rule.proofs.index.start_of.Reads as start-of-reads
-use Rattle.value_checks.proofs.kind.operator_at.Reads as operator-at-reads
+use Rattle.rule.proofs.kind.operator_at.Reads as operator-at-reads
 use Rattle.condition_checks.proofs.depth.+condition_depth+conditions_depth.{statement}
 use Rattle.condition_checks.proofs.depth.+condition_depth+conditions_depth.Tie.{close}
 

@@ -1,6 +1,6 @@
-use Rattle.defect_path.proofs.Names.{op-after}
 use Rattle.sheet.specs.Ascii.{ascii}
-use Rattle.validation.specs.Location.{operatorName}
+use Rattle.sheet.specs.Operators.{operatorName}
+use Rattle.defect_path.proofs.Names.{name-first}
 use borrow.Author.Needs.{needs}
 use Rattle.defect_path.proofs.operator.put_first.Statement.{statement}
 use Rattle.defect_path.proofs.operator.put_first.Tie as tie
@@ -40,6 +40,12 @@ slice-aggregate-put-6 c = search needs
 
 put-requires-6 : tie.Need-put-requires-6
 put-requires-6 c κs = search needs
+
+slice-aggregate-put-7 : tie.Need-slice-aggregate-put-7
+slice-aggregate-put-7 c = search needs
+
+put-requires-7 : tie.Need-put-requires-7
+put-requires-7 c κs = search needs
 
 same-length : tie.Need-same-length
 same-length c = search needs
@@ -81,7 +87,14 @@ same-length-6 c = search needs
 
 returns-6 : tie.Need-returns-6
 unfolding operatorName ascii
-returns-6 c = rw (op-after _ (c .before .before .before .before .before .before .before .pre .0) (c .before .before .before .before .before .before .before .pre .1) (c .before .before .before .before .before .match .rest .0 .0 .0 .0 .1) (c .before .before .before .before .before .match .rest .0 .0 .0 .1) (c .before .before .before .before .before .match .rest .0 .0 .1) (c .before .before .before .before .before .match .rest .0 .1) (c .before .before .before .before .before .match .rest .1)) (c .before .before .put6 .ensures)
+returns-6 c = rw (c .before .before .before .before .before .match .keys6) (c .before .before .put6 .ensures)
+
+same-length-7 : tie.Need-same-length-7
+same-length-7 c = search needs
+
+returns-7 : tie.Need-returns-7
+unfolding operatorName ascii
+returns-7 c = rw (name-first _ (c .before .before .before .before .before .before .before .pre) (c .before .before .before .before .before .match .rest .0 .0 .0 .0 .0 .1) (c .before .before .before .before .before .match .rest .0 .0 .0 .0 .1) (c .before .before .before .before .before .match .rest .0 .0 .0 .1) (c .before .before .before .before .before .match .rest .0 .0 .1) (c .before .before .before .before .before .match .rest .0 .1) (c .before .before .before .before .before .match .rest .1)) (c .before .before .put7 .ensures)
 
 pub put-first-spec : {M : Type 1} → statement M
 put-first-spec =
@@ -99,6 +112,8 @@ put-first-spec =
     put-requires-5
     slice-aggregate-put-6
     put-requires-6
+    slice-aggregate-put-7
+    put-requires-7
     same-length
     returns
     same-length-2
@@ -110,4 +125,6 @@ put-first-spec =
     same-length-5
     returns-5
     same-length-6
-    returns-6)
+    returns-6
+    same-length-7
+    returns-7)

@@ -35,17 +35,7 @@ same-length-3 c = search needs
 
 returns-3 : tie.Need-returns-3
 unfolding dotted
-returns-3 c = wrote-then (c .before .before .before .before .before .before .before .before .before .push .ensures) (c .before .before .put-first .ensures)
-
-put-third-requires-2 : tie.Need-put-third-requires-2
-put-third-requires-2 c κs = search needs
-
-same-length-4 : tie.Need-same-length-4
-same-length-4 c = search needs
-
-returns-4 : tie.Need-returns-4
-unfolding dotted
-returns-4 c = wrote-then (c .before .before .before .before .before .before .before .before .before .push .ensures) (c .before .before .put-third2 .ensures)
+returns-3 c = wrote-then (c .before .before .before .before .before .before .before .before .push .ensures) (c .before .before .put-first .ensures)
 
 pub put-operator-spec : {M : Type 1} → statement M
 put-operator-spec =
@@ -60,7 +50,4 @@ put-operator-spec =
     returns-2
     put-first-requires
     same-length-3
-    returns-3
-    put-third-requires-2
-    same-length-4
-    returns-4)
+    returns-3)

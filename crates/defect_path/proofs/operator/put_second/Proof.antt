@@ -1,6 +1,6 @@
 use Rattle.defect_path.proofs.Names.{op-in}
 use Rattle.sheet.specs.Ascii.{ascii}
-use Rattle.validation.specs.Location.{operatorName}
+use Rattle.sheet.specs.Operators.{operatorName}
 use borrow.Author.Needs.{needs}
 use Rattle.defect_path.proofs.operator.put_second.Statement.{statement}
 use Rattle.defect_path.proofs.operator.put_second.Tie as tie

@@ -1,5 +1,5 @@
 use Rattle.sheet.specs.Ascii.{ascii}
-use Rattle.validation.specs.Location.{operatorName}
+use Rattle.sheet.specs.Operators.{operatorName}
 use Rattle.defect_path.proofs.Names.{name-last}
 use borrow.Author.Needs.{needs}
 use Rattle.defect_path.proofs.operator.put_third.Statement.{statement}
