@@ -8,8 +8,8 @@ use mathlib.Core.Path.{_≡_}
 use lib.Dec.{eqb}
 use lib.ListN.{drop}
 use Rattle.text.specs.Blank.{isBlank}
+use Rattle.text.specs.Parts.{partOf}
 use Rattle.sheet.specs.Entries.{quantifierHead, conditionHead}
-use Rattle.sheet.specs.Parts.{partOf}
 use Rattle.definition.specs.Tree.{Text, Schema, Value, Condition, Conditions}
 use Rattle.reference.specs.Setting.{Setting}
 use Rattle.reference.specs.Reference.{Environment, collection}

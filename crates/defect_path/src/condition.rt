@@ -15,7 +15,7 @@ ghost use mathlib.Core.List.{List, _++_};
 ghost use mathlib.Core.Bool.{cond};
 ghost use lib.Dec.{eqb};
 ghost use Prim.Native.Nat.{ℕ, _<_};
-ghost use Rattle.sheet.specs.Ascii.{ascii};
+ghost use Rattle.text.specs.Ascii.{ascii};
 ghost use Rattle.validation.specs.Location.{operatorName, dotted, index};
 ghost use Rattle.buffer.specs.Wrote.{Wrote};
 ghost use Rattle.defect_path.specs.Heads.{partAt, isValueAt, isWhole, ownPart};

@@ -6,8 +6,8 @@ use mathlib.Core.Option.{Option, none, some}
 use mathlib.Core.Logic.{_⊎_}
 use mathlib.Core.Path.{_≡_}
 use lib.ListN.{length}
+use Rattle.text.specs.Order.{precedes}
 use Rattle.number.specs.Grammar.{isNumber}
-use Rattle.sheet.specs.Order.{precedes}
 use Rattle.sheet.specs.Within.{TextWithin, OptionWithin}
 use Rattle.definition.specs.Tree.{Text, Field, field, Items, absent, element, Members, noMembers, member, Holder, Schema, Value, constant, number, string, array, object, Values, noValues, value, Pairs, noPairs, pair, Condition, literal, many, negation, one, two, comparison, quantifier, Conditions, noConditions, condition, Rule, rule, template}
 use Rattle.definition.specs.Limits.{maxSheetBytes, maxSchemaEntries, maxRuleEntries, maxFieldNesting, maxConditionNesting, maxValueNesting}

@@ -4,7 +4,7 @@ use mathlib.Core.List.{List, [], _∷_}
 use mathlib.Core.Path.{_≡_, refl}
 use lib.ListN.{replicate}
 use lib.Seq.{sets}
-use Rattle.sheet.specs.Ascii.{ascii}
+use Rattle.text.specs.Ascii.{ascii}
 use Rattle.call.specs.Call.{Left, free, holding, unchanged, freeIfTold}
 use Rattle.openings.specs.Call.{OpenCall, openAnswer, openNumbers, listLeft, scratchLeft}
 use Rattle.openings.specs.Computing.{computing}

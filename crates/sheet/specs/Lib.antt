@@ -1,17 +1,8 @@
-pub mod Ascii
-pub mod Reader
-pub mod Numeral
-pub mod Order
 pub mod Entries
-pub mod Parts
-pub mod Compares
 pub mod Pieces
 pub mod Places
 pub mod Write
 pub mod Within
-pub mod ReaderLaws
-pub mod NumeralLaws
-pub mod OrderLaws
 pub mod ItemLaws
 pub mod HeadLaws
 pub mod RuleHeadLaws

@@ -4,11 +4,11 @@ use crate::entry::LengthRead;
 use crate::entry::MAX_COUNT;
 use crate::entry::MAX_TEXT;
 use crate::entry::OptionalRead;
-use crate::numeral;
-use crate::numeral::NumeralRead;
-use crate::part;
-use crate::part::OptionalPart;
-use crate::part::Part;
+use text::numeral;
+use text::numeral::NumeralRead;
+use text::part;
+use text::part::OptionalPart;
+use text::part::Part;
 ghost use mathlib.Core.Bool.{true, cond};
 ghost use mathlib.Core.Path.{_≡_};
 ghost use lib.Dec.{leb};
@@ -157,14 +157,14 @@ fn rule_texts(s: &[u8], at: usize) -> RuleHeadRead
     let LengthRead::Is(message_len, b) = entry::text_length(s, a) else {
         return RuleHeadRead::Bad;
     };
-    if entry::starts_with(s, b, b',') {
+    if text::starts_with(s, b, b',') {
         let OptionalRead::Is(name, c) = entry::optional_text(s, b + 1, name_len) else {
             return RuleHeadRead::Bad;
         };
         let OptionalRead::Is(message, end) = entry::optional_text(s, c, message_len) else {
             return RuleHeadRead::Bad;
         };
-        if entry::starts_with(s, end, b'\n') {
+        if text::starts_with(s, end, b'\n') {
             return RuleHeadRead::Is(RuleHead::Rule(name, message), end + 1);
         }
     }
@@ -174,11 +174,11 @@ fn rule_texts(s: &[u8], at: usize) -> RuleHeadRead
 pub fn rule_head(s: &[u8], at: usize) -> RuleHeadRead
     ensures { λ r. ⌜ RuleIs (now (s .entry)) at r ⌝ }
 {
-    if entry::starts_with(s, at, b'R') {
+    if text::starts_with(s, at, b'R') {
         return rule_texts(s, at + 1);
     }
-    if entry::starts_with(s, at, b'T') {
-        if entry::starts_with(s, at + 1, b'\n') {
+    if text::starts_with(s, at, b'T') {
+        if text::starts_with(s, at + 1, b'\n') {
             return RuleHeadRead::Is(RuleHead::Template, at + 2);
         }
     }
