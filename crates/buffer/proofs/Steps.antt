@@ -6,8 +6,8 @@ use mathlib.Core.List.{List, [], _∷_}
 use mathlib.Core.Path.{refl, sym}
 use lib.ListN.{length, take, getD, set}
 use lib.Seq.{set-out, take-suc, take-all}
-use Rattle.sheet.specs.Numeral.{decimalOf}
-use Rattle.sheet.specs.NumeralLaws.{decimalOf-one, decimalOf-last}
+use Rattle.text.specs.Numeral.{decimalOf}
+use Rattle.text.specs.NumeralLaws.{decimalOf-one, decimalOf-last}
 use Rattle.buffer.specs.Wrote.{Wrote}
 use Rattle.buffer.specs.Bytes.{littleEndian, bytesOf}
 use Rattle.buffer.specs.BytesLaws.{bytes-append, bytes-of-one}

@@ -4,7 +4,7 @@ ghost use mathlib.Core.List.{[], _∷_};
 ghost use mathlib.Core.Path.{_≡_};
 ghost use Prim.Native.Nat.{_+_, _≤_};
 ghost use lib.ListN.{length};
-ghost use Rattle.sheet.specs.Numeral.{decimalOf};
+ghost use Rattle.text.specs.Numeral.{decimalOf};
 ghost use Rattle.buffer.specs.Wrote.{Wrote};
 ghost use Rattle.buffer.specs.Bytes.{littleEndian, bytesOf, numberAt};
 

@@ -11,7 +11,7 @@ use lib.ListN.{length, getD, replicate, length-replicate}
 use lib.Seq.{sets}
 use borrow.Author.Tests.{eqb-true, eqb-false}
 use Rattle.text.proofs.Bools.{and-true-0, and-true-1}
-use Rattle.sheet.specs.ReaderLaws.{by-test}
+use Rattle.text.specs.CaseLaws.{by-test}
 use Rattle.reference.specs.Setting.{oneOf}
 use Rattle.call.specs.Call.{Refusal, firstRefusal, numberIn, Reply, refusedBy, told, refusedOr, heardBy, tried, numberOf, Buffer, Left, free, holding, unchanged, Leaves, AllLeft, ifTold, Shape, replyTo, numbersWith, resultNumbers, Run, Meets}
 

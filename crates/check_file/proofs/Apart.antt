@@ -9,11 +9,12 @@ use lib.ListN.{length, take, drop, getD, length-drop, drop-of-length-le}
 use lib.Seq.{drop-cons, drop-drop, getD-drop}
 use lib.Dec.{leb, eqb}
 use borrow.Author.Tests.{le-leb, lt-leb, leb-true, eq-eqb, eqb-true, eqb-false}
-use Rattle.sheet.specs.Reader.{Reader, _>>=_, _>>_, andThen, pure}
-use Rattle.sheet.specs.ReaderLaws.{by-test}
-use Rattle.sheet.specs.Entries.{byte, bytes}
+use Rattle.text.specs.Reader.{Reader, _>>=_, _>>_, andThen, pure}
+use Rattle.text.specs.CaseLaws.{by-test}
+use Rattle.text.specs.ByteReaders.{byte, bytes}
+use Rattle.text.specs.Parts.{partOf}
 use Rattle.check_file.specs.File.{maxFile, Parts, field, end, texts, wholeFile, takenApart}
-use Rattle.check_file.specs.Places.{tooLarge, CappedTo, partOf, partsAt, TextsAre, answerable, TakenIs}
+use Rattle.check_file.specs.Places.{tooLarge, CappedTo, partsAt, TextsAre, answerable, TakenIs}
 use Rattle.check_file.specs.declared.file.Taken.{Taken}
 use Rattle.check_file.specs.declared.file.Taken.the-variants.{Apart, OtherForm}
 
@@ -81,27 +82,17 @@ module _ (s : List ℕ) (at kind semantics label schema rule line middle last : 
       texts-byte kind semantics label schema rule (drop at s) (omega (arith, length-drop at s))
       (λ n. other (ap (λ (k : ℕ). getD s k 0) line-is ∙ sym (getD-drop at s label 0) ∙ n))
 
-  pub placed-all : last ≡ length s → getD s line 0 ≡ 10
+  pub placed-all : (l m r : ℕ) → l ≡ label → m ≡ schema → r ≡ rule → last ≡ length s → getD s line 0 ≡ 10
       → TextsAre s at kind semantics label schema rule
-      (Apart (record { kind = kind; semantics = semantics; label = record { start = at; end = line }; schema = record { start = line + 1; end = middle }; rule = record { start = middle; end = last } }))
+      (Apart (record { kind = kind; semantics = semantics; label = record { start = at; len = l }; schema = record { start = line + 1; len = m }; rule = record { start = middle; len = r } }))
   unfolding partsAt partOf
-  placed-all e n =
-      let label-is : line - at ≡ label = omega arith in
-      let schema-is : middle - (line + 1) ≡ schema = omega arith in
-      let rule-is : last - middle ≡ rule = omega arith in
+  placed-all l m r label-is schema-is rule-is e n =
       let past : at + (label + 1) ≡ line + 1 = omega arith in
       let behind : drop (label + 1) (drop at s) ≡ drop (line + 1) s = drop-drop (label + 1) at s ∙ ap (λ (k : ℕ). drop k s) past in
       let further : drop schema (drop (line + 1) s) ≡ drop middle s = drop-drop schema (line + 1) s ∙ ap (λ (k : ℕ). drop k s) (sym middle-is) in
       let length-is : length (drop at s) ≡ label + (1 + (schema + rule)) = omega (arith, length-drop at s) in
-      let byte-is : getD (drop at s) label 0 ≡ 10 = getD-drop at s label 0 ∙ ap (λ (k : ℕ). getD s k 0) (sym line-is) ∙ n in (
-        rw (label-is, schema-is, rule-is)
-            (rw (behind, further) at (texts-all kind semantics label schema rule (drop at s) length-is byte-is)),
-        record {
-          label = record { rising = omega arith; within = omega arith };
-          schema = record { rising = omega arith; within = omega arith };
-          rule = record { rising = omega arith; within = omega arith };
-        },
-      )
+      let byte-is : getD (drop at s) label 0 ≡ 10 = getD-drop at s label 0 ∙ ap (λ (k : ℕ). getD s k 0) (sym line-is) ∙ n in
+      rw (label-is, schema-is, rule-is) (rw (behind, further) at (texts-all kind semantics label schema rule (drop at s) length-is byte-is))
 
 -- Numbers that are too large are as good as any others of that kind: the texts do not fit them.
 
@@ -186,5 +177,5 @@ module _ (s : List ℕ) (short : length s ≤ maxFile) where
                 (texts-answered (r1 .number) (r2 .number) (r3 .number) (r4 .number) (r5 .number) (drop at s) (omega (arith, length-drop at s)))
 
             pub taken-apart : (r : Taken) → TextsAre s at kind semantics label schema rule r → TakenIs s r
-            taken-apart (Apart p) e = (rw opened (taken-some behind (partsAt s p) (answers ∙ e .0)), e .1)
+            taken-apart (Apart p) e = rw opened (taken-some behind (partsAt s p) (answers ∙ e))
             taken-apart OtherForm e = rw opened (taken-none behind (answers ∙ e))

@@ -2,7 +2,7 @@
 use Prim.Native.Nat.{ℕ}
 use mathlib.Core.List.{List, [], _++_}
 use mathlib.Core.Path.{_≡_, refl}
-use Rattle.sheet.specs.Ascii.{ascii}
+use Rattle.text.specs.Ascii.{ascii}
 use Rattle.validation.specs.Computing.{computing}
 use Rattle.check_file.specs.File.{field, end, texts, wholeFile, takenApart}
 use Rattle.check_file.specs.Line.{fieldOf, written, lineOf}

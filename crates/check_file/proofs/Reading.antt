@@ -10,9 +10,9 @@ use lib.ListN.{length, drop, getD, drop-of-length-le}
 use lib.Seq.{drop-cons}
 use borrow.Author.Tests.{eq-eqb, ne-eqb}
 use Rattle.text.specs.Decimal.{isDigit}
-use Rattle.sheet.specs.Reader.{_>>=_, _>>_, andThen, pure}
-use Rattle.sheet.specs.Numeral.{digits, decimal}
-use Rattle.sheet.specs.Entries.{byte}
+use Rattle.text.specs.Reader.{_>>=_, _>>_, andThen, pure}
+use Rattle.text.specs.Numeral.{digits, decimal}
+use Rattle.text.specs.ByteReaders.{byte}
 use Rattle.check_file.specs.File.{field}
 use Rattle.check_file.specs.Places.{tooLarge, CappedTo, CappedIs, digitsBehind}
 use Rattle.check_file.specs.declared.numeral.CappedRead.{CappedRead}

@@ -1,7 +1,7 @@
 -- A field and a line, by the writes that make them up.
 use Prim.Native.Nat.{ℕ}
 use mathlib.Core.List.{List, [], _∷_}
-use Rattle.sheet.specs.Numeral.{decimalOf}
+use Rattle.text.specs.Numeral.{decimalOf}
 use Rattle.buffer.specs.Wrote.{Wrote}
 use Rattle.buffer.specs.WroteLaws.{wrote-then}
 use Rattle.check_file.specs.Line.{fieldOf, written, lineOf, numbers}

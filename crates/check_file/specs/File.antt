@@ -5,9 +5,9 @@ use mathlib.Core.List.{List, [], _∷_}
 use mathlib.Core.Option.{Option, none, some, Option·map}
 use lib.ListN.{length}
 use lib.Dec.{leb}
-use Rattle.sheet.specs.Reader.{Reader, _>>=_, _>>_, pure}
-use Rattle.sheet.specs.Numeral.{decimal}
-use Rattle.sheet.specs.Entries.{comma, lineEnd, bytes}
+use Rattle.text.specs.Reader.{Reader, _>>=_, _>>_, pure}
+use Rattle.text.specs.Numeral.{decimal}
+use Rattle.text.specs.ByteReaders.{comma, lineEnd, bytes}
 
 -- a file has at most this many bytes
 abbrev pub maxFile : ℕ

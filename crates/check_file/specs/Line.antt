@@ -1,7 +1,7 @@
 -- The line that the program `rulecheck` prints.
 use Prim.Native.Nat.{ℕ}
 use mathlib.Core.List.{List, [], _∷_, _++_}
-use Rattle.sheet.specs.Numeral.{decimalOf}
+use Rattle.text.specs.Numeral.{decimalOf}
 use Rattle.validation.specs.Result.{Numbers}
 
 -- a number, and the comma after it

@@ -6,9 +6,9 @@ use native.Mathlib.Omega.{arith}
 use lib.ListN.{length, length-append}
 use lib.Dec.{ltb}
 use borrow.Author.Tests.{ltb-true, ltb-false}
-use Rattle.sheet.specs.Numeral.{decimalOf}
-use Rattle.sheet.specs.NumeralLaws.{decimalOf-one, decimalOf-last}
-use Rattle.sheet.specs.ReaderLaws.{by-test}
+use Rattle.text.specs.Numeral.{decimalOf}
+use Rattle.text.specs.NumeralLaws.{decimalOf-one, decimalOf-last}
+use Rattle.text.specs.CaseLaws.{by-test}
 use Rattle.check_file.specs.Line.{fieldOf, written, lineOf, numbers}
 
 decimalOf-length : (k n : ℕ) → n < 10 ^ suc k → length (decimalOf n) ≤ suc k

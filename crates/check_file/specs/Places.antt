@@ -3,14 +3,14 @@ use Prim.Native.Nat.{ℕ, _+_, _-_, _≤_, min}
 use mathlib.Core.List.{List, []}
 use mathlib.Core.Option.{none, some, Option·map}
 use mathlib.Core.Path.{_≡_}
-use lib.ListN.{length, take, drop}
-use Rattle.sheet.specs.Reader.{Reader}
-use Rattle.sheet.specs.Numeral as Numeral
+use lib.ListN.{length, drop}
+use Rattle.text.specs.Reader.{Reader}
+use Rattle.text.specs.Numeral as Numeral
+use Rattle.text.specs.Parts.{partOf}
 use Rattle.check_file.specs.File as File
 use Rattle.check_file.specs.File.{maxFile, Parts, takenApart}
 use Rattle.check_file.specs.declared.numeral.CappedRead.{CappedRead}
 use Rattle.check_file.specs.declared.numeral.CappedRead.the-variants as numeral
-use Rattle.check_file.specs.declared.file.Span.{Span}
 use Rattle.check_file.specs.declared.file.Placed.{Placed}
 use Rattle.check_file.specs.declared.file.Taken.{Taken}
 use Rattle.check_file.specs.declared.file.Taken.the-variants as taken
@@ -34,9 +34,6 @@ CappedIs p s at numeral.Missing = p (drop at s) ≡ none
 unfoldable pub digitsBehind : ℕ → Reader (List ℕ) ℕ
 digitsBehind first s = some (Numeral.digits first s)
 
-unfoldable pub partOf : List ℕ → Span → List ℕ
-partOf file p = take (p .end - p .start) (drop (p .start) file)
-
 unfoldable pub partsAt : List ℕ → Placed → Parts
 partsAt file p =
     record {
@@ -47,18 +44,9 @@ partsAt file p =
       rule = partOf file (p .rule);
     }
 
-pub record Lies (file : List ℕ) (p : Span) : Type 0 where
-  pub rising : p .start ≤ p .end
-  pub within : p .end ≤ length file
-
-pub record AllLie (file : List ℕ) (p : Placed) : Type 0 where
-  pub label : Lies file (p .label)
-  pub schema : Lies file (p .schema)
-  pub rule : Lies file (p .rule)
-
 abbrev pub TextsAre : List ℕ → (at kind semantics label schema rule : ℕ) → Taken → Type 0
 TextsAre file at kind semantics label schema rule (taken.Apart p) =
-    (File.texts kind semantics label schema rule (drop at file) ≡ some (partsAt file p, [])) × AllLie file p
+    File.texts kind semantics label schema rule (drop at file) ≡ some (partsAt file p, [])
 TextsAre file at kind semantics label schema rule taken.OtherForm = File.texts kind semantics label schema rule (drop at file) ≡ none
 
 -- parts as the code answers them
@@ -73,5 +61,5 @@ answerable p =
     }
 
 abbrev pub TakenIs : List ℕ → Taken → Type 0
-TakenIs file (taken.Apart p) = (Option·map answerable (takenApart file) ≡ some (partsAt file p)) × AllLie file p
+TakenIs file (taken.Apart p) = Option·map answerable (takenApart file) ≡ some (partsAt file p)
 TakenIs file taken.OtherForm = takenApart file ≡ none

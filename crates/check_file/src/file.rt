@@ -2,23 +2,18 @@
 use crate::numeral::CappedRead;
 use crate::numeral::{self};
 use definition::limits::MAX_FILE_BYTES;
-use sheet::numeral::to_size;
+use text::numeral::to_size;
+use text::part::Part;
 ghost use Prim.Native.Nat.{_≤_};
 ghost use lib.ListN.{length};
 ghost use Rattle.check_file.specs.Places.{TextsAre, TakenIs};
 
-// A part of the file.
-pub struct Span {
-    pub start: usize,
-    pub end: usize,
-}
-
 pub struct Placed {
     pub kind: u32,
     pub semantics: u32,
-    pub label: Span,
-    pub schema: Span,
-    pub rule: Span,
+    pub label: Part,
+    pub schema: Part,
+    pub rule: Part,
 }
 
 pub enum Taken {
@@ -39,25 +34,30 @@ fn texts(
     requires { ⌜ at ≤ length (now file) ⌝ }
     ensures { λ r. ⌜ TextsAre (now (file .entry)) at kind semantics label schema rule r ⌝ }
 {
-    let line = at + to_size(label);
-    let middle = line + 1 + to_size(schema);
-    let end = middle + to_size(rule);
-    if end != file.len() {
+    let label_bytes = to_size(label);
+    let schema_bytes = to_size(schema);
+    let rule_bytes = to_size(rule);
+    let line = at + label_bytes;
+    let middle = line + 1 + schema_bytes;
+    if middle + rule_bytes != file.len() {
         return Taken::OtherForm;
     }
     if file[line] == b'\n' {
         return Taken::Apart(Placed {
             kind,
             semantics,
-            label: Span {
+            label: Part {
                 start: at,
-                end: line,
+                len: label_bytes,
             },
-            schema: Span {
+            schema: Part {
                 start: line + 1,
-                end: middle,
+                len: schema_bytes,
             },
-            rule: Span { start: middle, end },
+            rule: Part {
+                start: middle,
+                len: rule_bytes,
+            },
         });
     }
     Taken::OtherForm

@@ -1,11 +1,12 @@
-// Numerals of any length: decimal, without leading zeros. A number above the longest file's length is read as `TOO_LARGE`, so that nothing wraps.
+// Numerals of any length: decimal, without leading zeros. A number above the longest file's length is read to its end, where text's reader
+// gives it up, and answered as `TOO_LARGE`, so that nothing wraps.
 use definition::limits::MAX_FILE_BYTES;
 use text::is_digit;
 use text::wide;
 ghost use mathlib.Core.Path.{_≡_};
 ghost use Prim.Native.Nat.{min, _≤_};
 ghost use lib.ListN.{length};
-ghost use Rattle.sheet.specs.Numeral.{decimal};
+ghost use Rattle.text.specs.Numeral.{decimal};
 ghost use Rattle.check_file.specs.File.{field};
 ghost use Rattle.check_file.specs.Places.{tooLarge, digitsBehind, CappedIs};
 

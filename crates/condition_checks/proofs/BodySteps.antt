@@ -9,12 +9,13 @@ use mathlib.Core.Path.{_≡_, refl, sym, ap, subst, _∙_}
 use lib.ListN.{drop}
 use lib.Dec.{leb, eqb}
 use borrow.Author.Tests.{eq-eqb, ne-eqb, leb-true, leb-false}
+use Rattle.text.specs.Parts.{partOf}
+use Rattle.text.specs.ReadAt.{ReadsTo}
+use Rattle.text.specs.declared.part.Part.{Part}
+use Rattle.text.specs.CaseLaws.{zero-not-one}
 use Rattle.sheet.specs.Operators.{isServiceOperator}
 use Rattle.sheet.specs.OperatorLaws.{service-operator-range}
 use Rattle.sheet.specs.Entries.{ConditionHead, literalHead, manyHead, negationHead, oneHead, twoHead, comparisonHead, quantifierHead, conditionHead}
-use Rattle.sheet.specs.Parts.{partOf}
-use Rattle.sheet.specs.Places.{ReadsTo}
-use Rattle.sheet.specs.declared.part.Part.{Part}
 use Rattle.definition.specs.Tree.{Text, Schema, Value, string, Condition, literal, many, negation, one, two, comparison, quantifier, Conditions, noConditions, condition}
 use Rattle.definition.specs.Tree as Tree
 use Rattle.reference.specs.Setting.{Setting}
@@ -146,8 +147,7 @@ module _ {rule words : List ℕ} {i at : ℕ} (start : at ≡ startOf words i) w
       record {
         is = λ op bind rest reads.
             let p : conditionHead (drop (startOf words i) rule) ≡ none = rw (sym start) e in
-            let z : _≡_ {A = ℕ} 0 1 = cc in
-            absurd (omega arith);
+            zero-not-one cc;
       }
 
   pub bind-read : {h : ConditionHead} {next : ℕ} {r : BindRead} → ReadsTo conditionHead rule at h next → bindBy rule r ≡ bindIn h → BindAt rule words i r
@@ -166,7 +166,7 @@ no-text : (tree : Schema) (env : Environment) (v : Value) → isString v ≡ fal
 unfolding collection isString
 no-text tree env (Tree.constant e type) s = refl
 no-text tree env (Tree.number e digits) s = refl
-no-text tree env (string e t) s = let y : true ≡ false = s in let z : _≡_ {A = ℕ} 0 1 = cc in absurd (omega arith)
+no-text tree env (string e t) s = let y : true ≡ false = s in zero-not-one cc
 no-text tree env (Tree.array e values) s = refl
 no-text tree env (Tree.object e pairs) s = refl
 

@@ -9,8 +9,9 @@ use mathlib.Core.Path.{_≡_, refl, sym, ap, _∙_}
 use lib.Dec.{leb}
 use borrow.Author.Tests.{ne-eqb, leb-true, leb-false}
 use Rattle.text.specs.Blank.{isBlank}
-use Rattle.sheet.specs.Parts.{partOf}
-use Rattle.sheet.specs.declared.part.Part.{Part}
+use Rattle.text.specs.Parts.{partOf}
+use Rattle.text.specs.declared.part.Part.{Part}
+use Rattle.text.specs.CaseLaws.{zero-not-one}
 use Rattle.definition.specs.Tree.{Text, Field, Schema, Value, constant, number, string, array, object, Condition, noConditions, condition}
 use Rattle.reference.specs.Setting.{Setting}
 use Rattle.reference.specs.Walk.{Reached, refused, unknown, known}
@@ -77,7 +78,7 @@ explained-few x d at left e h = let q : Listed d = rw e at h in q .high
 module _ (setting : Setting) (tree : Schema) (env : Environment) where
   reads-of : (x : Reached) → verdict x ≡ none → Reads x
   unfolding verdict
-  reads-of (refused d at left) h = let z : _≡_ {A = ℕ} 0 1 = cc in absurd (omega arith)
+  reads-of (refused d at left) h = zero-not-one cc
   reads-of unknown h = tt
   reads-of (known f) h = tt
 
@@ -90,7 +91,7 @@ module _ (setting : Setting) (tree : Schema) (env : Environment) where
   text-unread e t none r y q d at left c m =
       let x : Explained (collectionText tree env t) =
       text-explained setting tree env t
-      (λ b u s h. let p : referenceText t ≡ some (b ∷ u) = dollar-reference t b u s h in let z : _≡_ {A = ℕ} 0 1 = cc in absurd (omega arith)) in
+      (λ b u s h. let p : referenceText t ≡ some (b ∷ u) = dollar-reference t b u s h in zero-not-one cc) in
       absurd (omega (arith, explained-few (collectionText tree env t) d at left c x))
   text-unread e t (some u) r (some why) q d at left c m =
       record { entry = e; text = t; behind = u; why = why; isText = refl; isReference = r; refuses = q u refl }
@@ -153,8 +154,7 @@ none-fails : (d : Progress) → d .verdict ≡ Pass → Shows (shownBy d) → �
 unfolding shownBy shownWith
 none-fails d e s =
     let p : passes (d .passed) ≡ fails (s .n) (s .number) (s .place) (s .over) (s .why) = rw e at (s .shown) in
-    let z : _≡_ {A = ℕ} 0 1 = cc in
-    omega arith
+    zero-not-one cc
 
 known-extends : (name : Text) (env : Environment) (x : Reached) (f : Field) → x ≡ known f → extend name env x ≡ some (record { name = name; element = some f } ∷ env)
 unfolding extend

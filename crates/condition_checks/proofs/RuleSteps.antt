@@ -8,11 +8,12 @@ use mathlib.Core.Path.{_≡_, refl, sym, ap, _∙_}
 use lib.ListN.{drop}
 use lib.Dec.{leb}
 use borrow.Author.Tests.{le-leb, lt-leb}
+use Rattle.text.specs.ReadAt.{ReadsTo}
+use Rattle.text.specs.Parts.{optionalOf}
+use Rattle.text.specs.declared.part.OptionalPart.{OptionalPart}
+use Rattle.text.specs.CaseLaws.{zero-not-one}
 use Rattle.sheet.specs.Entries.{RuleHead, ruleHead}
 use Rattle.sheet.specs.Entries as Entries
-use Rattle.sheet.specs.Places.{ReadsTo}
-use Rattle.sheet.specs.Parts.{optionalOf}
-use Rattle.sheet.specs.declared.part.OptionalPart.{OptionalPart}
 use Rattle.definition.specs.Tree.{Schema, Condition, noConditions, condition, Rule, rule, template}
 use Rattle.reference.specs.Setting.{Setting}
 use Rattle.definition.specs.Within.{conditionsEntries}
@@ -210,8 +211,7 @@ module _ {schema sheet words : List ℕ} {scope : Scope} {at end : ℕ} (start :
       clash : (h : RuleHead) (rest : List ℕ) → ruleHead (drop (startOf words 0) sheet) ≡ some (h, rest) → ⊥
       clash h rest q =
           let p : ruleHead (drop (startOf words 0) sheet) ≡ none = rw (sym start) r in
-          let z : _≡_ {A = ℕ} 0 1 = cc in
-          omega arith
+          zero-not-one cc
 
       unread : (x : Rule) → RuleAt sheet words x → ⊥
       unread (rule name message assert) w = clash _ _ (w .0 .reads)
@@ -235,8 +235,7 @@ module _ {schema sheet words : List ℕ} {scope : Scope} {at end : ℕ} (start :
           rw (e, f) at g
       shows setting tree (template v) s w =
           let q : Entries.rule (optionalOf sheet name) (optionalOf sheet message) ≡ Entries.template = same-head start reads (w .0) in
-          let z : _≡_ {A = ℕ} 0 1 = cc in
-          absurd (omega arith)
+          zero-not-one cc
 
   pub judge-template : {next : ℕ} {r : Progress}
       → ReadsTo ruleHead sheet at Entries.template next
@@ -251,8 +250,7 @@ module _ {schema sheet words : List ℕ} {scope : Scope} {at end : ℕ} (start :
           → shownBy r ≡ shownOf (judge setting tree (checks setting x))
       shows setting tree (rule n m assert) s w =
           let q : Entries.template ≡ Entries.rule n m = same-head start reads (w .0) in
-          let z : _≡_ {A = ℕ} 0 1 = cc in
-          absurd (omega arith)
+          zero-not-one cc
       shows setting tree (template v) s w =
           begin-judges setting tree (references [] v) r
           (value-references p setting tree [] [] v (outermost s) (record { stands = w .1; ends = ends ∙ w .0 .ends ∙ omega arith }))

@@ -10,8 +10,8 @@ use lib.ListN.{drop}
 use Rattle.sheet.specs.Operators as Operators
 use Rattle.sheet.specs.Operators.{literalOperator, notOperator, truthyOperator, InShape}
 use Rattle.text.specs.Blank.{isBlank}
+use Rattle.text.specs.Parts.{partOf}
 use Rattle.sheet.specs.Entries.{quantifierHead, conditionHead}
-use Rattle.sheet.specs.Parts.{partOf}
 use Rattle.definition.specs.Tree.{Text, Schema, Value, Condition, Conditions}
 use Rattle.reference.specs.Setting.{Setting}
 use Rattle.reference.specs.Reference.{Environment, collection}

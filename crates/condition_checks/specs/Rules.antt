@@ -3,8 +3,8 @@ use Prim.Native.Nat.{ℕ, _+_, _-_, _≤_}
 use mathlib.Core.Bool.{Bool}
 use mathlib.Core.List.{List, []}
 use mathlib.Core.Path.{_≡_}
-use Rattle.sheet.specs.Parts.{optionalOf}
-use Rattle.sheet.specs.declared.part.OptionalPart.{OptionalPart}
+use Rattle.text.specs.Parts.{optionalOf}
+use Rattle.text.specs.declared.part.OptionalPart.{OptionalPart}
 use Rattle.definition.specs.Tree.{Schema, Condition, Rule, rule}
 use Rattle.reference.specs.Setting.{Setting}
 use Rattle.rule.specs.Index.{RuleAt}

@@ -8,9 +8,10 @@ use mathlib.Core.Option.{Option, none, some}
 use mathlib.Core.Path.{_≡_, refl, sym, ap, _∙_}
 use lib.ListN.{length, drop, length-append}
 use lib.Seq.{sets}
+use Rattle.text.specs.ReadAt.{ReadsTo}
+use Rattle.text.specs.CaseLaws.{zero-not-one}
 use Rattle.sheet.specs.Entries.{RuleHead, ruleHead}
 use Rattle.sheet.specs.Entries as Entries
-use Rattle.sheet.specs.Places.{ReadsTo}
 use Rattle.definition.specs.Tree.{Text, Condition, literal, many, negation, one, two, comparison, quantifier, Conditions, noConditions, condition, Rule, rule, template}
 use Rattle.definition.specs.Within.{conditionsEntries}
 use Rattle.rule.specs.Index.{startOf, endOf, ConditionAt, RuleAt}
@@ -179,8 +180,7 @@ module _ {sheet words : List ℕ} {at : ℕ} (start : at ≡ startOf words 0) wh
       clash : (h : RuleHead) (rest : List ℕ) → ruleHead (drop (startOf words 0) sheet) ≡ some (h, rest) → ⊥
       clash h rest q =
           let p : ruleHead (drop (startOf words 0) sheet) ≡ none = rw (sym start) r in
-          let z : _≡_ {A = ℕ} 0 1 = cc in
-          omega arith
+          zero-not-one cc
 
       by : (x : Rule) → RuleAt sheet words x → MarksAre (marksIn x) l l 0
       by (rule name message assert) w = absurd (clash _ _ (w .0 .reads))
@@ -193,8 +193,7 @@ module _ {sheet words : List ℕ} {at : ℕ} (start : at ≡ startOf words 0) wh
       by : (x : Rule) → RuleAt sheet words x → MarksAre (marksIn x) l l 0
       by (rule name message assert) w =
           let p : Entries.template ≡ Entries.rule name message = same-head start reads (w .0) in
-          let z : _≡_ {A = ℕ} 0 1 = cc in
-          absurd (omega arith)
+          zero-not-one cc
       by (template v) w = no-marks l
 
   pub rule-conditions : {next end count : ℕ} {name message : Option Text} {before after : List ℕ}
@@ -212,5 +211,4 @@ module _ {sheet words : List ℕ} {at : ℕ} (start : at ≡ startOf words 0) wh
           rw append-nil at m
       by (template v) w =
           let q : Entries.rule name message ≡ Entries.template = same-head start reads (w .0) in
-          let z : _≡_ {A = ℕ} 0 1 = cc in
-          absurd (omega arith)
+          zero-not-one cc

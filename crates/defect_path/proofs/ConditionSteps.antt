@@ -8,8 +8,9 @@ use mathlib.Core.Path.{_≡_, refl, ap, sym, _∙_}
 use lib.Dec.{eqb}
 use lib.ListN.{drop}
 use borrow.Author.Tests.{eqb-true, eq-eqb}
-use Rattle.sheet.specs.Ascii.{ascii}
-use Rattle.sheet.specs.Reader.{orElse}
+use Rattle.text.specs.Ascii.{ascii}
+use Rattle.text.specs.Reader.{orElse}
+use Rattle.text.specs.CaseLaws.{zero-not-one}
 use Rattle.sheet.specs.Entries.{ConditionHead, literalHead, manyHead, negationHead, oneHead, twoHead, comparisonHead, quantifierHead, conditionHead}
 use Rattle.definition.specs.Tree.{Text, Value, Condition, literal, many, negation, one, two, comparison, quantifier, Conditions, noConditions, condition}
 use Rattle.definition.specs.Within.{conditionEntries, valueEntries}
@@ -76,7 +77,7 @@ unfolding hereAs
 own-here e i t o p same h = let w = rw (eq-eqb e (i + 1) same) at h in cc
 
 clash : {R : Type 0} → true ≡ false → R
-clash e = let z : _≡_ {A = ℕ} 0 1 = cc in absurd (omega arith)
+clash e = zero-not-one cc
 
 module _ (sheet words : List ℕ) (defect target : ℕ) where
   abbrev NodeAt : (i : ℕ) → Node → Type 0

@@ -7,8 +7,9 @@ use mathlib.Core.Option.{Option, none, some}
 use mathlib.Core.Path.{_≡_, refl}
 use lib.Dec.{eqb}
 use borrow.Author.Tests.{eqb-true}
-use Rattle.sheet.specs.Ascii.{ascii}
-use Rattle.sheet.specs.Reader.{orElse}
+use Rattle.text.specs.Ascii.{ascii}
+use Rattle.text.specs.Reader.{orElse}
+use Rattle.text.specs.CaseLaws.{zero-not-one}
 use Rattle.definition.specs.Tree.{Text, Value, constant, number, string, array, object, Values, noValues, value, Pairs, noPairs, pair, Condition, literal, many, negation, one, two, comparison, quantifier, Conditions, noConditions, condition}
 use Rattle.definition.specs.Within.{conditionEntries, conditionsEntries, pairsEntries, valueEntries, valuesEntries}
 use Rattle.rule.specs.Index.{ValueAt, ValuesAt, PairsAt, ConditionAt, ConditionsAt}
@@ -24,7 +25,7 @@ pub record Among (place i n : ℕ) : Type 0 where
 -- Searches and what they find
 
 pub none-found : {R : Type 0} {p : Text} → none ≡ some p → R
-none-found e = let z : _≡_ {A = ℕ} 0 1 = cc in absurd (omega arith)
+none-found e = zero-not-one cc
 
 pub either-found : {R : Type 0} (a b : Option Text) (p : Text) → (a ≡ some p → R) → (b ≡ some p → R) → orElse a b ≡ some p → R
 unfolding orElse

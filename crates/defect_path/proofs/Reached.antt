@@ -4,7 +4,7 @@ use native.Mathlib.Omega.{arith}
 use mathlib.Core.List.{List, [], _∷_, _++_}
 use mathlib.Core.Option.{Option, none, some}
 use mathlib.Core.Path.{_≡_}
-use Rattle.sheet.specs.Reader.{orElse}
+use Rattle.text.specs.Reader.{orElse}
 use Rattle.definition.specs.Tree.{Text}
 use Rattle.rule.specs.Index.{endOf}
 use Rattle.validation.specs.Location.{through}

@@ -8,7 +8,8 @@ use mathlib.Core.Path.{_≡_}
 use lib.Dec.{leb}
 use lib.ListN.{drop}
 use borrow.Author.Tests.{le-leb, lt-leb}
-use Rattle.sheet.specs.Ascii.{ascii}
+use Rattle.text.specs.Ascii.{ascii}
+use Rattle.text.specs.CaseLaws.{zero-not-one}
 use Rattle.sheet.specs.Entries as entries
 use Rattle.definition.specs.Tree.{Text, Condition, Rule, rule, template}
 use Rattle.rule.specs.Index.{startOf, ConditionAt, RuleAt}
@@ -24,7 +25,7 @@ empty : {p : Text} → some [] ≡ some p → p ≡ []
 empty e = cc
 
 rule-template : {R : Type 0} {name message : Option Text} → entries.rule name message ≡ entries.template → R
-rule-template e = let z : _≡_ {A = ℕ} 0 1 = cc in absurd (omega arith)
+rule-template e = zero-not-one cc
 
 same-place : (place target : ℕ) → target ≡ place - 1 → (place ≡ 0 → ⊥) → target + 1 ≡ place
 same-place place target is some-place = omega arith

@@ -7,7 +7,8 @@ use mathlib.Core.Path.{_≡_, refl, ap, sym, _∙_}
 use lib.Dec.{eqb}
 use lib.ListN.{drop}
 use borrow.Author.Tests.{eqb-true, eq-eqb}
-use Rattle.sheet.specs.Reader.{orElse}
+use Rattle.text.specs.Reader.{orElse}
+use Rattle.text.specs.CaseLaws.{zero-not-one}
 use Rattle.sheet.specs.Entries.{ValueHead, constantHead, numberHead, stringHead, arrayHead, objectHead, valueHead, keyHead}
 use Rattle.definition.specs.Tree.{Text, Value, constant, number, string, array, object, Values, noValues, value, Pairs, noPairs, pair}
 use Rattle.definition.specs.Within.{valueEntries}
@@ -33,7 +34,7 @@ unfolding headOr
 same-head {h = h} a b = ap (headOr h) (sym a ∙ b)
 
 pub refused-head : {H : Type 0} {R : Type 0} {o : Option (H × List ℕ)} {h : H} {r : List ℕ} → o ≡ none → o ≡ some (h, r) → R
-refused-head a b = let z : _≡_ {A = ℕ} 0 1 = cc in absurd (omega arith)
+refused-head a b = zero-not-one cc
 
 -- an entry further on is not this one; this one is
 pub not-own : (e i target : ℕ) (o : Option Text) (p : Text) → e ≡ i + 1 → i < target → hereOr (eqb e (target + 1)) o ≡ some p → o ≡ some p

@@ -5,7 +5,7 @@ use mathlib.Core.List.{List, []}
 use mathlib.Core.Option.{some}
 use mathlib.Core.Path.{_≡_}
 use lib.Dec.{leb}
-use Rattle.sheet.specs.Ascii.{ascii}
+use Rattle.text.specs.Ascii.{ascii}
 use Rattle.definition.specs.Tree.{Text, Value, Condition, Rule}
 use Rattle.rule.specs.Index.{ValueAt, ConditionAt, RuleAt}
 use Rattle.validation.specs.Location.{through, inValue, inCondition, behindLabel}

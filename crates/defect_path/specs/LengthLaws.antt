@@ -8,11 +8,11 @@ use mathlib.Core.Path.{_≡_, refl, ap, _∙_}
 use lib.Dec.{ltb, leb, eqb}
 use lib.ListN.{length, length-append}
 use borrow.Author.Tests.{leb-true, leb-false}
-use Rattle.sheet.specs.Ascii.{ascii}
-use Rattle.sheet.specs.Reader.{orElse}
-use Rattle.sheet.specs.Numeral.{decimalIn, decimalOf}
-use Rattle.sheet.specs.NumeralLaws.{decimalOf-begins}
-use Rattle.sheet.specs.ReaderLaws.{by-test}
+use Rattle.text.specs.Ascii.{ascii}
+use Rattle.text.specs.Reader.{orElse}
+use Rattle.text.specs.Numeral.{decimalIn, decimalOf}
+use Rattle.text.specs.NumeralLaws.{decimalOf-begins}
+use Rattle.text.specs.CaseLaws.{zero-not-one, by-test}
 use Rattle.sheet.specs.Operators.{operatorName}
 use Rattle.sheet.specs.OperatorLaws.{over, alike, name-past}
 use Rattle.sheet.specs.Write.{writeEnd, writeItem, writeLength, writeLast, writeOperator, writeType, writeRuleHead, writeConditionHead, writeValueHead, writeKeyHead}
@@ -156,7 +156,7 @@ quantifier-name op low high = short-over 20 2 7 refl op low (omega arith)
 -- What is found, and how long it is
 
 none-long : {R : Type 0} {p : Text} → none ≡ some p → R
-none-long e = let z : _≡_ {A = ℕ} 0 1 = cc in absurd (omega arith)
+none-long e = zero-not-one cc
 
 -- a search that finds a text finds one no longer than `room`
 record Short (extra room : ℕ) (o : Option Text) : Type 0 where

@@ -6,8 +6,8 @@ use mathlib.Core.Option.{Option, none, some, IsSome}
 use mathlib.Core.Path.{_≡_, refl}
 use lib.Dec.{leb, eqb}
 use borrow.Author.Tests.{eq-eqb}
-use Rattle.sheet.specs.Ascii.{ascii}
-use Rattle.sheet.specs.Reader.{orElse}
+use Rattle.text.specs.Ascii.{ascii}
+use Rattle.text.specs.Reader.{orElse}
 use Rattle.definition.specs.Tree.{Text, Value, constant, number, string, array, object, Values, noValues, value, Pairs, noPairs, pair, Condition, literal, many, negation, one, two, comparison, quantifier, Conditions, noConditions, condition, Rule, rule, template}
 use Rattle.definition.specs.Within.{ConditionFrom, RuleFrom}
 use Rattle.reference.specs.Setting.{Setting}

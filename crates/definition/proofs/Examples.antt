@@ -4,8 +4,8 @@ use mathlib.Core.Bool.{true, false}
 use mathlib.Core.List.{List}
 use mathlib.Core.Option.{none, some}
 use mathlib.Core.Path.{_≡_, refl}
-use Rattle.sheet.specs.Ascii.{ascii}
-use Rattle.sheet.specs.Numeral.{decimalIn, decimalOf}
+use Rattle.text.specs.Ascii.{ascii}
+use Rattle.text.specs.Numeral.{decimalIn, decimalOf}
 use Rattle.sheet.specs.Write.{writeEnd, writeItem, markOf, writeMark, writeLength, writeText, writeHolderHead, writeArgumentsHead, writeSchemaHead, writeFieldHead, writeRuleHead, writeLast, writeOperator, writeConditionHead, writeType, writeValueHead, writeKeyHead}
 use Rattle.definition.specs.Tree.{Schema, field, absent, element, noMembers, member, number, string, constant, array, object, noValues, value, noPairs, pair, rule, template, quantifier, two, negation}
 use Rattle.definition.specs.Write.{hasItems, countOfMembers, writeField, headOf, headOfArguments, writeArguments, writeSchema, countOfValues, countOfPairs, writeValue, countOfConditions, writeCondition, writeRule}

@@ -1,7 +1,7 @@
 -- The keys of an object, by computation: they are in the order given, none twice, next to each other or apart.
 use mathlib.Core.Option.{none, some}
 use mathlib.Core.Path.{_≡_, refl}
-use Rattle.sheet.specs.Ascii.{ascii}
+use Rattle.text.specs.Ascii.{ascii}
 use Rattle.definition.specs.Tree.{constant, object, noPairs, pair, template}
 use Rattle.definition.specs.Decode.{decodeRule}
 use Rattle.definition.specs.Computing.{computing}

@@ -1,11 +1,11 @@
 -- Sheets of 30,000 bytes, the most that a sheet may have, and of one byte more, by computation.
 use Prim.Native.Nat.{ℕ, zero, suc, _+_}
 use mathlib.Core.Bool.{Bool, true, false}
-use mathlib.Core.List.{List, [], _∷_, _++_}
+use mathlib.Core.List.{List, _∷_, _++_}
 use mathlib.Core.Option.{Option, none, some}
 use mathlib.Core.Path.{_≡_, refl}
 use lib.ListN.{length, replicate}
-use Rattle.sheet.specs.Ascii.{ascii}
+use Rattle.text.specs.Ascii.{ascii}
 use Rattle.definition.specs.Decode.{decodeSchema, decodeRule}
 use Rattle.definition.specs.Computing.{computing}
 

@@ -1,10 +1,10 @@
 -- A condition is read back as it was written, and what is read as a condition is one as it is written.
-use Prim.Native.Nat.{ℕ, zero, suc, _≤_}
-use mathlib.Core.List.{_++_, append-assoc}
+use Prim.Native.Nat.{ℕ, zero, suc, _+_, _≤_}
+use mathlib.Core.List.{_++_}
 use mathlib.Core.Path.{_≡_, refl}
 use native.Mathlib.Omega.{arith}
-use Rattle.sheet.specs.Reader.{Reader, _>>=_, pure}
-use Rattle.sheet.specs.ReaderLaws.{Reads, bind-inv, bind-reads, pure-inv, refuse-inv}
+use Rattle.text.specs.Reader.{Reader, _>>=_, pure}
+use Rattle.text.specs.ReaderLaws.{Reads, bind-reads, pure-inv, refuse-inv}
 use Rattle.sheet.specs.Entries.{maxCount, ConditionHead, literalHead, manyHead, negationHead, oneHead, twoHead, comparisonHead, quantifierHead, conditionHead}
 use Rattle.sheet.specs.Write.{writeConditionHead}
 use Rattle.sheet.specs.RuleHeadLaws.{ConditionHeadFits, conditionHead-exact}
@@ -13,7 +13,8 @@ use Rattle.definition.specs.Limits.{maxValueNesting}
 use Rattle.definition.specs.Decode.{Ahead, entry, anyValue, conditionsOf, conditionOf, conditionIn}
 use Rattle.definition.specs.Write.{writeValue, countOfConditions, writeCondition, writeConditions}
 use Rattle.definition.specs.Within.{valueEntries, OperandFits, ValueFrom, conditionEntries, conditionsEntries, conditionNesting, conditionsNesting, ConditionFits, ConditionsFit, ConditionFrom, ConditionsFrom}
-use Rattle.definition.specs.TreeLaws.{Moves, TreeLaw, moves-none, moves-split, Enters, entering, entry-reads, announced-inv, announced-reads, announced-both-inv, announced-both-reads, enters-alone, enters-moves, enters-first}
+use Rattle.definition.specs.SiblingLaws.{conditions-of, Written, siblings-law}
+use Rattle.definition.specs.TreeLaws.{Moves, TreeLaw, Enters, entering, entry-reads, announced-inv, announced-reads, announced-both-inv, announced-both-reads, enters-alone, enters-moves, enters-first}
 use Rattle.definition.specs.ValueLaws.{value-law, value-takes}
 
 pub record ConditionGood (depth next : ℕ) (c : Condition) : Type 0 where
@@ -58,40 +59,41 @@ unfolding countOfConditions conditionsEntries
 conditions-take noConditions = omega arith
 conditions-take (condition c others) = omega (arith, condition-takes c, conditions-take others)
 
+no-conditions-good : (depth next : ℕ) (cs : Conditions) → ConditionsGood depth 0 next cs → cs ≡ noConditions
+unfolding countOfConditions
+no-conditions-good depth next noConditions g = refl
+no-conditions-good depth next (condition c others) g = absurd (omega (arith, g .count))
+
+first-condition-good : (depth n next : ℕ) (cs : Conditions) → ConditionsGood depth (suc n) next cs
+    → (c : Condition) × (others : Conditions) × (cs ≡ condition c others) × ConditionGood depth next c × ConditionsGood depth n (next + conditionEntries c) others
+unfolding countOfConditions conditionsNesting
+first-condition-good depth n next noConditions g = absurd (omega (arith, g .count))
+first-condition-good depth n next (condition c others) g = (
+  c,
+  others,
+  refl,
+  record { nesting = omega (arith, g .nesting); fits = g .fits .0; numbers = g .numbers .0 },
+  record { count = omega (arith, g .count); nesting = omega (arith, g .nesting); fits = g .fits .1; numbers = g .numbers .1 },
+)
+
+conditions-written : (depth : ℕ) (p : Reader Ahead Condition) → Written (conditions-of p) writeCondition writeConditions 1 countOfConditions (ConditionGood depth) (ConditionsGood depth)
+unfolding writeConditions countOfConditions conditionsNesting
+conditions-written depth p =
+    record {
+      none-written = refl;
+      cons-written = λ c cs. refl;
+      none-announced = refl;
+      cons-announced = λ c cs. refl;
+      announced-first = conditions-take;
+      none-good = λ next. record { count = refl; nesting = omega arith; fits = tt; numbers = tt };
+      cons-good = λ n next c cs g h. record { count = omega (arith, h .count); nesting = omega (arith, g .nesting, h .nesting); fits = (g .fits, h .fits); numbers = (g .numbers, h .numbers) };
+      good-none = no-conditions-good depth;
+      good-cons = first-condition-good depth;
+    }
+
 module _ (depth : ℕ) (p : Reader Ahead Condition) (law : ConditionLaw depth p) where
-  conditions-sound : (n : ℕ) (a : Ahead) (cs : Conditions) (b : Ahead) → Reads (conditionsOf n p) a cs b
-      → Moves (writeConditions cs) (conditionsEntries cs) (countOfConditions cs) a b × ConditionsGood depth n (a .next) cs
-  unfolding conditionsOf writeConditions conditionsEntries countOfConditions conditionsNesting
-  conditions-sound zero a cs b e =
-      let q = pure-inv _ _ e in
-      rw (← (q .0), ← (q .1)) (record { rest = refl; next = omega arith; left = omega arith }, record { count = refl; nesting = omega arith; fits = tt; numbers = tt })
-  conditions-sound (suc n) a cs b e =
-      bind-inv _ _ _ e λ c a₁ e₁ e.
-      bind-inv _ _ _ e λ others a₂ e₂ e.
-      let q = pure-inv _ _ e in
-      let m₁ = law .sound a c a₁ e₁ in
-      let m₂ = conditions-sound n a₁ others a₂ e₂ in
-      rw (← (q .0), ← (q .1)) (
-        record { rest = rw (m₁ .0 .rest, m₂ .0 .rest) (simp append-assoc); next = omega arith; left = omega arith },
-        record { count = omega arith; nesting = omega arith; fits = (m₁ .1 .fits, m₂ .1 .fits); numbers = (m₁ .1 .numbers, rw (m₁ .0 .next) at (m₂ .1 .numbers)) },
-      )
-
-  conditions-complete : (n : ℕ) (a : Ahead) (cs : Conditions) (b : Ahead) → a .left ≤ maxCount
-      → Moves (writeConditions cs) (conditionsEntries cs) (countOfConditions cs) a b → ConditionsGood depth n (a .next) cs → Reads (conditionsOf n p) a cs b
-  unfolding conditionsOf writeConditions conditionsEntries countOfConditions conditionsNesting pure
-  conditions-complete zero a noConditions b l m g = rw (moves-none a b m)
-  conditions-complete zero a (condition c others) b l m g = absurd (omega arith)
-  conditions-complete (suc n) a noConditions b l m g = absurd (omega arith)
-  conditions-complete (suc n) a (condition c others) b l m g =
-      moves-split (writeCondition c) (writeConditions others) _ _ _ _ a b m (conditions-take others) λ a₁ m₁ m₂.
-      bind-reads _ _ (law .complete a c a₁ l m₁ (record { nesting = omega arith; fits = g .fits .0; numbers = g .numbers .0 }))
-      (bind-reads _ _
-      (conditions-complete n a₁ others b (omega (arith, condition-takes c)) m₂
-      (record { count = omega arith; nesting = omega arith; fits = g .fits .1; numbers = rw (m₁ .next) (g .numbers .1) }))
-      refl)
-
   conditions-law : (n : ℕ) → TreeLaw (conditionsOf n p) writeConditions conditionsEntries countOfConditions (ConditionsGood depth n)
-  conditions-law n = record { sound = conditions-sound n; complete = conditions-complete n; announced-first = conditions-take }
+  conditions-law = siblings-law (conditions-of p) (conditions-written depth p) law
 
   -- a condition of each kind, whose parts are read by `p`
   conditionOf-sound : (h : ConditionHead) (a a₁ : Ahead) (c : Condition) (b : Ahead) → Enters writeConditionHead ConditionHeadFits a h a₁

@@ -6,8 +6,8 @@ use mathlib.Core.List.{List, [], _∷_}
 use mathlib.Core.Option.{Option, none, some, Option·map}
 use lib.ListN.{length}
 use lib.Dec.{leb, eqb}
-use Rattle.sheet.specs.Reader.{Reader, _>>=_, _>>_, ensure, pure, refuse}
-use Rattle.sheet.specs.Order.{follows, noneTwice}
+use Rattle.text.specs.Reader.{Reader, _>>=_, _>>_, ensure, pure, refuse}
+use Rattle.text.specs.Order.{follows, noneTwice}
 use Rattle.sheet.specs.Entries.{HolderHead, schemaHead, fieldHead, RuleHead, ruleHead, ConditionHead, literalHead, manyHead, negationHead, oneHead, twoHead, comparisonHead, quantifierHead, conditionHead, ValueHead, constantHead, numberHead, stringHead, arrayHead, objectHead, valueHead, keyHead}
 use Rattle.sheet.specs.Entries as Entries
 use Rattle.definition.specs.Tree.{Text, Field, field, Items, absent, element, Members, noMembers, member, Holder, Schema, Value, constant, number, string, array, object, Values, noValues, value, Pairs, noPairs, pair, Condition, literal, many, negation, one, two, comparison, quantifier, Conditions, noConditions, condition, Rule, rule, template}

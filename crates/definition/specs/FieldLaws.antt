@@ -8,8 +8,8 @@ use native.Mathlib.Omega.{arith}
 use lib.ListN.{length}
 use borrow.Author.Tests.{eqb-true}
 use Rattle.text.specs.Utf8.{isUtf8, isSome, codePoints, codePointsIn}
-use Rattle.sheet.specs.Reader.{Reader, _>>=_, _>>_, pure}
-use Rattle.sheet.specs.ReaderLaws.{Reads, bind-inv, then-inv, bind-reads, then-reads, pure-inv, ensure-inv, ensure-reads, refuse-inv}
+use Rattle.text.specs.Reader.{Reader, _>>=_, _>>_, pure}
+use Rattle.text.specs.ReaderLaws.{Reads, bind-inv, then-inv, bind-reads, then-reads, pure-inv, ensure-inv, ensure-reads, refuse-inv}
 use Rattle.sheet.specs.Entries.{maxCount, FieldHead, fieldHead}
 use Rattle.sheet.specs.Within.{TextWithin}
 use Rattle.sheet.specs.Write.{writeFieldHead}

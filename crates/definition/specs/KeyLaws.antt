@@ -1,9 +1,9 @@
 -- The keys of an object: the decoder's test that none occurs twice, and what it says.
 use mathlib.Core.Bool.{true, false, false≢true}
 use mathlib.Core.Path.{_≡_, refl, sym, _∙_}
-use Rattle.sheet.specs.Order.{sameBytes, isAmong, noneTwice}
-use Rattle.sheet.specs.OrderLaws.{sameBytes-equal, equal-sameBytes}
-use Rattle.sheet.specs.ReaderLaws.{by-test}
+use Rattle.text.specs.Order.{sameBytes, isAmong, noneTwice}
+use Rattle.text.specs.OrderLaws.{sameBytes-equal, equal-sameBytes}
+use Rattle.text.specs.CaseLaws.{by-test}
 use Rattle.definition.specs.Tree.{Text, Pairs, noPairs, pair}
 use Rattle.definition.specs.Decode.{keysOf}
 use Rattle.definition.specs.Within.{NoneKeyed, KeysDiffer}

@@ -7,6 +7,7 @@ pub mod RoundTrip
 pub mod KeyLaws
 pub mod RisingLaws
 pub mod TreeLaws
+pub mod SiblingLaws
 pub mod ValueLaws
 pub mod ConditionLaws
 pub mod FieldLaws

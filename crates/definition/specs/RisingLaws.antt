@@ -2,8 +2,8 @@
 use mathlib.Core.Bool.{true, false}
 use mathlib.Core.Option.{Option, none, some}
 use mathlib.Core.Path.{_≡_, refl, _∙_}
-use Rattle.sheet.specs.Order.{precedes, sameBytes, follows}
-use Rattle.sheet.specs.OrderLaws.{precedes-transitive, precedes-differs, sameBytes-symmetric}
+use Rattle.text.specs.Order.{precedes, sameBytes, follows}
+use Rattle.text.specs.OrderLaws.{precedes-transitive, precedes-differs, sameBytes-symmetric}
 use Rattle.definition.specs.Tree.{Text, Field, Members, noMembers, member}
 use Rattle.definition.specs.Within.{Behind, MembersRise}
 

@@ -7,8 +7,8 @@ use native.Mathlib.Omega.{arith}
 use lib.Dec.{leb}
 use lib.ListN.{length}
 use borrow.Author.Tests.{eqb-true, leb-true, le-leb}
-use Rattle.sheet.specs.Reader.{Reader, ensure, pure, _>>=_, _>>_}
-use Rattle.sheet.specs.ReaderLaws.{Reads, bind-inv, then-inv, bind-reads, then-reads, pure-inv, ensure-inv, ensure-reads}
+use Rattle.text.specs.Reader.{Reader, ensure, pure, _>>=_, _>>_}
+use Rattle.text.specs.ReaderLaws.{Reads, bind-inv, then-inv, bind-reads, then-reads, pure-inv, ensure-inv, ensure-reads}
 use Rattle.sheet.specs.Entries.{maxCount, HolderHead, RuleHead}
 use Rattle.sheet.specs.Entries as Entries
 use Rattle.sheet.specs.Write.{writeRuleHead}

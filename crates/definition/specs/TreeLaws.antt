@@ -6,8 +6,9 @@ use mathlib.Core.Path.{_≡_, refl, ap, subst, _∙_}
 use native.Mathlib.Omega.{arith}
 use lib.Dec.{leb}
 use borrow.Author.Tests.{leb-true, le-leb}
-use Rattle.sheet.specs.Reader.{Reader, _>>=_, _>>_}
-use Rattle.sheet.specs.ReaderLaws.{Reads, by-test, bind-inv, then-inv, bind-reads, then-reads}
+use Rattle.text.specs.Reader.{Reader, _>>=_, _>>_}
+use Rattle.text.specs.CaseLaws.{by-test}
+use Rattle.text.specs.ReaderLaws.{Reads, bind-inv, then-inv, bind-reads, then-reads}
 use Rattle.sheet.specs.Entries.{maxCount}
 use Rattle.sheet.specs.ItemLaws.{Exact, anything}
 use Rattle.definition.specs.Decode.{Ahead, entered, entry, announce}

@@ -3,8 +3,8 @@ use Prim.Native.Nat.{ℕ, zero, suc, _+_, _*_, _≤_}
 use mathlib.Core.List.{_++_, append-assoc}
 use mathlib.Core.Path.{_≡_, refl, ap}
 use native.Mathlib.Omega.{arith}
-use Rattle.sheet.specs.Reader.{Reader, _>>=_, pure}
-use Rattle.sheet.specs.ReaderLaws.{Reads, bind-inv, then-inv, bind-reads, then-reads, pure-inv, ensure-inv, ensure-reads, refuse-inv}
+use Rattle.text.specs.Reader.{Reader, _>>=_, pure}
+use Rattle.text.specs.ReaderLaws.{Reads, bind-inv, then-inv, bind-reads, then-reads, pure-inv, ensure-inv, ensure-reads, refuse-inv}
 use Rattle.sheet.specs.Entries.{maxCount, ValueHead, constantHead, numberHead, stringHead, arrayHead, objectHead, valueHead}
 use Rattle.sheet.specs.Write.{writeValueHead}
 use Rattle.sheet.specs.RuleHeadLaws.{ValueHeadFits, valueHead-exact, keyHead-exact}
@@ -13,6 +13,7 @@ use Rattle.definition.specs.Decode.{Ahead, entry, valuesOf, pairsOf, obj
 use Rattle.definition.specs.Write.{countOfValues, countOfPairs, writeValue, writeValues, writePairs}
 use Rattle.definition.specs.Within.{valueEntries, valuesEntries, pairsEntries, valueNesting, valuesNesting, pairsNesting, KeysDiffer, ValueFits, ValuesFit, PairsFit, ValueFrom, ValuesFrom, PairsFrom}
 use Rattle.definition.specs.KeyLaws.{none-twice-differ, differ-none-twice}
+use Rattle.definition.specs.SiblingLaws.{values-of, Written, siblings-law}
 use Rattle.definition.specs.TreeLaws.{Moves, TreeLaw, moves-none, moves-split, Enters, entering, entry-reads, announced-inv, announced-reads, enters-alone, enters-moves, enters-first}
 
 pub record ValueGood (depth next : ℕ) (v : Value) : Type 0 where
@@ -57,40 +58,41 @@ unfolding countOfPairs pairsEntries
 pairs-take noPairs = omega arith
 pairs-take (pair key v others) = omega (arith, value-takes v, pairs-take others)
 
+no-values-good : (depth next : ℕ) (vs : Values) → ValuesGood depth 0 next vs → vs ≡ noValues
+unfolding countOfValues
+no-values-good depth next noValues g = refl
+no-values-good depth next (value v others) g = absurd (omega (arith, g .count))
+
+first-value-good : (depth n next : ℕ) (vs : Values) → ValuesGood depth (suc n) next vs
+    → (v : Value) × (others : Values) × (vs ≡ value v others) × ValueGood depth next v × ValuesGood depth n (next + valueEntries v) others
+unfolding countOfValues valuesNesting
+first-value-good depth n next noValues g = absurd (omega (arith, g .count))
+first-value-good depth n next (value v others) g = (
+  v,
+  others,
+  refl,
+  record { nesting = omega (arith, g .nesting); fits = g .fits .0; numbers = g .numbers .0 },
+  record { count = omega (arith, g .count); nesting = omega (arith, g .nesting); fits = g .fits .1; numbers = g .numbers .1 },
+)
+
+values-written : (depth : ℕ) (p : Reader Ahead Value) → Written (values-of p) writeValue writeValues 1 countOfValues (ValueGood depth) (ValuesGood depth)
+unfolding writeValues countOfValues valuesNesting
+values-written depth p =
+    record {
+      none-written = refl;
+      cons-written = λ v vs. refl;
+      none-announced = refl;
+      cons-announced = λ v vs. refl;
+      announced-first = values-take;
+      none-good = λ next. record { count = refl; nesting = omega arith; fits = tt; numbers = tt };
+      cons-good = λ n next v vs g h. record { count = omega (arith, h .count); nesting = omega (arith, g .nesting, h .nesting); fits = (g .fits, h .fits); numbers = (g .numbers, h .numbers) };
+      good-none = no-values-good depth;
+      good-cons = first-value-good depth;
+    }
+
 module _ (depth : ℕ) (p : Reader Ahead Value) (law : ValueLaw depth p) where
-  values-sound : (n : ℕ) (a : Ahead) (vs : Values) (b : Ahead) → Reads (valuesOf n p) a vs b
-      → Moves (writeValues vs) (valuesEntries vs) (countOfValues vs) a b × ValuesGood depth n (a .next) vs
-  unfolding valuesOf writeValues valuesEntries countOfValues valuesNesting
-  values-sound zero a vs b e =
-      let q = pure-inv _ _ e in
-      rw (← (q .0), ← (q .1)) (record { rest = refl; next = omega arith; left = omega arith }, record { count = refl; nesting = omega arith; fits = tt; numbers = tt })
-  values-sound (suc n) a vs b e =
-      bind-inv _ _ _ e λ v a₁ e₁ e.
-      bind-inv _ _ _ e λ others a₂ e₂ e.
-      let q = pure-inv _ _ e in
-      let m₁ = law .sound a v a₁ e₁ in
-      let m₂ = values-sound n a₁ others a₂ e₂ in
-      rw (← (q .0), ← (q .1)) (
-        record { rest = rw (m₁ .0 .rest, m₂ .0 .rest) (simp append-assoc); next = omega arith; left = omega arith },
-        record { count = omega arith; nesting = omega arith; fits = (m₁ .1 .fits, m₂ .1 .fits); numbers = (m₁ .1 .numbers, rw (m₁ .0 .next) at (m₂ .1 .numbers)) },
-      )
-
-  values-complete : (n : ℕ) (a : Ahead) (vs : Values) (b : Ahead) → a .left ≤ maxCount → Moves (writeValues vs) (valuesEntries vs) (countOfValues vs) a b
-      → ValuesGood depth n (a .next) vs → Reads (valuesOf n p) a vs b
-  unfolding valuesOf writeValues valuesEntries countOfValues valuesNesting pure
-  values-complete zero a noValues b l m g = rw (moves-none a b m)
-  values-complete zero a (value v others) b l m g = absurd (omega arith)
-  values-complete (suc n) a noValues b l m g = absurd (omega arith)
-  values-complete (suc n) a (value v others) b l m g =
-      moves-split (writeValue v) (writeValues others) _ _ _ _ a b m (values-take others) λ a₁ m₁ m₂.
-      bind-reads _ _ (law .complete a v a₁ l m₁ (record { nesting = omega arith; fits = g .fits .0; numbers = g .numbers .0 }))
-      (bind-reads _ _
-      (values-complete n a₁ others b (omega (arith, value-takes v)) m₂
-      (record { count = omega arith; nesting = omega arith; fits = g .fits .1; numbers = rw (m₁ .next) (g .numbers .1) }))
-      refl)
-
   pub values-law : (n : ℕ) → TreeLaw (valuesOf n p) writeValues valuesEntries countOfValues (ValuesGood depth n)
-  values-law n = record { sound = values-sound n; complete = values-complete n; announced-first = values-take }
+  values-law = siblings-law (values-of p) (values-written depth p) law
 
   pairs-sound : (n : ℕ) (a : Ahead) (ps : Pairs) (b : Ahead) → Reads (pairsOf n p) a ps b
       → Moves (writePairs ps) (pairsEntries ps) (2 * countOfPairs ps) a b × PairsGood depth n (a .next) ps

@@ -5,8 +5,8 @@ use mathlib.Core.Bool.{true}
 use mathlib.Core.Option.{Option, none, some}
 use mathlib.Core.Path.{_≡_}
 use lib.ListN.{length}
+use Rattle.text.specs.Order.{precedes}
 use Rattle.number.specs.Grammar.{isNumber}
-use Rattle.sheet.specs.Order.{precedes}
 use Rattle.sheet.specs.Operators as Operators
 use Rattle.sheet.specs.Operators.{InShape}
 use Rattle.sheet.specs.Within.{TextWithin, OptionWithin}

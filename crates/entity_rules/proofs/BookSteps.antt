@@ -7,7 +7,7 @@ use lib.Dec.{leb}
 use lib.ListN.{length, take, drop, getD, take-append-drop}
 use lib.Seq.{take-length, drop-length}
 use borrow.Author.Tests.{leb-true, leb-false}
-use Rattle.sheet.specs.ReaderLaws.{by-test}
+use Rattle.text.specs.CaseLaws.{by-test}
 use Rattle.call.specs.Call.{Reply, refusedBy, told, Buffer, Left, Leaves, AllLeft, ifTold, freeIfTold, Shape, replyTo, resultNumbers, Run, Meets}
 use Rattle.call.specs.CallLaws.{not-told, first-number, AllWithin}
 use Rattle.host_numbers.specs.Counts.{InEightBytes, no-more, one-more}

@@ -7,7 +7,7 @@ use lib.Dec.{leb}
 use lib.ListN.{length, take, drop, length-take, replicate, length-replicate}
 use lib.Seq.{sets, take-length, drop-length}
 use borrow.Author.Tests.{le-leb, lt-leb, leb-true, leb-false}
-use Rattle.sheet.specs.ReaderLaws.{by-test}
+use Rattle.text.specs.CaseLaws.{by-test}
 use Rattle.definition.specs.Decode.{decodeRule}
 use Rattle.buffer.specs.Bytes.{bytesOf}
 use Rattle.validation.specs.Result.{Answer, Numbers, resultOf, numbersOf, pathAfter, callOf, Meets, scratchWords, markBytes}

@@ -11,7 +11,7 @@ use lib.Dec.{leb}
 use lib.ListN.{length}
 use borrow.Author.Tests.{leb-true, lt-leb}
 use Rattle.text.specs.Utf8.{between, isUtf8}
-use Rattle.sheet.specs.ReaderLaws.{by-test}
+use Rattle.text.specs.CaseLaws.{by-test}
 use Rattle.definition.specs.Tree.{Schema, Rule}
 use Rattle.definition.specs.Decode.{decodeSchema, decodeRule}
 use Rattle.reference.specs.Setting.{oneOf}

@@ -9,6 +9,7 @@ use mathlib.Core.Option.{Option, none, some}
 use mathlib.Core.Path.{_≡_, refl, sym, ap, _∙_}
 use lib.ListN.{length, getD}
 use borrow.Author.Tests.{le-leb}
+use Rattle.text.specs.CaseLaws.{zero-not-one}
 use Rattle.definition.specs.Tree.{Schema}
 use Rattle.definition.specs.Decode.{decodeSchema}
 use Rattle.widening.specs.Widening.{Level, only, anything, marks}
@@ -39,12 +40,12 @@ pub data YesAt : Level → ℕ → Type 0 where
 
 sheets-level : (x x′ : Option Schema) (l : Level) → answerFor x x′ ≡ decision (widening l) → (l ≡ marks) ⊎ (l ≡ anything)
 unfolding answerFor
-sheets-level none x′ l e = let z : _≡_ {A = ℕ} 0 1 = cc in absurd (omega arith)
-sheets-level (some s) none l e = let z : _≡_ {A = ℕ} 0 1 = cc in absurd (omega arith)
+sheets-level none x′ l e = zero-not-one cc
+sheets-level (some s) none l e = zero-not-one cc
 sheets-level (some s) (some s′) l e = widens-level s s′ l cc
 
 only-marks : (may : ℕ → Bool) → (only may ≡ marks) ⊎ (only may ≡ anything) → only may ≡ marks
-only-marks may h = ⊎-elim (λ e. e) (λ e. let z : _≡_ {A = ℕ} 0 1 = cc in absurd (omega arith)) h
+only-marks may h = ⊎-elim (λ e. e) (λ e. zero-not-one cc) h
 
 says-yes : {l : Level} {y : ℕ} (x : DecisionAnswer)
     → ((k : Level) → x ≡ decision (widening k) → (k ≡ marks) ⊎ (k ≡ anything))

@@ -1,42 +1,12 @@
 -- The entry of a kind at a place of the bytes: each way through the code's readers, by the laws of one reader after another.
 use Prim.Native.Nat.{ℕ, _+_}
-use native.Mathlib.Omega.{arith}
 use mathlib.Core.List.{List}
-use mathlib.Core.Path.{_≡_}
-use Rattle.sheet.specs.Reader.{Reader, _>>=_, _>>_, andThen, pure}
-use Rattle.sheet.specs.Entries.{byte, item}
-use Rattle.sheet.specs.Places.{ReadsTo, Refuses}
-use Rattle.sheet.proofs.Chains.{then-refused, then-refuses, then-reads}
+use Rattle.text.specs.ByteReaders.{byte}
+use Rattle.text.specs.ReadAt.{ReadsTo, Refuses}
+use Rattle.text.specs.ReadAtLaws.{bind-refused, bind-refuses, bind-reads, then-refused, then-refuses, then-reads, then-pure}
+use Rattle.sheet.specs.Entries.{item}
 use Rattle.reference.specs.Table as Table
 use Rattle.reference.specs.Table.{rowMarks, tableEntry}
-
--- The second reader is told what the first one read.
-
-module _ {A B : Type 0} (p : Reader (List ℕ) A) (k : A → Reader (List ℕ) B) where
-  pub bind-refused : (s : List ℕ) (at : ℕ) → Refuses p s at → Refuses (p >>= k) s at
-  unfolding _>>=_ andThen
-  bind-refused s at e = rw e
-
-  pub bind-refuses : {s : List ℕ} {at mid : ℕ} {a : A} → ReadsTo p s at a mid → Refuses (k a) s mid → Refuses (p >>= k) s at
-  unfolding _>>=_ andThen
-  bind-refuses e f = rw (e .reads) f
-
-  -- the next one, in front of what is left, refuses
-  pub bind-stops : {C : Type 0} (q : Reader (List ℕ) C) (l : C → Reader (List ℕ) B) {s : List ℕ} {at mid : ℕ} {a : A} → ReadsTo p s at a mid → k a ≡ (q >>= l) → Refuses q s mid → Refuses (p >>= k) s at
-  unfolding _>>=_ andThen
-  bind-stops q l e same f = rw (e .reads, same, f)
-
-  pub bind-reads : {s : List ℕ} {at mid next : ℕ} {a : A} {b : B} → ReadsTo p s at a mid → ReadsTo (k a) s mid b next → ReadsTo (p >>= k) s at b next
-  unfolding _>>=_ andThen
-  bind-reads e f = record { reads = rw (e .reads) (f .reads); past = omega (arith, e .past, f .past); within = f .within }
-
-pub bind-pure : {A B : Type 0} (p : Reader (List ℕ) A) (f : A → B) {s : List ℕ} {at next : ℕ} {a : A} → ReadsTo p s at a next → ReadsTo (p >>= λ x. pure (f x)) s at (f a) next
-unfolding _>>=_ andThen pure
-bind-pure p f e = record { reads = rw (e .reads); past = e .past; within = e .within }
-
-then-pure : {A B : Type 0} (p : Reader (List ℕ) A) (b : B) {s : List ℕ} {at next : ℕ} {a : A} → ReadsTo p s at a next → ReadsTo (p >> pure b) s at b next
-unfolding _>>_ _>>=_ andThen pure
-then-pure p b e = record { reads = rw (e .reads); past = e .past; within = e .within }
 
 -- `N`, the kind, the marks, the end of the line
 module _ (kind : ℕ) where

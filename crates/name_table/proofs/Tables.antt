@@ -9,9 +9,9 @@ use lib.ListN.{length, drop, getD, take, length-append, drop-of-length-le}
 use lib.Seq.{drop-cons, getD-at, take-all}
 use lib.Dec.{eqb}
 use borrow.Author.Tests.{eqb-true, eqb-false, le-leb, lt-leb}
-use Rattle.sheet.specs.Reader.{_>>=_, andThen, pure}
-use Rattle.sheet.specs.ReaderLaws.{by-test}
-use Rattle.sheet.specs.Places.{ReadsTo, Refuses}
+use Rattle.text.specs.Reader.{_>>=_, andThen, pure}
+use Rattle.text.specs.CaseLaws.{by-test}
+use Rattle.text.specs.ReadAt.{ReadsTo, Refuses}
 use Rattle.reference.specs.Table as Table
 use Rattle.reference.specs.Table.{tableEntry, rows, alone, decodeTable, isSound, areSound, stockRow, stockTable, tableIn, tableBytes, rowOf, isSoundTable}
 use Rattle.reference.specs.Setting.{oneOf, stock}

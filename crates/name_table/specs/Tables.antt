@@ -4,7 +4,7 @@ use mathlib.Core.Bool.{Bool}
 use mathlib.Core.List.{List}
 use mathlib.Core.Option.{Option, none, some}
 use mathlib.Core.Path.{_≡_}
-use Rattle.sheet.specs.Places.{ReadsTo, Refuses}
+use Rattle.text.specs.ReadAt.{ReadsTo, Refuses}
 use Rattle.reference.specs.Table as Table
 use Rattle.reference.specs.Table.{rowMarks, tableEntry, decodeTable, areSound, tableIn, rowOf}
 use Rattle.scope.specs.Names.{rowBy}

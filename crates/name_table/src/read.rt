@@ -3,7 +3,7 @@ use scope::name::Row;
 use scope::name::stock_row;
 use sheet::entry;
 use sheet::entry::MarkRead;
-use sheet::numeral::NumeralRead;
+use text::numeral::NumeralRead;
 ghost use mathlib.Core.Bool.{cond, _&&_};
 ghost use mathlib.Core.Path.{_≡_};
 ghost use Rattle.reference.specs.Table.{isSound};
@@ -78,14 +78,14 @@ fn row_marks(s: &[u8], at: usize) -> RowRead
 fn table_entry(s: &[u8], at: usize, kind: u32) -> RowRead
     ensures { λ r. ⌜ RowIs (now (s .entry)) at kind r ⌝ }
 {
-    if entry::starts_with(s, at, b'N') {
+    if text::starts_with(s, at, b'N') {
         let NumeralRead::Is(_, behind) = entry::item(s, at + 1, kind, kind) else {
             return RowRead::Bad;
         };
         let RowRead::Is(row, end) = row_marks(s, behind) else {
             return RowRead::Bad;
         };
-        if entry::starts_with(s, end, b'\n') {
+        if text::starts_with(s, end, b'\n') {
             return RowRead::Is(row, end + 1);
         }
     }

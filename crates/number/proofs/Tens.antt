@@ -9,7 +9,7 @@ use lib.Dec.{ltb, eqb}
 use borrow.Author.Tests.{lt-ltb}
 use Rattle.text.specs.Decimal.{isDigit}
 use Rattle.text.proofs.Bools.{and-true-0, and-true-1}
-use Rattle.text.proofs.Decimal.{isDigit-range}
+use Rattle.text.specs.DecimalLaws.{isDigit-range}
 use Rattle.number.specs.Grammar.{Number, Read, run, past, someDigits, digits, leads, int, frac, exp, unsigned, number}
 use Rattle.number.specs.Finite.{digit}
 use Rattle.number.proofs.Numeral.{tens}

@@ -6,8 +6,8 @@ use mathlib.Core.Path.{_≡_, ap, _∙_}
 use native.Mathlib.Omega.{arith}
 use lib.ListN.{length, drop, set, length-append, length-drop}
 use lib.Seq.{set-at, set-out}
-use Rattle.sheet.specs.Ascii.{ascii}
-use Rattle.sheet.specs.NumeralLaws.{decimalOf-one}
+use Rattle.text.specs.Ascii.{ascii}
+use Rattle.text.specs.NumeralLaws.{decimalOf-one}
 use Rattle.sheet.specs.Write.{markOf, writeItem, writeMark}
 
 -- a mark is a comma and a digit

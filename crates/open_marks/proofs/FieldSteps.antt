@@ -9,8 +9,8 @@ use lib.Dec.{eqb}
 use lib.ListN.{length, drop, set, length-append}
 use lib.Seq.{drop-at}
 use borrow.Author.Tests.{eq-eqb}
-use Rattle.sheet.specs.Ascii.{ascii}
-use Rattle.sheet.specs.NumeralLaws.{decimalOf-one, decimalOf-last}
+use Rattle.text.specs.Ascii.{ascii}
+use Rattle.text.specs.NumeralLaws.{decimalOf-one, decimalOf-last}
 use Rattle.sheet.specs.Entries.{FieldHead, fieldHead}
 use Rattle.sheet.specs.Write.{markOf, writeItem, writeMark, writeLength, writeText, writeEnd, writeFieldHead}
 use Rattle.sheet.specs.HeadLaws.{fieldHead-exact}

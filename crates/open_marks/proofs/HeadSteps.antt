@@ -7,17 +7,19 @@ use mathlib.Core.Path.{_≡_, refl, sym, ap, _∙_}
 use native.Mathlib.Omega.{arith}
 use lib.ListN.{length, drop, set, length-append}
 use borrow.Author.Tests.{ne-eqb}
-use Rattle.sheet.specs.Ascii.{ascii}
-use Rattle.sheet.specs.Reader.{_>>=_, _>>_, andThen}
-use Rattle.sheet.specs.NumeralLaws.{beginsWithoutDigit}
-use Rattle.sheet.specs.Entries.{maxCount, byte, item, HolderHead, SchemaHead, schemaHead}
+use Rattle.text.specs.Ascii.{ascii}
+use Rattle.text.specs.Reader.{_>>=_, _>>_, andThen}
+use Rattle.text.specs.NumeralLaws.{beginsWithoutDigit, comma-begins}
+use Rattle.text.specs.ByteReaders.{byte}
+use Rattle.text.specs.ReadAt.{ReadsTo, Refuses, NumeralIs}
+use Rattle.text.specs.declared.numeral.NumeralRead.{NumeralRead}
+use Rattle.text.specs.declared.numeral.NumeralRead.the-variants.{Is, Bad}
+use Rattle.sheet.specs.Entries.{maxCount, item, HolderHead, SchemaHead, schemaHead}
 use Rattle.sheet.specs.Pieces.{dashed}
 use Rattle.sheet.specs.Write.{markOf, writeItem, writeMark, writeEnd, writeHolderHead, writeArgumentsHead, writeSchemaHead}
-use Rattle.sheet.specs.ItemLaws.{anything, item-complete, comma-begins}
+use Rattle.sheet.specs.ItemLaws.{anything, item-complete}
 use Rattle.sheet.specs.HeadLaws.{SchemaHeadFits, schemaHead-exact}
-use Rattle.sheet.specs.Places.{ReadsTo, Refuses, NumeralIs, IsDashed, SchemaIs}
-use Rattle.sheet.specs.declared.numeral.NumeralRead.{NumeralRead}
-use Rattle.sheet.specs.declared.numeral.NumeralRead.the-variants.{Is, Bad}
+use Rattle.sheet.specs.Places.{IsDashed, SchemaIs}
 use Rattle.sheet.specs.declared.schema_heads.SchemaHead.{SchemaHead as CodeHead}
 use Rattle.sheet.specs.declared.schema_heads.SchemaHeadRead.{SchemaHeadRead}
 use Rattle.sheet.specs.declared.schema_heads.SchemaHeadRead.the-variants as schema

@@ -3,12 +3,12 @@ use Prim.Native.Nat.{ℕ}
 use mathlib.Core.List.{List, [], _∷_}
 use mathlib.Core.Path.{_≡_, refl}
 use lib.ListN.{replicate}
-use Rattle.sheet.specs.Ascii.{ascii}
+use Rattle.text.specs.Ascii.{ascii}
+use Rattle.call.specs.Call.{free, unchanged, freeIfTold, EachDue, all-shown, by}
+use Rattle.openings.specs.Call.{OpenCall, openAnswer, openNumbers, listLeft, scratchLeft, openRefusals, openHeardNumbers}
 use Rattle.reference.proofs.Tables.{stockText}
 use Rattle.validation.proofs.TableEdges.{changed, oldAlone}
-use Rattle.call.specs.Call.{EachDue, all-shown, by, free, unchanged, freeIfTold}
 use Rattle.call.specs.CallLaws.{least}
-use Rattle.openings.specs.Call.{OpenCall, openRefusals, openHeardNumbers, openAnswer, openNumbers, listLeft, scratchLeft}
 use Rattle.openings.specs.Computing.{computing}
 
 -- a closed object `o` in a closed record, beside closed arguments

@@ -5,7 +5,7 @@ use mathlib.Core.List.{List, []}
 use mathlib.Core.Option.{Option}
 use mathlib.Core.Path.{_≡_, refl}
 use lib.ListN.{replicate, length-replicate}
-use Rattle.sheet.specs.Ascii.{ascii}
+use Rattle.text.specs.Ascii.{ascii}
 use Rattle.validation.specs.Result.{pathBytes}
 use Rattle.call.specs.Call.{Reply, freeIfTold, Run}
 use Rattle.call.specs.CallLaws.{least, least-left}

@@ -9,6 +9,7 @@ use lib.Dec.{eqb}
 use lib.ListN.{length, getD, set, length-set}
 use lib.Seq.{getD-set-same, getD-set-other}
 use borrow.Author.Tests.{eqb-true, eqb-false, ne-eqb}
+use Rattle.text.specs.CaseLaws.{zero-not-one}
 use Rattle.definition.specs.Limits.{maxSheetBytes, maxSchemaEntries}
 use Rattle.definition.specs.Tree as Tree
 use Rattle.definition.specs.Tree.{Rule, rule, template}
@@ -44,7 +45,6 @@ use Rattle.single_check.specs.SheetLaws.{front-schema, front-both}
 use Rattle.single_check.specs.declared.settings.Setting as Code
 use Rattle.open_marks.specs.Marks.{MarkOpened}
 use Rattle.openings.specs.Rounds.{RoundIs, RoundJudged, isMarked, Stands, MarksFound}
-use Rattle.openings.specs.declared.rounds.Round.{Round}
 use Rattle.openings.specs.declared.rounds.Round.the-variants.{Passed, Refused}
 
 -- What a verdict shows is what the round finds of it.
@@ -52,11 +52,11 @@ use Rattle.openings.specs.declared.rounds.Round.the-variants.{Passed, Re
 passes-found : (v : Verdict) (n : ℕ) → passes n ≡ shownOf v → RoundIs Passed v
 unfolding shownOf
 passes-found (allPass m) n e = tt
-passes-found (failsAt m c why) n e = let z : _≡_ {A = ℕ} 0 1 = cc in absurd (omega arith)
+passes-found (failsAt m c why) n e = zero-not-one cc
 
 fails-found : (v : Verdict) (n number place : ℕ) (over : Option ℕ) (why : Failure) → fails n number place over why ≡ shownOf v → RoundIs (Refused (why .at)) v
 unfolding shownOf
-fails-found (allPass m) n number place over why e = let z : _≡_ {A = ℕ} 0 1 = cc in absurd (omega arith)
+fails-found (allPass m) n number place over why e = zero-not-one cc
 fails-found (failsAt m c why′) n number place over why e = let same : why′ ≡ why = cc in ap (λ (x : Failure). x .at) same
 
 module _ (set : Code.Setting) {s : Schema} {scope : Scope} {sheet rule words : List ℕ} {a : Progress}

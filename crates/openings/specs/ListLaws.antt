@@ -9,7 +9,7 @@ use lib.Dec.{eqb}
 use lib.ListN.{length, drop, getD}
 use lib.Seq.{sets}
 use borrow.Author.Tests.{eqb-true}
-use Rattle.sheet.specs.ReaderLaws.{by-test}
+use Rattle.text.specs.CaseLaws.{by-test}
 use Rattle.buffer.specs.Bytes.{bytesOf, InFourBytes, no-more, one-more, fieldAt}
 use Rattle.buffer.specs.BytesLaws.{field-written, past-written}
 use Rattle.reference.specs.Setting.{oneOf}

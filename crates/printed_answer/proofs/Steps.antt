@@ -5,6 +5,7 @@ use mathlib.Core.Option.{none, some, Option·map}
 use mathlib.Core.Path.{_≡_}
 use native.Mathlib.Omega.{arith}
 use lib.ListN.{length, take}
+use Rattle.text.specs.Parts.{partOf}
 use Rattle.buffer.specs.Wrote.{Wrote}
 use Rattle.buffer.specs.WroteLaws.{wrote-nothing}
 use Rattle.validation.specs.Result.{pathBytes, scratchWords, resultOf, numbersOf, callOf, Meets}
@@ -14,7 +15,7 @@ use Rattle.single_check.specs.Runs.{runOf}
 use Rattle.single_check.specs.declared.outcome.Outcome.{Outcome}
 use Rattle.single_check.specs.declared.sheets.Takes.the-variants.{Any}
 use Rattle.check_file.specs.File.{Parts, takenApart}
-use Rattle.check_file.specs.Places.{answerable, partOf, partsAt}
+use Rattle.check_file.specs.Places.{answerable, partsAt}
 use Rattle.check_file.specs.declared.file.Placed.{Placed}
 use Rattle.check_file.specs.Line.{lineOf, numbers}
 use Rattle.check_file.specs.LineLaws.{line-length}

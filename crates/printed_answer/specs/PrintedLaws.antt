@@ -9,7 +9,7 @@ use lib.ListN.{length, take}
 use lib.Dec.{leb}
 use borrow.Author.Tests.{leb-true}
 use Rattle.text.specs.Utf8.{between}
-use Rattle.sheet.specs.ReaderLaws.{by-test}
+use Rattle.text.specs.CaseLaws.{by-test}
 use Rattle.definition.specs.Tree.{Text, Schema, Rule}
 use Rattle.definition.specs.Decode.{decodeSchema, decodeRule}
 use Rattle.definition.specs.Within.{RuleWithin}

@@ -1,28 +1,17 @@
 // What the program `rulecheck` prints for a file's bytes (docs/FORMAT.md, "The program `rulecheck`").
-use check_file::file::Span;
 use check_file::file::Taken;
 use check_file::file::take_apart;
 use check_file::line::write_line;
 use definition::limits::PATH_BYTES;
 use definition::limits::SCRATCH_WORDS;
 use single_check::validate;
-ghost use mathlib.Core.Path.{_≡_};
+use text::part::bytes_of;
 ghost use Rattle.validation.specs.Result.{resultOf};
 ghost use Rattle.check_file.specs.Output.{callFor, answered, outputOf};
-ghost use Rattle.check_file.specs.Places.{Lies, partOf};
 ghost use Rattle.printed_answer.specs.Printed.{Printed};
 
 // Room enough for every line: six numbers of ten digits with a comma after each, the longest path, and the line's end.
 pub const LINE_BYTES: usize = 6 * 11 + PATH_BYTES + 1;
-
-fn part(file: &[u8], span: Span) -> &[u8]
-    requires { ⌜ Lies (now file) span ⌝ }
-    ensures { λ r. ⌜ now r ≡ partOf (now (file .entry)) span ⌝ }
-{
-    let start = span.start;
-    let end = span.end;
-    &file[start..end]
-}
 
 // Writes the line of a call.
 fn answer(
@@ -70,9 +59,9 @@ pub fn output(file: &[u8], out: &mut [u8]) -> usize
     answer(
         p.kind,
         p.semantics,
-        part(file, p.label),
-        part(file, p.schema),
-        part(file, p.rule),
+        bytes_of(file, p.label),
+        bytes_of(file, p.schema),
+        bytes_of(file, p.rule),
         out,
     )
 }

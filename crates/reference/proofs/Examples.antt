@@ -4,8 +4,8 @@ use mathlib.Core.Bool.{Bool, true, false}
 use mathlib.Core.List.{[], _∷_}
 use mathlib.Core.Option.{none, some}
 use mathlib.Core.Path.{_≡_, refl}
+use Rattle.text.specs.Ascii.{ascii}
 use Rattle.definition.specs.Tree.{Field, field, Items, absent, element, noMembers, member, Schema, string}
-use Rattle.sheet.specs.Ascii.{ascii}
 use Rattle.reference.specs.Setting.{projection, settingOf}
 use Rattle.reference.specs.Walk.{Reached, refused, unknown, known}
 use Rattle.reference.specs.Reference.{Environment, reference, keyWalk, collection}

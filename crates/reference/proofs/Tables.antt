@@ -5,7 +5,7 @@ use mathlib.Core.List.{List, [], _∷_, _++_}
 use mathlib.Core.Option.{none}
 use mathlib.Core.Path.{_≡_, refl}
 use lib.ListN.{length, take, drop}
-use Rattle.sheet.specs.Ascii.{ascii}
+use Rattle.text.specs.Ascii.{ascii}
 use Rattle.reference.specs.Table.{Row, decodeTable, isSound, areSound, stockTable, tableBytes, tableIn}
 use Rattle.reference.specs.Computing.{computing}
 

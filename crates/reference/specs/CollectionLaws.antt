@@ -8,9 +8,9 @@ use mathlib.Core.Option.{Option, none, some}
 use mathlib.Core.Path.{_≡_, refl, ap}
 use lib.Dec.{eqb}
 use borrow.Author.Tests.{eqb-true, eqb-false}
+use Rattle.text.specs.Ascii.{ascii}
+use Rattle.text.specs.Order.{sameBytes}
 use Rattle.definition.specs.Tree.{Text, Field, field, Items, absent, element, Schema}
-use Rattle.sheet.specs.Ascii.{ascii}
-use Rattle.sheet.specs.Order.{sameBytes}
 use Rattle.reference.specs.Setting.{Name, spelling, named, nameOf, Setting}
 use Rattle.reference.specs.Path.{Segments, cut, extend, split, isOrdinal}
 use Rattle.reference.specs.Walk.{refuse, free, lookup, memberStep, itemStep, Reached, refused, unknown, known, arrive, travel, isEmpty, fieldStep, elementOr, elementOfField, elementOf}

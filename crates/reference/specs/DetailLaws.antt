@@ -6,8 +6,8 @@ use mathlib.Core.List.{List, [], _∷_}
 use mathlib.Core.Logic.{_⊎_, inl, inr}
 use mathlib.Core.Option.{Option, none, some}
 use mathlib.Core.Path.{_≡_, refl}
-use Rattle.definition.specs.Tree.{Text, Field, field, Items, absent, element, Members, Holder, Schema}
-use Rattle.sheet.specs.Order.{sameBytes}
+use Rattle.text.specs.Order.{sameBytes}
+use Rattle.definition.specs.Tree.{Text, Field, field, Items, absent, element, Holder, Schema, Members}
 use Rattle.reference.specs.Setting.{Name, nameOf, Reader, kernel, projection, Setting}
 use Rattle.reference.specs.Path.{Segments, split, isOrdinal, isCount}
 use Rattle.reference.specs.Walk.{Step, refuse, leaf, free, into, lookup, memberStep, itemStep, Reached, refused, unknown, known, lastOr, arrive, entryOf, travel, isEmpty, arrayStep, mapStep, isTag, contentKey, unionStep, textCount, FieldForm, jsonField, objectField, arrayField, mapField, stringField, unionField, otherField, formOfKind, walkInto, walkStep}

@@ -2,9 +2,9 @@
 use mathlib.Core.Bool.{true}
 use mathlib.Core.List.{[], _++_}
 use mathlib.Core.Path.{_≡_}
+use Rattle.text.specs.Ascii.{ascii}
+use Rattle.text.specs.Order.{sameBytes}
 use Rattle.definition.specs.Tree.{Text, Schema}
-use Rattle.sheet.specs.Ascii.{ascii}
-use Rattle.sheet.specs.Order.{sameBytes}
 use Rattle.reference.specs.Setting.{fields, spelling, named, nameOf, Setting}
 use Rattle.reference.specs.Path.{cut, extend, split}
 use Rattle.reference.specs.Reference.{bound, rootOf, fromRoot, fromName, fromBound, reference, keyWalk}

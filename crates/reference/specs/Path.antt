@@ -5,9 +5,9 @@ use mathlib.Core.Bool.{Bool, true, false, not, cond, _&&_, _||_}
 use mathlib.Core.List.{List, [], _∷_}
 use lib.Dec.{eqb}
 use Rattle.text.specs.Decimal.{isDigit}
+use Rattle.text.specs.Ascii.{ascii}
+use Rattle.text.specs.Order.{sameBytes}
 use Rattle.definition.specs.Tree.{Text}
-use Rattle.sheet.specs.Ascii.{ascii}
-use Rattle.sheet.specs.Order.{sameBytes}
 
 -- the first segment, and those after the first dot, if there is one
 pub record Segments : Type 0 where

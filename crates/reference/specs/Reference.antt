@@ -5,8 +5,8 @@ use mathlib.Core.Bool.{Bool, true, false, cond}
 use mathlib.Core.List.{List, [], _∷_}
 use mathlib.Core.Option.{Option, none, some}
 use lib.Dec.{ltb, eqb}
+use Rattle.text.specs.Order.{sameBytes}
 use Rattle.definition.specs.Tree.{Text, Field, Holder, Schema, Value, constant, number, string, array, object}
-use Rattle.sheet.specs.Order.{sameBytes}
 use Rattle.reference.specs.Setting.{Name, id, entity, version, fields, state, toState, fromState, args, oldFields, nameOf, Reader, kernel, Setting}
 use Rattle.reference.specs.Path.{Segments, split}
 use Rattle.reference.specs.Walk.{Step, lookup, memberStep, Reached, refused, unknown, arrive, travel, isEmpty, walkStep, fieldStep, elementOf}

@@ -5,8 +5,9 @@ use mathlib.Core.Bool.{Bool, true, false, not, _&&_, _||_}
 use mathlib.Core.List.{List, [], _∷_, map}
 use mathlib.Core.Option.{Option, none, some}
 use lib.ListN.{take, getD}
-use Rattle.sheet.specs.Reader.{Reader, _>>=_, _>>_, pure}
-use Rattle.sheet.specs.Entries.{letter, lineEnd, item, mark}
+use Rattle.text.specs.Reader.{Reader, _>>=_, _>>_, pure}
+use Rattle.text.specs.ByteReaders.{letter, lineEnd}
+use Rattle.sheet.specs.Entries.{item, mark}
 use Rattle.reference.specs.Setting.{Name, id, entity, version, fields, state, toState, fromState, args, oldFields, stock, Setting, settingWith}
 
 -- the marks of one kind

@@ -7,12 +7,14 @@ use mathlib.Core.Option.{Option, none, some, Option·none-ne-some}
 use mathlib.Core.Path.{_≡_, refl, ap, _∙_}
 use lib.ListN.{length, take, length-append}
 use borrow.Author.Tests.{lt-ltb}
-use Rattle.sheet.specs.Ascii.{ascii}
-use Rattle.sheet.specs.Numeral.{decimalIn, decimalOf}
-use Rattle.sheet.specs.Entries.{byte, item, mark}
+use Rattle.text.specs.Ascii.{ascii}
+use Rattle.text.specs.Numeral.{decimalIn, decimalOf}
+use Rattle.text.specs.ByteReaders.{byte}
+use Rattle.text.specs.ReaderLaws.{Reads, bind-inv, then-inv, pure-inv}
+use Rattle.text.specs.ByteReaderLaws.{byte-sound}
+use Rattle.sheet.specs.Entries.{item, mark}
 use Rattle.sheet.specs.Write.{writeItem}
-use Rattle.sheet.specs.ReaderLaws.{Reads, bind-inv, then-inv, pure-inv}
-use Rattle.sheet.specs.ItemLaws.{byte-sound, item-exact}
+use Rattle.sheet.specs.ItemLaws.{item-exact}
 use Rattle.reference.specs.Setting.{Name, id, entity, version, fields, state, toState, fromState, args, oldFields, stock, settingWith, settingOf}
 use Rattle.reference.specs.Table.{Row, mayReadBy, rowMarks, tableEntry, rows, alone, decodeTable, stockRow, stockTable, tableBytes, tableIn, rowOf, settingUnder}
 

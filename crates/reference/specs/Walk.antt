@@ -4,9 +4,9 @@ use mathlib.Core.Bool.{Bool, true, false, cond, _&&_, _||_}
 use mathlib.Core.List.{List, [], _∷_}
 use mathlib.Core.Option.{Option, none, some}
 use lib.Dec.{eqb}
+use Rattle.text.specs.Ascii.{ascii}
+use Rattle.text.specs.Order.{sameBytes}
 use Rattle.definition.specs.Tree.{Text, Field, field, Items, absent, element, Members, noMembers, member}
-use Rattle.sheet.specs.Ascii.{ascii}
-use Rattle.sheet.specs.Order.{sameBytes}
 use Rattle.sheet.specs.FieldKinds.{stringKind, arrayKind, objectKind, jsonKind, mapKind, unionKind}
 use Rattle.reference.specs.Setting.{Reader, kernel, projection}
 use Rattle.reference.specs.Path.{isOrdinal, isCount}

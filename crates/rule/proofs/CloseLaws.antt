@@ -5,7 +5,7 @@ use mathlib.Core.Option.{some}
 use mathlib.Core.Path.{_≡_, refl, ap, _∙_}
 use native.Mathlib.Omega.{arith}
 use lib.ListN.{length, drop, set}
-use Rattle.sheet.specs.Reader.{Reader}
+use Rattle.text.specs.Reader.{Reader}
 use Rattle.sheet.specs.Entries.{ValueHead, valueHead, keyHead}
 use Rattle.definition.specs.Limits.{maxRuleEntries}
 use Rattle.definition.specs.Tree.{Text}

@@ -6,8 +6,9 @@ use mathlib.Core.Path.{_≡_, ap, _∙_}
 use native.Mathlib.Omega.{arith}
 use native.Mathlib.Nat.{zero-add}
 use lib.ListN.{length, drop, set}
+use Rattle.text.specs.ReadAt.{ReadsTo}
 use Rattle.sheet.specs.Entries.{conditionHead, maxCount}
-use Rattle.sheet.specs.Places.{ReadsTo, conditionOf, conditionCount}
+use Rattle.sheet.specs.Places.{conditionOf, conditionCount}
 use Rattle.sheet.specs.declared.rule_heads.ConditionHead.{ConditionHead}
 use Rattle.sheet.specs.declared.rule_heads.ConditionHead.the-variants as head
 use Rattle.definition.specs.Limits.{maxRuleEntries}

@@ -5,7 +5,7 @@ use mathlib.Core.List.{List}
 use mathlib.Core.Option.{Option, none, some}
 use mathlib.Core.Path.{_≡_, refl, sym, ap, _∙_}
 use native.Mathlib.Omega.{arith}
-use Rattle.sheet.specs.Reader.{Reader, pure, refuse, andThen, _>>=_, _>>_}
+use Rattle.text.specs.Reader.{Reader, pure, refuse, andThen, _>>=_, _>>_}
 use Rattle.sheet.specs.Entries.{ConditionHead, literalHead, manyHead, negationHead, oneHead, twoHead, comparisonHead, quantifierHead, conditionHead}
 use Rattle.definition.specs.Tree.{Value, constant, Values, noValues, value, Condition, literal, many, negation, one, two, comparison, quantifier, Conditions, noConditions, condition}
 use Rattle.definition.specs.Decode.{Ahead, entered, entry, anyValue, valuesOf, conditionsOf, conditionOf, conditionIn}

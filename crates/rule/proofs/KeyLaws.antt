@@ -4,14 +4,14 @@ use mathlib.Core.Bool.{Bool, true, false, _&&_, false≢true}
 use mathlib.Core.List.{List}
 use mathlib.Core.Option.{Option, none, some}
 use mathlib.Core.Path.{_≡_, refl, sym, _∙_, subst}
-use Rattle.sheet.specs.Order.{precedes, follows, isAmong, noneTwice}
-use Rattle.sheet.specs.OrderLaws.{precedes-transitive, precedes-differs}
-use Rattle.sheet.specs.ReaderLaws.{by-test}
-use Rattle.sheet.specs.Parts.{partOf, optionalOf}
-use Rattle.sheet.specs.Compares.{Stand}
-use Rattle.sheet.specs.declared.part.Part.{Part}
-use Rattle.sheet.specs.declared.part.OptionalPart.{OptionalPart}
-use Rattle.sheet.specs.declared.part.OptionalPart.the-variants.{Is}
+use Rattle.text.specs.Order.{precedes, follows, isAmong, noneTwice}
+use Rattle.text.specs.OrderLaws.{precedes-transitive, precedes-differs}
+use Rattle.text.specs.CaseLaws.{by-test}
+use Rattle.text.specs.Parts.{partOf, optionalOf}
+use Rattle.text.specs.Compares.{Stand}
+use Rattle.text.specs.declared.part.Part.{Part}
+use Rattle.text.specs.declared.part.OptionalPart.{OptionalPart}
+use Rattle.text.specs.declared.part.OptionalPart.the-variants.{Is}
 use Rattle.definition.specs.Tree.{Text, Value, Pairs, noPairs, pair}
 use Rattle.definition.specs.Decode.{keysOf}
 

@@ -10,15 +10,15 @@ use lib.Dec.{ltb, eqb}
 use lib.ListN.{length, getD, take, drop, List·getD-eq-default}
 use lib.Seq.{getD-drop, drop-drop, take-append-seam}
 use borrow.Author.Tests.{ltb-true, ltb-false, eqb-true, eqb-false}
-use Rattle.sheet.specs.Ascii.{ascii}
-use Rattle.sheet.specs.NumeralLaws.{decimalOf-one, decimalOf-last}
-use Rattle.sheet.specs.Parts.{partOf}
-use Rattle.sheet.specs.Places.{ReadsTo}
-use Rattle.sheet.specs.ItemLaws.{item-complete, comma-begins}
-use Rattle.sheet.specs.declared.part.Part.{Part}
+use Rattle.text.specs.Ascii.{ascii}
+use Rattle.text.specs.NumeralLaws.{decimalOf-one, decimalOf-last, comma-begins}
+use Rattle.text.specs.Parts.{partOf}
+use Rattle.text.specs.ReadAt.{ReadsTo}
+use Rattle.text.specs.declared.part.Part.{Part}
+use Rattle.text.specs.CaseLaws.{by-test}
+use Rattle.sheet.specs.ItemLaws.{item-complete}
 use Rattle.sheet.specs.Entries.{maxText, item, ConditionHead, literalHead, manyHead, negationHead, oneHead, twoHead, comparisonHead, quantifierHead, conditionHead, ValueHead, constantHead, numberHead, stringHead, arrayHead, objectHead, valueHead, keyHead}
 use Rattle.sheet.specs.Write.{writeItem, writeEnd, writeLast, writeOperator, writeConditionHead, writeType, writeValueHead, writeKeyHead}
-use Rattle.sheet.specs.ReaderLaws.{by-test}
 use Rattle.sheet.specs.RuleHeadLaws.{ConditionHeadFits, conditionHead-exact, ValueHeadFits, valueHead-exact, keyHead-exact}
 use Rattle.rule.specs.Kinds.{operatorIn, typeIn, OperatorAt, TypeAt, HasType, TextAt}
 

@@ -6,9 +6,9 @@ use mathlib.Core.Option.{none}
 use mathlib.Core.Path.{_≡_, refl, sym}
 use native.Mathlib.Omega.{arith}
 use lib.ListN.{set}
-use Rattle.sheet.specs.Parts.{optionalOf}
+use Rattle.text.specs.Parts.{optionalOf}
+use Rattle.text.specs.declared.part.OptionalPart.the-variants.{Absent}
 use Rattle.sheet.specs.Places.{LeafRead, valueCount}
-use Rattle.sheet.specs.declared.part.OptionalPart.the-variants.{Absent}
 use Rattle.sheet.specs.declared.rule_heads.ValueHead.{ValueHead}
 use Rattle.sheet.specs.declared.rule_heads.ValueHead.the-variants as head
 use Rattle.definition.specs.Decode.{valueIn}

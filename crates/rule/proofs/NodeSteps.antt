@@ -6,9 +6,9 @@ use mathlib.Core.Logic.{⊎-elim, _⊎_, inl, inr}
 use mathlib.Core.Option.{some}
 use mathlib.Core.Path.{_≡_, refl, sym, ap, _∙_}
 use lib.ListN.{drop}
-use Rattle.sheet.specs.Reader.{Reader}
+use Rattle.text.specs.Reader.{Reader}
+use Rattle.text.specs.ReadAt.{ReadsTo}
 use Rattle.sheet.specs.Entries.{ConditionHead, conditionHead}
-use Rattle.sheet.specs.Places.{ReadsTo}
 use Rattle.sheet.specs.RuleHeadLaws.{ConditionHeadFits, conditionHead-exact}
 use Rattle.definition.specs.Tree.{Value, constant, number, string, array, object, Values, noValues, value, Condition, literal, many, negation, one, two, comparison, quantifier, Conditions, noConditions, condition}
 use Rattle.definition.specs.Within.{conditionEntries, conditionsEntries, valueEntries, valuesEntries}

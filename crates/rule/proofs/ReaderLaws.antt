@@ -4,7 +4,8 @@ use mathlib.Core.Option.{Option, none, some, Option·some-injective}
 use mathlib.Core.Path.{_≡_, refl, ap, _∙_}
 use native.Mathlib.Omega.{arith}
 use borrow.Author.Tests.{le-leb, lt-leb}
-use Rattle.sheet.specs.Reader.{Reader, andThen, pure, _>>=_}
+use Rattle.text.specs.Reader.{Reader, andThen, pure, _>>=_}
+use Rattle.text.specs.CaseLaws.{zero-not-one}
 use Rattle.definition.specs.Decode.{Ahead, announce}
 
 pub some-both : {A S : Type 0} {x y : A} {a b : S} → _≡_ {A = Option (A × S)} (some (x, a)) (some (y, b)) → (x ≡ y) × (a ≡ b)
@@ -20,7 +21,7 @@ pub record Chain {A B S : Type 0} (o : Option (A × S)) (k : A → Reader S B) (
 
 pub then-some : {A B S : Type 0} (o : Option (A × S)) (k : A → Reader S B) {t : B × S} → andThen o k ≡ some t → Chain o k (some t)
 unfolding andThen
-then-some none k e = let z : _≡_ {A = ℕ} 0 1 = cc in absurd (omega arith)
+then-some none k e = zero-not-one cc
 then-some (some r) k e = record { fst = r .0; mid = r .1; first = refl; second = e }
 
 -- the first of several siblings, and the others

@@ -7,13 +7,13 @@ use mathlib.Core.Path.{_≡_, refl, ap, _∙_}
 use native.Mathlib.Omega.{arith}
 use borrow.Author.Tests.{le-leb, lt-leb, eq-eqb, ne-eqb}
 use lib.ListN.{length, drop, set, length-drop}
-use Rattle.sheet.specs.Reader.{Reader, pure, ensure, andThen, _>>=_, _>>_}
+use Rattle.text.specs.Reader.{Reader, pure, ensure, andThen, _>>=_, _>>_}
+use Rattle.text.specs.Parts.{optionalOf}
 use Rattle.sheet.specs.Entries.{ruleHead}
 use Rattle.sheet.specs.Entries as entries
 use Rattle.sheet.specs.Places.{ruleOf}
 use Rattle.sheet.specs.declared.rule_heads.RuleHead.{RuleHead}
 use Rattle.sheet.specs.declared.rule_heads.RuleHead.the-variants as head
-use Rattle.sheet.specs.Parts.{optionalOf}
 use Rattle.definition.specs.Limits.{maxSheetBytes, maxRuleEntries, maxConditionNesting}
 use Rattle.definition.specs.Tree.{Rule, rule, template}
 use Rattle.definition.specs.Decode.{Ahead, entered, entry, announce, atEnd, whole, anyValue, conditionIn, anyRule, decodeRule}

@@ -7,16 +7,16 @@ use mathlib.Core.Path.{_≡_, refl, sym, ap, _∙_, subst}
 use native.Mathlib.Omega.{arith}
 use lib.ListN.{length, take, drop, take-append-drop, length-append, length-drop}
 use lib.Seq.{take-append-seam}
-use Rattle.sheet.specs.Order.{sameBytes, isAmong, noneTwice}
-use Rattle.sheet.specs.OrderLaws.{sameBytes-equal, equal-sameBytes}
-use Rattle.sheet.specs.ReaderLaws.{by-test}
+use Rattle.text.specs.Order.{sameBytes, isAmong, noneTwice}
+use Rattle.text.specs.OrderLaws.{sameBytes-equal, equal-sameBytes}
+use Rattle.text.specs.CaseLaws.{by-test}
+use Rattle.text.specs.ReadAt.{ReadsTo}
+use Rattle.text.specs.Parts.{partOf}
+use Rattle.text.specs.declared.part.Part.{Part}
 use Rattle.sheet.specs.Entries.{keyHead}
 use Rattle.sheet.specs.ItemLaws.{anything}
-use Rattle.sheet.specs.Places.{ReadsTo}
-use Rattle.sheet.specs.Parts.{partOf}
 use Rattle.sheet.specs.RuleHeadLaws.{keyHead-exact}
 use Rattle.sheet.specs.Write.{writeKeyHead}
-use Rattle.sheet.specs.declared.part.Part.{Part}
 use Rattle.definition.specs.Tree.{Text, Value, Pairs, noPairs, pair}
 use Rattle.definition.specs.Decode.{keysOf}
 use Rattle.definition.specs.Write.{countOfPairs}

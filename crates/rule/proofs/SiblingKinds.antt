@@ -5,65 +5,36 @@ use mathlib.Core.Bool.{Bool, true, false, _&&_}
 use mathlib.Core.Option.{none, some}
 use mathlib.Core.Path.{_≡_, refl, sym, ap, _∙_}
 use native.Mathlib.Omega.{arith}
-use Rattle.sheet.specs.Reader.{Reader, pure, andThen, _>>=_}
-use Rattle.sheet.specs.Order.{follows, noneTwice}
-use Rattle.sheet.specs.Parts.{partOf, optionalOf}
-use Rattle.sheet.specs.declared.part.Part.{Part}
-use Rattle.sheet.specs.declared.part.OptionalPart.{OptionalPart}
-use Rattle.sheet.specs.declared.part.OptionalPart.the-variants.{Is}
+use Rattle.text.specs.Reader.{Reader, pure, _>>=_}
+use Rattle.text.specs.Order.{follows, noneTwice}
+use Rattle.text.specs.Parts.{partOf, optionalOf}
+use Rattle.text.specs.declared.part.Part.{Part}
+use Rattle.text.specs.declared.part.OptionalPart.{OptionalPart}
+use Rattle.text.specs.declared.part.OptionalPart.the-variants.{Is}
 use Rattle.definition.specs.Limits.{maxRuleEntries}
-use Rattle.definition.specs.Tree.{Text, Value, Values, noValues, value, Pairs, noPairs, pair, Condition, Conditions, noConditions, condition}
-use Rattle.definition.specs.Decode.{Ahead, valueIn, valuesOf, pairsOf, keysOf, conditionIn, conditionsOf}
-use Rattle.definition.specs.Within.{conditionEntries, conditionsEntries, pairsEntries, valueEntries, valuesEntries}
+use Rattle.definition.specs.Tree.{Text, Value, Values, value, Pairs, noPairs, pair, Condition, Conditions}
+use Rattle.definition.specs.Decode.{Ahead, valueIn, pairsOf, keysOf, conditionIn}
+use Rattle.definition.specs.Within.{pairsEntries}
 use Rattle.definition.specs.Write.{countOfPairs}
+use Rattle.definition.specs.SiblingLaws.{Siblings, values-of, conditions-of}
 use Rattle.rule.specs.declared.cursor.Cursor.{Cursor}
 use Rattle.rule.specs.declared.cursor.TreeRead.the-variants as tree
 use Rattle.rule.specs.Index.{ValueAt, ValuesAt, PairsAt, ConditionAt, ConditionsAt}
 use Rattle.rule.specs.IndexLaws.{Agree, agree-within, entry-frame, value-frame, condition-frame}
 use Rattle.rule.specs.Read.{aheadOf, pairIn, PairAt, sizeOfPair, Kept, Indexed, PairsAnswer}
 use Rattle.rule.specs.Keys.{NoneTwice}
-use Rattle.rule.proofs.SiblingLaws.{Siblings, Passing, siblings-next, siblings-bad, siblings-ended}
+use Rattle.rule.proofs.SiblingLaws.{Indexing, Passing, siblings-next, siblings-bad, siblings-ended}
 use Rattle.rule.proofs.KeptLaws.{kept-wider}
 use Rattle.rule.proofs.KeyLaws.{Risen, risenBy, risen, risen-none, risen-pair, risen-differ}
 use Rattle.rule.proofs.ValueLaws.{pairs-first, pairs-count, object-unread, object-read, object-twice}
 
-module _ (p : Reader Ahead Value) where
-  pub values-zero : (a : Ahead) → valuesOf 0 p a ≡ some (noValues, a)
-  unfolding valuesOf pure
-  values-zero a = refl
+pub pairs-zero : (p : Reader Ahead Value) (a : Ahead) → pairsOf 0 p a ≡ some (noPairs, a)
+unfolding pairsOf pure
+pairs-zero p a = refl
 
-  pub values-suc : (n : ℕ) (a : Ahead) → valuesOf (suc n) p a ≡ andThen (p a) (λ v. valuesOf n p >>= λ vs. pure (value v vs))
-  unfolding valuesOf _>>=_
-  values-suc n a = refl
-
-  pub pairs-zero : (a : Ahead) → pairsOf 0 p a ≡ some (noPairs, a)
-  unfolding pairsOf pure
-  pairs-zero a = refl
-
-module _ (p : Reader Ahead Condition) where
-  pub conditions-zero : (a : Ahead) → conditionsOf 0 p a ≡ some (noConditions, a)
-  unfolding conditionsOf pure
-  conditions-zero a = refl
-
-  pub conditions-suc : (n : ℕ) (a : Ahead) → conditionsOf (suc n) p a ≡ andThen (p a) (λ c. conditionsOf n p >>= λ cs. pure (condition c cs))
-  unfolding conditionsOf _>>=_
-  conditions-suc n a = refl
-
-pub values-size : (v : Value) (vs : Values) → valuesEntries (value v vs) ≡ valueEntries v + valuesEntries vs
-unfolding valuesEntries
-values-size v vs = refl
-
-pub no-values-size : valuesEntries noValues ≡ 0
-unfolding valuesEntries
-no-values-size = refl
-
-pub conditions-size : (c : Condition) (cs : Conditions) → conditionsEntries (condition c cs) ≡ conditionEntries c + conditionsEntries cs
-unfolding conditionsEntries
-conditions-size c cs = refl
-
-pub no-conditions-size : conditionsEntries noConditions ≡ 0
-unfolding conditionsEntries
-no-conditions-size = refl
+pub pairs-suc : (p : Reader Ahead Value) (n : ℕ) (a : Ahead) → pairsOf (suc n) p a ≡ (pairIn p >>= λ kv. pairsOf n p >>= λ ps. pure (pair (kv .0) (kv .1) ps)) a
+unfolding _>>=_
+pairs-suc p n a = pairs-first n p a
 
 pub pairs-size : (kv : Text × Value) (ps : Pairs) → pairsEntries (pair (kv .0) (kv .1) ps) ≡ sizeOfPair kv + pairsEntries ps
 unfolding pairsEntries sizeOfPair
@@ -72,6 +43,21 @@ pairs-size kv ps = omega arith
 pub no-pairs-size : pairsEntries noPairs ≡ 0
 unfolding pairsEntries
 no-pairs-size = refl
+
+abbrev pub pairs-of : Reader Ahead Value → Siblings (Text × Value) Pairs
+pairs-of p =
+    record {
+      item = pairIn p;
+      all = λ n. pairsOf n p;
+      none-of = noPairs;
+      cons = λ kv. pair (kv .0) (kv .1);
+      itemSize = sizeOfPair;
+      allSize = pairsEntries;
+      all-zero = pairs-zero p;
+      all-suc = pairs-suc p;
+      none-size = no-pairs-size;
+      cons-size = pairs-size;
+    }
 
 module _ (s : List ℕ) where
   pub pair-frame : (words later : List ℕ) (i : ℕ) (kv : Text × Value) → PairAt s words i kv → Agree words later i (i + sizeOfPair kv) → PairAt s later i kv
@@ -84,77 +70,50 @@ module _ (s : List ℕ) where
   pairs-more words i kv ps at others = (at .0, at .1, others)
 
   -- the values of an array
-  abbrev pub values-kind : ℕ → Siblings (Unit {0}) Value Values
+  abbrev pub values-kind : ℕ → Indexing (Unit {0}) Value Values
   values-kind depth =
       record {
-        item = valueIn depth;
-        all = λ n. valuesOf n (valueIn depth);
+        kind = values-of (valueIn depth);
         told = λ k v. tt;
         ending = λ k vs. tt;
-        none-of = noValues;
-        cons = value;
         ItemAt = ValueAt s;
         AllAt = ValuesAt s;
-        itemSize = valueEntries;
-        allSize = valuesEntries;
-        all-zero = values-zero (valueIn depth);
-        all-suc = values-suc (valueIn depth);
         none-ending = λ k. refl;
         cons-ending = λ k v vs. refl;
         none-at = λ words i. tt;
         cons-at = λ words i v vs at others. (at, others);
-        none-size = no-values-size;
-        cons-size = values-size;
         item-frame = λ words later i v at agree. value-frame s words later v i at agree;
       }
 
   -- the conditions of `all`, `any` and `not`, and a quantifier's body
-  abbrev pub conditions-kind : ℕ → Siblings (Unit {0}) Condition Conditions
+  abbrev pub conditions-kind : ℕ → Indexing (Unit {0}) Condition Conditions
   conditions-kind depth =
       record {
-        item = conditionIn depth;
-        all = λ n. conditionsOf n (conditionIn depth);
+        kind = conditions-of (conditionIn depth);
         told = λ k c. tt;
         ending = λ k cs. tt;
-        none-of = noConditions;
-        cons = condition;
         ItemAt = ConditionAt s;
         AllAt = ConditionsAt s;
-        itemSize = conditionEntries;
-        allSize = conditionsEntries;
-        all-zero = conditions-zero (conditionIn depth);
-        all-suc = conditions-suc (conditionIn depth);
         none-ending = λ k. refl;
         cons-ending = λ k c cs. refl;
         none-at = λ words i. tt;
         cons-at = λ words i c cs at others. (at, others);
-        none-size = no-conditions-size;
-        cons-size = conditions-size;
         item-frame = λ words later i c at agree. condition-frame s words later c i at agree;
       }
 
   -- the keys and values of an object: whether the keys rise is carried along, and the key before
-  abbrev pub pairs-kind : ℕ → Siblings Risen (Text × Value) Pairs
+  abbrev pub pairs-kind : ℕ → Indexing Risen (Text × Value) Pairs
   pairs-kind depth =
       record {
-        item = pairIn (valueIn depth);
-        all = λ n. pairsOf n (valueIn depth);
+        kind = pairs-of (valueIn depth);
         told = λ k kv. risenBy k (kv .0);
         ending = risen;
-        none-of = noPairs;
-        cons = λ kv. pair (kv .0) (kv .1);
         ItemAt = PairAt s;
         AllAt = PairsAt s;
-        itemSize = sizeOfPair;
-        allSize = pairsEntries;
-        all-zero = pairs-zero (valueIn depth);
-        all-suc = λ n a. pairs-first n (valueIn depth) a;
         none-ending = risen-none;
         cons-ending = λ k kv ps. risen-pair k (kv .0) (kv .1) ps;
         none-at = λ words i. tt;
         cons-at = pairs-more;
-        none-size = no-pairs-size;
-        cons-size = pairs-size;
         item-frame = pair-frame;
       }
 

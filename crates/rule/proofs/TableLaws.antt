@@ -10,13 +10,13 @@ use lib.Dec.{eqb}
 use lib.ListN.{length, getD, drop, drop-of-length-le, replicate, length-replicate, set, length-set}
 use lib.Seq.{drop-cons, getD-set-same, getD-set-other}
 use borrow.Author.Tests.{eqb-true, eq-eqb}
-use Rattle.sheet.specs.Order.{sameBytes, isAmong, noneTwice}
-use Rattle.sheet.specs.OrderLaws.{sameBytes-equal, sameBytes-symmetric}
-use Rattle.sheet.specs.ReaderLaws.{by-test}
+use Rattle.text.specs.Order.{sameBytes, isAmong, noneTwice}
+use Rattle.text.specs.OrderLaws.{sameBytes-equal, sameBytes-symmetric}
+use Rattle.text.specs.CaseLaws.{by-test}
+use Rattle.text.specs.ReadAt.{ReadsTo}
+use Rattle.text.specs.Parts.{partOf}
+use Rattle.text.specs.declared.part.Part.{Part}
 use Rattle.sheet.specs.Entries.{keyHead}
-use Rattle.sheet.specs.Places.{ReadsTo}
-use Rattle.sheet.specs.Parts.{partOf}
-use Rattle.sheet.specs.declared.part.Part.{Part}
 use Rattle.definition.specs.Limits.{maxRuleEntries}
 use Rattle.definition.specs.Tree.{Text, Pairs, noPairs, pair}
 use Rattle.definition.specs.Decode.{keysOf}

@@ -5,8 +5,10 @@ use mathlib.Core.Option.{none, some}
 use mathlib.Core.Path.{_≡_, sym, ap, _∙_}
 use native.Mathlib.Omega.{arith}
 use lib.ListN.{drop, set}
+use Rattle.text.specs.ReadAt.{ReadsTo}
+use Rattle.text.specs.CaseLaws.{zero-not-one}
 use Rattle.sheet.specs.Entries.{objectHead, valueHead, maxCount}
-use Rattle.sheet.specs.Places.{ReadsTo, valueOf, valueCount}
+use Rattle.sheet.specs.Places.{valueOf, valueCount}
 use Rattle.sheet.specs.declared.rule_heads.ValueHead.{ValueHead}
 use Rattle.sheet.specs.declared.rule_heads.ValueHead.the-variants as head
 use Rattle.definition.specs.Limits.{maxRuleEntries}
@@ -39,14 +41,14 @@ held-values s (head.Constant type) n e = let z : 0 ≡ n = cc in rw (← z) cons
 held-values s (head.Number digits) n e = let z : 0 ≡ n = cc in rw (← z) number-holds
 held-values s (head.Text t) n e = let z : 0 ≡ n = cc in rw (← z) string-holds
 held-values s (head.Array m) n e = let z : m ≡ n = cc in rw z array-holds
-held-values s (head.Object m) n e = let z : _≡_ {A = ℕ} 0 1 = cc in absurd (omega arith)
+held-values s (head.Object m) n e = zero-not-one cc
 
 held-pairs : (s : List ℕ) (h : ValueHead) (n : ℕ) → heldBy h ≡ held.Pairs n → objectHead n ≡ valueOf s h
 unfolding valueOf
-held-pairs s (head.Constant type) n e = let z : _≡_ {A = ℕ} 0 1 = cc in absurd (omega arith)
-held-pairs s (head.Number digits) n e = let z : _≡_ {A = ℕ} 0 1 = cc in absurd (omega arith)
-held-pairs s (head.Text t) n e = let z : _≡_ {A = ℕ} 0 1 = cc in absurd (omega arith)
-held-pairs s (head.Array m) n e = let z : _≡_ {A = ℕ} 0 1 = cc in absurd (omega arith)
+held-pairs s (head.Constant type) n e = zero-not-one cc
+held-pairs s (head.Number digits) n e = zero-not-one cc
+held-pairs s (head.Text t) n e = zero-not-one cc
+held-pairs s (head.Array m) n e = zero-not-one cc
 held-pairs s (head.Object m) n e = let z : n ≡ m = cc in ap objectHead z
 
 abbrev Bad : (s before after : List ℕ) (depth : ℕ) (c : Cursor) → Type 0

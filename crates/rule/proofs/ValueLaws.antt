@@ -5,8 +5,9 @@ use mathlib.Core.List.{List}
 use mathlib.Core.Option.{Option, none, some, Option·none-ne-some}
 use mathlib.Core.Path.{_≡_, refl, sym, ap, _∙_}
 use native.Mathlib.Omega.{arith}
-use Rattle.sheet.specs.Reader.{Reader, pure, refuse, ensure, andThen, _>>=_, _>>_}
-use Rattle.sheet.specs.Order.{noneTwice}
+use Rattle.text.specs.Reader.{Reader, pure, refuse, ensure, andThen, _>>=_, _>>_}
+use Rattle.text.specs.Order.{noneTwice}
+use Rattle.text.specs.CaseLaws.{zero-not-one}
 use Rattle.sheet.specs.Entries.{ValueHead, constantHead, numberHead, stringHead, arrayHead, objectHead, valueHead, keyHead}
 use Rattle.definition.specs.Tree.{Text, Value, constant, number, string, array, object, Values, noValues, value, Pairs, noPairs, pair}
 use Rattle.definition.specs.Decode.{Ahead, entered, entry, valuesOf, pairsOf, keysOf, objectOf, valueOf, valueIn}
@@ -151,9 +152,9 @@ module _ (e : ℕ) (p : Reader Ahead Value) (a : Ahead) where
 
   pub values-bad : {h : ValueHead} {n : ℕ} → HoldsValues h n → n ≤ a .left → valuesOf n p (paid n a) ≡ none → valueOf e h p a ≡ none
   unfolding valueOf valuesOf pure _>>=_ _>>_ andThen
-  values-bad constant-holds q f = let z : _≡_ {A = ℕ} 0 1 = cc in absurd (omega arith)
-  values-bad number-holds q f = let z : _≡_ {A = ℕ} 0 1 = cc in absurd (omega arith)
-  values-bad string-holds q f = let z : _≡_ {A = ℕ} 0 1 = cc in absurd (omega arith)
+  values-bad constant-holds q f = zero-not-one cc
+  values-bad number-holds q f = zero-not-one cc
+  values-bad string-holds q f = zero-not-one cc
   values-bad (array-holds {n}) q f = rw (announced n a q, f)
 
 -- the value with that head, over what was read inside it

@@ -5,7 +5,7 @@ use mathlib.Core.List.{List}
 use mathlib.Core.Option.{some}
 use mathlib.Core.Path.{_≡_}
 use lib.ListN.{getD, drop}
-use Rattle.sheet.specs.Reader.{Reader}
+use Rattle.text.specs.Reader.{Reader}
 use Rattle.sheet.specs.Entries.{literalHead, manyHead, negationHead, oneHead, twoHead, comparisonHead, quantifierHead, conditionHead, constantHead, numberHead, stringHead, arrayHead, objectHead, valueHead, keyHead, ruleHead}
 use Rattle.sheet.specs.Entries as Entries
 use Rattle.definition.specs.Limits.{wordEntries}

@@ -3,10 +3,10 @@ use Prim.Native.Nat.{ℕ, _+_}
 use mathlib.Core.Bool.{Bool}
 use mathlib.Core.List.{List}
 use mathlib.Core.Path.{_≡_}
-use Rattle.sheet.specs.Order.{isAmong, noneTwice}
+use Rattle.text.specs.Order.{isAmong, noneTwice}
+use Rattle.text.specs.ReadAt.{ReadsTo}
+use Rattle.text.specs.declared.part.Part.{Part}
 use Rattle.sheet.specs.Entries.{keyHead}
-use Rattle.sheet.specs.Places.{ReadsTo}
-use Rattle.sheet.specs.declared.part.Part.{Part}
 use Rattle.definition.specs.Tree.{Text, Pairs}
 use Rattle.definition.specs.Decode.{keysOf}
 use Rattle.definition.specs.Write.{countOfPairs}

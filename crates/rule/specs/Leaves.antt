@@ -8,8 +8,9 @@ use mathlib.Core.Bool.{Bool, true, false}
 use lib.ListN.{drop}
 use lib.Dec.{eqb}
 use borrow.Author.Tests.{eqb-true}
-use Rattle.sheet.specs.Reader.{_>>=_, _>>_, andThen}
-use Rattle.sheet.specs.Entries.{byte, ValueHead, constantHead, numberHead, stringHead, arrayHead, objectHead, valueHead, keyHead}
+use Rattle.text.specs.Reader.{_>>=_, _>>_, andThen}
+use Rattle.text.specs.ByteReaders.{byte}
+use Rattle.sheet.specs.Entries.{ValueHead, constantHead, numberHead, stringHead, arrayHead, objectHead, valueHead, keyHead}
 use Rattle.definition.specs.Tree.{Text, Value, constant, number, string, array, object, Values, noValues, value, Pairs, noPairs, pair}
 use Rattle.definition.specs.Within.{pairsEntries, valueEntries, valuesEntries}
 use Rattle.definition.specs.Write.{countOfValues, countOfPairs}

@@ -4,9 +4,9 @@ use mathlib.Core.List.{List}
 use mathlib.Core.Option.{none, some}
 use mathlib.Core.Path.{_≡_}
 use lib.ListN.{length, getD, drop}
-use Rattle.sheet.specs.Reader.{Reader, _>>=_, pure}
+use Rattle.text.specs.Reader.{Reader, _>>=_, pure}
+use Rattle.text.specs.Parts.{partOf}
 use Rattle.sheet.specs.Entries.{keyHead}
-use Rattle.sheet.specs.Parts.{partOf}
 use Rattle.sheet.specs.declared.rule_heads.ValueHead.{ValueHead}
 use Rattle.sheet.specs.declared.rule_heads.ValueHead.the-variants as value-head
 use Rattle.sheet.specs.declared.rule_heads.ConditionHead.{ConditionHead}

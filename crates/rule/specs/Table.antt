@@ -6,10 +6,10 @@ use mathlib.Core.Option.{some}
 use mathlib.Core.Path.{_≡_}
 use lib.Dec.{eqb}
 use lib.ListN.{length, getD, drop}
-use Rattle.sheet.specs.Order.{isAmong}
+use Rattle.text.specs.Order.{isAmong}
+use Rattle.text.specs.ReadAt.{ReadsTo}
+use Rattle.text.specs.declared.part.Part.{Part}
 use Rattle.sheet.specs.Entries.{keyHead}
-use Rattle.sheet.specs.Places.{ReadsTo}
-use Rattle.sheet.specs.declared.part.Part.{Part}
 use Rattle.definition.specs.Tree.{Text}
 use Rattle.rule.specs.Index.{startOf}
 

@@ -1,8 +1,8 @@
 // What an entry is, and where its text is, read off its first bytes: the rest has been read when the index was made.
 use sheet::entry::MAX_TEXT;
 use sheet::entry::item;
-use sheet::numeral::NumeralRead;
-use sheet::part::Part;
+use text::numeral::NumeralRead;
+use text::part::Part;
 ghost use mathlib.Core.Path.{_≡_};
 ghost use Prim.Native.Nat.{_+_};
 ghost use lib.ListN.{getD};

@@ -6,19 +6,19 @@ use crate::keys::none_twice;
 use lines::rule_sheet::key_head;
 use lines::rule_sheet::leaf_end;
 use lines::rule_sheet::value_head;
-use sheet::order::ByteOrder;
-use sheet::part::OptionalPart;
-use sheet::part::Part;
-use sheet::part::bytes_of;
 use sheet::rule_heads::KeyRead;
 use sheet::rule_heads::ValueHead;
 use sheet::rule_heads::ValueRead;
+use text::order::ByteOrder;
+use text::part::OptionalPart;
+use text::part::Part;
+use text::part::bytes_of;
 ghost use mathlib.Core.Path.{_≡_};
 ghost use mathlib.Core.Bool.{_&&_};
 ghost use Prim.Native.Nat.{_*_, _≤_};
+ghost use Rattle.text.specs.Order.{follows};
+ghost use Rattle.text.specs.Parts.{partOf, optionalOf};
 ghost use Rattle.sheet.specs.Entries.{maxCount};
-ghost use Rattle.sheet.specs.Order.{follows};
-ghost use Rattle.sheet.specs.Parts.{partOf, optionalOf};
 ghost use Rattle.rule.specs.Read.{Ready, heldBy, heldCount, costOf, HeldAnswer, ValueAnswer, ValuesAnswer, PairAnswer, PairsAnswer};
 
 // What a value holds.
@@ -67,7 +67,7 @@ fn is_next_key(s: &[u8], previous: OptionalPart, key: Part) -> bool
     let OptionalPart::Is(earlier) = previous else {
         return true;
     };
-    match sheet::order::compare(bytes_of(s, earlier), bytes_of(s, key)) {
+    match text::order::compare(bytes_of(s, earlier), bytes_of(s, key)) {
         ByteOrder::Less => true,
         ByteOrder::Same => false,
         ByteOrder::Greater => false,

@@ -4,7 +4,7 @@ use mathlib.Core.List.{List, [], _∷_}
 use mathlib.Core.Option.{none, some}
 use mathlib.Core.Path.{_≡_, refl}
 use lib.ListN.{replicate}
-use Rattle.sheet.specs.Ascii.{ascii}
+use Rattle.text.specs.Ascii.{ascii}
 use Rattle.validation.proofs.Edges.{empty}
 use Rattle.validation.proofs.Bounds.{met}
 use Rattle.validation.proofs.TableEdges.{changed, oldAlone}

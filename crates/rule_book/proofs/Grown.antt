@@ -2,7 +2,7 @@
 use Prim.Native.Nat.{ℕ}
 use mathlib.Core.List.{List, [], _∷_}
 use mathlib.Core.Path.{_≡_, refl}
-use Rattle.sheet.specs.Ascii.{ascii}
+use Rattle.text.specs.Ascii.{ascii}
 use Rattle.widening.specs.Widening.{marks, listed, kept, opened, wider, neither, end, keep, without}
 use Rattle.validation.specs.Growth.{Widens}
 use Rattle.validation.proofs.Bounds.{met}

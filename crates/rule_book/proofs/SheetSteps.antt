@@ -1,66 +1,26 @@
 -- Each way through the code's readers of a book, as an equation of the definitions.
-use Prim.Native.Nat.{ℕ, _+_, _*_, _-_, _/_, _<_, _≤_}
+use Prim.Native.Nat.{ℕ, _+_, _-_, _<_, _≤_}
 use native.Mathlib.Omega.{arith}
-use mathlib.Core.Bool.{true, false}
 use mathlib.Core.List.{List, _∷_}
-use mathlib.Core.Option.{Option, none, some, Option·map, Option·none-ne-some, Option·some-ne-none, Option·some-injective}
-use mathlib.Core.Path.{_≡_, refl, sym, ap, _∙_}
-use native.Mathlib.Numerals.{add-one}
-use lib.ListN.{length, drop, getD, length-drop, drop-of-length-le}
-use lib.Seq.{drop-cons, drop-drop}
-use borrow.Author.Tests.{le-leb, lt-leb, ne-eqb}
-use Rattle.text.specs.Decimal.{isDigit}
-use Rattle.sheet.specs.Reader.{_>>=_, _>>_, andThen}
-use Rattle.sheet.specs.Numeral.{digits, decimal}
-use Rattle.sheet.specs.Entries.{byte, bytes}
-use Rattle.sheet.specs.Parts.{partOf}
-use Rattle.sheet.specs.Places.{ReadsTo, Refuses}
-use Rattle.sheet.specs.declared.numeral.NumeralRead.{NumeralRead}
-use Rattle.sheet.specs.declared.numeral.NumeralRead.the-variants.{Is, Bad}
-use Rattle.sheet.proofs.Numerals.{digits-more, digits-above}
+use mathlib.Core.Option.{Option, none, some, Option·map, Option·some-ne-none}
+use mathlib.Core.Path.{_≡_, refl, ap, _∙_}
+use lib.ListN.{length, drop, length-drop, drop-of-length-le}
+use lib.Seq.{drop-drop}
+use borrow.Author.Tests.{le-leb, lt-leb}
+use Rattle.text.specs.Reader.{_>>=_, _>>_, andThen}
+use Rattle.text.specs.Numeral.{decimal}
+use Rattle.text.specs.ByteReaders.{byte, bytes}
+use Rattle.text.specs.Parts.{partOf}
+use Rattle.text.specs.ReadAt.{ReadsTo, Refuses, DecimalIs}
+use Rattle.text.specs.declared.numeral.NumeralRead.the-variants.{Bad}
 use Rattle.rule_book.specs.Book.{sheetIn, sheetsOf}
 use Rattle.rule_book.specs.BookLaws.{sheet-bytes, sheet-length, sheets-end, sheets-more, sheets-none}
-use Rattle.rule_book.specs.Places.{DigitsAre, LengthIs, sheetCount}
-
--- Lengths.
-
--- one digit more, after a value that is above a tenth of the file's length
-pub digits-beyond : (value first : ℕ) (s : List ℕ) (i at : ℕ) → i < length s → isDigit (getD s i 0) ≡ true
-    → length s / 10 < value
-    → digits value (drop i s) ≡ digits first (drop at s)
-    → length s < digits first (drop at s) .0
-digits-beyond value first s i at h d more e =
-    digits-above (value * 10 + (getD s i 0 - 48)) (length s) first (drop (i + 1) s) (drop at s) (omega arith)
-    (sym (digits-more value s i h d) ∙ e)
-
-pub length-end : (s : List ℕ) (at : ℕ) → length s ≤ at → LengthIs s at Bad
-unfolding decimal
-length-end s at h n t e = absurd (Option·none-ne-some (n, t) (rw (drop-of-length-le s h) at e))
-
-module _ (s : List ℕ) (at : ℕ) (h : at < length s) (other : getD s at 0 ≡ 48 → ⊥) where
-  pub length-none : isDigit (getD s at 0) ≡ false → LengthIs s at Bad
-  unfolding decimal
-  length-none d n t e = absurd (Option·none-ne-some (n, t) (rw (drop-cons s at 0 h, ne-eqb (getD s at 0) 48 other, d) at e))
-
-  by-digits : isDigit (getD s at 0) ≡ true → decimal (drop at s) ≡ some (digits (getD s at 0 - 48) (drop (at + 1) s))
-  unfolding decimal
-  by-digits d = rw (add-one, drop-cons s at 0 h, ne-eqb (getD s at 0) 48 other, d)
-
-  pub length-some : isDigit (getD s at 0) ≡ true → (r : NumeralRead) → DigitsAre (getD s at 0 - 48) s (at + 1) r → LengthIs s at r
-  length-some d (Is n next) e =
-      record {
-        reads = by-digits d ∙ ap (λ (x : ℕ × List ℕ). some x) (e .0);
-        past = omega (arith, e .1);
-        within = e .2;
-      }
-  length-some d Bad e = λ n t f.
-      let same = Option·some-injective (digits (getD s at 0 - 48) (drop (at + 1) s)) (n, t) (sym (by-digits d) ∙ f) in
-      rw (ap (λ (x : ℕ × List ℕ). x .0) same) at e
+use Rattle.rule_book.specs.Places.{sheetCount}
 
 -- One sheet.
 
 -- no length, or one beyond the file's
-pub sheet-no-length : (s : List ℕ) (at : ℕ) → LengthIs s at Bad → Refuses sheetIn s at
+pub sheet-no-length : (s : List ℕ) (at : ℕ) → DecimalIs (length s) s at Bad → Refuses sheetIn s at
 sheet-no-length s at bad = go (sheetIn (drop at s)) refl
   where
     go : (o : Option (List ℕ × List ℕ)) → sheetIn (drop at s) ≡ o → Refuses sheetIn s at

@@ -9,8 +9,8 @@ use lib.Dec.{eqb}
 use lib.ListN.{length, drop, getD, set, replicate, length-map, length-set, length-drop, drop-of-length-le}
 use lib.Seq.{getD-set-same, getD-set-other}
 use borrow.Author.Tests.{eqb-true, eqb-false, eq-eqb}
-use Rattle.sheet.specs.ReaderLaws.{by-test}
-use Rattle.sheet.specs.Places.{ReadsTo, Refuses}
+use Rattle.text.specs.CaseLaws.{by-test}
+use Rattle.text.specs.ReadAt.{ReadsTo, Refuses}
 use Rattle.reference.specs.Setting.{Setting}
 use Rattle.schema.specs.Read.{SchemaIs}
 use Rattle.schema.specs.declared.read.SchemaRead.{SchemaRead}

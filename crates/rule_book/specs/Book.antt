@@ -3,10 +3,10 @@ use Prim.Native.Nat.{ℕ, zero, suc}
 use mathlib.Core.List.{List, [], _∷_, _++_}
 use mathlib.Core.Option.{Option, none, some, Option·map}
 use lib.ListN.{length}
-use Rattle.sheet.specs.Ascii.{ascii}
-use Rattle.sheet.specs.Reader.{Reader, _>>=_, _>>_, pure, either}
-use Rattle.sheet.specs.Numeral.{decimal, decimalOf}
-use Rattle.sheet.specs.Entries.{comma, bytes}
+use Rattle.text.specs.Ascii.{ascii}
+use Rattle.text.specs.Reader.{Reader, _>>=_, _>>_, pure, either}
+use Rattle.text.specs.Numeral.{decimal, decimalOf}
+use Rattle.text.specs.ByteReaders.{comma, bytes}
 
 -- a sheet after its length; what its bytes are is left to the check
 unfoldable pub sheetIn : Reader (List ℕ) (List ℕ)

@@ -5,34 +5,15 @@ use mathlib.Core.List.{List, [], _∷_, _++_}
 use mathlib.Core.Logic.{_↔_}
 use mathlib.Core.Option.{Option, none, some, Option·map, Option·none-ne-some, Option·some-injective}
 use mathlib.Core.Path.{_≡_, refl, sym, ap, _∙_}
-use lib.Dec.{leb}
-use lib.ListN.{length, take, drop, take-append-drop, length-append}
-use lib.Seq.{length-take-le, take-append-seam, drop-append-seam}
-use borrow.Author.Tests.{leb-true, le-leb}
-use Rattle.sheet.specs.Ascii.{ascii}
-use Rattle.sheet.specs.Reader.{Reader, _>>=_, _>>_, andThen, pure, either, orElse}
-use Rattle.sheet.specs.ReaderLaws.{Reads, by-test, bind-inv, then-inv, bind-reads, then-reads, pure-inv}
-use Rattle.sheet.specs.Numeral.{decimal, decimalOf}
-use Rattle.sheet.specs.NumeralLaws.{decimal-sound, decimal-complete, decimalOf-begins}
-use Rattle.sheet.specs.Entries.{bytes}
-use Rattle.sheet.specs.ItemLaws.{byte-sound, byte-complete, comma-begins}
+use lib.ListN.{length, take, length-append}
+use Rattle.text.specs.Ascii.{ascii}
+use Rattle.text.specs.Reader.{Reader, _>>=_, _>>_, andThen, pure, either, orElse}
+use Rattle.text.specs.ReaderLaws.{Reads, bind-inv, then-inv, bind-reads, then-reads, pure-inv}
+use Rattle.text.specs.Numeral.{decimal, decimalOf}
+use Rattle.text.specs.NumeralLaws.{decimal-sound, decimal-complete, decimalOf-begins, comma-begins}
+use Rattle.text.specs.ByteReaders.{bytes}
+use Rattle.text.specs.ByteReaderLaws.{byte-sound, byte-complete, bytes-sound, bytes-complete}
 use Rattle.rule_book.specs.Book.{sheetIn, noMore, sheetsIn, sheetsOf, writeBook}
-
-bytes-sound : (n : ℕ) (s x t : List ℕ) → Reads (bytes n) s x t → (s ≡ x ++ t) × (length x ≡ n)
-unfolding bytes
-bytes-sound n s x t e =
-    by-test (leb n (length s))
-    (λ q.
-    let r = Option·some-injective (take n s, drop n s) (x, t) (rw q at e) in
-    let q₀ = ap (λ (r : List ℕ × List ℕ). r .0) r in
-    let q₁ = ap (λ (r : List ℕ × List ℕ). r .1) r in
-    rw (← q₀, ← q₁) (sym (take-append-drop n s), length-take-le n s (leb-true n (length s) q)))
-    (λ q. absurd (Option·none-ne-some (x, t) (rw q at e)))
-
-bytes-complete : (x t : List ℕ) → Reads (bytes (length x)) (x ++ t) x t
-unfolding bytes
-bytes-complete x t =
-    rw (le-leb (length x) (length (x ++ t)) (simp length-append (omega arith)), take-append-seam x t, drop-append-seam x t)
 
 -- One sheet.
 

@@ -5,9 +5,9 @@ use mathlib.Core.List.{List, _++_}
 use mathlib.Core.Option.{Option, none, some}
 use mathlib.Core.Path.{_≡_, refl, ap, _∙_}
 use lib.ListN.{length, length-append}
-use Rattle.sheet.specs.Ascii.{ascii}
-use Rattle.sheet.specs.Numeral.{decimalOf}
-use Rattle.sheet.specs.NumeralLaws.{decimalOf-begins}
+use Rattle.text.specs.Ascii.{ascii}
+use Rattle.text.specs.Numeral.{decimalOf}
+use Rattle.text.specs.NumeralLaws.{decimalOf-begins}
 use Rattle.sheet.specs.Entries.{ConditionHead, literalHead, manyHead, negationHead, oneHead, twoHead, comparisonHead, quantifierHead, ValueHead, constantHead, numberHead, stringHead, arrayHead, objectHead}
 use Rattle.sheet.specs.Write.{writeEnd, writeItem, writeLength, writeRuleHead, writeLast, writeOperator, writeConditionHead, writeType, writeValueHead, writeKeyHead, markOf}
 use Rattle.definition.specs.Tree.{Text, Value, constant, number, string, array, object, Values, noValues, value, Pairs, noPairs, pair, Condition, literal, many, negation, one, two, comparison, quantifier, Conditions, noConditions, condition, Rule, rule, template, Schema}

@@ -1,11 +1,9 @@
 // The sheets of a rule book, one after the other, each after its length.
-use sheet::entry::starts_with;
-use sheet::numeral::NumeralRead;
-use sheet::part::Part;
-use text::is_digit;
-ghost use Prim.Native.Nat.{_≤_};
-ghost use lib.ListN.{length};
-ghost use Rattle.rule_book.specs.Places.{DigitsAre, LengthIs, SheetIs, CountIs};
+use text::numeral;
+use text::numeral::NumeralRead;
+use text::part::Part;
+use text::starts_with;
+ghost use Rattle.rule_book.specs.Places.{SheetIs, CountIs};
 
 pub enum NextSheet {
     // The sheet, and the place after it.
@@ -18,51 +16,11 @@ pub enum Counted {
     Bad,
 }
 
-// The digits from `at` on, after the one whose value is `first`. A length only grows, so it is given up when it is beyond the file's, before it could wrap.
-fn digits(file: &[u8], at: usize, first: usize) -> NumeralRead
-    requires { ⌜ (at ≤ length (now file)) × (first ≤ 9) ⌝ }
-    ensures { λ r. ⌜ DigitsAre first (now (file .entry)) at r ⌝ }
-{
-    let most = file.len() / 10;
-    let mut value = first;
-    let mut i = at;
-    while i < file.len() {
-        let b = file[i];
-        if is_digit(b) {
-            if most < value {
-                return NumeralRead::Bad;
-            }
-            value = value * 10 + (b as usize - 48);
-            i += 1;
-        } else {
-            return NumeralRead::Is(value, i);
-        }
-    }
-    NumeralRead::Is(value, i)
-}
-
-// The length of a sheet; its first digit is at `at`.
-fn length_at(file: &[u8], at: usize) -> NumeralRead
-    ensures { λ r. ⌜ LengthIs (now (file .entry)) at r ⌝ }
-{
-    if file.len() <= at {
-        return NumeralRead::Bad;
-    }
-    let b = file[at];
-    if b == b'0' {
-        return NumeralRead::Is(0, at + 1);
-    }
-    if is_digit(b) {
-        return digits(file, at + 1, b as usize - 48);
-    }
-    NumeralRead::Bad
-}
-
-// The sheet whose length is at `at`.
+// The sheet whose length is at `at`. A length above the file's may be given up.
 pub fn next_sheet(file: &[u8], at: usize) -> NextSheet
     ensures { λ r. ⌜ SheetIs (now (file .entry)) at r ⌝ }
 {
-    let NumeralRead::Is(len, comma) = length_at(file, at) else {
+    let NumeralRead::Is(len, comma) = numeral::decimal(file, at, file.len()) else {
         return NextSheet::Bad;
     };
     if starts_with(file, comma, b',') {

@@ -7,10 +7,10 @@ use mathlib.Core.Path.{_≡_, refl, sym, ap, _∙_}
 use native.Mathlib.Omega.{arith}
 use lib.ListN.{length, drop}
 use borrow.Author.Tests.{lt-leb, le-leb}
-use Rattle.sheet.specs.Reader.{_>>=_, _>>_, andThen, pure, refuse}
+use Rattle.text.specs.Reader.{_>>=_, _>>_, andThen, pure, refuse}
+use Rattle.text.specs.Parts.{partOf}
+use Rattle.text.specs.declared.part.Part.{Part}
 use Rattle.sheet.specs.Entries.{FieldHead, fieldHead}
-use Rattle.sheet.specs.Parts.{partOf}
-use Rattle.sheet.specs.declared.part.Part.{Part}
 use Rattle.definition.specs.Tree.{field, Items, Members}
 use Rattle.definition.specs.Decode.{Ahead, entry, entered, announce, toCount, elementOf, membersOf, fieldIn}
 use Rattle.definition.specs.Write.{hasItems, countOfMembers}

@@ -9,10 +9,10 @@ use native.Mathlib.Omega.{arith}
 use native.Mathlib.Nat.{eq-or-lt-of-le}
 use lib.Dec.{ltb}
 use borrow.Author.Tests.{ltb-true, ltb-false}
-use Rattle.sheet.specs.ReaderLaws.{by-test}
-use Rattle.sheet.specs.Parts.{partOf}
-use Rattle.sheet.specs.Order.{precedes, sameBytes}
-use Rattle.sheet.specs.OrderLaws.{sameBytes-equal, sameBytes-refl, sameBytes-symmetric, precedes-transitive, precedes-differs}
+use Rattle.text.specs.CaseLaws.{by-test}
+use Rattle.text.specs.Parts.{partOf}
+use Rattle.text.specs.Order.{precedes, sameBytes}
+use Rattle.text.specs.OrderLaws.{sameBytes-equal, sameBytes-refl, sameBytes-symmetric, precedes-transitive, precedes-differs}
 use Rattle.definition.specs.Tree as Tree
 use Rattle.definition.specs.Tree.{Text, Field, Members, noMembers, member}
 use Rattle.definition.specs.Within.{FieldRises, MembersRise}

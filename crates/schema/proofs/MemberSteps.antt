@@ -9,8 +9,10 @@ use native.Mathlib.Nat.{add-zero}
 use native.Mathlib.Numerals.{add-one}
 use lib.ListN.{length}
 use borrow.Author.Tests.{eq-eqb, ne-eqb}
-use Rattle.sheet.specs.Reader.{Reader, _>>=_, _>>_, andThen, pure, ensure}
-use Rattle.sheet.specs.Order.{follows}
+use Rattle.text.specs.Reader.{Reader, _>>=_, _>>_, andThen, pure, ensure}
+use Rattle.text.specs.Order.{follows}
+use Rattle.text.specs.Parts.{partOf}
+use Rattle.text.specs.declared.part.Part.{Part}
 use Rattle.definition.specs.Tree.{Text, Field, absent, element, Members, noMembers, member}
 use Rattle.definition.specs.Decode.{Ahead, toCount, elementOf, membersOf, fieldIn}
 use Rattle.definition.specs.Write.{hasItems, countOfMembers}
@@ -18,8 +20,6 @@ use Rattle.schema.specs.Index.{maxSlots, slotName, below, belowItems, be
 use Rattle.schema.specs.IndexLaws.{MembersAt-kept, slot-named}
 use Rattle.schema.specs.Kept.{Kept, OthersKept}
 use Rattle.schema.specs.Fields.{ahead, nameBefore, Moved, FieldGood, ItemsGood, MembersGood}
-use Rattle.sheet.specs.Parts.{partOf}
-use Rattle.sheet.specs.declared.part.Part.{Part}
 use Rattle.schema.specs.declared.field.Cursor.{Cursor}
 use Rattle.schema.proofs.Slots.{kept-all, kept-more, slotKept-all, slotKept-more}
 

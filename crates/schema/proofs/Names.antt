@@ -3,10 +3,10 @@ use Prim.Native.Nat.{ℕ, zero, suc}
 use mathlib.Core.Bool.{Bool, true}
 use mathlib.Core.List.{List}
 use mathlib.Core.Path.{_≡_, refl, sym}
-use Rattle.sheet.specs.Order.{precedes, follows}
+use Rattle.text.specs.Order.{precedes, follows}
+use Rattle.text.specs.Parts.{partOf}
+use Rattle.text.specs.declared.part.Part.{Part}
 use Rattle.schema.specs.Fields.{nameBefore}
-use Rattle.sheet.specs.Parts.{partOf}
-use Rattle.sheet.specs.declared.part.Part.{Part}
 
 pub rises-first : (s : List ℕ) (i : ℕ) (before : Part) (name : List ℕ) → i ≡ 0 → true ≡ follows (nameBefore s i before) name
 unfolding follows nameBefore

@@ -6,7 +6,7 @@ use mathlib.Core.Path.{_≡_, refl, _∙_}
 use native.Mathlib.Omega.{arith}
 use lib.ListN.{length, drop, length-drop}
 use borrow.Author.Tests.{lt-leb, le-leb, eq-eqb, ne-eqb}
-use Rattle.sheet.specs.Reader.{_>>=_, _>>_, andThen, pure, ensure}
+use Rattle.text.specs.Reader.{_>>=_, _>>_, andThen, pure, ensure}
 use Rattle.sheet.specs.Entries.{HolderHead, SchemaHead, schemaHead}
 use Rattle.definition.specs.Tree as Tree
 use Rattle.definition.specs.Limits.{maxSheetBytes, maxFieldNesting}

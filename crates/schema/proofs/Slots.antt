@@ -5,10 +5,10 @@ use mathlib.Core.Path.{_≡_, refl, _∙_}
 use native.Mathlib.Omega.{arith}
 use lib.ListN.{length, getD, set, length-set}
 use lib.Seq.{getD-set-same, getD-set-other}
+use Rattle.text.specs.declared.part.Part.{Part}
 use Rattle.schema.specs.Index.{firstWord}
 use Rattle.schema.specs.Kept.{Kept, SlotKept}
 use Rattle.schema.specs.Fields.{SlotFits, SlotPut}
-use Rattle.sheet.specs.declared.part.Part.{Part}
 
 pub kept-all : (a : List ℕ) → Kept a a
 kept-all a = record { size = refl; lower = λ i h. refl; upper = λ i h. refl }

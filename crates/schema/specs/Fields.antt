@@ -5,15 +5,15 @@ use mathlib.Core.List.{List}
 use mathlib.Core.Option.{Option, none, some}
 use mathlib.Core.Path.{_≡_}
 use lib.ListN.{length, drop}
+use Rattle.text.specs.Parts.{partOf}
+use Rattle.text.specs.declared.part.Part.{Part}
 use Rattle.definition.specs.Tree.{Text, Field, Items, Members}
 use Rattle.definition.specs.Decode.{Ahead, toCount, fieldIn, elementOf, membersOf}
 use Rattle.definition.specs.Limits.{maxSheetBytes, wordEntries}
 use Rattle.definition.specs.Write.{hasItems, countOfMembers}
 use Rattle.schema.specs.Index.{indexEnd, maxSlots, placeWord, childSlot, slotName, below, belowItems, belowMembers, FieldAt, ItemsAt, MembersAt}
 use Rattle.schema.specs.Kept.{Kept, OthersKept}
-use Rattle.sheet.specs.Parts.{partOf}
 use Rattle.sheet.specs.Places.{NamePlaced, maxPrefix}
-use Rattle.sheet.specs.declared.part.Part.{Part}
 use Rattle.schema.specs.declared.field.Cursor.{Cursor}
 use Rattle.schema.specs.declared.field.OneRead.{OneRead}
 use Rattle.schema.specs.declared.field.OneRead.the-variants as One

@@ -5,9 +5,9 @@ use mathlib.Core.List.{List, []}
 use mathlib.Core.Option.{some}
 use mathlib.Core.Path.{_≡_}
 use lib.ListN.{getD, drop}
+use Rattle.text.specs.Parts.{partOf}
+use Rattle.text.specs.declared.part.Part.{Part}
 use Rattle.sheet.specs.Entries.{FieldHead, fieldHead}
-use Rattle.sheet.specs.Parts.{partOf}
-use Rattle.sheet.specs.declared.part.Part.{Part}
 use Rattle.definition.specs.Tree.{Text, Field, field, Items, absent, element, Members, noMembers, member}
 use Rattle.definition.specs.Limits.{maxSchemaEntries, maxRuleEntries, wordEntries}
 use Rattle.definition.specs.Write.{hasItems, countOfMembers}

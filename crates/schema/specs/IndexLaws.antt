@@ -5,8 +5,8 @@ use mathlib.Core.List.{List, []}
 use mathlib.Core.Option.{Option·some-injective}
 use mathlib.Core.Path.{_≡_, refl, sym, ap, _∙_}
 use native.Mathlib.Omega.{arith}
+use Rattle.text.specs.Parts.{partOf}
 use Rattle.sheet.specs.Entries.{FieldHead}
-use Rattle.sheet.specs.Parts.{partOf}
 use Rattle.definition.specs.Tree.{Text, Field, field, Items, absent, element, Members, noMembers, member}
 use Rattle.definition.specs.Decode.{toCount}
 use Rattle.definition.specs.Write.{hasItems, countOfMembers}

@@ -4,12 +4,12 @@ use mathlib.Core.Bool.{Bool, true, false}
 use mathlib.Core.List.{List}
 use mathlib.Core.Option.{Option, none}
 use mathlib.Core.Path.{_≡_}
+use Rattle.text.specs.Parts.{optionalOf}
 use Rattle.definition.specs.Tree as Tree
 use Rattle.definition.specs.Tree.{Text, Field, field, Items, absent, element}
 use Rattle.definition.specs.Within.{FieldRises, MembersRise}
 use Rattle.definition.specs.Write.{countOfMembers}
 use Rattle.schema.specs.Index.{maxSlots, below, belowMembers, FieldAt, MembersAt}
-use Rattle.sheet.specs.Parts.{optionalOf}
 use Rattle.schema.specs.declared.index.Holder.{Holder}
 use Rattle.schema.specs.declared.index.ElementSlot.{ElementSlot}
 use Rattle.schema.specs.declared.index.ElementSlot.the-variants as ElementSlot

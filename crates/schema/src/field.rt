@@ -3,14 +3,14 @@ use crate::index::MAX_SLOTS;
 use crate::index::name_of_slot;
 use crate::index::put_slot;
 use crate::index::to_count;
-use sheet::order::ByteOrder;
-use sheet::part::Part;
 use sheet::schema_heads::FieldRead;
+use text::order::ByteOrder;
+use text::part::Part;
 ghost use mathlib.Core.Path.{_≡_};
+ghost use Rattle.text.specs.Parts.{partOf};
+ghost use Rattle.text.specs.Order.{follows};
 ghost use Rattle.definition.specs.Decode.{toCount};
 ghost use Rattle.schema.specs.Fields.{Ready, FieldAnswer, ItemsAnswer, MembersAnswer, cursorOf, nameBefore};
-ghost use Rattle.sheet.specs.Parts.{partOf};
-ghost use Rattle.sheet.specs.Order.{follows};
 
 // Where reading is: the next entry's number, how many slots are in use, and the next byte.
 pub struct Cursor {
@@ -105,7 +105,7 @@ fn read_element(
             return ManyRead::Bad;
         };
         let name = name_of_slot(words, slot);
-        if sheet::part::bytes_of(sheet, name).len() == 0 {
+        if text::part::bytes_of(sheet, name).len() == 0 {
             return ManyRead::Good(to);
         }
         return ManyRead::Bad;
@@ -120,9 +120,9 @@ fn rises(sheet: &[u8], i: usize, before: Part, name: Part) -> bool
     if i == 0 {
         return true;
     }
-    match sheet::order::compare(
-        sheet::part::bytes_of(sheet, before),
-        sheet::part::bytes_of(sheet, name),
+    match text::order::compare(
+        text::part::bytes_of(sheet, before),
+        text::part::bytes_of(sheet, name),
     ) {
         ByteOrder::Less => true,
         ByteOrder::Same => false,

@@ -2,9 +2,9 @@
 use definition::limits::MAX_RULE_ENTRIES;
 use definition::limits::MAX_SCHEMA_ENTRIES;
 use definition::limits::WORD_ENTRIES;
-use sheet::part::OptionalPart;
-use sheet::part::Part;
 use sheet::schema_heads::FieldRead;
+use text::part::OptionalPart;
+use text::part::Part;
 ghost use mathlib.Core.Path.{_≡_};
 ghost use Prim.Native.Nat.{_/_};
 ghost use lib.ListN.{getD};

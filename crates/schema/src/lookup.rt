@@ -1,7 +1,7 @@
 // A member by its name.
 use crate::index::Holder;
 use crate::index::MAX_SLOTS;
-use sheet::order::ByteOrder;
+use text::order::ByteOrder;
 ghost use Rattle.schema.specs.Lookup.{LookedUp};
 
 pub enum Found {
@@ -28,7 +28,7 @@ pub fn lookup(sheet: &[u8], words: &[u32], holder: Holder, name: &[u8]) -> Found
         let middle = low + (high - low) / 2;
         let slot = first + middle;
         let part = crate::index::name_of_slot(words, slot);
-        match sheet::order::compare(sheet::part::bytes_of(sheet, part), name) {
+        match text::order::compare(text::part::bytes_of(sheet, part), name) {
             ByteOrder::Less => {
                 low = middle + 1;
             }

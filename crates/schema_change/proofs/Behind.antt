@@ -6,11 +6,11 @@ use mathlib.Core.Option.{Option, none, some, Option·none-ne-some, Option·some-
 use mathlib.Core.Path.{_≡_, refl, sym, ap, _∙_}
 use native.Mathlib.Omega.{arith}
 use lib.ListN.{drop}
-use Rattle.sheet.specs.Reader.{Reader, _>>=_, _>>_, andThen, pure}
-use Rattle.sheet.specs.ReaderLaws.{bind-inv, then-inv, bind-reads, pure-inv, ensure-inv, refuse-inv}
-use Rattle.sheet.specs.ReaderLaws as Chain
+use Rattle.text.specs.Reader.{Reader, _>>=_, _>>_, andThen, pure}
+use Rattle.text.specs.ReaderLaws.{bind-inv, then-inv, bind-reads, pure-inv, ensure-inv, refuse-inv}
+use Rattle.text.specs.ReaderLaws as Chain
+use Rattle.text.specs.Parts.{partOf}
 use Rattle.sheet.specs.Entries.{FieldHead, fieldHead}
-use Rattle.sheet.specs.Parts.{partOf}
 use Rattle.sheet.specs.Places.{fieldOf, KnownTo, Unread}
 use Rattle.sheet.specs.declared.schema_heads.FieldHead as Head
 use Rattle.definition.specs.Tree.{Text, Field, Items, absent, element, Members, noMembers, member}

@@ -4,11 +4,11 @@ use mathlib.Core.Bool.{Bool, true, false, not}
 use mathlib.Core.List.{List, _++_}
 use mathlib.Core.Path.{_≡_, refl, sym}
 use lib.Dec.{eqb}
-use Rattle.sheet.specs.Order.{sameBytes}
-use Rattle.sheet.specs.Parts.{partOf, optionalOf}
-use Rattle.sheet.specs.declared.part.Part.{Part}
-use Rattle.sheet.specs.declared.part.OptionalPart.{OptionalPart}
-use Rattle.sheet.specs.declared.part.OptionalPart.the-variants as Optional
+use Rattle.text.specs.Order.{sameBytes}
+use Rattle.text.specs.Parts.{partOf, optionalOf}
+use Rattle.text.specs.declared.part.Part.{Part}
+use Rattle.text.specs.declared.part.OptionalPart.{OptionalPart}
+use Rattle.text.specs.declared.part.OptionalPart.the-variants as Optional
 use Rattle.definition.specs.Tree.{Items, absent, element, Members, field}
 use Rattle.definition.specs.Write.{hasItems}
 use Rattle.widening.specs.Decision.{kindDiffers, itemsDiffer, tagDiffers, markCloses, Difference, breachIf, sameTag, sameItemsMark, closes, ownDifferences}

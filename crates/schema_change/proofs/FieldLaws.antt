@@ -5,8 +5,8 @@ use mathlib.Core.List.{List, _++_}
 use mathlib.Core.Option.{none, some}
 use mathlib.Core.Path.{_≡_, refl, sym, _∙_}
 use native.Mathlib.Omega.{arith}
-use Rattle.sheet.specs.ReaderLaws.{bind-inv, pure-inv, refuse-inv}
-use Rattle.sheet.specs.Parts.{optionalOf}
+use Rattle.text.specs.ReaderLaws.{bind-inv, pure-inv, refuse-inv}
+use Rattle.text.specs.Parts.{optionalOf}
 use Rattle.sheet.specs.Places.{fieldOf}
 use Rattle.definition.specs.Tree.{Field, field, Items, absent, element, Members}
 use Rattle.definition.specs.Decode.{Ahead, elementOf, membersOf, fieldIn}

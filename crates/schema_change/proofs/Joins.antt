@@ -3,7 +3,7 @@ use Prim.Native.Nat.{ℕ}
 use mathlib.Core.Bool.{Bool, true, false, cond}
 use mathlib.Core.List.{List, [], _∷_, _++_}
 use mathlib.Core.Path.{_≡_, refl, ap, sym, _∙_}
-use native.Mathlib.Omega.{arith}
+use Rattle.text.specs.CaseLaws.{zero-not-one}
 use Rattle.widening.specs.Widening.{only, anything, marks}
 use Rattle.widening.specs.Decision.{fieldAdded, Difference, growth, breach, breachIf, Decision, widening, refuted, withGrowth, decided}
 use Rattle.widening.specs.Decision as Decision
@@ -59,12 +59,12 @@ goes-nothing {a} = record { is = joined-nothing a }
 -- a breach stays, whatever comes after it
 pub goes-closed : (a : Change) (ds : List Difference) → isOpenYet a ≡ false → Goes a ds a
 unfolding isOpenYet joined
-goes-closed Marks ds h = let z : _≡_ {A = ℕ} 0 1 = cc in absurd (omega arith)
-goes-closed Anything ds h = let z : _≡_ {A = ℕ} 0 1 = cc in absurd (omega arith)
+goes-closed Marks ds h = zero-not-one cc
+goes-closed Anything ds h = zero-not-one cc
 goes-closed (Refuted why e e′) ds h = record { is = refl }
 
 pub open-or-closed : {a : Bool} → a ≡ true → a ≡ false → ⊥
-open-or-closed e f = let z : _≡_ {A = ℕ} 0 1 = cc in omega arith
+open-or-closed e f = zero-not-one cc
 
 -- after a breach nothing counts
 pub goes-breach : {a b : Change} {why : Decision.Reason} {e e′ : ℕ} {ds : List Difference} → Goes a (breach why e e′ ∷ []) b → Goes a (breach why e e′ ∷ ds) b
@@ -138,7 +138,7 @@ unfolding joined withGrowth isWidening
 joined-behind (widening (only may)) b e = e
 joined-behind (widening anything) (widening l) e = refl
 joined-behind (widening anything) (refuted why k k′) e = e
-joined-behind (refuted why k k′) b e = let z : _≡_ {A = ℕ} 0 1 = cc in absurd (omega arith)
+joined-behind (refuted why k k′) b e = zero-not-one cc
 
 joined-before : (a b : Decision) → isWidening (joined a b) ≡ true → isWidening a ≡ true
 unfolding joined isWidening
@@ -156,9 +156,9 @@ open-behind xs ys e = joined-behind (decided xs) (decided ys) (rw (decided-appen
 
 pub open-breachless : (b : Bool) (why : Decision.Reason) (e e′ : ℕ) → Breachless (breachIf b why e e′) → b ≡ false
 unfolding breachIf decided isWidening
-open-breachless true why e e′ h = let z : _≡_ {A = ℕ} 0 1 = cc in absurd (omega arith)
+open-breachless true why e e′ h = zero-not-one cc
 open-breachless false why e e′ h = refl
 
 pub breach-closes : {a r : Change} {why : Decision.Reason} {e e′ : ℕ} {ds : List Difference} → Goes a (breach why e e′ ∷ ds) r → isOpenYet r ≡ true → ⊥
 unfolding decided isWidening
-breach-closes g o = let h = open-found g o in let z : _≡_ {A = ℕ} 0 1 = cc in omega arith
+breach-closes g o = let h = open-found g o in zero-not-one cc

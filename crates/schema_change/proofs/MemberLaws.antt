@@ -5,9 +5,10 @@ use mathlib.Core.List.{List, [], _∷_, _++_}
 use mathlib.Core.Option.{Option, some}
 use mathlib.Core.Path.{_≡_, refl, sym, ap, _∙_}
 use native.Mathlib.Omega.{arith}
-use Rattle.sheet.specs.Order.{precedes, sameBytes}
+use Rattle.text.specs.Order.{precedes, sameBytes}
+use Rattle.text.specs.Parts.{partOf}
+use Rattle.text.specs.CaseLaws.{zero-not-one}
 use Rattle.sheet.specs.Entries.{maxCount}
-use Rattle.sheet.specs.Parts.{partOf}
 use Rattle.sheet.specs.declared.schema_heads.HolderHead.{HolderHead}
 use Rattle.definition.specs.Tree.{Text, Field, Members, noMembers, member}
 use Rattle.definition.specs.Decode.{Ahead, membersOf, fieldIn}
@@ -34,24 +35,24 @@ use Rattle.schema_change.proofs.FieldLaws.{entry-read}
 -- by the two tests that `pairOf` makes
 module _ (g h : FieldEntry) where
   unlike : (b c : Bool) → Neither ≡ cond b (Added h) (cond c (Both g h) (Missing g)) → ⊥
-  unlike true c e = let z : _≡_ {A = ℕ} 0 1 = cc in omega arith
-  unlike false true e = let z : _≡_ {A = ℕ} 0 1 = cc in omega arith
-  unlike false false e = let z : _≡_ {A = ℕ} 0 1 = cc in omega arith
+  unlike true c e = zero-not-one cc
+  unlike false true e = zero-not-one cc
+  unlike false false e = zero-not-one cc
 
   tests-missing : {x : FieldEntry} (b c : Bool) → Missing x ≡ cond b (Added h) (cond c (Both g h) (Missing g)) → (g ≡ x) × (b ≡ false) × (c ≡ false)
-  tests-missing true c e = let z : _≡_ {A = ℕ} 0 1 = cc in absurd (omega arith)
-  tests-missing false true e = let z : _≡_ {A = ℕ} 0 1 = cc in absurd (omega arith)
+  tests-missing true c e = zero-not-one cc
+  tests-missing false true e = zero-not-one cc
   tests-missing false false e = (cc, refl, refl)
 
   tests-added : {x : FieldEntry} (b c : Bool) → Added x ≡ cond b (Added h) (cond c (Both g h) (Missing g)) → (h ≡ x) × (b ≡ true)
   tests-added true c e = (cc, refl)
-  tests-added false true e = let z : _≡_ {A = ℕ} 0 1 = cc in absurd (omega arith)
-  tests-added false false e = let z : _≡_ {A = ℕ} 0 1 = cc in absurd (omega arith)
+  tests-added false true e = zero-not-one cc
+  tests-added false false e = zero-not-one cc
 
   tests-both : {x y : FieldEntry} (b c : Bool) → Both x y ≡ cond b (Added h) (cond c (Both g h) (Missing g)) → (g ≡ x) × (h ≡ y) × (b ≡ false) × (c ≡ true)
-  tests-both true c e = let z : _≡_ {A = ℕ} 0 1 = cc in absurd (omega arith)
+  tests-both true c e = zero-not-one cc
   tests-both false true e = (cc, cc, refl, refl)
-  tests-both false false e = let z : _≡_ {A = ℕ} 0 1 = cc in absurd (omega arith)
+  tests-both false false e = zero-not-one cc
 
 -- what is there is the first of the members, if there is one
 abbrev Named : List ℕ → Entered → Members → Type 0
@@ -70,29 +71,29 @@ module _ (first second : List ℕ) (o : Bool) where
   is-neither : (e e′ : Entered) → Neither ≡ pairingOf first e second e′ → (e ≡ Bad) × (e′ ≡ Bad)
   unfolding pairingOf pairOf
   is-neither Bad Bad q = (refl, refl)
-  is-neither Bad (Is h) q = let z : _≡_ {A = ℕ} 0 1 = cc in absurd (omega arith)
-  is-neither (Is g) Bad q = let z : _≡_ {A = ℕ} 0 1 = cc in absurd (omega arith)
+  is-neither Bad (Is h) q = zero-not-one cc
+  is-neither (Is g) Bad q = zero-not-one cc
   is-neither (Is g) (Is h) q = absurd (unlike g h (before g h) (same g h) q)
 
   is-missing : (e e′ : Entered) {x : FieldEntry} → Missing x ≡ pairingOf first e second e′ → e ≡ Is x
   unfolding pairingOf pairOf
-  is-missing Bad Bad q = let z : _≡_ {A = ℕ} 0 1 = cc in absurd (omega arith)
-  is-missing Bad (Is h) q = let z : _≡_ {A = ℕ} 0 1 = cc in absurd (omega arith)
+  is-missing Bad Bad q = zero-not-one cc
+  is-missing Bad (Is h) q = zero-not-one cc
   is-missing (Is g) Bad q = cc
   is-missing (Is g) (Is h) q = ap Is (tests-missing g h (before g h) (same g h) q .0)
 
   is-added : (e e′ : Entered) {y : FieldEntry} → Added y ≡ pairingOf first e second e′ → e′ ≡ Is y
   unfolding pairingOf pairOf
-  is-added Bad Bad q = let z : _≡_ {A = ℕ} 0 1 = cc in absurd (omega arith)
+  is-added Bad Bad q = zero-not-one cc
   is-added Bad (Is h) q = cc
-  is-added (Is g) Bad q = let z : _≡_ {A = ℕ} 0 1 = cc in absurd (omega arith)
+  is-added (Is g) Bad q = zero-not-one cc
   is-added (Is g) (Is h) q = ap Is (tests-added g h (before g h) (same g h) q .0)
 
   is-both : (e e′ : Entered) {x y : FieldEntry} → Both x y ≡ pairingOf first e second e′ → (e ≡ Is x) × (e′ ≡ Is y)
   unfolding pairingOf pairOf
-  is-both Bad Bad q = let z : _≡_ {A = ℕ} 0 1 = cc in absurd (omega arith)
-  is-both Bad (Is h) q = let z : _≡_ {A = ℕ} 0 1 = cc in absurd (omega arith)
-  is-both (Is g) Bad q = let z : _≡_ {A = ℕ} 0 1 = cc in absurd (omega arith)
+  is-both Bad Bad q = zero-not-one cc
+  is-both Bad (Is h) q = zero-not-one cc
+  is-both (Is g) Bad q = zero-not-one cc
   is-both (Is g) (Is h) q = let t = tests-both g h (before g h) (same g h) q in (ap Is (t .0), ap Is (t .1))
 
   -- and what differs then

@@ -3,10 +3,10 @@ use Prim.Native.Nat.{ℕ, _+_, _<_}
 use mathlib.Core.List.{List}
 use mathlib.Core.Path.{_≡_, refl}
 use native.Mathlib.Omega.{arith}
-use Rattle.sheet.specs.Compares.{Compares}
-use Rattle.sheet.specs.Parts.{partOf}
-use Rattle.sheet.specs.declared.order.ByteOrder.{ByteOrder}
-use Rattle.sheet.specs.declared.order.ByteOrder.the-variants.{Less, Same, Greater}
+use Rattle.text.specs.Compares.{Compares}
+use Rattle.text.specs.Parts.{partOf}
+use Rattle.text.specs.declared.order.ByteOrder.{ByteOrder}
+use Rattle.text.specs.declared.order.ByteOrder.the-variants.{Less, Same, Greater}
 use Rattle.sheet.specs.declared.schema_heads.FieldHead.{FieldHead}
 use Rattle.sheet.specs.declared.schema_heads.FieldRead.{FieldRead}
 use Rattle.sheet.specs.declared.schema_heads.FieldRead.the-variants as Field

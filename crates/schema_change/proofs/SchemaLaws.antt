@@ -6,9 +6,9 @@ use mathlib.Core.Option.{Option, none, some, map-eq-some-iff, Option·none-ne-so
 use mathlib.Core.Path.{_≡_, refl, sym, ap, _∙_}
 use native.Mathlib.Omega.{arith}
 use lib.ListN.{length, drop}
-use Rattle.sheet.specs.Reader.{Reader, _>>=_, _>>_, andThen}
-use Rattle.sheet.specs.ReaderLaws.{bind-inv, then-inv, pure-inv, ensure-inv}
-use Rattle.sheet.specs.ReaderLaws as Chain
+use Rattle.text.specs.Reader.{Reader, _>>=_, _>>_, andThen}
+use Rattle.text.specs.ReaderLaws.{bind-inv, then-inv, pure-inv, ensure-inv}
+use Rattle.text.specs.ReaderLaws as Chain
 use Rattle.sheet.specs.Entries.{schemaHead}
 use Rattle.sheet.specs.Entries as Entries
 use Rattle.sheet.specs.Places.{SchemaIs, schemaOf}

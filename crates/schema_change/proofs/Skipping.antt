@@ -6,8 +6,8 @@ use mathlib.Core.Option.{Option, none, some}
 use mathlib.Core.Path.{_≡_, refl, sym, ap, _∙_}
 use native.Mathlib.Omega.{arith}
 use lib.ListN.{drop, length}
-use Rattle.sheet.specs.Reader.{Reader}
-use Rattle.sheet.specs.ReaderLaws.{bind-inv, then-inv, pure-inv, ensure-inv, refuse-inv}
+use Rattle.text.specs.Reader.{Reader}
+use Rattle.text.specs.ReaderLaws.{bind-inv, then-inv, pure-inv, ensure-inv, refuse-inv}
 use Rattle.sheet.specs.Entries.{maxCount, FieldHead, fieldHead}
 use Rattle.sheet.specs.Places.{fieldOf, Unread}
 use Rattle.definition.specs.Tree.{Text, Field, Items, Members}

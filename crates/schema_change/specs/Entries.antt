@@ -3,7 +3,7 @@ use mathlib.Core.Bool.{Bool, not, cond}
 use mathlib.Core.List.{List, _++_}
 use Prim.Native.Nat.{ℕ}
 use lib.Dec.{eqb}
-use Rattle.sheet.specs.Parts.{optionalOf}
+use Rattle.text.specs.Parts.{optionalOf}
 use Rattle.widening.specs.Decision.{kindDiffers, itemsDiffer, tagDiffers, markCloses, Difference, breachIf, sameTag, closes}
 use Rattle.schema_change.specs.declared.place.FieldEntry.{FieldEntry}
 

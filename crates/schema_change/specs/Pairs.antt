@@ -3,8 +3,8 @@ use Prim.Native.Nat.{ℕ, _<_}
 use mathlib.Core.Bool.{cond}
 use mathlib.Core.List.{List}
 use mathlib.Core.Path.{_≡_}
-use Rattle.sheet.specs.Order.{precedes, sameBytes}
-use Rattle.sheet.specs.Parts.{partOf}
+use Rattle.text.specs.Order.{precedes, sameBytes}
+use Rattle.text.specs.Parts.{partOf}
 use Rattle.sheet.specs.Places.{Unread}
 use Rattle.schema_change.specs.Places.{Within, Enters}
 use Rattle.schema_change.specs.declared.place.Place.{Place}

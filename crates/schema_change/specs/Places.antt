@@ -4,7 +4,7 @@ use mathlib.Core.List.{List}
 use mathlib.Core.Option.{none, some}
 use mathlib.Core.Path.{_≡_}
 use lib.ListN.{length, drop}
-use Rattle.sheet.specs.Reader.{Reader, _>>=_, pure, refuse}
+use Rattle.text.specs.Reader.{Reader, _>>=_, pure, refuse}
 use Rattle.sheet.specs.Entries.{FieldHead}
 use Rattle.sheet.specs.Places.{fieldOf, KnownTo, Unread}
 use Rattle.definition.specs.Tree.{Field, field}

@@ -10,9 +10,9 @@ use mathlib.Core.Logic.{⊎-elim}
 use mathlib.Core.Path.{_≡_, refl, ap, sym, _∙_}
 use lib.ListN.{length, getD, set, take, drop, length-drop, drop-of-length-le}
 use lib.Seq.{getD-set-same, getD-set-other, take-all, take-nil}
-use Rattle.sheet.specs.Order.{sameBytes}
-use Rattle.sheet.specs.Parts.{partOf}
-use Rattle.sheet.specs.declared.part.Part.{Part}
+use Rattle.text.specs.Order.{sameBytes}
+use Rattle.text.specs.Parts.{partOf}
+use Rattle.text.specs.declared.part.Part.{Part}
 use Rattle.definition.specs.Limits.{maxSheetBytes}
 use Rattle.definition.specs.Tree.{Text, Field}
 use Rattle.reference.specs.Reference as Reference

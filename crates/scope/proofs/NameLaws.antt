@@ -8,9 +8,9 @@ use mathlib.Core.Path.{_≡_, refl, sym, _∙_}
 use lib.ListN.{length, drop, getD, drop-of-length-le}
 use lib.Seq.{drop-cons}
 use borrow.Author.Tests.{eq-eqb, ne-eqb}
-use Rattle.sheet.specs.Ascii.{ascii}
-use Rattle.sheet.specs.Order.{sameBytes}
-use Rattle.sheet.specs.OrderLaws.{sameBytes-equal}
+use Rattle.text.specs.Ascii.{ascii}
+use Rattle.text.specs.Order.{sameBytes}
+use Rattle.text.specs.OrderLaws.{sameBytes-equal}
 use Rattle.reference.specs.Setting as Setting
 use Rattle.reference.specs.Setting.{spelling, named, nameOf, oneOf, stock}
 use Rattle.reference.specs.Table as Table

@@ -1,6 +1,6 @@
 -- A binder of the code is one number: where its name starts in the rule sheet, how long it is, and its element.
 use Prim.Native.Nat.{ℕ, zero, suc, _+_, _*_, _/_, _%_, min}
-use Rattle.sheet.specs.declared.part.Part.{Part}
+use Rattle.text.specs.declared.part.Part.{Part}
 use Rattle.scope.specs.declared.binder.Element.{Element}
 use Rattle.scope.specs.declared.binder.Element.the-variants.{Known, Unknown}
 

@@ -5,9 +5,9 @@ use mathlib.Core.List.{List, [], _∷_}
 use mathlib.Core.Option.{Option}
 use mathlib.Core.Path.{_≡_, _∙_}
 use lib.ListN.{length}
+use Rattle.text.specs.Parts.{partOf}
+use Rattle.text.specs.declared.part.Part.{Part}
 use Rattle.definition.specs.Limits.{maxSheetBytes}
-use Rattle.sheet.specs.Parts.{partOf}
-use Rattle.sheet.specs.declared.part.Part.{Part}
 use Rattle.definition.specs.Tree as Tree
 use Rattle.definition.specs.Tree.{Field}
 use Rattle.reference.specs.Setting.{Setting}

@@ -5,8 +5,8 @@ use mathlib.Core.List.{List, [], _∷_}
 use mathlib.Core.Option.{Option, none, some}
 use mathlib.Core.Path.{_≡_}
 use lib.ListN.{length, getD}
-use Rattle.sheet.specs.Parts.{partOf}
-use Rattle.sheet.specs.declared.part.Part.{Part}
+use Rattle.text.specs.Parts.{partOf}
+use Rattle.text.specs.declared.part.Part.{Part}
 use Rattle.definition.specs.Limits.{maxSheetBytes}
 use Rattle.definition.specs.Tree as Tree
 use Rattle.definition.specs.Tree.{Text, Field}

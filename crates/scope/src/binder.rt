@@ -2,9 +2,9 @@
 use crate::name::Row;
 use definition::limits::MAX_BINDERS;
 use schema::read::Schema;
-use sheet::order::same_bytes;
-use sheet::part::Part;
-use sheet::part::bytes_of;
+use text::order::same_bytes;
+use text::part::Part;
+use text::part::bytes_of;
 use walk::answer::Reader;
 ghost use mathlib.Core.Path.{_≡_};
 ghost use Prim.Native.Nat.{_<_};

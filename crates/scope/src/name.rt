@@ -1,5 +1,5 @@
 // The nine names, and which kinds of rules and templates may read them.
-use sheet::order::same_bytes;
+use text::order::same_bytes;
 ghost use mathlib.Core.Path.{_≡_};
 ghost use Rattle.reference.specs.Setting.{oneOf};
 ghost use Rattle.reference.specs.Table.{stockRow};

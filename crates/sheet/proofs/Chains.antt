@@ -1,51 +1,33 @@
 -- Laws of what entries are made of, at a place of the bytes: each way through the code's readers.
 use Prim.Native.Nat.{ℕ, _+_, _-_, _<_, _≤_}
-use mathlib.Core.Path.{_≡_, refl, sym, _∙_}
+use mathlib.Core.Path.{_≡_, refl, sym}
 use mathlib.Core.Bool.{Bool, true, false}
 use mathlib.Core.List.{List, [], _∷_}
 use mathlib.Core.Option.{Option, none, some, Option·none-ne-some}
 use native.Mathlib.Omega.{arith}
-use native.Mathlib.Numerals.{add-one}
-use lib.ListN.{length, take, drop, getD, length-drop, drop-of-length-le}
-use lib.Seq.{drop-cons, drop-drop, drop-length, take-nil, take-all}
+use lib.ListN.{length, take, drop, length-drop}
+use lib.Seq.{drop-drop}
 use lib.Dec.{leb, eqb}
-use borrow.Author.Tests.{le-leb, lt-leb, eqb-true, ne-eqb}
+use borrow.Author.Tests.{le-leb, lt-leb, eqb-true}
 use Rattle.text.specs.Utf8.{isUtf8}
 use Rattle.text.specs.Decimal.{isDigit}
 use Rattle.text.proofs.Points.{utf8-empty}
-use Rattle.sheet.specs.Reader.{Reader, _>>=_, _>>_, andThen, ensure, pure, either, orElse}
-use Rattle.sheet.specs.ReaderLaws.{by-test}
-use Rattle.sheet.specs.Numeral.{decimal, numeral}
-use Rattle.sheet.specs.Entries.{maxText, byte, comma, dash, item, mark, textLength, bytes, text, optionalText}
-use Rattle.sheet.specs.Parts.{partOf, optionalOf}
+use Rattle.text.specs.Reader.{Reader, _>>=_, _>>_, andThen, ensure, pure, either, orElse}
+use Rattle.text.specs.CaseLaws.{by-test}
+use Rattle.text.specs.Numeral.{decimal, numeral}
+use Rattle.text.specs.ByteReaders.{byte, comma, bytes}
+use Rattle.text.specs.Parts.{partOf, optionalOf}
+use Rattle.text.specs.ReadAt.{ReadsTo, Refuses, NumeralIs, StartsWith}
+use Rattle.text.specs.ReadAtLaws.{bind-refused, bind-pure, then-refused, then-refuses, then-reads, then-then}
+use Rattle.text.specs.declared.numeral.NumeralRead.{NumeralRead}
+use Rattle.text.specs.declared.numeral.NumeralRead.the-variants.{Is, Bad}
+use Rattle.text.specs.declared.part.OptionalPart.the-variants.{Is as Present, Absent as Missing}
+use Rattle.sheet.specs.Entries.{maxText, dash, item, mark, textLength, text, optionalText}
 use Rattle.sheet.specs.Pieces.{first, dashed, lastText}
-use Rattle.sheet.specs.Places.{ReadsTo, Refuses, NumeralIs, StartsWith, IsDashed, TextIs, LastTextIs, lengthOf, OptionalIs}
-use Rattle.sheet.specs.declared.numeral.NumeralRead.{NumeralRead}
-use Rattle.sheet.specs.declared.numeral.NumeralRead.the-variants.{Is, Bad}
+use Rattle.sheet.specs.Places.{IsDashed, TextIs, LastTextIs, lengthOf, OptionalIs}
 use Rattle.sheet.specs.declared.entry.Length.{Length}
 use Rattle.sheet.specs.declared.entry.Length.the-variants.{Of, Absent}
 use Rattle.sheet.specs.declared.entry.OptionalRead.the-variants as optional
-use Rattle.sheet.specs.declared.part.OptionalPart.the-variants.{Is as Present, Absent as Missing}
-
--- One reader after another.
-
-module _ {A B : Type 0} (p : Reader (List ℕ) A) (q : Reader (List ℕ) B) where
-  pub then-refused : (s : List ℕ) (at : ℕ) → Refuses p s at → Refuses (p >> q) s at
-  unfolding _>>_ _>>=_ andThen
-  then-refused s at e = rw e
-
-  pub then-refuses : {s : List ℕ} {at mid : ℕ} {a : A} → ReadsTo p s at a mid → Refuses q s mid → Refuses (p >> q) s at
-  unfolding _>>_ _>>=_ andThen
-  then-refuses e f = rw (e .reads) f
-
-  pub then-reads : {s : List ℕ} {at mid next : ℕ} {a : A} {b : B} → ReadsTo p s at a mid → ReadsTo q s mid b next → ReadsTo (p >> q) s at b next
-  unfolding _>>_ _>>=_ andThen
-  then-reads e f =
-      record {
-        reads = rw (e .reads) (f .reads);
-        past = omega (arith, e .past, f .past);
-        within = f .within;
-      }
 
 pub then-numeral : (p : Reader (List ℕ) (Unit {0})) (q : Reader (List ℕ) ℕ) {s : List ℕ} {at mid : ℕ} {a : Unit {0}} (low high : ℕ) → ReadsTo p s at a mid
     → (r : NumeralRead) → NumeralIs q low high s mid r → NumeralIs (p >> q) low high s at r
@@ -70,46 +52,15 @@ pub first-none : (letter low high : ℕ) (s : List ℕ) (at : ℕ) → Refuses (
 unfolding first
 first-none letter low high s at e = then-refused (byte letter) (item low high) s at e
 
--- Single bytes.
-
-pub byte-reads : (b : ℕ) (s : List ℕ) (at : ℕ) → at < length s → StartsWith b s at (eqb (getD s at 0) b)
-unfolding byte
-byte-reads b s at h = go (eqb (getD s at 0) b) refl
-  where
-    go : (t : Bool) → eqb (getD s at 0) b ≡ t → StartsWith b s at t
-    go true e =
-        record {
-          reads = rw (add-one, drop-cons s at 0 h, e);
-          past = omega arith;
-          within = omega arith;
-        }
-    go false e = rw (drop-cons s at 0 h, e)
-
-pub byte-end : (b : ℕ) (s : List ℕ) (at : ℕ) → length s ≤ at → Refuses (byte b) s at
-unfolding byte
-byte-end b s at h = rw (drop-of-length-le s h)
-
-byte-differs : (b d : ℕ) (l : List ℕ) (t : Unit {0} × List ℕ) → (b ≡ d → ⊥) → byte b l ≡ some t → byte d l ≡ none
-unfolding byte
-byte-differs b d [] t ne f = refl
-byte-differs b d (x ∷ l) t ne f =
-    by-test (eqb x b)
-    (λ q. rw (ne-eqb x d (λ y. ne (sym (eqb-true x b q) ∙ y))))
-    (λ q. absurd (Option·none-ne-some t (rw q at f)))
-
--- another byte is read
-pub byte-other : (b d : ℕ) {s : List ℕ} {at next : ℕ} {u : Unit {0}} → (b ≡ d → ⊥) → ReadsTo (byte b) s at u next → Refuses (byte d) s at
-byte-other b d {s} {at} {next} {u} ne e = byte-differs b d (drop at s) (u, drop next s) ne (e .reads)
-
 -- Marks
 
 pub mark-refused : (s : List ℕ) (at : ℕ) → Refuses (item 0 1) s at → Refuses mark s at
-unfolding mark _>>=_ andThen
-mark-refused s at e = rw e
+unfolding mark
+mark-refused s at e = bind-refused _ _ s at e
 
 pub mark-reads : {s : List ℕ} {at n next : ℕ} → ReadsTo (item 0 1) s at n next → ReadsTo mark s at (eqb n 1) next
-unfolding mark _>>=_ andThen pure
-mark-reads e = record { reads = rw (e .reads); past = e .past; within = e .within }
+unfolding mark
+mark-reads e = bind-pure _ _ e
 
 -- Fields that are `-`
 
@@ -182,23 +133,6 @@ item-dashed low high {s} {at} {next} {u} e = go (comma (drop at s)) (e .reads)
     go none f = refl
     go (some r) f = numeral-dash low high (r .1) (u, drop next s) f
 
--- readers may be grouped either way
-pub then-then : {A B C : Type 0} (p : Reader (List ℕ) A) (q : Reader (List ℕ) B) (k : Reader (List ℕ) C) (l : List ℕ) → (p >> (q >> k)) l ≡ ((p >> q) >> k) l
-unfolding _>>_ _>>=_ andThen
-then-then {A} p q k l = go (p l)
-  where
-    go : (o : Option (A × List ℕ)) → andThen o (λ a. q >> k) ≡ andThen (andThen o (λ a. q)) (λ b. k)
-    go none = refl
-    go (some r) = refl
-
-pub then-bind : {A B C : Type 0} (p : Reader (List ℕ) A) (q : Reader (List ℕ) B) (k : B → Reader (List ℕ) C) (l : List ℕ) → (p >> (q >>= k)) l ≡ ((p >> q) >>= k) l
-unfolding _>>_ _>>=_ andThen
-then-bind {A} p q k l = go (p l)
-  where
-    go : (o : Option (A × List ℕ)) → andThen o (λ a. q >>= k) ≡ andThen (andThen o (λ a. q)) k
-    go none = refl
-    go (some r) = refl
-
 pub length-dashed : {s : List ℕ} {at next : ℕ} {u : Unit {0}} → ReadsTo dashed s at u next → ReadsTo textLength s at none next
 unfolding textLength dashed either orElse _>>_ _>>=_ andThen pure
 length-dashed {s} {at} e =
@@ -233,19 +167,3 @@ optional-present l n s at e t = (rw (e, t .0), omega arith, t .1)
 pub optional-refused : (l : Length) (n : ℕ) (s : List ℕ) (at : ℕ) → l ≡ Of n → TextIs n s at false → OptionalIs l s at optional.Bad
 unfolding optionalText lengthOf _>>=_ andThen
 optional-refused l n s at e t = rw (e, t)
-
--- A part of the bytes: past the end, up to the end, and before it.
-
-module _ (s : List ℕ) (start len : ℕ) where
-  pub part-out : length s ≤ start → take (length s - length s) (drop (length s) s) ≡ take len (drop start s)
-  part-out h = rw (drop-of-length-le s h, drop-length s, take-nil (length s - length s), take-nil len)
-
-  pub part-rest : length s - start ≤ len → take (length s - start) (drop start s) ≡ take len (drop start s)
-  part-rest h =
-      take-all (length s - start) (drop start s) (omega (arith, length-drop start s))
-      ∙ sym (take-all len (drop start s) (omega (arith, length-drop start s)))
-
-  pub part-whole : take (start + len - start) (drop start s) ≡ take len (drop start s)
-  part-whole =
-      let n : start + len - start ≡ len = omega arith in
-      rw n

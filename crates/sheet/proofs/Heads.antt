@@ -9,16 +9,19 @@ use lib.ListN.{length, take, drop}
 use lib.Dec.{leb, eqb, leb·zero}
 use borrow.Author.Tests.{eqb-false}
 use Rattle.text.specs.Utf8.{isUtf8, codePoints, codePointsIn, isSome}
+use Rattle.text.specs.Reader.{Reader, _>>=_, _>>_, andThen, ensure, pure, either, orElse}
+use Rattle.text.specs.ByteReaders.{byte, comma, lineEnd, bytes}
+use Rattle.text.specs.Parts.{partOf, optionalOf}
+use Rattle.text.specs.ReadAt.{ReadsTo, Refuses}
+use Rattle.text.specs.declared.part.Part.{Part}
+use Rattle.text.specs.declared.part.OptionalPart.{OptionalPart}
+use Rattle.text.specs.ReadAtLaws.{bind-refused, bind-refuses, bind-reads, bind-pure, then-refused, then-refuses, then-reads, then-pure, andThen-assoc, then-then, then-bind, byte-other}
 use Rattle.number.specs.Grammar.{isNumber}
-use Rattle.sheet.specs.Reader.{Reader, _>>=_, _>>_, andThen, ensure, pure, either, orElse}
 use Rattle.sheet.specs.Entries as entries
+use Rattle.sheet.specs.Entries.{maxText, maxCount, dash, item, mark, textLength, text, optionalText, holderHead, argumentsHead, schemaHead, fieldHead, ruleHead, behindOperator, conditionHead, constantRest, numberRest, stringRest, arrayRest, objectRest, behindType, valueHead, keyHead}
 use Rattle.sheet.specs.Operators.{Shape, shapeOf, literal, many, negation, one, two, comparison, quantifier}
-use Rattle.sheet.specs.Entries.{maxText, maxCount, byte, comma, dash, lineEnd, item, mark, textLength, bytes, text, optionalText, holderHead, argumentsHead, schemaHead, fieldHead, ruleHead, behindOperator, conditionHead, constantRest, numberRest, stringRest, arrayRest, objectRest, behindType, valueHead, keyHead}
-use Rattle.sheet.specs.Parts.{partOf, optionalOf}
 use Rattle.sheet.specs.Pieces.{first, dashed, lastText, fieldMarks, fieldTexts, ruleTexts, conditionRow, conditionBy, conditionFrom, kindOf, valueRow, valueBy, valueFrom}
-use Rattle.sheet.specs.Places.{ReadsTo, Refuses, TextIs, LastTextIs, holderOf, fieldOf, RuleTextsAre, RuleIs, conditionOf, conditionCount, valueOf, valueCount}
-use Rattle.sheet.specs.declared.part.Part.{Part}
-use Rattle.sheet.specs.declared.part.OptionalPart.{OptionalPart}
+use Rattle.sheet.specs.Places.{TextIs, LastTextIs, holderOf, fieldOf, RuleTextsAre, RuleIs, conditionOf, conditionCount, valueOf, valueCount}
 use Rattle.sheet.specs.declared.schema_heads.FieldMarks.{FieldMarks}
 use Rattle.sheet.specs.declared.rule_heads.RuleHeadRead.{RuleHeadRead}
 use Rattle.sheet.specs.declared.rule_heads.RuleHeadRead.the-variants as rule
@@ -26,27 +29,22 @@ use Rattle.sheet.specs.declared.rule_heads.ConditionRow.{ConditionRow}
 use Rattle.sheet.specs.declared.rule_heads.ValueKind.{ValueKind}
 use Rattle.sheet.specs.declared.rule_heads.ValueKind.the-variants as kind
 use Rattle.sheet.specs.declared.rule_heads.ValueRow.{ValueRow}
-use Rattle.sheet.proofs.Chains.{then-then, then-bind, byte-other, item-dashed, mark-refused}
+use Rattle.sheet.proofs.Chains.{item-dashed, mark-refused}
 
 -- Holders
 
 pub holder-no-mark : (s : List ℕ) (at : ℕ) → Refuses mark s at → Refuses holderHead s at
-unfolding holderHead _>>=_ andThen
-holder-no-mark s at e = rw e
+unfolding holderHead
+holder-no-mark s at e = bind-refused _ _ s at e
 
 module _ {s : List ℕ} {at a : ℕ} {o : Bool} (m : ReadsTo mark s at o a) where
   pub holder-no-count : Refuses (item 0 maxCount) s a → Refuses holderHead s at
-  unfolding holderHead _>>=_ andThen
-  holder-no-count e = rw (m .reads, e)
+  unfolding holderHead
+  holder-no-count e = bind-refuses _ _ m (bind-refused _ _ s a e)
 
   pub holder-reads : {n next : ℕ} → ReadsTo (item 0 maxCount) s a n next → ReadsTo holderHead s at (holderOf (record { opened = o; count = n })) next
-  unfolding holderHead holderOf _>>=_ andThen pure
-  holder-reads e =
-      record {
-        reads = rw (m .reads, e .reads);
-        past = omega (arith, m .past, e .past);
-        within = e .within;
-      }
+  unfolding holderHead holderOf
+  holder-reads e = bind-reads _ _ m (bind-pure _ _ e)
 
 -- Arguments
 
@@ -82,81 +80,71 @@ module _ (s : List ℕ) (at : ℕ) (d : Refuses dashed s at) where
 -- Schemas
 
 pub schema-other : (s : List ℕ) (at : ℕ) → Refuses (byte 72) s at → Refuses schemaHead s at
-unfolding schemaHead _>>_ _>>=_ andThen
-schema-other s at e = rw e
+unfolding schemaHead
+schema-other s at e = then-refused _ _ s at e
 
 module _ {s : List ℕ} {at a : ℕ} {u : Unit {0}} (l : ReadsTo (byte 72) s at u a) where
   pub schema-no-fields : Refuses holderHead s a → Refuses schemaHead s at
-  unfolding schemaHead _>>_ _>>=_ andThen
-  schema-no-fields e = rw (l .reads, e)
+  unfolding schemaHead
+  schema-no-fields e = then-refuses _ _ l (bind-refused _ _ s a e)
 
   module _ {b : ℕ} {h : entries.HolderHead} (f : ReadsTo holderHead s a h b) where
     pub schema-no-arguments : Refuses argumentsHead s b → Refuses schemaHead s at
-    unfolding schemaHead _>>_ _>>=_ andThen
-    schema-no-arguments e = rw (l .reads, f .reads, e)
+    unfolding schemaHead
+    schema-no-arguments e = then-refuses _ _ l (bind-refuses _ _ f (bind-refused _ _ s b e))
 
     module _ {d : ℕ} {g : Option entries.HolderHead} (p : ReadsTo argumentsHead s b g d) where
       pub schema-no-end : Refuses (byte 10) s d → Refuses schemaHead s at
-      unfolding schemaHead _>>_ _>>=_ andThen
-      schema-no-end e = rw (l .reads, f .reads, p .reads, e)
+      unfolding schemaHead
+      schema-no-end e = then-refuses _ _ l (bind-refuses _ _ f (bind-refuses _ _ p (then-refused _ _ s d e)))
 
       pub schema-reads : {v : Unit {0}} {next : ℕ} → ReadsTo (byte 10) s d v next → ReadsTo schemaHead s at (record { fields = h; arguments = g }) next
-      unfolding schemaHead _>>_ _>>=_ andThen pure
-      schema-reads e =
-          record {
-            reads = rw (l .reads, f .reads, p .reads, e .reads);
-            past = omega (arith, l .past, f .past, p .past, e .past);
-            within = e .within;
-          }
+      unfolding schemaHead
+      schema-reads e = then-reads _ _ l (bind-reads _ _ f (bind-reads _ _ p (then-pure _ _ e)))
 
 -- Fields
 
 pub marks-no-kind : (s : List ℕ) (at : ℕ) → Refuses (first 70 1 12) s at → Refuses fieldMarks s at
-unfolding fieldMarks _>>=_ andThen
-marks-no-kind s at e = rw e
+unfolding fieldMarks
+marks-no-kind s at e = bind-refused _ _ s at e
 
 module _ {s : List ℕ} {at a kind : ℕ} (k : ReadsTo (first 70 1 12) s at kind a) where
   pub marks-no-open : Refuses mark s a → Refuses fieldMarks s at
-  unfolding fieldMarks _>>=_ andThen
-  marks-no-open e = rw (k .reads, e)
+  unfolding fieldMarks
+  marks-no-open e = bind-refuses _ _ k (bind-refused _ _ s a e)
 
   module _ {b : ℕ} {o : Bool} (m : ReadsTo mark s a o b) where
     pub marks-no-items : Refuses mark s b → Refuses fieldMarks s at
-    unfolding fieldMarks _>>=_ andThen
-    marks-no-items e = rw (k .reads, m .reads, e)
+    unfolding fieldMarks
+    marks-no-items e = bind-refuses _ _ k (bind-refuses _ _ m (bind-refused _ _ s b e))
 
     module _ {c : ℕ} {i : Bool} (n : ReadsTo mark s b i c) where
       pub marks-no-count : Refuses (item 0 maxCount) s c → Refuses fieldMarks s at
-      unfolding fieldMarks _>>=_ andThen
-      marks-no-count e = rw (k .reads, m .reads, n .reads, e)
+      unfolding fieldMarks
+      marks-no-count e = bind-refuses _ _ k (bind-refuses _ _ m (bind-refuses _ _ n (bind-refused _ _ s c e)))
 
       pub marks-read : {count next : ℕ} → ReadsTo (item 0 maxCount) s c count next → ReadsTo fieldMarks s at (record { kind = kind; opened = o; items = i; count = count }) next
-      unfolding fieldMarks _>>=_ andThen pure
-      marks-read e =
-          record {
-            reads = rw (k .reads, m .reads, n .reads, e .reads);
-            past = omega (arith, k .past, m .past, n .past, e .past);
-            within = e .within;
-          }
+      unfolding fieldMarks
+      marks-read e = bind-reads _ _ k (bind-reads _ _ m (bind-reads _ _ n (bind-pure _ _ e)))
 
 pub texts-no-length : (s : List ℕ) (at : ℕ) → Refuses (item 0 maxText) s at → Refuses fieldTexts s at
-unfolding fieldTexts _>>=_ andThen
-texts-no-length s at e = rw e
+unfolding fieldTexts
+texts-no-length s at e = bind-refused _ _ s at e
 
 module _ {s : List ℕ} {at a len : ℕ} (n : ReadsTo (item 0 maxText) s at len a) where
   pub texts-no-tag-length : Refuses textLength s a → Refuses fieldTexts s at
-  unfolding fieldTexts _>>=_ andThen
-  texts-no-tag-length e = rw (n .reads, e)
+  unfolding fieldTexts
+  texts-no-tag-length e = bind-refuses _ _ n (bind-refused _ _ s a e)
 
   module _ {b : ℕ} {l : Option ℕ} (m : ReadsTo textLength s a l b) where
     pub texts-no-comma : Refuses (byte 44) s b → Refuses fieldTexts s at
-    unfolding fieldTexts _>>=_ _>>_ andThen
-    texts-no-comma e = rw (n .reads, m .reads, e)
+    unfolding fieldTexts
+    texts-no-comma e = bind-refuses _ _ n (bind-refuses _ _ m (then-refused _ _ s b e))
 
     module _ {u : Unit {0}} (c : ReadsTo (byte 44) s b u (b + 1)) where
       pub texts-no-name : TextIs len s (b + 1) false → Refuses fieldTexts s at
-      unfolding fieldTexts _>>=_ _>>_ andThen
-      texts-no-name e = rw (n .reads, m .reads, c .reads, e)
+      unfolding fieldTexts
+      texts-no-name e = bind-refuses _ _ n (bind-refuses _ _ m (then-refuses _ _ c (bind-refused _ _ s (b + 1) e)))
 
       module _ (t : TextIs len s (b + 1) true) where
         pub texts-no-tag : Refuses (optionalText l) s (b + 1 + len) → Refuses fieldTexts s at
@@ -178,13 +166,6 @@ module _ {s : List ℕ} {at a len : ℕ} (n : ReadsTo (item 0 maxText) s at len 
                 within = e .within;
               }
 
--- a chain in a chain
-andThen-assoc : {A B C : Type 0} (o : Option (A × List ℕ)) (f : A → Reader (List ℕ) B) (g : B → Reader (List ℕ) C)
-    → andThen (andThen o f) g ≡ andThen o (λ a t. andThen (f a t) g)
-unfolding andThen
-andThen-assoc none f g = refl
-andThen-assoc (some r) f g = refl
-
 unfoldable pub fieldBy : FieldMarks → List ℕ × Option (List ℕ) → entries.FieldHead
 fieldBy m x =
     record {
@@ -201,13 +182,11 @@ unfolding fieldHead fieldMarks fieldTexts first fieldBy _>>=_ _>>_ andThen pure
 field-pieces l = simp andThen-assoc
 
 pub field-no-marks : (s : List ℕ) (at : ℕ) → Refuses fieldMarks s at → Refuses fieldHead s at
-unfolding _>>=_ andThen
-field-no-marks s at e = field-pieces (drop at s) ∙ rw e
+field-no-marks s at e = field-pieces (drop at s) ∙ bind-refused _ _ s at e
 
 module _ {s : List ℕ} {at a : ℕ} {m : FieldMarks} (f : ReadsTo fieldMarks s at m a) where
   pub field-no-texts : Refuses fieldTexts s a → Refuses fieldHead s at
-  unfolding _>>=_ andThen
-  field-no-texts e = field-pieces (drop at s) ∙ rw (f .reads, e)
+  field-no-texts e = field-pieces (drop at s) ∙ bind-refuses _ _ f (bind-refused _ _ s a e)
 
   pub field-reads : (name : Part) (tag : OptionalPart) {next : ℕ} → ReadsTo fieldTexts s a (partOf s name, optionalOf s tag) next
       → ReadsTo fieldHead s at (fieldOf s (record { kind = m .kind; opened = m .opened; items = m .items; count = m .count; name = name; tag = tag })) next
@@ -222,23 +201,23 @@ module _ {s : List ℕ} {at a : ℕ} {m : FieldMarks} (f : ReadsTo fieldMarks s 
 -- Rules
 
 pub rule-no-name-length : (s : List ℕ) (at : ℕ) → Refuses textLength s at → Refuses ruleTexts s at
-unfolding ruleTexts _>>=_ andThen
-rule-no-name-length s at e = rw e
+unfolding ruleTexts
+rule-no-name-length s at e = bind-refused _ _ s at e
 
 module _ {s : List ℕ} {at a : ℕ} {l : Option ℕ} (n : ReadsTo textLength s at l a) where
   pub rule-no-message-length : Refuses textLength s a → Refuses ruleTexts s at
-  unfolding ruleTexts _>>=_ andThen
-  rule-no-message-length e = rw (n .reads, e)
+  unfolding ruleTexts
+  rule-no-message-length e = bind-refuses _ _ n (bind-refused _ _ s a e)
 
   module _ {b : ℕ} {k : Option ℕ} (m : ReadsTo textLength s a k b) where
     pub rule-no-comma : Refuses (byte 44) s b → Refuses ruleTexts s at
-    unfolding ruleTexts _>>=_ _>>_ andThen
-    rule-no-comma e = rw (n .reads, m .reads, e)
+    unfolding ruleTexts
+    rule-no-comma e = bind-refuses _ _ n (bind-refuses _ _ m (then-refused _ _ s b e))
 
     module _ {u : Unit {0}} (c : ReadsTo (byte 44) s b u (b + 1)) where
       pub rule-no-name : Refuses (optionalText l) s (b + 1) → Refuses ruleTexts s at
-      unfolding ruleTexts _>>=_ _>>_ andThen
-      rule-no-name e = rw (n .reads, m .reads, c .reads, e)
+      unfolding ruleTexts
+      rule-no-name e = bind-refuses _ _ n (bind-refuses _ _ m (then-refuses _ _ c (bind-refused _ _ s (b + 1) e)))
 
       module _ (d : ℕ) (o : Option (List ℕ)) (f : optionalText l (drop (b + 1) s) ≡ some (o, drop d s)) where
         pub rule-no-message : Refuses (optionalText k) s d → Refuses ruleTexts s at

@@ -6,17 +6,20 @@ use mathlib.Core.Path.{_≡_, sym, ap, _∙_}
 use native.Mathlib.Omega.{arith}
 use lib.ListN.{length, take, drop, length-drop}
 use lib.Seq.{drop-drop, take-append-seam, drop-append-seam}
-use Rattle.sheet.specs.Reader.{Reader, _>>=_, _>>_, andThen, pure}
-use Rattle.sheet.specs.ReaderLaws.{Reads, bind-inv, then-inv, pure-inv}
+use Rattle.text.specs.Reader.{Reader, _>>=_, _>>_, andThen, pure}
+use Rattle.text.specs.ReaderLaws.{Reads, bind-inv, then-inv, pure-inv}
+use Rattle.text.specs.ByteReaders.{byte, comma, lineEnd}
+use Rattle.text.specs.ByteReaderLaws.{byte-sound}
+use Rattle.text.specs.Parts.{partOf, optionalOf}
+use Rattle.text.specs.ReadAt.{ReadsTo, Refuses}
+use Rattle.text.specs.declared.part.OptionalPart.{OptionalPart}
 use Rattle.sheet.specs.Entries as entries
-use Rattle.sheet.specs.Entries.{maxText, maxCount, byte, comma, lineEnd, item, textLength, text, optionalText, fieldHead}
-use Rattle.sheet.specs.ItemLaws.{byte-sound, text-sound}
-use Rattle.sheet.specs.Parts.{partOf, optionalOf}
+use Rattle.sheet.specs.Entries.{maxText, maxCount, item, textLength, text, optionalText, fieldHead}
+use Rattle.sheet.specs.ItemLaws.{text-sound}
 use Rattle.sheet.specs.Pieces.{fieldMarks, fieldTexts}
-use Rattle.sheet.specs.Places.{ReadsTo, Refuses, lengthOf, fieldOf, tagAt, tagBytes, KnownTo, Unread}
+use Rattle.sheet.specs.Places.{lengthOf, fieldOf, tagAt, tagBytes, KnownTo, Unread}
 use Rattle.sheet.specs.declared.entry.Length.{Length}
 use Rattle.sheet.specs.declared.entry.Length.the-variants.{Of, Absent}
-use Rattle.sheet.specs.declared.part.OptionalPart.{OptionalPart}
 use Rattle.sheet.specs.declared.schema_heads.FieldHead.{FieldHead}
 use Rattle.sheet.specs.declared.schema_heads.FieldMarks.{FieldMarks}
 use Rattle.sheet.proofs.Heads.{fieldBy, field-pieces}

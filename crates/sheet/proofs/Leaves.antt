@@ -8,18 +8,21 @@ use lib.ListN.{length, take, drop, getD}
 use lib.Dec.{leb, eqb}
 use borrow.Author.Tests.{le-leb, eq-eqb, leb-true, leb-false}
 use Rattle.text.specs.Decimal.{isDigit}
+use Rattle.text.specs.Numeral.{numeral}
+use Rattle.text.specs.CaseLaws.{by-test}
+use Rattle.text.specs.ByteReaders.{byte, comma}
+use Rattle.text.specs.Parts.{partOf}
+use Rattle.text.specs.ReadAt.{ReadsTo}
+use Rattle.text.specs.declared.numeral.NumeralRead.the-variants as read
+use Rattle.text.specs.ReadAtLaws.{byte-reads}
+use Rattle.text.proofs.Numerals.{digits-stop, decimal-some, numeral-within}
 use Rattle.number.specs.Grammar.{isNumber}
-use Rattle.sheet.specs.Numeral.{numeral}
-use Rattle.sheet.specs.ReaderLaws.{by-test}
-use Rattle.sheet.specs.Entries.{maxText, byte, comma, item}
-use Rattle.sheet.specs.Parts.{partOf}
+use Rattle.sheet.specs.Entries.{maxText, item}
 use Rattle.sheet.specs.Pieces.{first, kindOf, valueRow, valueFrom}
-use Rattle.sheet.specs.Places.{ReadsTo, LastTextIs, LeafRead, LeafTypeIs, LeafEnds, valueCount}
-use Rattle.sheet.specs.declared.numeral.NumeralRead.the-variants as read
+use Rattle.sheet.specs.Places.{LastTextIs, LeafRead, LeafTypeIs, LeafEnds, valueCount}
 use Rattle.sheet.specs.declared.rule_heads.ValueKind.{ValueKind}
 use Rattle.sheet.specs.declared.rule_heads.ValueKind.the-variants as kind
-use Rattle.sheet.proofs.Chains.{byte-reads, item-some, first-some}
-use Rattle.sheet.proofs.Numerals.{digits-stop, decimal-some, numeral-within}
+use Rattle.sheet.proofs.Chains.{item-some, first-some}
 use Rattle.sheet.proofs.Heads.{value-reads, value-code}
 
 -- a byte that is there
@@ -32,8 +35,8 @@ unfolding isDigit
 one-digit s i h low high e =
     let digit : isDigit (getD s i 0) ≡ true = rw (le-leb 48 (getD s i 0) (omega arith), le-leb (getD s i 0) 57 (omega arith)) in
     let none-more : isDigit (getD s (i + 1) 0) ≡ false = rw e in
-    let d = decimal-some s i (omega arith) (λ q. omega arith) 7 digit (read.Is (getD s i 0 - 48) (i + 1)) (digits-stop (getD s i 0 - 48) s (i + 1) h none-more, omega arith, omega arith, omega arith) in
-    numeral-within 1 7 (d .0) (omega arith) (omega arith)
+    let d = decimal-some 7 s i (omega arith) (λ q. omega arith) digit (read.Is (getD s i 0 - 48) (i + 1)) (digits-stop (getD s i 0 - 48) s (i + 1) h none-more, omega arith, omega arith) in
+    numeral-within 1 7 d (omega arith) (omega arith)
 
 -- a type of one digit, by its bytes
 module _ (s : List ℕ) (at : ℕ) (h : at + 3 < length s) (e₀ : getD s at 0 ≡ 86) (e₁ : getD s (at + 1) 0 ≡ 44) (e₃ : getD s (at + 3) 0 ≡ 44) (low : 49 ≤ getD s (at + 2) 0) (high : getD s (at + 2) 0 ≤ 53) where

@@ -4,12 +4,13 @@ use mathlib.Core.Path.{_≡_, refl}
 use mathlib.Core.Bool.{true, false, cond}
 use mathlib.Core.List.{List}
 use native.Mathlib.Omega.{arith}
-use Rattle.sheet.specs.Operators.{Shape, shapeOf, literal, many, negation, one, two, comparison, quantifier}
+use Rattle.text.specs.Parts.{partOf}
+use Rattle.text.specs.ReadAt.{ReadsTo}
+use Rattle.text.specs.declared.part.Part.{Part}
 use Rattle.sheet.specs.Entries.{item}
-use Rattle.sheet.specs.Parts.{partOf}
+use Rattle.sheet.specs.Operators.{Shape, shapeOf, literal, many, negation, one, two, comparison, quantifier}
 use Rattle.sheet.specs.Pieces.{first, conditionRow, conditionFrom, valuesAfter}
-use Rattle.sheet.specs.Places.{ReadsTo, LastTextIs, PlainRead, PlainIs, operandCount, conditionCount}
-use Rattle.sheet.specs.declared.part.Part.{Part}
+use Rattle.sheet.specs.Places.{LastTextIs, PlainRead, PlainIs, operandCount, conditionCount}
 use Rattle.sheet.specs.declared.rule_heads.ConditionRow.{ConditionRow}
 use Rattle.sheet.proofs.Heads.{condition-reads, condition-code}
 

@@ -7,17 +7,21 @@ use native.Mathlib.Omega.{arith}
 use lib.Dec.{ltb}
 use lib.ListN.{length, drop, length-drop, length-append}
 use borrow.Author.Tests.{ltb-true, ltb-false}
-use Rattle.sheet.specs.Ascii.{ascii}
-use Rattle.sheet.specs.Reader.{Reader, _>>=_, _>>_, pure}
-use Rattle.sheet.specs.ReaderLaws.{Reads, by-test, bind-inv, pure-inv, either-inv}
-use Rattle.sheet.specs.Numeral.{decimalOf}
-use Rattle.sheet.specs.NumeralLaws.{decimalOf-one, decimalOf-last}
-use Rattle.sheet.specs.Entries.{maxText, maxCount, byte, item, mark, textLength}
+use Rattle.text.specs.Ascii.{ascii}
+use Rattle.text.specs.Reader.{Reader, _>>=_, _>>_, pure}
+use Rattle.text.specs.CaseLaws.{by-test}
+use Rattle.text.specs.ReaderLaws.{Reads, bind-inv, pure-inv, either-inv}
+use Rattle.text.specs.Numeral.{decimalOf}
+use Rattle.text.specs.NumeralLaws.{decimalOf-one, decimalOf-last}
+use Rattle.text.specs.ByteReaders.{byte}
+use Rattle.text.specs.ByteReaderLaws.{byte-sound}
+use Rattle.text.specs.ReadAt.{ReadsTo}
+use Rattle.text.specs.declared.part.Part.{Part}
+use Rattle.sheet.specs.Entries.{maxText, maxCount, item, mark, textLength}
 use Rattle.sheet.specs.Write.{writeItem}
-use Rattle.sheet.specs.ItemLaws.{byte-sound, item-exact}
+use Rattle.sheet.specs.ItemLaws.{item-exact}
 use Rattle.sheet.specs.Pieces.{first, fieldMarks}
-use Rattle.sheet.specs.Places.{ReadsTo, NamePlaced, maxPrefix}
-use Rattle.sheet.specs.declared.part.Part.{Part}
+use Rattle.sheet.specs.Places.{NamePlaced, maxPrefix}
 use Rattle.sheet.specs.declared.schema_heads.FieldMarks.{FieldMarks}
 
 -- Numbers below `m` have at most `k` digits

@@ -1,15 +1,15 @@
 -- The entries of both sheets: a reader for each kind of entry, with a line for each of its fields (docs/FORMAT.md, "Sheets").
 use Prim.Native.Nat.{ℕ}
-use Prim.Native.Char.{Char, code}
 use mathlib.Core.Bool.{Bool, cond}
-use mathlib.Core.List.{List, [], _∷_}
+use mathlib.Core.List.{List}
 use mathlib.Core.Option.{Option, none, some}
-use lib.ListN.{length, take, drop}
+use lib.ListN.{length}
 use lib.Dec.{leb, eqb}
 use Rattle.text.specs.Utf8.{isUtf8}
+use Rattle.text.specs.Reader.{Reader, _>>=_, _>>_, ensure, pure, either}
+use Rattle.text.specs.ByteReaders.{letter, comma, lineEnd, bytes}
+use Rattle.text.specs.Numeral.{numeral}
 use Rattle.number.specs.Grammar.{isNumber}
-use Rattle.sheet.specs.Reader.{Reader, _>>=_, _>>_, ensure, pure, either}
-use Rattle.sheet.specs.Numeral.{numeral}
 use Rattle.sheet.specs.Operators.{Shape, literal, many, negation, one, two, comparison, quantifier, operatorCount, shapeOf}
 use Rattle.sheet.specs.FieldKinds.{kindCount}
 
@@ -21,21 +21,8 @@ maxText = 512
 abbrev pub maxCount : ℕ
 maxCount = 2048
 
-unfoldable pub byte : ℕ → Reader (List ℕ) (Unit {0})
-byte b [] = none
-byte b (a ∷ s) = cond (eqb a b) (some (tt, s)) none
-
-abbrev pub letter : Char → Reader (List ℕ) (Unit {0})
-letter c = byte (code c)
-
-abbrev pub comma : Reader (List ℕ) (Unit {0})
-comma = letter ","
-
 abbrev pub dash : Reader (List ℕ) (Unit {0})
 dash = letter "-"
-
-abbrev pub lineEnd : Reader (List ℕ) (Unit {0})
-lineEnd = byte 10
 
 -- the next field of an entry: a comma, and a numeral from `low` to `high`
 unfoldable pub item : ℕ → ℕ → Reader (List ℕ) ℕ
@@ -60,9 +47,6 @@ textLength =
     (do
       n ← item 0 maxText
       pure (some n))
-
-unfoldable pub bytes : ℕ → Reader (List ℕ) (List ℕ)
-bytes n s = cond (leb n (length s)) (some (take n s, drop n s)) none
 
 -- `n` bytes of UTF-8
 unfoldable pub text : ℕ → Reader (List ℕ) (List ℕ)

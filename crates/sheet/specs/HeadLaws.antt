@@ -8,15 +8,17 @@ use mathlib.Core.Path.{_≡_, refl}
 use native.Mathlib.Omega.{arith}
 use lib.ListN.{length}
 use Rattle.text.specs.Decimal.{isDigit}
-use Rattle.sheet.specs.Ascii.{ascii}
-use Rattle.sheet.specs.Reader.{Reader, _>>_, pure}
-use Rattle.sheet.specs.ReaderLaws.{Reads, bind-inv, then-inv, bind-reads, then-reads, pure-inv, either-inv, either-first, either-second}
-use Rattle.sheet.specs.Numeral.{decimalOf, decimalIn}
-use Rattle.sheet.specs.NumeralLaws.{beginsWithoutDigit}
-use Rattle.sheet.specs.Entries.{maxText, maxCount, comma, dash, HolderHead, holderHead, argumentsHead, SchemaHead, schemaHead, FieldHead, fieldHead}
+use Rattle.text.specs.Ascii.{ascii}
+use Rattle.text.specs.Reader.{Reader, _>>_, pure}
+use Rattle.text.specs.ReaderLaws.{Reads, bind-inv, then-inv, bind-reads, then-reads, pure-inv, either-inv, either-first, either-second}
+use Rattle.text.specs.Numeral.{decimalOf, decimalIn}
+use Rattle.text.specs.NumeralLaws.{beginsWithoutDigit, comma-begins, end-begins}
+use Rattle.text.specs.ByteReaders.{comma}
+use Rattle.text.specs.ByteReaderLaws.{byte-complete}
+use Rattle.sheet.specs.Entries.{maxText, maxCount, dash, HolderHead, holderHead, argumentsHead, SchemaHead, schemaHead, FieldHead, fieldHead}
 use Rattle.sheet.specs.Write.{writeItem, writeMark, writeLength, writeText, writeEnd, writeHolderHead, writeArgumentsHead, writeSchemaHead, writeFieldHead}
 use Rattle.sheet.specs.Within.{TextWithin, OptionWithin}
-use Rattle.sheet.specs.ItemLaws.{Exact, anything, past, step, item-exact, item-complete, mark-exact, mark-complete, byte-complete, dash-none, text-sound, text-complete, textLength-sound, textLength-complete, optionalText-sound, optionalText-complete, item-begins, mark-begins, length-begins, comma-begins, end-begins}
+use Rattle.sheet.specs.ItemLaws.{Exact, anything, past, step, item-exact, item-complete, mark-exact, mark-complete, dash-none, text-sound, text-complete, textLength-sound, textLength-complete, optionalText-sound, optionalText-complete, item-begins, mark-begins, length-begins}
 
 writeItem-zero : writeItem 0 ≡ 44 ∷ 48 ∷ []
 unfolding writeItem ascii decimalOf decimalIn

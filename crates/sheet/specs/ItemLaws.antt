@@ -1,24 +1,26 @@
 -- Each head is read back as it was written, and what is read as a head is one as it is written.
 use Prim.Native.Nat.{ℕ, _≤_}
 use mathlib.Core.Bool.{Bool, true, false, and-eq-true-iff}
-use mathlib.Core.List.{List, [], _∷_, _++_}
-use mathlib.Core.Option.{Option, none, some, Option·none-ne-some, Option·some-injective, Option·map}
+use mathlib.Core.List.{List, _∷_, _++_}
+use mathlib.Core.Option.{Option, none, some, Option·map}
 use mathlib.Core.Logic.{⊎-elim}
 use mathlib.Core.Path.{_≡_, refl, sym, ap, _∙_}
 use native.Mathlib.Omega.{arith}
 use lib.Dec.{leb, eqb}
-use lib.ListN.{length, take, drop, take-append-drop, length-append}
-use lib.Seq.{length-take-le, take-append-seam, drop-append-seam}
-use borrow.Author.Tests.{leb-true, eqb-true, eqb-false, le-leb, eq-eqb, ne-eqb}
+use lib.ListN.{length}
+use borrow.Author.Tests.{leb-true, eqb-true, eqb-false, le-leb, ne-eqb}
 use Rattle.text.specs.Utf8.{isUtf8}
 use Rattle.text.specs.Decimal.{isDigit}
-use Rattle.text.proofs.Decimal.{isDigit-range}
-use Rattle.sheet.specs.Ascii.{ascii}
-use Rattle.sheet.specs.Reader.{Reader, _>>=_, _>>_, andThen, pure}
-use Rattle.sheet.specs.ReaderLaws.{Reads, by-test, bind-inv, then-inv, bind-reads, then-reads, pure-inv, ensure-inv, ensure-reads, either-inv, either-first, either-second}
-use Rattle.sheet.specs.Numeral.{numeral}
-use Rattle.sheet.specs.NumeralLaws.{beginsWithoutDigit, decimal-sound, decimal-complete, decimalOf-begins}
-use Rattle.sheet.specs.Entries.{maxText, byte, comma, dash, item, mark, textLength, bytes, text, optionalText}
+use Rattle.text.specs.DecimalLaws.{isDigit-range}
+use Rattle.text.specs.Ascii.{ascii}
+use Rattle.text.specs.Reader.{Reader, _>>=_, _>>_, andThen, pure}
+use Rattle.text.specs.CaseLaws.{by-test}
+use Rattle.text.specs.ReaderLaws.{Reads, bind-inv, then-inv, bind-reads, then-reads, pure-inv, ensure-inv, ensure-reads, either-inv, either-first, either-second}
+use Rattle.text.specs.Numeral.{numeral}
+use Rattle.text.specs.NumeralLaws.{beginsWithoutDigit, decimal-sound, decimal-complete, decimalOf-begins}
+use Rattle.text.specs.ByteReaders.{byte, comma}
+use Rattle.text.specs.ByteReaderLaws.{byte-sound, byte-complete, bytes-sound, bytes-complete}
+use Rattle.sheet.specs.Entries.{maxText, dash, item, mark, textLength, text, optionalText}
 use Rattle.sheet.specs.Write.{writeItem, writeMark, markOf, writeLength, writeText}
 use Rattle.sheet.specs.Within.{OptionWithin}
 
@@ -29,20 +31,6 @@ pub record Exact {A : Type 0} (p : Reader (List ℕ) A) (w : A → List ℕ) (Fi
 
 unfoldable pub anything : List ℕ → Bool
 anything s = true
-
-pub byte-sound : (b : ℕ) (s : List ℕ) (a : Unit {0}) (t : List ℕ) → Reads (byte b) s a t → s ≡ b ∷ t
-unfolding byte
-byte-sound b [] a t e = absurd (Option·none-ne-some _ e)
-byte-sound b (x ∷ s) a t e =
-    by-test (eqb x b)
-    (λ q.
-    rw (eqb-true x b q)
-    (ap (λ (r : Unit {0} × List ℕ). b ∷ r .1) (Option·some-injective (tt, s) (a, t) (rw q at e))))
-    (λ q. absurd (Option·none-ne-some (a, t) (rw q at e)))
-
-pub byte-complete : (b : ℕ) (t : List ℕ) → Reads (byte b) (b ∷ t) tt t
-unfolding byte
-byte-complete b t = rw (eq-eqb b b refl)
 
 -- The next step of a chain: a byte, or what a law speaks of.
 
@@ -100,22 +88,6 @@ pub mark-exact : Exact mark writeMark (λ b. Unit {0}) beginsWithoutDigit
 mark-exact = record { sound = mark-sound; complete = mark-complete }
 
 -- Texts
-
-bytes-sound : (n : ℕ) (s x t : List ℕ) → Reads (bytes n) s x t → (s ≡ x ++ t) × (length x ≡ n)
-unfolding bytes
-bytes-sound n s x t e =
-    by-test (leb n (length s))
-    (λ q.
-    let r = Option·some-injective (take n s, drop n s) (x, t) (rw q at e) in
-    let q₀ = ap (λ (r : List ℕ × List ℕ). r .0) r in
-    let q₁ = ap (λ (r : List ℕ × List ℕ). r .1) r in
-    rw (← q₀, ← q₁) (sym (take-append-drop n s), length-take-le n s (leb-true n (length s) q)))
-    (λ q. absurd (Option·none-ne-some (x, t) (rw q at e)))
-
-bytes-complete : (x t : List ℕ) → Reads (bytes (length x)) (x ++ t) x t
-unfolding bytes
-bytes-complete x t =
-    rw (le-leb (length x) (length (x ++ t)) (simp length-append (omega arith)), take-append-seam x t, drop-append-seam x t)
 
 pub text-sound : (n : ℕ) (s x t : List ℕ) → Reads (text n) s x t → (s ≡ x ++ t) × (length x ≡ n) × (isUtf8 x ≡ true)
 unfolding text
@@ -201,11 +173,3 @@ pub length-begins : (x : Option (List ℕ)) (t : List ℕ) → beginsWithoutDigi
 unfolding beginsWithoutDigit isDigit writeLength ascii
 length-begins none t = refl
 length-begins (some x) t = item-begins (length x) t
-
-pub comma-begins : (t : List ℕ) → beginsWithoutDigit (44 ∷ t) ≡ true
-unfolding beginsWithoutDigit isDigit
-comma-begins t = refl
-
-pub end-begins : (t : List ℕ) → beginsWithoutDigit (10 ∷ t) ≡ true
-unfolding beginsWithoutDigit isDigit
-end-begins t = refl

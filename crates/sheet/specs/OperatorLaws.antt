@@ -7,7 +7,7 @@ use mathlib.Core.Path.{_≡_, refl, sym, ap, subst, _∙_}
 use lib.ListN.{getD, drop}
 use lib.Dec.{leb, eqb}
 use borrow.Author.Tests.{le-leb, lt-leb, leb-true, leb-false, eqb-true, eqb-false}
-use Rattle.sheet.specs.ReaderLaws.{by-test}
+use Rattle.text.specs.CaseLaws.{by-test}
 use Rattle.sheet.specs.Operators.{Operator, Shape, literal, many, negation, one, two, comparison, quantifier, operatorRow, shapeOf, operatorName, isServiceOperator, isInstantTest, isAffix, isObserved}
 
 -- what a function gives for the `n` numbers from `low` on

@@ -4,10 +4,11 @@ use mathlib.Core.Bool.{true, false, cond}
 use mathlib.Core.List.{List}
 use mathlib.Core.Option.{Option}
 use lib.Dec.{leb, eqb}
-use Rattle.sheet.specs.Reader.{Reader, _>>=_, _>>_, pure}
+use Rattle.text.specs.Reader.{Reader, _>>=_, _>>_, pure}
+use Rattle.text.specs.ByteReaders.{byte, comma, lineEnd}
+use Rattle.text.specs.declared.part.Part.{Part}
+use Rattle.sheet.specs.Entries.{maxText, maxCount, dash, item, mark, textLength, text, optionalText, RuleHead, rule, ConditionHead, literalHead, manyHead, negationHead, oneHead, twoHead, comparisonHead, quantifierHead, ValueHead, constantHead, numberHead, stringHead, arrayHead, objectHead}
 use Rattle.sheet.specs.Operators.{Shape, literal, many, negation, one, two, comparison, quantifier}
-use Rattle.sheet.specs.Entries.{maxText, maxCount, byte, comma, dash, lineEnd, item, mark, textLength, text, optionalText, RuleHead, rule, ConditionHead, literalHead, manyHead, negationHead, oneHead, twoHead, comparisonHead, quantifierHead, ValueHead, constantHead, numberHead, stringHead, arrayHead, objectHead}
-use Rattle.sheet.specs.declared.part.Part.{Part}
 use Rattle.sheet.specs.declared.schema_heads.FieldMarks.{FieldMarks}
 use Rattle.sheet.specs.declared.rule_heads.Shape.{Shape as CodeShape}
 use Rattle.sheet.specs.declared.rule_heads.Shape.the-variants as shape

@@ -5,13 +5,14 @@ use mathlib.Core.List.{List}
 use mathlib.Core.Option.{Option, none, some}
 use mathlib.Core.Path.{_≡_}
 use lib.ListN.{length, take, drop}
-use Rattle.sheet.specs.Reader.{Reader}
-use Rattle.sheet.specs.Numeral.{digits, decimal, numeral as numeralOf}
+use Rattle.text.specs.ByteReaders.{comma}
+use Rattle.text.specs.ReadAt.{ReadsTo, Refuses}
+use Rattle.text.specs.Parts.{partOf, optionalOf}
+use Rattle.text.specs.declared.part.Part.{Part}
+use Rattle.text.specs.declared.part.OptionalPart.{OptionalPart}
+use Rattle.text.specs.declared.part.OptionalPart.the-variants as part
 use Rattle.sheet.specs.Entries as entries
-use Rattle.sheet.specs.Parts.{partOf, optionalOf}
 use Rattle.sheet.specs.Pieces.{first, dashed, lastText, fieldMarks, fieldTexts, ruleTexts}
-use Rattle.sheet.specs.declared.numeral.NumeralRead.{NumeralRead}
-use Rattle.sheet.specs.declared.numeral.NumeralRead.the-variants as numeral
 use Rattle.sheet.specs.declared.entry.MarkRead.{MarkRead}
 use Rattle.sheet.specs.declared.entry.MarkRead.the-variants as mark
 use Rattle.sheet.specs.declared.entry.Length.{Length}
@@ -37,9 +38,6 @@ use Rattle.sheet.specs.declared.schema_heads.FieldTextsRead.the-variants
 use Rattle.sheet.specs.declared.schema_heads.FieldHead.{FieldHead}
 use Rattle.sheet.specs.declared.schema_heads.FieldRead.{FieldRead}
 use Rattle.sheet.specs.declared.schema_heads.FieldRead.the-variants as field
-use Rattle.sheet.specs.declared.part.Part.{Part}
-use Rattle.sheet.specs.declared.part.OptionalPart.{OptionalPart}
-use Rattle.sheet.specs.declared.part.OptionalPart.the-variants as part
 use Rattle.sheet.specs.declared.rule_heads.RuleHead.{RuleHead}
 use Rattle.sheet.specs.declared.rule_heads.RuleHead.the-variants as rule-head
 use Rattle.sheet.specs.declared.rule_heads.RuleHeadRead.{RuleHeadRead}
@@ -55,35 +53,7 @@ use Rattle.sheet.specs.declared.rule_heads.ValueRead.the-variants as val
 use Rattle.sheet.specs.declared.rule_heads.KeyRead.{KeyRead}
 use Rattle.sheet.specs.declared.rule_heads.KeyRead.the-variants as key
 
--- `p` reads `a` from place `at` on, and stops further on, at `next`
-pub record ReadsTo {A : Type 0} (p : Reader (List ℕ) A) (s : List ℕ) (at : ℕ) (a : A) (next : ℕ) : Type 0 where
-  pub reads : p (drop at s) ≡ some (a, drop next s)
-  pub past : at < next
-  pub within : next ≤ length s
-
--- `p` reads nothing from place `at` on
-abbrev pub Refuses : {A : Type 0} → Reader (List ℕ) A → List ℕ → ℕ → Type 0
-Refuses p s at = p (drop at s) ≡ none
-
 -- What entries are made of.
-
-abbrev pub NumeralIs : Reader (List ℕ) ℕ → ℕ → ℕ → List ℕ → ℕ → NumeralRead → Type 0
-NumeralIs p low high s at (numeral.Is n next) = ReadsTo p s at n next × (low ≤ n) × (n ≤ high)
-NumeralIs p low high s at numeral.Bad = Refuses p s at
-
--- the digits after those whose value is `value`; `Bad` where their value is above `high`
-abbrev pub DigitsAre : ℕ → ℕ → List ℕ → ℕ → NumeralRead → Type 0
-DigitsAre value high s at (numeral.Is n next) = (digits value (drop at s) ≡ (n, drop next s)) × (at ≤ next) × (next ≤ length s) × (n ≤ high)
-DigitsAre value high s at numeral.Bad = high < digits value (drop at s) .0
-
--- a numeral up to `high`; `Bad` where none is, whatever the least number
-abbrev pub AtMostIs : ℕ → List ℕ → ℕ → NumeralRead → Type 0
-AtMostIs high s at (numeral.Is n next) = ReadsTo decimal s at n next × (n ≤ high)
-AtMostIs high s at numeral.Bad = (low : ℕ) → Refuses (numeralOf low high) s at
-
-abbrev pub StartsWith : ℕ → List ℕ → ℕ → Bool → Type 0
-StartsWith b s at true = ReadsTo (entries.byte b) s at tt (at + 1)
-StartsWith b s at false = Refuses (entries.byte b) s at
 
 abbrev pub MarkIs : List ℕ → ℕ → MarkRead → Type 0
 MarkIs s at (mark.Is b next) = ReadsTo entries.mark s at b next
@@ -289,7 +259,7 @@ pub record LeafRead (s : List ℕ) (at next : ℕ) : Type 0 where
 
 -- the type's number of such a value, read with the comma after it; 0 says nothing
 abbrev pub LeafTypeIs : List ℕ → ℕ → ℕ → Type 0
-LeafTypeIs s at type = 0 < type → ReadsTo (first 86 1 7) s at type (at + 3) × ReadsTo entries.comma s (at + 3) tt (at + 4) × (type ≤ 5)
+LeafTypeIs s at type = 0 < type → ReadsTo (first 86 1 7) s at type (at + 3) × ReadsTo comma s (at + 3) tt (at + 4) × (type ≤ 5)
 
 -- the place after such a value; 0 says nothing
 abbrev pub LeafEnds : List ℕ → ℕ → ℕ → Type 0

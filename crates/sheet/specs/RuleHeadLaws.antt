@@ -9,16 +9,20 @@ use native.Mathlib.Omega.{arith}
 use lib.Dec.{leb}
 use lib.ListN.{length}
 use borrow.Author.Tests.{leb-true, leb-false, le-leb, lt-leb}
+use Rattle.text.specs.Ascii.{ascii}
+use Rattle.text.specs.Reader.{Reader, _>>=_, _>>_, andThen, pure, either, orElse}
+use Rattle.text.specs.CaseLaws.{by-test}
+use Rattle.text.specs.ReaderLaws.{Reads, bind-inv, then-inv, bind-reads, then-reads, pure-inv, ensure-inv, ensure-reads, either-inv, either-first}
+use Rattle.text.specs.ByteReaders.{byte, comma}
+use Rattle.text.specs.ByteReaderLaws.{byte-complete}
+use Rattle.text.specs.NumeralLaws.{comma-begins}
 use Rattle.number.specs.Grammar.{isNumber}
-use Rattle.sheet.specs.Ascii.{ascii}
-use Rattle.sheet.specs.Reader.{Reader, _>>=_, _>>_, andThen, pure, either, orElse}
-use Rattle.sheet.specs.ReaderLaws.{Reads, by-test, bind-inv, then-inv, bind-reads, then-reads, pure-inv, ensure-inv, ensure-reads, either-inv, either-first}
+use Rattle.sheet.specs.Entries.{maxText, maxCount, item, text, RuleHead, rule, template, ruleHead, ConditionHead, literalHead, manyHead, negationHead, oneHead, twoHead, comparisonHead, quantifierHead, behindOperator, conditionHead, ValueHead, constantHead, numberHead, stringHead, arrayHead, objectHead, constantRest, numberRest, stringRest, arrayRest, objectRest, behindType, valueHead, keyHead}
 use Rattle.sheet.specs.OperatorLaws.{over, alike, shapeByTests, shape-tests}
 use Rattle.sheet.specs.Operators.{Shape, literal, many, negation, one, two, comparison, quantifier, literalOperator, notOperator, compareOperator, shapeOf, InShape}
-use Rattle.sheet.specs.Entries.{maxText, maxCount, byte, comma, item, text, RuleHead, rule, template, ruleHead, ConditionHead, literalHead, manyHead, negationHead, oneHead, twoHead, comparisonHead, quantifierHead, behindOperator, conditionHead, ValueHead, constantHead, numberHead, stringHead, arrayHead, objectHead, constantRest, numberRest, stringRest, arrayRest, objectRest, behindType, valueHead, keyHead}
 use Rattle.sheet.specs.Write.{writeItem, writeMark, markOf, writeLength, writeText, writeEnd, writeLast, writeRuleHead, writeOperator, writeConditionHead, writeType, writeValueHead, writeKeyHead}
 use Rattle.sheet.specs.Within.{TextWithin, OptionWithin}
-use Rattle.sheet.specs.ItemLaws.{Exact, anything, past, step, item-exact, item-complete, mark-exact, mark-complete, byte-complete, text-sound, text-complete, textLength-sound, textLength-complete, optionalText-sound, optionalText-complete, item-begins, length-begins, comma-begins}
+use Rattle.sheet.specs.ItemLaws.{Exact, anything, past, step, item-exact, item-complete, mark-exact, mark-complete, text-sound, text-complete, textLength-sound, textLength-complete, optionalText-sound, optionalText-complete, item-begins, length-begins}
 
 -- R,a,b,text or T
 abbrev pub RuleHeadFits : RuleHead → Type 0

@@ -4,8 +4,8 @@ use mathlib.Core.Bool.{Bool, true, false}
 use mathlib.Core.List.{List, [], _∷_, _++_}
 use mathlib.Core.Option.{Option, none, some}
 use lib.ListN.{length}
-use Rattle.sheet.specs.Ascii.{ascii}
-use Rattle.sheet.specs.Numeral.{decimalOf}
+use Rattle.text.specs.Ascii.{ascii}
+use Rattle.text.specs.Numeral.{decimalOf}
 use Rattle.sheet.specs.Operators.{literalOperator, notOperator, compareOperator}
 use Rattle.sheet.specs.Entries.{HolderHead, SchemaHead, FieldHead, RuleHead, rule, template, ConditionHead, literalHead, manyHead, negationHead, oneHead, twoHead, comparisonHead, quantifierHead, ValueHead, constantHead, numberHead, stringHead, arrayHead, objectHead}
 

@@ -1,13 +1,15 @@
 // What entries are made of: single bytes, fields after a comma, and texts.
-use crate::numeral;
-use crate::numeral::NumeralRead;
-use crate::part::OptionalPart;
-use crate::part::Part;
+use text::numeral;
+use text::numeral::NumeralRead;
+use text::part::OptionalPart;
+use text::part::Part;
+use text::starts_with;
 ghost use Prim.Native.Nat.{_≤_};
 ghost use lib.ListN.{length};
+ghost use Rattle.text.specs.ReadAt.{NumeralIs};
 ghost use Rattle.sheet.specs.Entries.{item};
 ghost use Rattle.sheet.specs.Pieces.{first};
-ghost use Rattle.sheet.specs.Places.{StartsWith, NumeralIs, MarkIs, IsDashed, TextIs, LastTextIs, LengthIs, OptionalIs};
+ghost use Rattle.sheet.specs.Places.{MarkIs, IsDashed, TextIs, LastTextIs, LengthIs, OptionalIs};
 
 // No text is longer than this.
 pub const MAX_TEXT: u32 = 512;
@@ -37,12 +39,6 @@ pub enum OptionalRead {
     // The text, and the place after it.
     Is(OptionalPart, usize),
     Bad,
-}
-
-pub fn starts_with(s: &[u8], at: usize, b: u8) -> bool
-    ensures { λ r. ⌜ StartsWith b (now (s .entry)) at r ⌝ }
-{
-    if at < s.len() { s[at] == b } else { false }
 }
 
 // The next field: a comma, and a numeral.

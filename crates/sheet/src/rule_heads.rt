@@ -4,8 +4,6 @@ use crate::entry::LengthRead;
 use crate::entry::MAX_COUNT;
 use crate::entry::MAX_TEXT;
 use crate::entry::OptionalRead;
-use crate::numeral;
-use crate::numeral::NumeralRead;
 use crate::operators::ANY;
 use crate::operators::COMPARE;
 use crate::operators::ENDS_WITH;
@@ -14,9 +12,11 @@ use crate::operators::LITERAL;
 use crate::operators::NOT;
 use crate::operators::OPERATOR_COUNT;
 use crate::operators::TRUTHY;
-use crate::part;
-use crate::part::OptionalPart;
-use crate::part::Part;
+use text::numeral;
+use text::numeral::NumeralRead;
+use text::part;
+use text::part::OptionalPart;
+use text::part::Part;
 ghost use mathlib.Core.Bool.{true, cond};
 ghost use mathlib.Core.Path.{_≡_};
 ghost use lib.Dec.{leb};
@@ -139,14 +139,14 @@ fn rule_texts(s: &[u8], at: usize) -> RuleHeadRead
     let LengthRead::Is(message_len, b) = entry::text_length(s, a) else {
         return RuleHeadRead::Bad;
     };
-    if entry::starts_with(s, b, b',') {
+    if text::starts_with(s, b, b',') {
         let OptionalRead::Is(name, c) = entry::optional_text(s, b + 1, name_len) else {
             return RuleHeadRead::Bad;
         };
         let OptionalRead::Is(message, end) = entry::optional_text(s, c, message_len) else {
             return RuleHeadRead::Bad;
         };
-        if entry::starts_with(s, end, b'\n') {
+        if text::starts_with(s, end, b'\n') {
             return RuleHeadRead::Is(RuleHead::Rule(name, message), end + 1);
         }
     }
@@ -156,11 +156,11 @@ fn rule_texts(s: &[u8], at: usize) -> RuleHeadRead
 pub fn rule_head(s: &[u8], at: usize) -> RuleHeadRead
     ensures { λ r. ⌜ RuleIs (now (s .entry)) at r ⌝ }
 {
-    if entry::starts_with(s, at, b'R') {
+    if text::starts_with(s, at, b'R') {
         return rule_texts(s, at + 1);
     }
-    if entry::starts_with(s, at, b'T') {
-        if entry::starts_with(s, at + 1, b'\n') {
+    if text::starts_with(s, at, b'T') {
+        if text::starts_with(s, at + 1, b'\n') {
             return RuleHeadRead::Is(RuleHead::Template, at + 2);
         }
     }

@@ -6,9 +6,9 @@ use crate::entry::MAX_COUNT;
 use crate::entry::MAX_TEXT;
 use crate::entry::MarkRead;
 use crate::entry::OptionalRead;
-use crate::numeral::NumeralRead;
-use crate::part::OptionalPart;
-use crate::part::Part;
+use text::numeral::NumeralRead;
+use text::part::OptionalPart;
+use text::part::Part;
 ghost use mathlib.Core.Path.{_≡_};
 ghost use Rattle.sheet.specs.Places.{HolderIs, ArgumentsAre, SchemaIs, FieldMarksAre, FieldTextsAre, FieldIs, tagAt, tagBytes, KnownFieldIs};
 
@@ -135,14 +135,14 @@ fn arguments_head(s: &[u8], at: usize) -> ArgumentsHeadRead
 pub fn schema_head(s: &[u8], at: usize) -> SchemaHeadRead
     ensures { λ r. ⌜ SchemaIs (now (s .entry)) at r ⌝ }
 {
-    if entry::starts_with(s, at, b'H') {
+    if text::starts_with(s, at, b'H') {
         let HolderHeadRead::Is(fields, behind) = holder_head(s, at + 1) else {
             return SchemaHeadRead::Bad;
         };
         let ArgumentsHeadRead::Is(arguments, end) = arguments_head(s, behind) else {
             return SchemaHeadRead::Bad;
         };
-        if entry::starts_with(s, end, b'\n') {
+        if text::starts_with(s, end, b'\n') {
             return SchemaHeadRead::Is(SchemaHead { fields, arguments }, end + 1);
         }
     }
@@ -186,13 +186,13 @@ fn field_texts(s: &[u8], at: usize) -> FieldTextsRead
     let LengthRead::Is(tag_len, b) = entry::text_length(s, a) else {
         return FieldTextsRead::Bad;
     };
-    if entry::starts_with(s, b, b',') {
+    if text::starts_with(s, b, b',') {
         let start = b + 1;
         if entry::is_text(s, start, len) {
             let OptionalRead::Is(tag, end) = entry::optional_text(s, start + len, tag_len) else {
                 return FieldTextsRead::Bad;
             };
-            if entry::starts_with(s, end, b'\n') {
+            if text::starts_with(s, end, b'\n') {
                 let name = Part { start, len };
                 return FieldTextsRead::Are(FieldTexts { name, tag }, end + 1);
             }

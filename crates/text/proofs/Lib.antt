@@ -1,7 +1,6 @@
 pub mod Below
 pub mod Bools
 pub mod Bytes
-pub mod Decimal
 pub mod White
 pub mod Decode
 pub mod Shape
@@ -9,4 +8,7 @@ pub mod Points
 pub mod DigitLaws
 pub mod Passes
 pub mod End
+pub mod Numerals
+pub mod Parts
+pub mod Comparing
 pub mod Samples

@@ -1,4 +1,8 @@
-// Text as bytes: UTF-8, digits, White_Space, blank text, and text trimmed at both ends. Every function takes any bytes.
+// Text as bytes: UTF-8, digits, White_Space, blank text, text trimmed at both ends; numerals, parts and the order of texts. Every function takes any bytes.
+pub mod numeral; // numeral.rt: numerals
+pub mod part; // part.rt: texts as places in others
+pub mod order; // order.rt: the order of texts by their bytes
+
 ghost use mathlib.Core.Path.{_≡_};
 ghost use mathlib.Core.Bool.{true};
 ghost use Prim.Native.Nat.{_+_, _*_, _≤_, _<_};
@@ -10,6 +14,7 @@ ghost use Rattle.text.specs.Blank.{isBlank, trim};
 ghost use Rattle.text.specs.Decodes.{Decodes, AsciiAt, PassedTo, BehindPoint, StartsAt, EndsAt};
 ghost use Rattle.text.specs.Digits.{Digits, BigEndian};
 ghost use Rattle.text.specs.Decimal.{isDigit};
+ghost use Rattle.text.specs.ReadAt.{StartsWith};
 
 // What is at an offset of a text.
 pub enum Decoded {
@@ -29,6 +34,12 @@ pub fn is_digit(b: u8) -> bool
     ensures { λ r. ⌜ r ≡ isDigit b ⌝ }
 {
     is_between(b'0', b'9', b)
+}
+
+pub fn starts_with(s: &[u8], at: usize, b: u8) -> bool
+    ensures { λ r. ⌜ StartsWith b (now (s .entry)) at r ⌝ }
+{
+    if at < s.len() { s[at] == b } else { false }
 }
 
 fn is_tail(b: u8) -> bool

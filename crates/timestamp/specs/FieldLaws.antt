@@ -8,7 +8,7 @@ use mathlib.Core.Path.{_≡_, refl, subst}
 use lib.ListN.{getD}
 use Rattle.text.specs.Decimal.{isDigit}
 use Rattle.text.specs.Blank.{trim}
-use Rattle.text.proofs.Decimal.{isDigit-range}
+use Rattle.text.specs.DecimalLaws.{isDigit-range}
 use Rattle.timestamp.specs.Instant.{digitValue, two, three, fieldsOf, isInstant, instantIn, instant}
 use Rattle.timestamp.specs.declared.Fields.{Fields}
 

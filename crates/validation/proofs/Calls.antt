@@ -1,7 +1,7 @@
 -- Calls with sheets that are written out, and what is heard of them.
 use Prim.Native.Nat.{ℕ}
 use mathlib.Core.List.{List, []}
-use Rattle.sheet.specs.Ascii.{ascii}
+use Rattle.text.specs.Ascii.{ascii}
 use Rattle.definition.specs.Tree.{Text}
 use Rattle.validation.specs.Result.{Call, any, Answer, refused, accepted, defect, Numbers, numbersOf, resultOf}
 use Rattle.validation.specs.Computing.{computing}

@@ -2,8 +2,8 @@
 use Prim.Native.Nat.{ℕ}
 use mathlib.Core.List.{List, [], _∷_, _++_}
 use mathlib.Core.Path.{_≡_, refl}
+use Rattle.text.specs.Ascii.{ascii}
 use Rattle.timestamp.specs.Order.{listOf, isBelow, isEarlier}
-use Rattle.sheet.specs.Ascii.{ascii}
 use Rattle.definition.specs.Decode.{decodeRule}
 use Rattle.validation.specs.Result.{numbersOf, resultOf}
 use Rattle.validation.specs.Computing.{computing}

@@ -5,7 +5,7 @@ use native.Mathlib.Omega.{arith}
 use mathlib.Core.List.{List, []}
 use mathlib.Core.Option.{none}
 use mathlib.Core.Path.{_≡_, refl}
-use Rattle.sheet.specs.Ascii.{ascii}
+use Rattle.text.specs.Ascii.{ascii}
 use Rattle.definition.specs.Tree.{number, rule, two}
 use Rattle.widening.specs.Widening.{marks, listed, kept, opened, wider, neither, end, keep, without}
 use Rattle.validation.specs.Result.{Takes, any, rules, takesAny, Call}

@@ -3,7 +3,7 @@ use Prim.Native.Nat.{ℕ, _-_}
 use Prim.Native.String.{String}
 use mathlib.Core.List.{List, [], _∷_}
 use mathlib.Core.Path.{_≡_, refl}
-use Rattle.sheet.specs.Ascii.{ascii}
+use Rattle.text.specs.Ascii.{ascii}
 use Rattle.validation.specs.Result.{scratchWords, Numbers, numbersOf}
 use Rattle.validation.specs.KeyPath.{KeyCall, keyResultOf}
 use Rattle.validation.specs.Computing.{computing}

@@ -5,7 +5,7 @@ use mathlib.Core.List.{List, [], _∷_, _++_}
 use mathlib.Core.Path.{_≡_, refl}
 use lib.ListN.{replicate}
 use lib.Seq.{sets}
-use Rattle.sheet.specs.Ascii.{ascii}
+use Rattle.text.specs.Ascii.{ascii}
 use Rattle.buffer.specs.Bytes.{littleEndian, bytesOf}
 use Rattle.reference.specs.Setting.{oneOf}
 use Rattle.reference.proofs.Tables.{stockText}

@@ -1,6 +1,6 @@
 -- Two defects in one object: that of the member written first is found, whatever its key, by computation.
 use mathlib.Core.Path.{_≡_, refl}
-use Rattle.sheet.specs.Ascii.{ascii}
+use Rattle.text.specs.Ascii.{ascii}
 use Rattle.validation.proofs.Calls.{ask, heard, finds}
 use Rattle.validation.proofs.Edges.{empty}
 

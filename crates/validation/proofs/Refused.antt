@@ -1,7 +1,7 @@
 -- Each refusal is heard by some call: no number of the lists stands there for nothing.
 use mathlib.Core.List.{[], _∷_}
 use mathlib.Core.Path.{refl}
-use Rattle.sheet.specs.Ascii.{ascii}
+use Rattle.text.specs.Ascii.{ascii}
 use Rattle.reference.proofs.Tables.{stockText}
 use Rattle.call.specs.Call.{EachDue, all-shown, by}
 use Rattle.validation.specs.Result.{refusals, refusalNumbers}

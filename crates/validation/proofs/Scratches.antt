@@ -5,7 +5,7 @@ use native.Mathlib.Omega.{arith}
 use mathlib.Core.List.{[]}
 use mathlib.Core.Path.{_≡_, refl, ap}
 use lib.ListN.{replicate, length-replicate}
-use Rattle.sheet.specs.Ascii.{ascii}
+use Rattle.text.specs.Ascii.{ascii}
 use Rattle.widening.specs.Widening.{kept}
 use Rattle.validation.specs.Result.{Call, numbersOf, resultOf, pathAfter, Run, callOf, Meets}
 use Rattle.validation.specs.Demands.{Demand1Scratch, demand-1-scratch, lean-scratch}

@@ -8,7 +8,8 @@ use mathlib.Core.Path.{_≡_, refl, ap, sym, _∙_}
 use lib.Dec.{eqb}
 use lib.ListN.{replicate}
 use borrow.Author.Tests.{eqb-true, eqb-false}
-use Rattle.sheet.specs.Ascii.{ascii}
+use Rattle.text.specs.Ascii.{ascii}
+use Rattle.text.specs.CaseLaws.{zero-not-one}
 use Rattle.definition.specs.Tree.{Text, noMembers, Schema, constant, literal, Rule, rule, template}
 use Rattle.definition.specs.Decode.{decodeSchema, decodeRule}
 use Rattle.reference.specs.Setting.{Setting}
@@ -121,8 +122,8 @@ refused-number m n e = cc
 
 answer-not-refused : (setting : Setting) (label : Text) (r : Rule) (v : Verdict) (n : ℕ) → answerOf setting label r v ≡ refused n → ⊥
 unfolding answerOf
-answer-not-refused setting label r (allPass k) n e = let z : _≡_ {A = ℕ} 0 1 = cc in omega arith
-answer-not-refused setting label r (failsAt k c d) n e = let z : _≡_ {A = ℕ} 0 1 = cc in omega arith
+answer-not-refused setting label r (allPass k) n e = zero-not-one cc
+answer-not-refused setting label r (failsAt k c d) n e = zero-not-one cc
 
 -- where a sheet is well formed, its refusal is in the list or nowhere
 due-4 : (setting : Setting) (label : Text) (s : Schema) (r : Option Rule) (x : Option ℕ)
@@ -147,12 +148,12 @@ NotDue k [] = Unit {0}
 NotDue k (r ∷ rs) = (r .number ≡ k → r .isDue ≡ false) × NotDue k rs
 
 not-first : (k n : ℕ) (b : Bool) (o : Option ℕ) → (n ≡ k → b ≡ false) → (o ≡ some k → ⊥) → cond b (some n) o ≡ some k → ⊥
-not-first k n true o h g e = let same : n ≡ k = cc in let z : _≡_ {A = ℕ} 0 1 = cc (h same) in omega arith
+not-first k n true o h g e = let same : n ≡ k = cc in zero-not-one (cc (h same))
 not-first k n false o h g e = g e
 
 not-due : (k : ℕ) (rs : List Refusal) → NotDue k rs → firstRefusal rs ≡ some k → ⊥
 unfolding firstRefusal
-not-due k [] h e = let z : _≡_ {A = ℕ} 0 1 = cc in omega arith
+not-due k [] h e = zero-not-one cc
 not-due k (r ∷ rs) h e = not-first k (r .number) (r .isDue) (firstRefusal rs) (h .0) (not-due k rs (h .1)) e
 
 first-4 : (c : Call) (s : Schema) → decodeSchema (c .schema) ≡ some s → resultOf c ≡ refused 4 → firstRefusal (refusals c) ≡ some 4

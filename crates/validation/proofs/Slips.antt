@@ -5,7 +5,8 @@ use mathlib.Core.Bool.{Bool, true}
 use mathlib.Core.List.{List}
 use mathlib.Core.Option.{Option, none, some}
 use mathlib.Core.Path.{_≡_, refl}
-use Rattle.sheet.specs.Ascii.{ascii}
+use Rattle.text.specs.Ascii.{ascii}
+use Rattle.text.specs.CaseLaws.{zero-not-one}
 use Rattle.definition.specs.Tree.{Text, Field, field, Items, absent, element, Members, noMembers, member, Holder, Schema}
 use Rattle.definition.specs.Decode.{decodeSchema}
 use Rattle.widening.specs.Widening.{Level, MayGrow, closed, WiderField, wider, WiderItems, neither, both, WiderMembers, end, keep, more, WiderArguments, without, appear, stay, WiderSchema}
@@ -85,7 +86,7 @@ size-grows (keep w ws) = omega (arith, size-grows ws)
 size-grows (more g ws) = omega (arith, size-grows ws)
 
 may-grow-closed : {l : Level} {o : Bool} → MayGrow l o → o ≡ true → ⊥
-may-grow-closed closed e = let z : _≡_ {A = ℕ} 0 1 = cc in omega arith
+may-grow-closed closed e = zero-not-one cc
 
 -- an open holder holds what it held
 open-keeps : {l : Level} {o : Bool} {m m′ : Members} → WiderMembers l o m m′ → o ≡ true → size m ≡ size m′

@@ -3,7 +3,7 @@ use Prim.Native.Nat.{ℕ, _*_, _-_}
 use mathlib.Core.List.{List, [], _∷_, _++_}
 use mathlib.Core.Path.{_≡_, refl}
 use lib.ListN.{take, drop}
-use Rattle.sheet.specs.Ascii.{ascii}
+use Rattle.text.specs.Ascii.{ascii}
 use Rattle.reference.proofs.Tables.{stockText}
 use Rattle.validation.specs.Result.{Call, numberIn}
 use Rattle.validation.specs.Loading.{loadRefusals, loadNumber}

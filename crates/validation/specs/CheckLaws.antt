@@ -8,6 +8,7 @@ use mathlib.Core.Option.{Option, none, some, IsSome}
 use mathlib.Core.Path.{_≡_, refl}
 use native.Mathlib.Omega.{arith}
 use borrow.Author.Tests.{ne-eqb}
+use Rattle.text.specs.CaseLaws.{zero-not-one}
 use Rattle.sheet.specs.Operators.{isInstantTest, isAffix}
 use Rattle.definition.specs.Tree.{Text, Schema, Value, constant, number, string, array, object, Values, noValues, value, Pairs, noPairs, pair, Condition, literal, many, negation, one, two, comparison, quantifier, Conditions, noConditions, condition, Rule, rule, template}
 use Rattle.reference.specs.Setting.{Setting}
@@ -165,7 +166,7 @@ Explains (some why) = Listed (why .detail)
 
 passes-reads : (r : Reached) → verdict r ≡ none → Reads r
 unfolding verdict
-passes-reads (refused d at left) e = let z : _≡_ {A = ℕ} 0 1 = cc in omega arith
+passes-reads (refused d at left) e = zero-not-one cc
 passes-reads unknown e = tt
 passes-reads (known f) e = tt
 
@@ -216,7 +217,7 @@ module _ (setting : Setting) (schema : Schema) where
 
   extend-resolved : (name : Text) (env : Environment) (r : Reached) → verdict r ≡ none → IsSome (extend name env r)
   unfolding verdict extend
-  extend-resolved name env (refused d at left) e = let z : _≡_ {A = ℕ} 0 1 = cc in omega arith
+  extend-resolved name env (refused d at left) e = zero-not-one cc
   extend-resolved name env unknown e = tt
   extend-resolved name env (known f) e = tt
 
@@ -224,7 +225,7 @@ module _ (setting : Setting) (schema : Schema) where
       → answerIn setting schema (walkable over) x ≡ none
       → IsSome (enter schema (record { name = name; over = over }) x)
   unfolding answerIn answer enter
-  enter-resolved name over none e = let z : _≡_ {A = ℕ} 0 1 = cc in omega arith
+  enter-resolved name over none e = zero-not-one cc
   enter-resolved name over (some env) e = extend-resolved name env (collection schema env over) e
 
   reference-passes : (e : ℕ) (bs : List Binder) (o : Option Text) (t : Text)
@@ -232,7 +233,7 @@ module _ (setting : Setting) (schema : Schema) where
       → o ≡ some t
       → answerIn setting schema (readable t) (environment schema bs) ≡ none
   unfolding referenceCheck check outcome
-  reference-passes e bs none t ps same = let z : _≡_ {A = ℕ} 0 1 = cc in absurd (omega arith)
+  reference-passes e bs none t ps same = zero-not-one cc
   reference-passes e bs (some u) t ps same = let h : u ≡ t = cc in rw (← h) (ps .0)
 
   value-listed : (x : Option Environment) (v : Value)

@@ -11,10 +11,10 @@ use lib.Dec.{eqb}
 use lib.ListN.{length, length-append}
 use borrow.Author.Tests.{eqb-true, eq-eqb}
 use Rattle.text.proofs.Bools.{or-true-cases}
+use Rattle.text.specs.CaseLaws.{by-test}
 use Rattle.timestamp.specs.Order.{isEarlier}
 use Rattle.timestamp.specs.OrderLaws.{earlier-irreflexive}
 use Rattle.timestamp.specs.declared.Fields.{Fields}
-use Rattle.sheet.specs.ReaderLaws.{by-test}
 use Rattle.definition.specs.Tree.{Value, Condition, literal, many, negation, one, two, comparison, quantifier, Conditions, noConditions, condition, Rule, rule, template}
 use Rattle.definition.specs.Within.{valueEntries, conditionEntries, conditionsEntries, ruleEntries, ConditionFrom, ConditionsFrom, RuleFrom}
 use Rattle.definition.specs.ValueLaws.{value-takes}

@@ -5,6 +5,7 @@ use mathlib.Core.Bool.{false, not}
 use mathlib.Core.List.{List}
 use mathlib.Core.Option.{Option, none, some}
 use mathlib.Core.Path.{_≡_, refl, ap, sym, _∙_}
+use Rattle.text.specs.CaseLaws.{zero-not-one}
 use Rattle.definition.specs.Tree.{Text, Schema, Rule}
 use Rattle.definition.specs.Decode.{decodeSchema, decodeRule}
 use Rattle.definition.specs.RoundTrip.{schema-round-trip}
@@ -44,7 +45,7 @@ pub record SameDefect (d d′ : Defect) : Type 0 where
   pub overPlace : d′ .overPlace ≡ d .overPlace
 
 accepted-no-defect : (n : ℕ) (d : Defect) → accepted n ≡ defect d → ⊥
-accepted-no-defect n d e = let z : _≡_ {A = ℕ} 0 1 = cc in omega arith
+accepted-no-defect n d e = zero-not-one cc
 
 defect-injective : (d d′ : Defect) → defect d ≡ defect d′ → d ≡ d′
 defect-injective d d′ e = cc
@@ -198,8 +199,8 @@ unrefused-sheets : (setting : Setting) (label : Text) (takes : Takes) (s : Optio
     → not (isTaken takes r) ≡ false
     → NotRefused (judged setting label s r)
 unfolding judged checked isNone isTaken
-unrefused-sheets setting label takes none r e e′ = let z : _≡_ {A = ℕ} 0 1 = cc in omega arith
-unrefused-sheets setting label takes (some s) none e e′ = let z : _≡_ {A = ℕ} 0 1 = cc in omega arith
+unrefused-sheets setting label takes none r e e′ = zero-not-one cc
+unrefused-sheets setting label takes (some s) none e e′ = zero-not-one cc
 unrefused-sheets setting label takes (some s) (some r) e e′ = unrefused-verdict setting label r _
 
 -- it ends in acceptance or a defect

@@ -2,7 +2,7 @@
 -- contains them.
 use Prim.Native.Nat.{ℕ, _+_, _≤_}
 use native.Mathlib.Omega.{arith}
-use mathlib.Core.Bool.{Bool, true, false, _&&_, false≢true}
+use mathlib.Core.Bool.{Bool, true, _&&_, false≢true}
 use mathlib.Core.List.{List, []}
 use mathlib.Core.Logic.{_↔_}
 use mathlib.Core.Option.{Option, none, some, map-eq-some-iff, map-eq-none-iff}
@@ -11,6 +11,7 @@ use lib.Dec.{ltb}
 use lib.ListN.{length}
 use borrow.Author.Tests.{lt-ltb}
 use Rattle.text.proofs.Bools.{and-true-0, and-true-1}
+use Rattle.text.specs.CaseLaws.{zero-not-one}
 use Rattle.definition.specs.Tree.{Text, Schema, Rule}
 use Rattle.definition.specs.Decode.{decodeSchema}
 use Rattle.reference.specs.Setting.{Setting}
@@ -36,7 +37,7 @@ passes-answer setting label r (allPass n) = (λ p. (n, refl), λ h. tt)
 passes-answer setting label r (failsAt n c why) = (λ p. absurd p, λ h. not-accepted _ (h .0) (h .1))
   where
     not-accepted : (d : Defect) (n : ℕ) → defect d ≡ accepted n → ⊥
-    not-accepted d n e = let z : _≡_ {A = ℕ} 0 1 = cc in omega arith
+    not-accepted d n e = zero-not-one cc
 
 pub accepts-answer : (setting : Setting) (label : Text) (t : Schema) (r : Rule) (may : ℕ → Bool)
     → Accepts setting t r may ↔ ((n : ℕ) × (checked setting label (opened may t) r ≡ accepted n))

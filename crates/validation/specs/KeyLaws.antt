@@ -8,7 +8,7 @@ use mathlib.Core.Path.{_≡_, refl, sym, _∙_}
 use lib.Dec.{leb}
 use borrow.Author.Tests.{leb-true, leb-false}
 use Rattle.text.specs.Utf8.{between}
-use Rattle.sheet.specs.ReaderLaws.{by-test}
+use Rattle.text.specs.CaseLaws.{by-test}
 use Rattle.definition.specs.Tree.{Schema}
 use Rattle.definition.specs.Decode.{decodeSchema}
 use Rattle.reference.specs.Setting.{Reader, oneOf}

@@ -9,6 +9,7 @@ use lib.ListN.{length, take}
 use lib.Seq.{sets, sets-eq, length-sets, take-at}
 use lib.Dec.{leb}
 use borrow.Author.Tests.{leb-true}
+use Rattle.text.specs.CaseLaws.{zero-not-one}
 use Rattle.reference.specs.Table.{tableBytes, decodeTable, tableIn, isSoundTable}
 use Rattle.reference.specs.TableLaws.{table-bytes, table-in}
 use Rattle.validation.specs.Check.{isNone}
@@ -23,7 +24,7 @@ neither-due false true e = absurd (omega arith)
 neither-due false false e = (refl, refl)
 
 or-false : (b c : Bool) → (b || c) ≡ false → (b ≡ false) × (c ≡ false)
-or-false true c e = (e, absurd (let z : _≡_ {A = ℕ} 0 1 = cc in omega arith))
+or-false true c e = (e, zero-not-one cc)
 or-false false c e = (refl, e)
 
 pub loaded : (table before : List ℕ)

@@ -5,9 +5,9 @@ use mathlib.Core.Bool.{Bool, true, false, cond}
 use mathlib.Core.List.{[], _∷_, _++_}
 use mathlib.Core.Option.{Option, none, some, Option·map, Option·getD}
 use lib.Dec.{leb, eqb}
-use Rattle.sheet.specs.Ascii.{ascii}
-use Rattle.sheet.specs.Reader.{orElse}
-use Rattle.sheet.specs.Numeral.{decimalOf}
+use Rattle.text.specs.Ascii.{ascii}
+use Rattle.text.specs.Reader.{orElse}
+use Rattle.text.specs.Numeral.{decimalOf}
 use Rattle.sheet.specs.Operators.{operatorName}
 use Rattle.definition.specs.Tree.{Text, Value, constant, number, string, array, object, Values, noValues, value, Pairs, noPairs, pair, Condition, literal, many, negation, one, two, comparison, quantifier, Conditions, noConditions, condition, Rule, rule, template}
 use Rattle.validation.specs.Check.{entryOf}

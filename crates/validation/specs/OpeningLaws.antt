@@ -1,9 +1,9 @@
 -- A check that fails, and passes once some marks are open: the mark of the field that refused it is one of them.
 use Prim.Native.Nat.{ℕ}
-use native.Mathlib.Omega.{arith}
 use mathlib.Core.Bool.{Bool, true}
 use mathlib.Core.Option.{Option, none, some, IsSome}
 use mathlib.Core.Path.{_≡_}
+use Rattle.text.specs.CaseLaws.{zero-not-one}
 use Rattle.definition.specs.Tree.{Schema}
 use Rattle.reference.specs.Setting.{Setting}
 use Rattle.reference.specs.Walk.{Reached}
@@ -17,7 +17,7 @@ use Rattle.validation.specs.CheckLaws.{Resolved}
 use Rattle.validation.specs.WideningLaws.{Resolves, resolved, environment-fares}
 
 passes-and-fails : {o : CheckOutcome} (why : Failure) → o ≡ some why → o ≡ none → ⊥
-passes-and-fails why e e′ = let z : _≡_ {A = ℕ} 0 1 = cc in omega arith
+passes-and-fails why e e′ = zero-not-one cc
 
 reached-opens : {may : ℕ → Bool} {r r′ : Reached} (why : Failure)
     → Fares (only may) r r′
@@ -25,10 +25,10 @@ reached-opens : {may : ℕ → Bool} {r r′ : Reached} (why : Failure)
     → verdict r′ ≡ none
     → may (why .at) ≡ true
 unfolding verdict
-reached-opens why (stillRefused e) h h′ = let z : _≡_ {A = ℕ} 0 1 = cc in absurd (omega arith)
+reached-opens why (stillRefused e) h h′ = zero-not-one cc
 reached-opens why (nowUnknown {at = at} (listed m)) h h′ = let same : at ≡ why .at = cc in rw (← same) m
-reached-opens why stillUnknown h h′ = let z : _≡_ {A = ℕ} 0 1 = cc in absurd (omega arith)
-reached-opens why (stillKnown g) h h′ = let z : _≡_ {A = ℕ} 0 1 = cc in absurd (omega arith)
+reached-opens why stillUnknown h h′ = zero-not-one cc
+reached-opens why (stillKnown g) h h′ = zero-not-one cc
 
 answer-opens : {may : ℕ → Bool} {s s′ : Schema} {x x′ : Option Environment} (setting : Setting) (q : Question) (why : Failure)
     → GrownSchema (only may) s s′

@@ -9,7 +9,7 @@ use lib.Dec.{leb, eqb}
 use borrow.Author.Tests.{eqb-false, leb-true, leb-false, le-leb, lt-leb}
 use Rattle.text.specs.Utf8.{between}
 use Rattle.text.proofs.Bools.{and-true-1, or-true-cases}
-use Rattle.sheet.specs.ReaderLaws.{by-test}
+use Rattle.text.specs.CaseLaws.{by-test}
 use Rattle.reference.specs.Setting.{oneOf}
 pub use Rattle.call.specs.CallLaws.{first-append, NoneDue, none-due, first-none, number-due, number-later, none-left, number-some, number-none, of-listed, of-first}
 unfoldable pub use Rattle.call.specs.CallLaws.{every}

@@ -9,6 +9,7 @@ use lib.ListN.{length}
 use borrow.Author.Tests.{le-leb, ne-eqb}
 use Rattle.text.specs.Utf8.{between}
 use Rattle.text.proofs.Bools.{and-true-0}
+use Rattle.text.specs.CaseLaws.{zero-not-one}
 use Rattle.definition.specs.Tree.{Text, Rule}
 use Rattle.definition.specs.Decode.{decodeSchema, decodeRule}
 use Rattle.reference.specs.Setting.{Setting, oneOf, kernel as kernelReader}
@@ -24,7 +25,7 @@ use Rattle.validation.specs.ServiceLaws.{service-accepts}
 or-accepted : (o : Option ℕ) (a : Answer) (n : ℕ) → refusedOr o a ≡ accepted n → o ≡ none
 unfolding refusedOr
 or-accepted none a n e = refl
-or-accepted (some k) a n e = let z : _≡_ {A = ℕ} 0 1 = cc in absurd (omega arith)
+or-accepted (some k) a n e = zero-not-one cc
 
 pub accepted-unrefused : (c : Call) (n : ℕ) → resultOf c ≡ accepted n → Unrefused c
 unfolding resultOf
@@ -33,7 +34,7 @@ accepted-unrefused c n e = or-accepted (firstRefusal (refusals c)) _ n e
 all-pass : (setting : Setting) (label : Text) (r : Rule) (v : Verdict) (n : ℕ) → answerOf setting label r v ≡ accepted n → v ≡ allPass n
 unfolding answerOf
 all-pass setting label r (allPass m) n e = cc
-all-pass setting label r (failsAt m c d) n e = let z : _≡_ {A = ℕ} 0 1 = cc in absurd (omega arith)
+all-pass setting label r (failsAt m c d) n e = zero-not-one cc
 
 service-semantics : (n : ℕ) → 2 ≤ n → n ≤ 4 → between 1 4 n ≡ true
 unfolding between

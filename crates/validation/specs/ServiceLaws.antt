@@ -6,8 +6,9 @@ use mathlib.Core.List.{List, [], _∷_, _++_, map}
 use mathlib.Core.Option.{Option, none, some}
 use mathlib.Core.Path.{_≡_, refl, ap, _∙_}
 use lib.ListN.{length, length-append, length-map}
+use Rattle.text.specs.CaseLaws.{by-test, zero-not-one}
+use Rattle.definition.specs.Tree.{Text, Field, field, Schema, Condition, literal, many, negation, one, two, comparison, quantifier, Conditions, noConditions, condition, Rule, rule, template, Items, Members}
 use Rattle.sheet.specs.Operators.{isServiceOperator}
-use Rattle.definition.specs.Tree.{Text, Field, field, Items, Members, Schema, Condition, literal, many, negation, one, two, comparison, quantifier, Conditions, noConditions, condition, Rule, rule, template}
 use Rattle.reference.specs.Setting.{Name, nameOf, Reader, kernel, Setting}
 use Rattle.reference.specs.Path.{Segments, split}
 use Rattle.reference.specs.Walk.{Step, refuse, leaf, free, into, lookup, memberStep, Reached, refused, unknown, known, arrive, entryOf, travel, isEmpty, FieldForm, jsonField, objectField, arrayField, mapField, stringField, unionField, otherField, formOfKind, walkInto, walkStep}
@@ -75,7 +76,7 @@ reads-if r r′ q q′ false h k x = k x
 
 passes-reads : (r : Reached) → verdict r ≡ none → Reads r
 unfolding verdict
-passes-reads (refused d at left) e = let z : _≡_ {A = ℕ} 0 1 = cc in omega arith
+passes-reads (refused d at left) e = zero-not-one cc
 passes-reads unknown e = tt
 passes-reads (known f) e = tt
 
@@ -94,7 +95,7 @@ module _ (ask : Check → CheckOutcome) where
   all-decided : (o : CheckOutcome) (n m : ℕ) (c : Check) (v : Verdict) → decide o n c v ≡ allPass m → (o ≡ none) × (v ≡ allPass m)
   unfolding decide
   all-decided none n m c v e = (refl, e)
-  all-decided (some d) n m c v e = let z : _≡_ {A = ℕ} 0 1 = cc in absurd (omega arith)
+  all-decided (some d) n m c v e = zero-not-one cc
 
   all-passed : (n m : ℕ) (cs : List Check) → judgeFrom ask n cs ≡ allPass m → Every Passes cs × (m ≡ n + length cs)
   unfolding judgeFrom

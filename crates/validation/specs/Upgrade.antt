@@ -6,7 +6,7 @@ use mathlib.Core.List.{List}
 use mathlib.Core.Option.{Option, none, some}
 use mathlib.Core.Path.{_≡_, refl, ap, _∙_}
 use Prim.Native.Nat.{ℕ}
-use native.Mathlib.Omega.{arith}
+use Rattle.text.specs.CaseLaws.{zero-not-one}
 use Rattle.definition.specs.Tree.{Schema}
 use Rattle.definition.specs.Decode.{decodeSchema, decodeRule}
 use Rattle.definition.specs.RoundTrip.{schema-rises}
@@ -28,8 +28,8 @@ answered-widens : {l : Level} (sheet sheet′ : List ℕ) (x x′ : Option Schem
     → answerFor x x′ ≡ decision (widening l)
     → Widens l sheet sheet′
 unfolding answerFor
-answered-widens sheet sheet′ none x′ e e′ h = let z : _≡_ {A = ℕ} 0 1 = cc in absurd (omega arith)
-answered-widens sheet sheet′ (some s) none e e′ h = let z : _≡_ {A = ℕ} 0 1 = cc in absurd (omega arith)
+answered-widens sheet sheet′ none x′ e e′ h = zero-not-one cc
+answered-widens sheet sheet′ (some s) none e e′ h = zero-not-one cc
 answered-widens {l} sheet sheet′ (some s) (some s′) e e′ h =
     record { first = s; second = s′; decodesFirst = e; decodesSecond = e′; isWider = widens-sound s s′ l (cc) }
 

@@ -9,13 +9,13 @@ use mathlib.Core.Path.{_≡_, refl, sym, ap, _∙_}
 use lib.ListN.{drop}
 use lib.Dec.{ltb}
 use borrow.Author.Tests.{eq-eqb, ne-eqb, le-ltb, lt-ltb}
+use Rattle.text.specs.declared.part.Part.{Part}
+use Rattle.text.specs.CaseLaws.{by-test}
 use Rattle.timestamp.specs.Instant.{instant}
 use Rattle.timestamp.specs.declared.Fields.{Fields}
-use Rattle.sheet.specs.ReaderLaws.{by-test}
 use Rattle.sheet.specs.Operators.{isInstantTest, isAffix}
 use Rattle.sheet.specs.Entries.{ValueHead, valueHead}
 use Rattle.sheet.specs.RuleHeadLaws.{ValueHeadFits, valueHead-exact}
-use Rattle.sheet.specs.declared.part.Part.{Part}
 use Rattle.definition.specs.Tree.{Text, Schema, Value, constant, number, string, array, object, Values, noValues, value}
 use Rattle.reference.specs.Setting.{Setting}
 use Rattle.reference.specs.Reference.{Environment, beginsWithDollar}

@@ -6,10 +6,10 @@ use mathlib.Core.Option.{Option, none, some}
 use mathlib.Core.Path.{_≡_}
 use lib.ListN.{drop}
 use lib.Dec.{eqb}
+use Rattle.text.specs.Parts.{partOf}
 use Rattle.timestamp.specs.declared.Fields.{Fields}
 use Rattle.sheet.specs.Operators.{compareOperator, isInstantTest, isAffix}
 use Rattle.sheet.specs.Entries.{ValueHead, constantHead, numberHead, stringHead, arrayHead, objectHead}
-use Rattle.sheet.specs.Parts.{partOf}
 use Rattle.definition.specs.Tree.{Text, Schema, Value, string, Values, noValues, value}
 use Rattle.reference.specs.Setting.{Setting}
 use Rattle.reference.specs.Reference.{Environment}

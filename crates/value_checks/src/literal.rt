@@ -13,7 +13,7 @@ use rule::kind::text_at;
 use rule::node::behind;
 use rule::node::children_from;
 use sheet::operators::is_observed;
-use sheet::part::bytes_of;
+use text::part::bytes_of;
 ghost use Prim.Native.Nat.{_-_, _<_, _≤_};
 ghost use Rattle.definition.specs.Limits.{wordEntries};
 ghost use Rattle.value_checks.specs.Verdicts.{going, HasRoom};

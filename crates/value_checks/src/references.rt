@@ -13,7 +13,7 @@ use rule::kind::text_at;
 use scope::binder::Scope;
 use scope::collections::begins_with_dollar;
 use scope::references::validate_reference;
-use sheet::part::bytes_of;
+use text::part::bytes_of;
 use walk::answer::Readable;
 ghost use Prim.Native.Nat.{_-_, _<_, _≤_};
 ghost use Rattle.definition.specs.Limits.{wordEntries};

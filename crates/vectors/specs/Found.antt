@@ -4,8 +4,8 @@ use mathlib.Core.Bool.{Bool, true}
 use mathlib.Core.List.{List}
 use mathlib.Core.Path.{_≡_}
 use lib.ListN.{length, take, drop}
+use Rattle.text.specs.declared.part.Part.{Part}
 use Rattle.check_file.specs.Output.{outputOf}
-use Rattle.vectors.specs.declared.Window.{Window}
 use Rattle.vectors.specs.declared.Case.{Case}
 use Rattle.vectors.specs.declared.Found.{Found}
 use Rattle.vectors.specs.declared.Found.the-variants as found
@@ -14,9 +14,8 @@ use Rattle.vectors.specs.declared.Replayed.the-variants as replayed
 use Rattle.vectors.specs.declared.Step.{Step}
 use Rattle.vectors.specs.declared.Step.the-variants as step
 
-pub record Within (s : List ℕ) (w : Window) : Type 0 where
-  pub rising : w .start ≤ w .end
-  pub within : w .end ≤ length s
+pub record Within (s : List ℕ) (w : Part) : Type 0 where
+  pub within : w .start + w .len ≤ length s
 
 pub record Lies (s : List ℕ) (c : Case) : Type 0 where
   pub file : c .file ≤ c .expected
@@ -46,12 +45,14 @@ abbrev pub ReplayedIn : List ℕ → Replayed → Type 0
 ReplayedIn s (replayed.Whole agrees next) = Replays s agrees next
 ReplayedIn s replayed.Broken = Unit {0}
 
--- whether a case that lies in the buffer `s` agrees, and the window after it
-pub record Steps (s : List ℕ) (agrees : Bool) (w : Window) : Type 0 where
+-- whether a case that lies in the buffer `s` agrees, and what is left after it
+pub record Steps (s : List ℕ) (agrees : Bool) (w : Part) : Type 0 where
   pub start : ℕ
+  pub end : ℕ
   pub size : ℕ
-  pub replays : Replays (between start (w .end) s) agrees size
+  pub replays : Replays (between start end s) agrees size
   pub left : w .start ≡ start + size
+  pub ends : w .start + w .len ≡ end
   pub within : Within s w
 
 abbrev pub StepIn : List ℕ → Step → Type 0

@@ -6,6 +6,7 @@ use libc::STDOUT_FILENO;
 use printed_answer::LINE_BYTES;
 use printed_answer::output;
 use text::is_digit;
+use text::part::Part;
 ghost use Prim.Native.Nat.{_≤_};
 ghost use mathlib.Core.Bool.{cond};
 ghost use mathlib.Core.Path.{_≡_};
@@ -23,12 +24,6 @@ const MAX_CASES: u64 = 65536;
 
 // Larger numbers are read as this one.
 const TOO_LARGE: usize = 1000000;
-
-// The bytes that are read and not yet replayed.
-struct Window {
-    start: usize,
-    end: usize,
-}
 
 struct Numeral {
     value: usize,
@@ -56,7 +51,7 @@ enum Replayed {
 
 enum Step {
     // Whether a case came out as expected, and what is left after it.
-    Replayed(bool, Window),
+    Replayed(bool, Part),
     // No case is there any more; whether that is the list's end.
     Last(bool),
 }
@@ -157,7 +152,7 @@ fn replay(s: &[u8]) -> Replayed
     Replayed::Whole(agrees, end)
 }
 
-// Moves the bytes of the window to the front.
+// Moves the bytes from `start` up to `end` to the front.
 fn shift(buffer: &mut [u8], start: usize, end: usize)
     requires { ⌜ (start ≤ end) × (end ≤ length (now buffer)) ⌝ }
 {
@@ -168,22 +163,21 @@ fn shift(buffer: &mut [u8], start: usize, end: usize)
     }
 }
 
-// Reads on where less than a case may be left.
-fn refill(buffer: &mut [u8], w: Window) -> Window
+// Reads on where less than a case may be left. `w` is what is read and not yet replayed.
+fn refill(buffer: &mut [u8], w: Part) -> Part
     requires { ⌜ Within (now buffer) w ⌝ }
     ensures { λ r. ⌜ Within (now (buffer .exit)) r ⌝ }
 {
     let start = w.start;
-    let end = w.end;
-    let left = end - start;
+    let left = w.len;
     if CASE_BYTES <= left {
         return w;
     }
-    shift(buffer, start, end);
+    shift(buffer, start, start + left);
     let more = io::read_full(STDIN_FILENO, &mut buffer[left..]);
-    Window {
+    Part {
         start: 0,
-        end: left + more,
+        len: left + more,
     }
 }
 
@@ -218,26 +212,27 @@ fn report(cases: u64, agreed: u64, all_read: bool)
     say(agreed, b" as expected\n");
 }
 
-fn advance(buffer: &mut [u8], w: Window) -> Step
+fn advance(buffer: &mut [u8], w: Part) -> Step
     requires { ⌜ Within (now buffer) w ⌝ }
     ensures { λ r. ⌜ StepIn (now (buffer .exit)) r ⌝ }
 {
     let f = refill(buffer, w);
     let start = f.start;
-    let end = f.end;
+    let left = f.len;
+    let end = start + left;
     let Replayed::Whole(agrees, n) = replay(&buffer[start..end]) else {
-        return Step::Last(start == end);
+        return Step::Last(left == 0);
     };
     Step::Replayed(
         agrees,
-        Window {
+        Part {
             start: start + n,
-            end,
+            len: left - n,
         },
     )
 }
 
-fn run(buffer: &mut [u8], from: Window)
+fn run(buffer: &mut [u8], from: Part)
     requires { ⌜ Within (now buffer) from ⌝ }
 {
     let mut w = from;
@@ -264,5 +259,11 @@ fn main() {
     let mut buffer = [0u8; BUFFER_BYTES];
     let end = io::read_full(STDIN_FILENO, &mut buffer);
     let start = head(&buffer[..end]);
-    run(&mut buffer, Window { start, end });
+    run(
+        &mut buffer,
+        Part {
+            start,
+            len: end - start,
+        },
+    );
 }

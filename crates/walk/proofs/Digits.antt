@@ -10,9 +10,9 @@ use lib.ListN.{length, drop, getD, drop-of-length-le}
 use lib.Seq.{drop-cons}
 use borrow.Author.Tests.{ne-eqb}
 use Rattle.text.specs.Decimal.{isDigit}
+use Rattle.text.specs.Order.{sameBytes}
+use Rattle.text.specs.Ascii.{ascii}
 use Rattle.reference.specs.Path.{isDigits, isOrdinal}
-use Rattle.sheet.specs.Order.{sameBytes}
-use Rattle.sheet.specs.Ascii.{ascii}
 
 abbrev pub SoFar : List ℕ → ℕ → Type 0
 SoFar s i = isDigits s ≡ isDigits (drop i s)

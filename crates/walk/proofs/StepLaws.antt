@@ -7,22 +7,22 @@ use mathlib.Core.Path.{_≡_, refl, sym, _∙_}
 use lib.Dec.{eqb}
 use lib.ListN.{length}
 use borrow.Author.Tests.{ne-eqb}
+use Rattle.text.specs.Ascii.{ascii}
+use Rattle.text.specs.Order.{sameBytes}
+use Rattle.text.specs.Parts.{partOf, optionalOf}
+use Rattle.text.specs.declared.part.Part.{Part}
+use Rattle.text.specs.declared.part.OptionalPart.{OptionalPart}
+use Rattle.text.specs.declared.part.OptionalPart.the-variants as O
 use Rattle.definition.specs.Tree as Tree
 use Rattle.definition.specs.Tree.{Text, Field, field, Items, absent, element, Members}
-use Rattle.sheet.specs.Ascii.{ascii}
-use Rattle.sheet.specs.Order.{sameBytes}
 use Rattle.reference.specs.Path.{isCount, isOrdinal}
 use Rattle.reference.specs.Setting.{Reader}
-use Rattle.reference.specs.Walk.{Step, refuse, free, lookup, memberStep, itemStep, isEmpty, arrayStep, mapStep, isTag, contentKey, unionStep, textCount, arrayField, mapField, stringField, unionField, otherField, formOfKind, walkInto, walkStep}
-use Rattle.sheet.specs.Parts.{partOf, optionalOf}
+use Rattle.reference.specs.Walk.{Step, refuse, free, lookup, memberStep, itemStep, isEmpty, arrayStep, mapStep, isTag, contentKey, unionStep, textCount, walkStep, arrayField, mapField, stringField, unionField, otherField, formOfKind, walkInto}
 use Rattle.schema.specs.Slot.{HolderAt, ElementAt, FieldParts, PartsOf}
 use Rattle.schema.specs.Lookup.{FoundAt, LookedUp}
 use Rattle.walk.specs.DotLaws.{segment-empty, segment-full}
 use Rattle.walk.specs.Answers.{readerIs, referenceDetail, StepIs}
 use Rattle.walk.specs.Steps.{ItemSteps, ArraySteps, MapSteps, UnionSteps, MemberSteps, TextSteps, scalarStep, ScalarSteps, ServiceSteps, WalkSteps}
-use Rattle.sheet.specs.declared.part.Part.{Part}
-use Rattle.sheet.specs.declared.part.OptionalPart.{OptionalPart}
-use Rattle.sheet.specs.declared.part.OptionalPart.the-variants as O
 use Rattle.schema.specs.declared.index.Holder.{Holder}
 use Rattle.schema.specs.declared.index.ElementSlot.{ElementSlot}
 use Rattle.schema.specs.declared.index.ElementSlot.the-variants as ElementSlot

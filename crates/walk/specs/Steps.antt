@@ -5,15 +5,15 @@ use mathlib.Core.List.{List, [], _∷_}
 use mathlib.Core.Path.{_≡_}
 use lib.Dec.{eqb}
 use lib.ListN.{length}
+use Rattle.text.specs.Parts.{optionalOf}
+use Rattle.text.specs.declared.part.OptionalPart.{OptionalPart}
 use Rattle.definition.specs.Tree as Tree
 use Rattle.definition.specs.Tree.{Text, Field, Items}
 use Rattle.reference.specs.Path.{isCount, split}
 use Rattle.reference.specs.Setting.{Reader}
 use Rattle.reference.specs.Walk.{Step, refuse, lookup, memberStep, itemStep, arrayStep, mapStep, unionStep, textCount, walkStep, fieldStep, Reached, arrive, travel, elementOr, elementOfField, elementOf}
-use Rattle.sheet.specs.Parts.{optionalOf}
 use Rattle.schema.specs.Slot.{SlotHolds, HolderAt, ElementAt, PartsOf}
 use Rattle.walk.specs.Answers.{StepIs, ReadableIs, FieldStepIs, CollectedIs}
-use Rattle.sheet.specs.declared.part.OptionalPart.{OptionalPart}
 use Rattle.schema.specs.declared.index.Holder.{Holder}
 use Rattle.schema.specs.declared.index.ElementSlot.{ElementSlot}
 use Rattle.schema.specs.declared.index.IndexedField.{IndexedField}

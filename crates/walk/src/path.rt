@@ -1,6 +1,6 @@
 // Paths: segments separated by dots.
-use sheet::order::same_bytes;
 use text::is_digit;
+use text::order::same_bytes;
 ghost use mathlib.Core.Path.{_≡_};
 ghost use mathlib.Core.Bool.{true};
 ghost use Prim.Native.Nat.{_+_, _≤_};

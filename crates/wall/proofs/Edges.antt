@@ -3,7 +3,7 @@ use Prim.Native.Nat.{ℕ}
 use mathlib.Core.List.{List, [], _∷_, _++_, map}
 use mathlib.Core.Path.{_≡_, refl}
 use lib.ListN.{length, getD, replicate}
-use Rattle.sheet.specs.Ascii.{ascii}
+use Rattle.text.specs.Ascii.{ascii}
 use Rattle.validation.proofs.Edges.{empty}
 use Rattle.validation.proofs.Bounds.{met}
 use Rattle.validation.proofs.TableEdges.{changed, oldAlone}

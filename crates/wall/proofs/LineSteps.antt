@@ -9,7 +9,7 @@ use lib.ListN.{length, take, getD, length-append, length-map, replicate-append-r
 use lib.Seq.{take-suc, take-all}
 use borrow.Author.Tests.{le-leb, lt-leb}
 use Rattle.text.specs.Utf8.{between}
-use Rattle.sheet.specs.Ascii.{ascii}
+use Rattle.text.specs.Ascii.{ascii}
 use Rattle.buffer.specs.Wrote.{Wrote}
 use Rattle.buffer.specs.WroteLaws.{wrote-nothing, wrote-then}
 use Rattle.wall.specs.Pages.{width, blanks, column, inColumns, shown, cut, lineOf, line, blankLine, heading, foot}

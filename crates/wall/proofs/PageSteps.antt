@@ -9,7 +9,7 @@ use lib.Dec.{eqb}
 use lib.ListN.{length, take, drop, replicate, length-take}
 use lib.Seq.{drop-drop}
 use borrow.Author.Tests.{eq-eqb, ne-eqb}
-use Rattle.sheet.specs.Places.{ReadsTo, Refuses}
+use Rattle.text.specs.ReadAt.{ReadsTo, Refuses}
 use Rattle.buffer.specs.Wrote.{Wrote}
 use Rattle.buffer.specs.WroteLaws.{wrote-nothing, wrote-then, wrote-kept, sets-front}
 use Rattle.reference.specs.Setting.{Setting}

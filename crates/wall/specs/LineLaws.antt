@@ -7,10 +7,10 @@ use lib.Dec.{leb}
 use lib.ListN.{length, take, drop, length-append, length-drop, length-take, length-map, length-replicate}
 use lib.Seq.{drop-append-le, drop-length}
 use borrow.Author.Tests.{leb-true}
-use Rattle.sheet.specs.Ascii.{ascii}
-use Rattle.sheet.specs.Numeral.{decimalOf}
-use Rattle.sheet.specs.NumeralLaws.{decimalOf-one, decimalOf-last}
-use Rattle.sheet.specs.ReaderLaws.{by-test}
+use Rattle.text.specs.Ascii.{ascii}
+use Rattle.text.specs.Numeral.{decimalOf}
+use Rattle.text.specs.NumeralLaws.{decimalOf-one, decimalOf-last}
+use Rattle.text.specs.CaseLaws.{by-test}
 use Rattle.validation.specs.Result.{Answer, refused, accepted, defect}
 use Rattle.wall.specs.Pages.{width, blanks, column, inColumns, shown, cut, lineOf, line, resultLine, blankLine, heading, foot}
 

@@ -2,7 +2,7 @@
 use Prim.Native.Nat.{ℕ, zero, suc, _+_, _-_}
 use mathlib.Core.List.{List, [], _∷_, _++_, map}
 use lib.ListN.{length, take, drop}
-use Rattle.sheet.specs.Ascii.{ascii}
+use Rattle.text.specs.Ascii.{ascii}
 use Rattle.validation.specs.Result.{Answer}
 use Rattle.rule_book.specs.Tally.{countOf}
 use Rattle.wall.specs.Pages.{blanks, column, shown, cut, resultLine, blankLine, foot}

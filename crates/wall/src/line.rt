@@ -1,9 +1,9 @@
 // The lines of the wall sheet. What does not fit is left out; each function returns the place after what it wrote.
 use buffer::push;
 use buffer::put;
-use sheet::part::Part;
-use sheet::part::bytes_of;
 use single_check::outcome::Outcome;
+use text::part::Part;
+use text::part::bytes_of;
 ghost use mathlib.Core.Path.{_≡_};
 ghost use mathlib.Core.List.{map};
 ghost use lib.ListN.{take};

@@ -2,7 +2,7 @@
 use Prim.Native.Nat.{ℕ}
 use mathlib.Core.List.{List}
 use mathlib.Core.Path.{_≡_, refl}
-use Rattle.sheet.specs.Ascii.{ascii}
+use Rattle.text.specs.Ascii.{ascii}
 use Rattle.definition.specs.Computing.{computing}
 use Rattle.reference.specs.Walk.{entryOf}
 use Rattle.widening.specs.Widening.{marks, anything}

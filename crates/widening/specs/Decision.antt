@@ -5,7 +5,7 @@ use mathlib.Core.Bool.{Bool, true, false, not, cond, _&&_}
 use mathlib.Core.List.{List, [], _∷_, _++_}
 use mathlib.Core.Option.{Option, none, some}
 use lib.Dec.{eqb}
-use Rattle.sheet.specs.Order.{precedes, sameBytes}
+use Rattle.text.specs.Order.{precedes, sameBytes}
 use Rattle.definition.specs.Tree.{Text, Field, field, Items, absent, element, Members, noMembers, member, Holder, Schema}
 use Rattle.reference.specs.Walk.{entryOf}
 use Rattle.widening.specs.Widening.{Level, marks, anything}

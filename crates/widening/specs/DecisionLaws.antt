@@ -6,10 +6,10 @@ use mathlib.Core.Option.{Option, none, some}
 use mathlib.Core.Path.{_≡_, refl, ap, subst}
 use Prim.Native.Nat.{ℕ}
 use lib.Dec.{eqb}
-use native.Mathlib.Omega.{arith}
 use borrow.Author.Tests.{eqb-true, eq-eqb, not-false}
-use Rattle.sheet.specs.Order.{precedes, sameBytes}
-use Rattle.sheet.specs.OrderLaws.{sameBytes-equal, sameBytes-refl, precedes-irreflexive}
+use Rattle.text.specs.Order.{precedes, sameBytes}
+use Rattle.text.specs.OrderLaws.{sameBytes-equal, sameBytes-refl, precedes-irreflexive}
+use Rattle.text.specs.CaseLaws.{zero-not-one}
 use Rattle.definition.specs.Tree.{Text, Field, field, Items, absent, element, Members, noMembers, member, Holder, Schema}
 use Rattle.definition.specs.Within.{FieldRises, ItemsRise, MembersRise, ArgumentsRise, SchemaRises}
 use Rattle.definition.specs.RisingLaws.{AllBehind, rising-behind}
@@ -59,7 +59,7 @@ EveryMark l = (e : ℕ) → MayOpen l e
 opened-if : {l : Level} (e : ℕ) (o o′ : Bool) → EveryMark l → closes o o′ ≡ false → Opened l e o o′
 unfolding closes
 opened-if e true true every h = kept
-opened-if e true false every h = let z : _≡_ {A = ℕ} 0 1 = cc in absurd (omega arith)
+opened-if e true false every h = zero-not-one cc
 opened-if e false true every h = opened (every e)
 opened-if e false false every h = kept
 
@@ -72,8 +72,8 @@ closes-not (opened m) = refl
 tag-equal : (t t′ : Option Text) → sameTag t t′ ≡ true → t ≡ t′
 unfolding sameTag
 tag-equal none none h = refl
-tag-equal none (some t′) h = let z : _≡_ {A = ℕ} 0 1 = cc in absurd (omega arith)
-tag-equal (some t) none h = let z : _≡_ {A = ℕ} 0 1 = cc in absurd (omega arith)
+tag-equal none (some t′) h = zero-not-one cc
+tag-equal (some t) none h = zero-not-one cc
 tag-equal (some t) (some t′) h = rw (sameBytes-equal t t′ h)
 
 tag-refl : (t : Option Text) → sameTag t t ≡ true
@@ -143,8 +143,8 @@ mutual
 
   items-sound : (i i′ : Items) (l : Level) → EveryMark l → sameItemsMark i i′ ≡ true → AllAllowed (itemsDifferences i i′) l → WiderItems l i i′
   items-sound absent absent l every h a = neither
-  items-sound absent (element f′) l every h a = let z : _≡_ {A = ℕ} 0 1 = cc in absurd (omega arith)
-  items-sound (element f) absent l every h a = let z : _≡_ {A = ℕ} 0 1 = cc in absurd (omega arith)
+  items-sound absent (element f′) l every h a = zero-not-one cc
+  items-sound (element f) absent l every h a = zero-not-one cc
   items-sound (element f) (element f′) l every h a = both (field-sound f f′ l every a)
 
   members-sound : (o : Bool) (m m′ : Members) (l : Level) → EveryMark l → AllAllowed (membersDifferences o m m′) l → WiderMembers l o m m′
@@ -256,7 +256,7 @@ schema-complete {l} w r =
 growth-either : (d : Decision) (l : Level) → withGrowth d ≡ widening l → (k : Level) × (d ≡ widening k) × (l ≡ anything)
 unfolding withGrowth
 growth-either (widening k) l e = (k, refl, cc)
-growth-either (refuted why a b) l e = let z : _≡_ {A = ℕ} 0 1 = cc in absurd (omega arith)
+growth-either (refuted why a b) l e = zero-not-one cc
 
 marks-allow : {may : ℕ → Bool} (ds : List Difference) → AllAllowed ds (only may) → AllAllowed ds anything
 marks-allow [] a = nothing
@@ -273,7 +273,7 @@ decided-sound [] l e = nothing
 decided-sound (growth ∷ ds) l e =
     let g = growth-either (decided ds) l e in
     rw (g .2) (also tt (more-allow ds (g .0) (decided-sound ds (g .0) (g .1))))
-decided-sound (breach why a b ∷ ds) l e = let z : _≡_ {A = ℕ} 0 1 = cc in absurd (omega arith)
+decided-sound (breach why a b ∷ ds) l e = zero-not-one cc
 
 marks-every : EveryMark marks
 marks-every e = listed refl
@@ -285,14 +285,14 @@ decided-every : (ds : List Difference) (l : Level) → decided ds ≡ widening l
 unfolding decided
 decided-every [] l e = let same : marks ≡ l = cc in subst (λ (k : Level). EveryMark k) same marks-every
 decided-every (growth ∷ ds) l e = rw (growth-either (decided ds) l e .2) anything-every
-decided-every (breach why a b ∷ ds) l e = let z : _≡_ {A = ℕ} 0 1 = cc in absurd (omega arith)
+decided-every (breach why a b ∷ ds) l e = zero-not-one cc
 
 -- of the levels it names these two
 decided-level : (ds : List Difference) (l : Level) → decided ds ≡ widening l → (l ≡ marks) ⊎ (l ≡ anything)
 unfolding decided
 decided-level [] l e = inl cc
 decided-level (growth ∷ ds) l e = inr (growth-either (decided ds) l e .2)
-decided-level (breach why a b ∷ ds) l e = let z : _≡_ {A = ℕ} 0 1 = cc in absurd (omega arith)
+decided-level (breach why a b ∷ ds) l e = zero-not-one cc
 
 decided-marks : (ds : List Difference) → AllAllowed ds marks → decided ds ≡ widening marks
 unfolding decided
@@ -337,12 +337,12 @@ pub record FirstBreach (ds : List Difference) (why : Reason) (e e′ : ℕ) : Ty
 
 refuted-growth : (d : Decision) (why : Reason) (e e′ : ℕ) → withGrowth d ≡ refuted why e e′ → d ≡ refuted why e e′
 unfolding withGrowth
-refuted-growth (widening l) why e e′ h = let z : _≡_ {A = ℕ} 0 1 = cc in absurd (omega arith)
+refuted-growth (widening l) why e e′ h = zero-not-one cc
 refuted-growth (refuted x a b) why e e′ h = h
 
 decided-first : (ds : List Difference) (why : Reason) (e e′ : ℕ) → decided ds ≡ refuted why e e′ → FirstBreach ds why e e′
 unfolding decided
-decided-first [] why e e′ h = let z : _≡_ {A = ℕ} 0 1 = cc in absurd (omega arith)
+decided-first [] why e e′ h = zero-not-one cc
 decided-first (growth ∷ ds) why e e′ h =
     let p = decided-first ds why e e′ (refuted-growth (decided ds) why e e′ h) in
     record { before = growth ∷ p .before; after = p .after; listed = ap (λ (x : List Difference). growth ∷ x) (p .listed); none-before = also tt (p .none-before) }

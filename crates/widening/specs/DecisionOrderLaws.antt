@@ -6,7 +6,7 @@ use mathlib.Core.List.{List, [], _∷_, _++_, append-assoc, append-nil}
 use mathlib.Core.Option.{Option, none, some}
 use mathlib.Core.Path.{_≡_}
 use native.Mathlib.Omega.{arith}
-use Rattle.sheet.specs.Order.{precedes, sameBytes}
+use Rattle.text.specs.Order.{precedes, sameBytes}
 use Rattle.definition.specs.Tree.{Text, Field, field, Items, absent, element, Members, noMembers, member, Holder, Schema}
 use Rattle.definition.specs.Decode.{decodeSchema}
 use Rattle.definition.specs.Within.{fieldEntries, itemsEntries, membersEntries, FieldFrom, ItemsFrom, MembersFrom, ArgumentsFrom}

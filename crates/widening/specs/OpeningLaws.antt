@@ -8,7 +8,7 @@ use mathlib.Core.Option.{Option, none, some}
 use mathlib.Core.Path.{_≡_, refl}
 use lib.Dec.{eqb}
 use borrow.Author.Tests.{eqb-true, eq-eqb}
-use Rattle.sheet.specs.Order.{sameBytes}
+use Rattle.text.specs.Order.{sameBytes}
 use Rattle.definition.specs.Tree.{Text, Field, field, Items, absent, element, Members, noMembers, member, Holder, Schema}
 use Rattle.definition.specs.Limits.{maxSchemaEntries}
 use Rattle.definition.specs.Within.{fieldEntries, itemsEntries, membersEntries, argumentsEntries, schemaEntries, FieldFrom, ItemsFrom, MembersFrom, ArgumentsFrom}

@@ -5,9 +5,9 @@ use mathlib.Core.List.{List, [], _∷_}
 use mathlib.Core.Option.{Option, none, some}
 use mathlib.Core.Path.{_≡_, refl}
 use lib.Dec.{eqb}
+use Rattle.text.specs.Order.{sameBytes}
+use Rattle.text.specs.OrderLaws.{sameBytes-equal}
 use Rattle.definition.specs.Tree.{Text, Field, Items, Members}
-use Rattle.sheet.specs.Order.{sameBytes}
-use Rattle.sheet.specs.OrderLaws.{sameBytes-equal}
 use Rattle.reference.specs.Setting.{Reader, kernel, projection}
 use Rattle.reference.specs.Path.{isOrdinal, isCount}
 use Rattle.reference.specs.Walk.{Step, refuse, leaf, free, into, lookup, memberStep, itemStep, Reached, refused, unknown, known, lastOr, arrive, entryOf, travel, isEmpty, arrayStep, mapStep, isTag, contentKey, unionStep, textCount, FieldForm, jsonField, objectField, arrayField, mapField, stringField, unionField, otherField, formOfKind, walkInto, walkStep, fieldStep, elementOr, elementOfField, elementOf}

@@ -1,5 +1,5 @@
+use Rattle.text.specs.Ascii.{ascii}
 use Rattle.defect_path.proofs.RuleSteps.{assert-label, assert-inside}
-use Rattle.sheet.specs.Ascii.{ascii}
 use borrow.Author.Needs.{needs}
 use Rattle.defect_path.proofs.put_assert.Statement.{statement}
 use Rattle.defect_path.proofs.put_assert.Tie as tie

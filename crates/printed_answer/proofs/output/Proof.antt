@@ -16,23 +16,14 @@ enum-told c = search needs
 returns : tie.Need-returns
 returns c = printed-none _ _ (rw (c .enum-told .given .1) at (c .before .before .take-apart .ensures))
 
-part-requires : tie.Need-part-requires
-part-requires c κs =
-    let r = rw (c .before .p .given .1) at (c .before .before .before .take-apart .ensures) in
-    let lie = r .1 in
-    search needs
+bytes-of-requires : tie.Need-bytes-of-requires
+bytes-of-requires c κs = search needs
 
-part-requires-2 : tie.Need-part-requires-2
-part-requires-2 c κs =
-    let r = rw (c .before .before .p .given .1) at (c .before .before .before .before .take-apart .ensures) in
-    let lie = r .1 in
-    search needs
+bytes-of-requires-2 : tie.Need-bytes-of-requires-2
+bytes-of-requires-2 c κs = search needs
 
-part-requires-3 : tie.Need-part-requires-3
-part-requires-3 c κs =
-    let r = rw (c .before .before .before .p .given .1) at (c .before .before .before .before .before .take-apart .ensures) in
-    let lie = r .1 in
-    search needs
+bytes-of-requires-3 : tie.Need-bytes-of-requires-3
+bytes-of-requires-3 c κs = search needs
 
 answer-requires : tie.Need-answer-requires
 answer-requires c κs = search needs
@@ -43,7 +34,7 @@ same-length c = search needs
 returns-2 : tie.Need-returns-2
 returns-2 c =
     let r = rw (c .before .before .before .before .before .before .before .before .p .given .1) at (c .before .before .before .before .before .before .before .before .before .before .take-apart .ensures) in
-    printed-apart _ _ (r .0) (c .before .before .before .before .before .before .part .ensures) (c .before .before .before .before .before .part2 .ensures) (c .before .before .before .before .part3 .ensures) (c .before .before .answer .ensures)
+    printed-apart _ _ r (c .before .before .before .before .before .before .bytes-of .ensures) (c .before .before .before .before .before .bytes-of2 .ensures) (c .before .before .before .before .bytes-of3 .ensures) (c .before .before .answer .ensures)
 
 pub output-spec : {M : Type 1} → statement M
 output-spec =
@@ -53,9 +44,9 @@ output-spec =
     enum-known-p
     enum-told
     returns
-    part-requires
-    part-requires-2
-    part-requires-3
+    bytes-of-requires
+    bytes-of-requires-2
+    bytes-of-requires-3
     answer-requires
     same-length
     returns-2)

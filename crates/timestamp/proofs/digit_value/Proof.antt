@@ -2,7 +2,7 @@
 use native.Mathlib.Omega.{arith}
 use mathlib.Core.Path.{sym, _∙_}
 use borrow.Author.Needs.{needs}
-use Rattle.text.proofs.Decimal.{isDigit-range}
+use Rattle.text.specs.DecimalLaws.{isDigit-range}
 use Rattle.timestamp.proofs.Laws.{digit-worth, digit-none}
 use Rattle.timestamp.proofs.digit_value.Statement.{statement}
 use Rattle.timestamp.proofs.digit_value.Tie as tie

@@ -1,4 +1,5 @@
--- `vectors::advance` tells whether a case of the buffer agrees, and leaves the window after it.
+-- `vectors::advance` tells whether a case of the buffer agrees, and leaves what is after it.
+use Prim.Native.Nat.{_+_}
 use native.Mathlib.Omega.{arith}
 use mathlib.Core.Path.{refl}
 use borrow.Author.Needs.{needs}
@@ -7,6 +8,9 @@ use Rattle.vectors.proofs.advance.Tie as tie
 
 refill-requires : tie.Need-refill-requires
 refill-requires c κs = search needs
+
+add-end : tie.Need-add-end
+add-end c = search needs
 
 sub-replay : tie.Need-sub-replay
 sub-replay c = search needs
@@ -32,8 +36,13 @@ same-length c = search needs
 returns : tie.Need-returns
 returns c = search needs
 
-add-t12 : tie.Need-add-t12
-add-t12 c =
+add-t13 : tie.Need-add-t13
+add-t13 c =
+    let r = rw (c .before .agrees .given .1) at (c .before .before .before .replay .ensures) in
+    omega (arith, r .lies .within, r .ends)
+
+sub-t17 : tie.Need-sub-t17
+sub-t17 c =
     let r = rw (c .before .agrees .given .1) at (c .before .before .before .replay .ensures) in
     omega (arith, r .lies .within, r .ends)
 
@@ -43,16 +52,15 @@ same-length-2 c = search needs
 returns-2 : tie.Need-returns-2
 returns-2 c =
     let r = rw (c .before .agrees .given .1) at (c .before .before .before .replay .ensures) in
+    let f = c .before .before .before .before .before .before .before .before .refill .result in
     record {
-      start = _;
+      start = f .start;
+      end = f .start + f .len;
       size = _;
       replays = r;
       left = refl;
-      within =
-          record {
-            rising = omega (arith, r .lies .within, r .ends);
-            within = c .before .before .before .before .before .before .before .before .refill .ensures .within;
-          };
+      ends = omega (arith, r .lies .within, r .ends);
+      within = record { within = omega (arith, r .lies .within, r .ends, c .before .before .before .before .before .before .before .before .refill .ensures .within) };
     }
 
 pub advance-spec : {M : Type 1} → statement M
@@ -60,6 +68,7 @@ advance-spec =
     tie.close
     (tie.spec
     refill-requires
+    add-end
     sub-replay
     part-replay-start
     part-replay-end
@@ -68,6 +77,7 @@ advance-spec =
     enum-told
     same-length
     returns
-    add-t12
+    add-t13
+    sub-t17
     same-length-2
     returns-2)

@@ -24,8 +24,8 @@ add-middle-2 c = search needs
 to-size-requires-3 : tie.Need-to-size-requires-3
 to-size-requires-3 c κs = search needs
 
-add-end : tie.Need-add-end
-add-end c = search needs
+add-if1 : tie.Need-add-if1
+add-if1 c = search needs
 
 returns : tie.Need-returns
 returns c =
@@ -37,15 +37,15 @@ returns c =
 shared-slice-read-if2 : tie.Need-shared-slice-read-if2
 shared-slice-read-if2 c = search needs
 
-add-t17 : tie.Need-add-t17
-add-t17 c = search needs
+add-t19 : tie.Need-add-t19
+add-t19 c = search needs
 
 returns-2 : tie.Need-returns-2
 returns-2 c =
     let line = c .before .before .before .before .before .before .before .args .at + c .before .before .before .before .before .to-size .result in
     let middle = line + 1 + c .before .before .before .before .to-size2 .result in
     placed-all (c .before .before .before .before .before .before .before .args .file .now) (c .before .before .before .before .before .before .before .args .at) (c .before .before .before .before .before .before .before .args .kind) (c .before .before .before .before .before .before .before .args .semantics) (c .before .before .before .before .before .before .before .args .label) (c .before .before .before .before .before .before .before .args .schema) (c .before .before .before .before .before .before .before .args .rule) line middle (middle + c .before .before .before .to-size3 .result) (c .before .before .before .before .before .before .before .pre)
-    (omega (arith, c .before .before .before .before .before .to-size .ensures)) (omega (arith, c .before .before .before .before .to-size2 .ensures)) (omega (arith, c .before .before .before .to-size3 .ensures)) (c .before .before .if1 .left) (c .if2 .taken)
+    (omega (arith, c .before .before .before .before .before .to-size .ensures)) (omega (arith, c .before .before .before .before .to-size2 .ensures)) (omega (arith, c .before .before .before .to-size3 .ensures)) (c .before .before .before .before .before .to-size .result) (c .before .before .before .before .to-size2 .result) (c .before .before .before .to-size3 .result) (c .before .before .before .before .before .to-size .ensures) (c .before .before .before .before .to-size2 .ensures) (c .before .before .before .to-size3 .ensures) (c .before .before .if1 .left) (c .if2 .taken)
 
 returns-3 : tie.Need-returns-3
 returns-3 c =
@@ -59,14 +59,14 @@ texts-spec =
     tie.close
     (tie.spec
     to-size-requires
+    to-size-requires-2
+    to-size-requires-3
     add-line
     add-middle
-    to-size-requires-2
     add-middle-2
-    to-size-requires-3
-    add-end
+    add-if1
     returns
     shared-slice-read-if2
-    add-t17
+    add-t19
     returns-2
     returns-3)

@@ -2,7 +2,7 @@
 use Prim.Native.Nat.{_-_}
 use mathlib.Core.Path.{sym, _∙_}
 use lib.ListN.{length}
-use Rattle.text.proofs.Decimal.{isDigit-range}
+use Rattle.text.specs.DecimalLaws.{isDigit-range}
 use Rattle.check_file.proofs.Reading.{Passed, passed-none, passed-digit, passed-end, passed-stop}
 use native.Mathlib.Omega.{arith}
 use borrow.Author.Needs.{needs}

@@ -1,6 +1,6 @@
 -- `check_file::numeral::numeral` meets its contract: a numeral by its first byte.
 use mathlib.Core.Path.{sym, _∙_}
-use Rattle.text.proofs.Decimal.{isDigit-range}
+use Rattle.text.specs.DecimalLaws.{isDigit-range}
 use Rattle.check_file.proofs.Reading.{decimal-end, decimal-zero, decimal-none, decimal-some}
 use native.Mathlib.Omega.{arith}
 use borrow.Author.Needs.{needs}

@@ -11,6 +11,7 @@ use borrow.Author.Needs.{needs}
 use Prim.Native.Nat.{ℕ, _+_, _-_, _*_, _<_, _≤_}
 use borrow.Fn.Kinds.{In}
 use borrow.Fn.PlainCycle.{Measures, is, falls, and}
+use Rattle.text.proofs.part.bytes_of.Reads as bytes-of-reads
 use Rattle.condition_checks.proofs.body.validate_condition_body.Reads as validate-condition-body
 use Rattle.condition_checks.proofs.body.validate_condition_body.Kinds as validate-condition-body-kinds
 use Rattle.condition_checks.proofs.body.+validate_condition_body+validate_conditions+validate_quantifier.Lts-validate_condition_body as validate-condition-body-lts
@@ -33,7 +34,6 @@ use Rattle.scope.proofs.binder.bind.Reads as bind-reads
 use Rattle.value_checks.proofs.verdict.fail.Reads as fail-reads
 use Rattle.value_checks.proofs.verdict.going.Reads as going-reads
 use Rattle.rule.proofs.index.start_of.Reads as start-of-reads
-use Rattle.sheet.proofs.part.bytes_of.Reads as bytes-of-reads
 use Rattle.condition_checks.proofs.body.+validate_condition_body+validate_conditions+validate_quantifier.{
   statement,
 }

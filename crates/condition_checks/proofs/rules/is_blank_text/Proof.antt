@@ -2,7 +2,7 @@
 use borrow.Author.Needs.{needs}
 use mathlib.Core.Path.{ap, _∙_}
 use Rattle.text.specs.Blank.{isBlank}
-use Rattle.sheet.specs.Parts.{optionalOf}
+use Rattle.text.specs.Parts.{optionalOf}
 use Rattle.validation.specs.Check.{isBlankText}
 use Rattle.condition_checks.proofs.rules.is_blank_text.Statement.{statement}
 use Rattle.condition_checks.proofs.rules.is_blank_text.Tie as tie

@@ -1,7 +1,7 @@
+use Rattle.text.specs.Ascii.{ascii}
 use Rattle.buffer.specs.WroteLaws.{wrote-nothing}
 use Rattle.defect_path.specs.Heads.{partAt}
 use Rattle.sheet.specs.Places.{conditionOf}
-use Rattle.sheet.specs.Ascii.{ascii}
 use borrow.Author.Needs.{needs}
 use Rattle.defect_path.proofs.condition.put_part.Statement.{statement}
 use Rattle.defect_path.proofs.condition.put_part.Tie as tie

@@ -1,6 +1,6 @@
-use Rattle.sheet.specs.Ascii.{ascii}
-use Rattle.sheet.specs.Operators.{operatorName}
+use Rattle.text.specs.Ascii.{ascii}
 use Rattle.defect_path.proofs.Names.{name-first}
+use Rattle.sheet.specs.Operators.{operatorName}
 use borrow.Author.Needs.{needs}
 use Rattle.defect_path.proofs.operator.put_first.Statement.{statement}
 use Rattle.defect_path.proofs.operator.put_first.Tie as tie

@@ -1,5 +1,5 @@
+use Rattle.text.specs.Ascii.{ascii}
 use Rattle.defect_path.proofs.Names.{op-in}
-use Rattle.sheet.specs.Ascii.{ascii}
 use Rattle.sheet.specs.Operators.{operatorName}
 use borrow.Author.Needs.{needs}
 use Rattle.defect_path.proofs.operator.put_second.Statement.{statement}

@@ -1,4 +1,4 @@
-use Rattle.sheet.specs.Ascii.{ascii}
+use Rattle.text.specs.Ascii.{ascii}
 use Rattle.sheet.specs.Operators.{operatorName}
 use Rattle.defect_path.proofs.Names.{name-last}
 use borrow.Author.Needs.{needs}

@@ -1,8 +1,8 @@
 use borrow.Author.Needs.{needs}
 use mathlib.Core.Path.{refl}
+use Rattle.text.specs.ReadAtLaws.{bind-refused, bind-refuses, bind-stops, bind-reads, bind-pure}
 use Rattle.reference.specs.Table.{rowMarks}
 use Rattle.scope.specs.Names.{rowBy}
-use Rattle.name_table.proofs.Marks.{bind-refused, bind-refuses, bind-stops, bind-reads, bind-pure}
 use Rattle.name_table.proofs.read.row_marks.Statement.{statement}
 use Rattle.name_table.proofs.read.row_marks.Tie as tie
 

@@ -1,7 +1,7 @@
 -- `rule::keys::stands_at` meets its contract, by the comparison of the two parts.
 use mathlib.Core.Path.{ap₂, _∙_}
 use borrow.Author.Needs.{needs}
-use Rattle.sheet.specs.Order.{sameBytes}
+use Rattle.text.specs.Order.{sameBytes}
 use Rattle.rule.proofs.keys.stands_at.Statement.{statement}
 use Rattle.rule.proofs.keys.stands_at.Tie as tie
 

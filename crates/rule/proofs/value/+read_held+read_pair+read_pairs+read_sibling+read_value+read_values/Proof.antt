@@ -9,7 +9,7 @@ use mathlib.Core.Option.{none}
 use mathlib.Core.Path.{_∙_}
 use lib.ListN.{drop}
 use denote.Ref.{now}
-use Rattle.sheet.specs.Parts.{partOf, optionalOf}
+use Rattle.text.specs.Parts.{partOf, optionalOf}
 use Rattle.definition.specs.Decode.{valueIn}
 use Rattle.rule.specs.Read.{aheadOf}
 use Rattle.rule.proofs.CloseLaws.{pair-closed}

@@ -3,8 +3,8 @@ use borrow.Author.Needs.{needs}
 use Rattle.rule.proofs.value.is_next_key.Statement.{statement}
 use Rattle.rule.proofs.value.is_next_key.Tie as tie
 use denote.Ref.{now}
-use Rattle.sheet.specs.Order.{follows}
-use Rattle.sheet.specs.Parts.{optionalOf}
+use Rattle.text.specs.Order.{follows}
+use Rattle.text.specs.Parts.{optionalOf}
 use Rattle.rule.proofs.KeyLaws.{key-follows}
 
 enum-known-previous : tie.Need-enum-known-previous

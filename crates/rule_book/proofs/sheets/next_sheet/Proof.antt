@@ -5,8 +5,8 @@ use borrow.Author.Needs.{needs}
 use Rattle.rule_book.proofs.sheets.next_sheet.Statement.{statement}
 use Rattle.rule_book.proofs.sheets.next_sheet.Tie as tie
 
-length-at-requires : tie.Need-length-at-requires
-length-at-requires c κs = search needs
+decimal-requires : tie.Need-decimal-requires
+decimal-requires c κs = omega (arith, c .before .good)
 
 enum-known-len : tie.Need-enum-known-len
 enum-known-len c = search needs
@@ -16,7 +16,7 @@ enum-told c = search needs
 
 returns : tie.Need-returns
 returns c =
-    let bad = rw (c .enum-told .given .1) at (c .before .before .length-at .ensures) in
+    let bad = rw (c .enum-told .given .1) at (c .before .before .decimal .ensures) in
     sheet-no-length (c .before .before .before .before .args .file .now) (c .before .before .before .before .args .at) bad
 
 starts-with-requires : tie.Need-starts-with-requires
@@ -32,26 +32,26 @@ sub-if2 c =
     let comma = rw (c .if1 .taken) at (c .before .starts-with .ensures) in
     omega (arith, comma .within)
 
-add-t12 : tie.Need-add-t12
-add-t12 c =
+add-t13 : tie.Need-add-t13
+add-t13 c =
     let comma = rw (c .before .if1 .taken) at (c .before .before .starts-with .ensures) in
     omega (arith, comma .within)
 
 returns-2 : tie.Need-returns-2
 returns-2 c =
-    let size = rw (c .before .before .before .before .len .given .1) at (c .before .before .before .before .before .before .length-at .ensures) in
+    let size = rw (c .before .before .before .before .len .given .1) at (c .before .before .before .before .before .before .decimal .ensures) in
     let comma = rw (c .before .if1 .taken) at (c .before .before .starts-with .ensures) in
     sheet-reads size comma (c .if2 .taken)
 
 returns-3 : tie.Need-returns-3
 returns-3 c =
-    let size = rw (c .before .before .before .before .len .given .1) at (c .before .before .before .before .before .before .length-at .ensures) in
+    let size = rw (c .before .before .before .before .len .given .1) at (c .before .before .before .before .before .before .decimal .ensures) in
     let comma = rw (c .before .if1 .taken) at (c .before .before .starts-with .ensures) in
     sheet-short size comma (omega arith)
 
 returns-4 : tie.Need-returns-4
 returns-4 c =
-    let size = rw (c .before .before .before .len .given .1) at (c .before .before .before .before .before .length-at .ensures) in
+    let size = rw (c .before .before .before .len .given .1) at (c .before .before .before .before .before .decimal .ensures) in
     let none-there = rw (c .if1 .left) at (c .before .starts-with .ensures) in
     sheet-no-comma size none-there
 
@@ -59,14 +59,14 @@ pub next-sheet-spec : {M : Type 1} → statement M
 next-sheet-spec =
     tie.close
     (tie.spec
-    length-at-requires
+    decimal-requires
     enum-known-len
     enum-told
     returns
     starts-with-requires
     add-start
     sub-if2
-    add-t12
+    add-t13
     returns-2
     returns-3
     returns-4)

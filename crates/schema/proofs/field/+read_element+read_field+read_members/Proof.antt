@@ -7,10 +7,10 @@ use lib.ListN.{length}
 use borrow.Author.Needs.{needs}
 use borrow.Fn.Kinds.{In}
 use borrow.Fn.PlainCycle.{Measures, is, falls, and}
+use Rattle.text.specs.Parts.{partOf}
+use Rattle.text.specs.declared.part.Part.{Part}
+use Rattle.text.proofs.part.bytes_of.Reads as bytes-of-reads
 use Rattle.sheet.specs.Places.{fieldOf}
-use Rattle.sheet.specs.Parts.{partOf}
-use Rattle.sheet.specs.declared.part.Part.{Part}
-use Rattle.sheet.proofs.part.bytes_of.Reads as bytes-of-reads
 use Rattle.sheet.proofs.schema_heads.field_head.Reads as field-head-reads
 use Rattle.definition.specs.Decode.{toCount, fieldIn}
 use Rattle.schema.specs.Fields.{ahead, cursorOf}

@@ -1,7 +1,7 @@
 -- `schema::field::rises` meets its contract, by how the two names compare.
 use mathlib.Core.Bool.{true, false}
 use borrow.Author.Needs.{needs}
-use Rattle.sheet.specs.Parts.{partOf}
+use Rattle.text.specs.Parts.{partOf}
 use Rattle.schema.proofs.Names.{rises-first, rises-behind}
 use Rattle.schema.proofs.field.rises.Statement.{statement}
 use Rattle.schema.proofs.field.rises.Tie as tie

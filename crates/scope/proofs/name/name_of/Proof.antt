@@ -1,5 +1,5 @@
 -- `scope::name::name_of` meets its contract: `fields` first.
-use Rattle.sheet.specs.Ascii.{ascii}
+use Rattle.text.specs.Ascii.{ascii}
 use Rattle.reference.specs.Setting.{spelling}
 use Rattle.scope.specs.Names.{nameIs}
 use Rattle.scope.proofs.NameLaws.{named-fields, named-other}

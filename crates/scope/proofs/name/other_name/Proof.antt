@@ -1,6 +1,6 @@
 -- `scope::name::other_name` meets its contract.
 use mathlib.Core.Path.{_∙_}
-use Rattle.sheet.specs.Ascii.{ascii}
+use Rattle.text.specs.Ascii.{ascii}
 use Rattle.reference.specs.Setting.{id, entity, version, state, toState, fromState, args, oldFields, spelling}
 use Rattle.scope.specs.Names.{nameIs}
 use Rattle.scope.proofs.NameLaws.{skip, hit, no-more}

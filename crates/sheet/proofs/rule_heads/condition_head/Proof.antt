@@ -1,6 +1,6 @@
 -- `sheet::rule_heads::condition_head` meets its contract: the operator, its number and its text.
+use Rattle.text.specs.Parts.{partOf}
 use Rattle.sheet.specs.Pieces.{shapeFor}
-use Rattle.sheet.specs.Parts.{partOf}
 use native.Mathlib.Omega.{arith}
 use borrow.Author.Needs.{needs}
 use Rattle.sheet.proofs.Heads.{condition-other, condition-no-number, condition-no-text, condition-reads, condition-code, condition-counted}

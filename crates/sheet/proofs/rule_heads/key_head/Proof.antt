@@ -1,5 +1,5 @@
 -- `sheet::rule_heads::key_head` meets its contract: a length and a text.
-use Rattle.sheet.specs.Parts.{partOf}
+use Rattle.text.specs.Parts.{partOf}
 use native.Mathlib.Omega.{arith}
 use borrow.Author.Needs.{needs}
 use Rattle.sheet.proofs.Heads.{key-other, key-reads, key-no-text}

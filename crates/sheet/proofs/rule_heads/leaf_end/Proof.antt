@@ -1,7 +1,7 @@
 -- `sheet::rule_heads::leaf_end` meets its contract: a type, a length and a text, which is tested where it is a number.
 use native.Mathlib.Omega.{arith}
 use borrow.Author.Needs.{needs}
-use Rattle.sheet.specs.Parts.{partOf}
+use Rattle.text.specs.Parts.{partOf}
 use Rattle.sheet.proofs.Leaves.{leaf-reads, no-leaf}
 use Rattle.sheet.proofs.rule_heads.leaf_end.Statement.{statement}
 use Rattle.sheet.proofs.rule_heads.leaf_end.Tie as tie

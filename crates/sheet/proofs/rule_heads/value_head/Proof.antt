@@ -1,5 +1,5 @@
 -- `sheet::rule_heads::value_head` meets its contract: the type, its number and its text, which is tested where it is a number.
-use Rattle.sheet.specs.Parts.{partOf}
+use Rattle.text.specs.Parts.{partOf}
 use native.Mathlib.Omega.{arith}
 use borrow.Author.Needs.{needs}
 use Rattle.sheet.proofs.Heads.{value-other, value-no-number, value-no-text, value-wrong, value-reads, value-code, value-counted}

@@ -1,5 +1,5 @@
 -- `sheet::schema_heads::field_texts` meets its contract: two lengths, a comma, two texts and the end of the line.
-use Rattle.sheet.specs.Parts.{partOf}
+use Rattle.text.specs.Parts.{partOf}
 use native.Mathlib.Omega.{arith}
 use borrow.Author.Needs.{needs}
 use Rattle.sheet.proofs.Heads.{texts-no-length, texts-no-tag-length, texts-no-tag, texts-read, texts-no-end, texts-no-name, texts-no-comma}

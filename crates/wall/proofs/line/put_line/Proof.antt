@@ -1,6 +1,6 @@
 -- `wall::line::put_line` meets its contract: five numbers and the path.
+use Rattle.text.specs.Parts.{partOf}
 use Rattle.buffer.specs.WroteLaws.{wrote-kept}
-use Rattle.sheet.specs.Parts.{partOf}
 use lib.ListN.{take}
 use mathlib.Core.Path.{_∙_}
 use Rattle.wall.proofs.LineSteps.{line-written}
