@@ -1,6 +1,6 @@
 -- A call: the refusals that are tried in order, what it tells where none is due, and what it leaves of each lent buffer (docs/FORMAT.md, "Answers").
 use Prim.Native.Nat.{ℕ}
-use mathlib.Core.Bool.{Bool, cond}
+use mathlib.Core.Bool.{Bool, cond, true, false}
 use mathlib.Core.List.{List, [], _∷_, map}
 use mathlib.Core.Option.{Option, none, some}
 use mathlib.Core.Path.{_≡_}
@@ -118,3 +118,26 @@ pub record Run (C : Type 0) : Type 0 where
 pub record Meets {C A : Type 0} (s : Shape C A) (r : Run C) : Type 0 where
   pub result : r .result ≡ resultNumbers s (replyTo s (r .call))
   pub buffers : AllLeft (s .leaves (replyTo s (r .call))) (r .buffers)
+
+abbrev pub AllKept : List Left → Type 0
+AllKept [] = Unit {0}
+AllKept (l ∷ ls) = (l ≡ unchanged) × AllKept ls
+
+abbrev pub Untouched : List Buffer → Type 0
+Untouched [] = Unit {0}
+Untouched (b ∷ bs) = (b .after ≡ b .before) × Untouched bs
+
+unfoldable pub isWritten : Left → Bool
+isWritten (free count) = false
+isWritten (holding elements) = true
+
+-- two buffers that were alike before are alike afterwards, if the call wrote to them
+abbrev pub AllAlike : List Left → List Buffer → List Buffer → Type 0
+AllAlike [] bs bs′ = Unit {0}
+AllAlike (l ∷ ls) [] bs′ = Unit {0}
+AllAlike (l ∷ ls) (b ∷ bs) [] = Unit {0}
+AllAlike (l ∷ ls) (b ∷ bs) (b′ ∷ bs′) = (isWritten l ≡ true → b .before ≡ b′ .before → b .after ≡ b′ .after) × AllAlike ls bs bs′
+
+pub record SameAnswer {C A : Type 0} (s : Shape C A) (r r′ : Run C) : Type 0 where
+  pub result : r .result ≡ r′ .result
+  pub buffers : AllAlike (s .leaves (replyTo s (r .call))) (r .buffers) (r′ .buffers)

@@ -13,7 +13,7 @@ use borrow.Author.Tests.{eqb-true, eqb-false}
 use Rattle.text.proofs.Bools.{and-true-0, and-true-1}
 use Rattle.text.specs.CaseLaws.{by-test}
 use Rattle.reference.specs.Setting.{oneOf}
-use Rattle.call.specs.Call.{Refusal, firstRefusal, numberIn, Reply, refusedBy, told, refusedOr, heardBy, tried, numberOf, Buffer, Left, free, holding, unchanged, Leaves, AllLeft, ifTold, Shape, replyTo, numbersWith, resultNumbers, Run, Meets}
+use Rattle.call.specs.Call.{Refusal, firstRefusal, numberIn, Reply, refusedBy, told, refusedOr, heardBy, tried, numberOf, Buffer, Left, free, holding, unchanged, Leaves, AllLeft, ifTold, Shape, replyTo, numbersWith, resultNumbers, Run, Meets, AllKept, Untouched, isWritten, AllAlike, SameAnswer}
 
 -- A list of refusals: those in front are tried first.
 
@@ -249,14 +249,6 @@ numbers-within most size figures (told a) low within = (omega arith, within a re
 
 -- A refusal leaves every buffer as it was, but for those that the shape names.
 
-abbrev pub AllKept : List Left → Type 0
-AllKept [] = Unit {0}
-AllKept (l ∷ ls) = (l ≡ unchanged) × AllKept ls
-
-abbrev pub Untouched : List Buffer → Type 0
-Untouched [] = Unit {0}
-Untouched (b ∷ bs) = (b .after ≡ b .before) × Untouched bs
-
 pub kept-same : {l : Left} {before after : List ℕ} → l ≡ unchanged → Leaves l before after → after ≡ before
 kept-same {l} {before} {after} e h = subst (λ (l : Left). Leaves l before after) e h
 
@@ -275,21 +267,10 @@ refused-untouched s r n m e k = untouched (s .leaves (refusedBy n)) (r .buffers)
 
 -- What a buffer held before never matters, but where elements are written over it; then the rest of it stays.
 
-unfoldable pub isWritten : Left → Bool
-isWritten (free count) = false
-isWritten (holding elements) = true
-
 pub if-told-written : {A : Type 0} (left : A → Left) → ((a : A) → isWritten (left a) ≡ true) → (r : Reply A) → isWritten (ifTold left r) ≡ true
 unfolding ifTold isWritten
 if-told-written left all (refusedBy n) = refl
 if-told-written left all (told a) = all a
-
--- two buffers that were alike before are alike afterwards, if the call wrote to them
-abbrev pub AllAlike : List Left → List Buffer → List Buffer → Type 0
-AllAlike [] bs bs′ = Unit {0}
-AllAlike (l ∷ ls) [] bs′ = Unit {0}
-AllAlike (l ∷ ls) (b ∷ bs) [] = Unit {0}
-AllAlike (l ∷ ls) (b ∷ bs) (b′ ∷ bs′) = (isWritten l ≡ true → b .before ≡ b′ .before → b .after ≡ b′ .after) × AllAlike ls bs bs′
 
 alike : (l : Left) (b b′ : Buffer) → Leaves l (b .before) (b .after) → Leaves l (b′ .before) (b′ .after) → isWritten l ≡ true → b .before ≡ b′ .before → b .after ≡ b′ .after
 unfolding isWritten
@@ -310,10 +291,6 @@ pub left-alike : {A : Type 0} (left : Reply A → Left) → ((r : Reply A) → i
     → after ≡ after′
 left-alike left written before {r} {r′} {after} {after′} e h h′ =
     alike (left r) (record { before = before; after = after }) (record { before = before; after = after′ }) h (rw e h′) (written r) refl
-
-pub record SameAnswer {C A : Type 0} (s : Shape C A) (r r′ : Run C) : Type 0 where
-  pub result : r .result ≡ r′ .result
-  pub buffers : AllAlike (s .leaves (replyTo s (r .call))) (r .buffers) (r′ .buffers)
 
 -- two runs with one reply, whatever their buffers held and however long they are
 pub same-answer : {C A : Type 0} (s : Shape C A) (r r′ : Run C) → Meets s r → Meets s r′ → replyTo s (r .call) ≡ replyTo s (r′ .call) → SameAnswer s r r′

@@ -14,16 +14,15 @@ use Rattle.validation.specs.Result.{pathBytes, ofSettings, early}
 use Rattle.validation.specs.RefusalLaws.{is-set, none-due}
 use Rattle.validation.specs.Growth.{Widens}
 use Rattle.call.specs.Call.{Reply, refusedBy, told, numberOf, ifTold, numbersWith}
-use Rattle.rule_book.specs.Tally.{BookCall, askedOf, single, bookRefusalNumbers, defectNumbers, Tally, tallyOf, tallyFigures, bookAnswer, tallyNumbers}
-use Rattle.rule_book.specs.TallyLaws.{IsTallied, is-tallied, book-refusal-listed, lending, lending-same, tally-size}
-use Rattle.rule_book.specs.BookGrowth.{BookFares}
+use Rattle.rule_book.specs.Tally.{BookCall, askedOf, single, bookRefusalNumbers, defectNumbers, Tally, tallyOf, tallyFigures, bookAnswer, tallyNumbers, IsTallied}
+use Rattle.rule_book.specs.TallyLaws.{is-tallied, book-refusal-listed, lending, lending-same, tally-size}
 use Rattle.rule_book.specs.BookGrowthLaws.{book-demand-3}
 use Rattle.host_numbers.specs.Counts.{countAt}
 use Rattle.host_numbers.specs.CountLaws.{count-of-written}
 use Rattle.entity_rules.specs.Entry.{HasRoom}
 use Rattle.entity_rules.specs.EntryDemands.{and-left, lent-room}
 use Rattle.entity_rules.specs.HandedLaws.{returned-among, returned-alike, room-wide}
-use Rattle.entity_rules.specs.BookEntry.{bookCallFor, tallyBytes, tallyAnswer, TallyAnswered}
+use Rattle.entity_rules.specs.BookEntry.{bookCallFor, tallyBytes, tallyAnswer, TallyAnswered, Tallied, TalliesFare}
 
 -- the number at index i of a written result is the i-th of its eighteen
 module _ (kind semantics : ℕ) (label table schema book pathBefore pathNow resultBefore resultNow : List ℕ) where
@@ -89,23 +88,9 @@ module _ (kind semantics : ℕ) (label table schema book : List ℕ) (pathLength
       let wide = and-left _ _ (is-set _ (due .1 .1 .0)) in
       lent-room tallyBytes pathLength resultLength (leb-true pathBytes _ wide)
 
--- the counts of a tally at their places
-pub record CountsAt (result : List ℕ) (t : Tally) : Type 0 where
-  pub read : countAt 1 result ≡ t .read
-  pub accepted : countAt 2 result ≡ t .accepted
-  pub schemaRefused : countAt 3 result ≡ t .schemaRefused
-  pub ruleRefused : countAt 4 result ≡ t .ruleRefused
-  pub passed : countAt 17 result ≡ t .passed
-
 last-number : (c : BookCall) (t : Tally) → IsTallied c t → getD (tallyNumbers (told t)) 17 0 ≡ t .passed
 unfolding numbersWith tallyFigures tallyOf defectNumbers
 last-number c t is = rw (is .tally) refl
-
--- what a host reads off a result after 0
-pub record Tallied (c : BookCall) (result : List ℕ) : Type 0 where
-  pub tally : Tally
-  pub is : bookAnswer c ≡ told tally
-  pub counts : CountsAt result tally
 
 module _ (kind semantics : ℕ) (label table schema book pathBefore pathNow resultBefore resultNow : List ℕ) where
   pub tally-read : {r : ℕ}
@@ -136,15 +121,6 @@ module _ (kind semantics : ℕ) (label table schema book pathBefore pathNow resu
       }
 
 -- Demand 3 for a book, at the C function: one book under the same settings and a table of one meaning, neither call refused.
-
-pub record TalliesFare (l : Level) (c c′ : BookCall) (result result′ : List ℕ) : Type 0 where
-  pub first : Tallied c result
-  pub second : Tallied c′ result′
-  -- each sheet fares as demand 3 says
-  pub fares : BookFares l c c′ (first .tally) (second .tally)
-  -- no fewer sheets are accepted, and no fewer checks pass
-  pub accepted : countAt 2 result ≤ countAt 2 result′
-  pub passed : countAt 17 result ≤ countAt 17 result′
 
 module _ (kind semantics : ℕ) (label book table table′ schema schema′ pathBefore pathBefore′ pathNow pathNow′ resultBefore resultBefore′ resultNow resultNow′ : List ℕ) {r r′ : ℕ} {l : Level}
     (a : TallyAnswered (tallyAnswer kind semantics label table schema book (length pathBefore) (length resultBefore)) pathBefore pathNow resultBefore resultNow r)

@@ -12,8 +12,8 @@ use Rattle.buffer.specs.Bytes.{bytesOf, fieldAt}
 use Rattle.buffer.specs.BytesLaws.{field-written, past-written}
 use Rattle.reference.specs.Setting.{oneOf}
 use Rattle.validation.specs.Result.{pathBytes}
-use Rattle.call.specs.Call.{Reply, refusedBy, ifTold}
-use Rattle.call.specs.CallLaws.{isWritten, if-told-written, left-alike}
+use Rattle.call.specs.Call.{Reply, refusedBy, ifTold, isWritten}
+use Rattle.call.specs.CallLaws.{if-told-written, left-alike}
 use Rattle.openings.specs.CallLaws.{lending, lending-same, three-numbers, set-fits}
 use Rattle.openings.specs.Call.{openHeardNumbers, opens, nothingHelps, orNoMarks, listLeft, openNumbers}
 use Rattle.openings.specs.ListLaws.{open-refusal-heard, small-marks}

@@ -6,18 +6,15 @@ use mathlib.Core.Bool.{true, false≢true}
 use mathlib.Core.List.{List}
 use mathlib.Core.Path.{_≡_, refl, ap, sym, _∙_}
 use lib.ListN.{length, getD}
-use lib.Seq.{sets}
 use Rattle.reference.specs.Setting.{oneOf}
 use Rattle.reference.specs.Table.{tableIn}
 use Rattle.widening.specs.Widening.{Level}
 use Rattle.validation.specs.Growth.{Widens}
 use Rattle.validation.specs.Result.{Answer, pathBytes}
-use Rattle.call.specs.Call.{Reply, refusedBy, told, numberOf, ifTold}
-use Rattle.call.specs.CallLaws.{isWritten, if-told-written, left-alike}
+use Rattle.call.specs.Call.{Reply, refusedBy, told, numberOf, ifTold, isWritten}
+use Rattle.call.specs.CallLaws.{if-told-written, left-alike}
 use Rattle.rule_book.specs.TallyLaws.{lending}
-use Rattle.wall.specs.Pages.{pagesOf}
 use Rattle.wall.specs.Wall.{WallCall, wallRefusalNumbers, pagesLeft, wallAnswer, wallNumbers}
-use Rattle.wall.specs.WallGrowth.{WallFares}
 use Rattle.wall.specs.WallGrowthLaws.{wall-demand-3}
 use Rattle.wall.specs.WallLaws.{wall-refusal-listed, lendingWall, lending-wall, wall-size}
 use Rattle.host_numbers.specs.Counts.{countAt}
@@ -25,7 +22,7 @@ use Rattle.host_numbers.specs.CountLaws.{count-of-written}
 use Rattle.entity_rules.specs.Entry.{HasRoom}
 use Rattle.entity_rules.specs.HandedLaws.{returned-among, returned-alike, room-wide}
 use Rattle.entity_rules.specs.BookEntry.{bookCallFor}
-use Rattle.entity_rules.specs.WallEntry.{wallBytes, wallCallFor, wallEntryAnswer, WallAnswered}
+use Rattle.entity_rules.specs.WallEntry.{wallBytes, wallCallFor, wallEntryAnswer, WallAnswered, WallsFare}
 
 -- the number at index i of a written result is the i-th of its two
 module _ (kind semantics : ℕ) (label table schema book pathBefore pathNow pagesBefore pagesNow resultBefore resultNow : List ℕ) where
@@ -85,13 +82,6 @@ module _ (kind semantics : ℕ) (label table schema book pages : List ℕ) where
         )
 
 -- Demand 3 for a wall sheet, at the C function: one book under the same settings and a table of one meaning, neither call refused.
-
-pub record WallsFare (l : Level) (c c′ : WallCall) (pages pagesNow pages′ pagesNow′ : List ℕ) : Type 0 where
-  pub answers : List Answer
-  pub answers′ : List Answer
-  pub printed : pagesNow ≡ sets pages 0 (pagesOf answers)
-  pub printed′ : pagesNow′ ≡ sets pages′ 0 (pagesOf answers′)
-  pub fares : WallFares l c c′ answers answers′
 
 returned-printed : (c : WallCall) (x : Reply (List Answer)) → wallAnswer c ≡ x → numberOf x ≡ 0 → (answers : List Answer) × (wallAnswer c ≡ told answers)
 unfolding numberOf wallRefusalNumbers oneOf

@@ -7,6 +7,7 @@ use lib.Dec.{leb}
 use lib.ListN.{length}
 use Rattle.validation.specs.Result.{Numbers}
 use Rattle.widening.specs.SheetDecision.{widensSheets, DecisionNumbers, decisionNumbers}
+use Rattle.widening.specs.Widening.{Level, anything, marks}
 use Rattle.buffer.specs.Bytes.{InFourBytes}
 use Rattle.entity_rules.specs.Entry.{resultBytes, fieldsOf, resultAfter}
 
@@ -31,3 +32,8 @@ pub record WidensAnswered (first second resultBefore resultNow : List ℕ) (r : 
   pub number : r ≡ cond (leb resultBytes (length resultBefore)) (widensNumbers first second .number) 3
   pub result : resultNow ≡ resultAfter (widensNumbers first second) resultBefore
   pub small : resultBytes ≤ length resultBefore → InFourBytes (fieldsOf (widensNumbers first second))
+
+-- the answer that stands for a widening in which no more than that differs
+pub data YesAt : Level → ℕ → Type 0 where
+  byMarks : YesAt marks 1
+  byAnything : YesAt anything 2

@@ -22,7 +22,7 @@ use Rattle.validation.specs.Upgrade.{upgrade}
 use Rattle.buffer.specs.Bytes.{fieldAt}
 use Rattle.entity_rules.specs.Entry.{resultBytes, fieldsOf}
 use Rattle.entity_rules.specs.EntryLaws.{field-of-result}
-use Rattle.entity_rules.specs.WidensEntry.{inPlaces, widensNumbers, WidensAnswered}
+use Rattle.entity_rules.specs.WidensEntry.{inPlaces, widensNumbers, WidensAnswered, YesAt, byMarks, byAnything}
 
 module _ {first second resultBefore resultNow : List ℕ} {r : ℕ} (a : WidensAnswered first second resultBefore resultNow r) (room : resultBytes ≤ length resultBefore) where
   -- so `rulecheck_field` gives the numbers of the answer
@@ -32,11 +32,6 @@ module _ {first second resultBefore resultNow : List ℕ} {r : ℕ} (a : WidensA
 
   pub widens-returns : r ≡ widensNumbers first second .number
   widens-returns = a .number ∙ rw (le-leb resultBytes (length resultBefore) room) refl
-
--- the answer that stands for a widening in which no more than that differs
-pub data YesAt : Level → ℕ → Type 0 where
-  byMarks : YesAt marks 1
-  byAnything : YesAt anything 2
 
 sheets-level : (x x′ : Option Schema) (l : Level) → answerFor x x′ ≡ decision (widening l) → (l ≡ marks) ⊎ (l ≡ anything)
 unfolding answerFor

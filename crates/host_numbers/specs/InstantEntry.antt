@@ -1,5 +1,5 @@
 -- What `rulecheck_instant` answers (docs/FORMAT.md, "The C interface"): the seven fields of an instant, as numbers of four bytes.
-use Prim.Native.Nat.{ℕ}
+use Prim.Native.Nat.{ℕ, _≤_}
 use mathlib.Core.Bool.{cond}
 use mathlib.Core.List.{List}
 use mathlib.Core.Option.{Option, none, some}
@@ -28,3 +28,9 @@ instantAfter (some f) before = cond (leb instantBytes (length before)) (sets bef
 pub record InstantAnswered (text before after : List ℕ) (r : ℕ) : Type 0 where
   pub number : r ≡ instantNumber (length before) (instant text)
   pub fields : after ≡ instantAfter (instant text) before
+
+-- the text is an instant, and there was room for its fields
+pub record Found (text before after : List ℕ) (f : Fields) : Type 0 where
+  pub reads : instant text ≡ some f
+  pub room : instantBytes ≤ length before
+  pub written : after ≡ sets before 0 (bytesOf (listOf f))

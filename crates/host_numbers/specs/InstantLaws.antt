@@ -1,5 +1,5 @@
 -- What a host may rely on where it reads an instant: `rulecheck_field` gives the seven fields, and a buffer keeps its bytes where the answer is not 0.
-use Prim.Native.Nat.{ℕ, _≤_, _<_}
+use Prim.Native.Nat.{ℕ, _<_}
 use native.Mathlib.Omega.{arith}
 use mathlib.Core.Bool.{Bool, true, false}
 use mathlib.Core.List.{List}
@@ -9,19 +9,13 @@ use lib.Dec.{leb}
 use lib.ListN.{length, getD}
 use lib.Seq.{sets}
 use borrow.Author.Tests.{leb-true}
-use Rattle.timestamp.specs.Instant.{instant}
+use Rattle.timestamp.specs.Instant.{instant, SmallFields}
 use Rattle.timestamp.specs.Order.{listOf}
-use Rattle.timestamp.specs.FieldLaws.{SmallFields, instant-low}
+use Rattle.timestamp.specs.FieldLaws.{instant-low}
 use Rattle.timestamp.specs.declared.Fields.{Fields}
 use Rattle.buffer.specs.Bytes.{bytesOf, InFourBytes, no-more, one-more, fieldAt}
 use Rattle.buffer.specs.BytesLaws.{field-written}
-use Rattle.host_numbers.specs.InstantEntry.{instantBytes, instantNumber, instantAfter, InstantAnswered}
-
--- the text is an instant, and there was room for its fields
-pub record Found (text before after : List ℕ) (f : Fields) : Type 0 where
-  pub reads : instant text ≡ some f
-  pub room : instantBytes ≤ length before
-  pub written : after ≡ sets before 0 (bytesOf (listOf f))
+use Rattle.host_numbers.specs.InstantEntry.{instantBytes, instantNumber, instantAfter, InstantAnswered, Found}
 
 found-by : (text before after : List ℕ) (o : Option Fields) (b : Bool)
     → instant text ≡ o

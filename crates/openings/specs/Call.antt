@@ -1,5 +1,5 @@
 -- The call that finds the fewest marks to open: its refusals, its answer, and what it leaves in the lent buffers (docs/FORMAT.md, "The fewest marks to open").
-use Prim.Native.Nat.{ℕ, _*_}
+use Prim.Native.Nat.{ℕ, _*_, _≤_}
 use mathlib.Core.Bool.{not, cond}
 use mathlib.Core.List.{List, [], _∷_, _++_}
 use mathlib.Core.Option.{Option, none, some}
@@ -11,6 +11,7 @@ use Rattle.definition.specs.Decode.{decodeSchema, decodeRule}
 use Rattle.reference.specs.Setting.{Setting}
 use Rattle.validation.specs.Result.{any, Widths, Call, Refusal, pathBytes, scratchWords, markBytes, settingFor, ofSettings, ofTable, ofSheets, isOfSheets}
 use Rattle.call.specs.Call.{Reply, refusedBy, told, Left, free, holding, unchanged, ifTold, freeIfTold, Shape, replyTo, resultNumbers, Run, Meets}
+use Rattle.call.specs.CallLaws.{AllWithin}
 use Rattle.validation.specs.Openings.{maxMarks, fewestMarks}
 
 pub record OpenCall : Type 0 where
@@ -103,3 +104,7 @@ openNumbers = resultNumbers openShape
 
 abbrev pub MeetsOpen : Run OpenCall → Type 0
 MeetsOpen = Meets openShape
+
+pub record SetFits (c : OpenCall) (set : List ℕ) : Type 0 where
+  pub low : AllWithin maxMarks set
+  pub room : 4 * length set ≤ c .list

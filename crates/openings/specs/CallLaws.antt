@@ -1,5 +1,5 @@
 -- The refusals of the call, one after the other, and what its answer promises.
-use Prim.Native.Nat.{ℕ, zero, suc, _+_, _*_, _≤_, _<_, min}
+use Prim.Native.Nat.{ℕ, zero, suc, _+_, _≤_, _<_, min}
 use native.Mathlib.Omega.{arith}
 use mathlib.Core.Bool.{Bool, true, false, not, cond, _&&_, false≢true}
 use mathlib.Core.List.{List, [], _∷_, _++_}
@@ -16,13 +16,13 @@ use Rattle.widening.specs.Opening.{isIn}
 use Rattle.validation.specs.Check.{isNone, checks}
 use Rattle.validation.specs.Result.{any, Widths, areWide, ofWidths, Refusal, pathBytes, scratchWords, isTaken, isOfSheets, settingFor, ofSettings, ofTable, ofSheets, firstRefusal}
 use Rattle.validation.specs.RefusalLaws.{are-wide, NoneDue, none-due, first-none, every, capped-settings}
-use Rattle.call.specs.Call.{Reply, refusedBy, refusedOr, heardBy, tried, ifTold, Run}
-use Rattle.call.specs.CallLaws.{heard-told, front-due, front-passes, first-due, first-passes, only-tried, of-heard, heard-at, numbers-size, AllWithin, numbers-within, Untouched, refused-untouched, isWritten, if-told-written, same-answer}
+use Rattle.call.specs.Call.{Reply, refusedBy, refusedOr, heardBy, tried, ifTold, Run, Untouched, isWritten}
+use Rattle.call.specs.CallLaws.{heard-told, front-due, front-passes, first-due, first-passes, only-tried, of-heard, heard-at, numbers-size, AllWithin, numbers-within, refused-untouched, if-told-written, same-answer}
 use Rattle.validation.specs.Openings.{maxMarks, risingTo, rounds, fewestMarks}
 use Rattle.validation.specs.RisingLaws.{rising-few}
 use Rattle.single_check.specs.Settings.{widthsBy}
 use Rattle.single_check.specs.SheetLaws.{roomy}
-use Rattle.openings.specs.Call.{OpenCall, checkOf, listBytes, ofList, openRefusals, openRefusalNumbers, opens, marksFor, marksIn, openFigures, scratchLeft, openShape, openAnswer, openNumbers, MeetsOpen}
+use Rattle.openings.specs.Call.{OpenCall, checkOf, listBytes, ofList, openRefusals, openRefusalNumbers, opens, marksFor, marksIn, openFigures, scratchLeft, openShape, openAnswer, openNumbers, MeetsOpen, SetFits}
 use Rattle.openings.specs.Runs.{searched, openRunOf}
 
 -- 1 and 3
@@ -219,10 +219,6 @@ rising-low (suc n) p = all-append (suc n) (risingTo n p) (cond (p n) (n ∷ []) 
     last : (b : Bool) → AllWithin (suc n) (cond b (n ∷ []) [])
     last true = (omega arith, tt)
     last false = tt
-
-pub record SetFits (c : OpenCall) (set : List ℕ) : Type 0 where
-  pub low : AllWithin maxMarks set
-  pub room : 4 * length set ≤ c .list
 
 found-low : (setting : Setting) (t : Option Schema) (x : Option Rule) (set : List ℕ) → marksFor setting t x ≡ some set → AllWithin maxMarks set × (length set ≤ maxMarks)
 unfolding marksFor fewestMarks

@@ -1,16 +1,16 @@
 -- What a caller reads off a run: which refusals are heard, and what the list holds after each answer.
-use Prim.Native.Nat.{ℕ, _*_, _<_}
+use Prim.Native.Nat.{ℕ}
 use native.Mathlib.Omega.{arith}
 use mathlib.Core.Bool.{true}
 use mathlib.Core.List.{List, [], _∷_}
 use mathlib.Core.Option.{Option, none, some}
 use mathlib.Core.Path.{_≡_, refl, ap, _∙_}
 use lib.Dec.{eqb}
-use lib.ListN.{length, drop, getD}
+use lib.ListN.{getD}
 use lib.Seq.{sets}
 use borrow.Author.Tests.{eqb-true}
 use Rattle.text.specs.CaseLaws.{by-test}
-use Rattle.buffer.specs.Bytes.{bytesOf, InFourBytes, no-more, one-more, fieldAt}
+use Rattle.buffer.specs.Bytes.{bytesOf, InFourBytes, no-more, one-more}
 use Rattle.buffer.specs.BytesLaws.{field-written, past-written}
 use Rattle.reference.specs.Setting.{oneOf}
 use Rattle.validation.specs.Openings.{maxMarks}
@@ -18,7 +18,8 @@ use Rattle.call.specs.Call.{Reply, refusedBy, told, ifTold, numbersWith}
 use Rattle.call.specs.CallLaws.{AllWithin}
 use Rattle.openings.specs.Call.{OpenCall, openRefusalNumbers, openHeardNumbers, opens, nothingHelps, openFigures, orNoMarks, openAnswer, MeetsOpen}
 use Rattle.openings.specs.CallLaws.{open-refusal-listed, never-2, refused-spares, set-fits}
-use Rattle.openings.specs.Runs.{openRunOf}
+use Rattle.openings.specs.Runs.{openRunOf, openCallOf}
+use Rattle.openings.specs.FewestCalls.{ListStands}
 
 -- The refusals: of those that are tried (`open-tries`), all but 2, which an empty label never meets.
 
@@ -35,16 +36,6 @@ open-refusal-heard c n e = but-2 n (open-refusal-listed c n e) (λ same. never-2
 pub small-marks : (ns : List ℕ) → AllWithin maxMarks ns → InFourBytes ns
 small-marks [] h = no-more
 small-marks (n ∷ ns) h = one-more {n = n} (omega (arith, h .0)) (small-marks ns (h .1))
-
--- the set stands at the start of the list: it has as many elements as the result says, each is read back from its four bytes, and all bytes after them keep their values
-pub record ListStands (set result listBefore list : List ℕ) : Type 0 where
-  pub count : getD result 2 0 ≡ length set
-  pub reads : (i : ℕ) → i < length set → fieldAt i list ≡ getD set i 0
-  pub past : drop (4 * length set) list ≡ drop (4 * length set) listBefore
-
--- the call of a run
-abbrev pub openCallOf : (kind semantics : ℕ) (table schema rule path list scratch : List ℕ) → OpenCall
-openCallOf kind semantics table schema rule path list scratch = openRunOf kind semantics table schema rule path list scratch [] [] [] [] .call
 
 module _ (kind semantics : ℕ) (table schema rule path list scratch : List ℕ) {r pathNow listNow scratchNow : List ℕ}
     (m : MeetsOpen (openRunOf kind semantics table schema rule path list scratch r pathNow listNow scratchNow)) where

@@ -60,3 +60,7 @@ openRunOf kind semantics table schema rule pathBefore listBefore scratchBefore r
           ∷ record { before = scratchBefore; after = scratch }
           ∷ [];
     }
+
+-- the call of a run
+abbrev pub openCallOf : (kind semantics : ℕ) (table schema rule path list scratch : List ℕ) → OpenCall
+openCallOf kind semantics table schema rule path list scratch = openRunOf kind semantics table schema rule path list scratch [] [] [] [] .call

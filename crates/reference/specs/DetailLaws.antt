@@ -3,14 +3,14 @@ use Prim.Native.Nat.{ℕ, _≤_}
 use native.Mathlib.Omega.{arith}
 use mathlib.Core.Bool.{Bool, true, false, cond, _&&_}
 use mathlib.Core.List.{List, [], _∷_}
-use mathlib.Core.Logic.{_⊎_, inl, inr}
+use mathlib.Core.Logic.{inl, inr}
 use mathlib.Core.Option.{Option, none, some}
 use mathlib.Core.Path.{_≡_, refl}
 use Rattle.text.specs.Order.{sameBytes}
 use Rattle.definition.specs.Tree.{Text, Field, field, Items, absent, element, Holder, Schema, Members}
 use Rattle.reference.specs.Setting.{Name, nameOf, Reader, kernel, projection, Setting}
 use Rattle.reference.specs.Path.{Segments, split, isOrdinal, isCount}
-use Rattle.reference.specs.Walk.{Step, refuse, leaf, free, into, lookup, memberStep, itemStep, Reached, refused, unknown, known, lastOr, arrive, entryOf, travel, isEmpty, arrayStep, mapStep, isTag, contentKey, unionStep, textCount, FieldForm, jsonField, objectField, arrayField, mapField, stringField, unionField, otherField, formOfKind, walkInto, walkStep}
+use Rattle.reference.specs.Walk.{Step, refuse, leaf, free, into, lookup, memberStep, itemStep, Reached, refused, unknown, known, lastOr, arrive, entryOf, travel, isEmpty, arrayStep, mapStep, isTag, contentKey, unionStep, textCount, FieldForm, jsonField, objectField, arrayField, mapField, stringField, unionField, otherField, formOfKind, walkInto, walkStep, WalkDetail}
 use Rattle.reference.specs.Reference.{Environment, bound, Root, noRoot, missing, root, rootOf, fromHolder, rootWalk, fromRoot, fromName, fromElement, fromBound, reference, keyWalk}
 
 abbrev pub StepHas : (ℕ → Type 0) → Step → Type 0
@@ -77,14 +77,6 @@ weaker P Q h unknown p = tt
 weaker P Q h (known f) p = tt
 
 -- The details of walks, those of number 18: 1 to 10, and 13 for a projection's key.
-
-pub record Common (d : ℕ) : Type 0 where
-  pub low : 1 ≤ d
-  pub high : d ≤ 10
-
-abbrev pub WalkDetail : Reader → ℕ → Type 0
-WalkDetail kernel d = Common d
-WalkDetail projection d = Common d ⊎ (d ≡ 13)
 
 common : (reader : Reader) (d : ℕ) → 1 ≤ d → d ≤ 10 → WalkDetail reader d
 common kernel d l h = record { low = l; high = h }

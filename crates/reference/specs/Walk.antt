@@ -1,8 +1,10 @@
 -- Walks through a schema, segment by segment, as `walk_field_path`, `field_at` and `element_of` go.
-use Prim.Native.Nat.{ℕ}
+use Prim.Native.Nat.{ℕ, _≤_}
 use mathlib.Core.Bool.{Bool, true, false, cond, _&&_, _||_}
 use mathlib.Core.List.{List, [], _∷_}
 use mathlib.Core.Option.{Option, none, some}
+use mathlib.Core.Logic.{_⊎_}
+use mathlib.Core.Path.{_≡_}
 use lib.Dec.{eqb}
 use Rattle.text.specs.Ascii.{ascii}
 use Rattle.text.specs.Order.{sameBytes}
@@ -142,3 +144,11 @@ unfoldable pub elementOf : Reached → Reached
 elementOf (refused d at left) = refused d at left
 elementOf unknown = unknown
 elementOf (known f) = elementOfField f
+
+pub record Common (d : ℕ) : Type 0 where
+  pub low : 1 ≤ d
+  pub high : d ≤ 10
+
+abbrev pub WalkDetail : Reader → ℕ → Type 0
+WalkDetail kernel d = Common d
+WalkDetail projection d = Common d ⊎ (d ≡ 13)

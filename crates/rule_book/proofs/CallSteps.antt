@@ -17,8 +17,8 @@ use Rattle.single_check.specs.declared.settings.Settled.the-variants.{Set, Refu
 use Rattle.call.specs.Call.{refusedBy, told, ifTold}
 use Rattle.rule_book.specs.Book.{sheetsOf}
 use Rattle.rule_book.specs.Places.{sheetCount}
-use Rattle.rule_book.specs.Tally.{BookCall, askedOf, single, answersOf, tallyOf, bookAnswer, tallyNumbers, MeetsBook}
-use Rattle.rule_book.specs.TallyLaws.{settingRefusal, settings-first, form-refused, table-refused, book-tallied}
+use Rattle.rule_book.specs.Tally.{BookCall, askedOf, single, answersOf, tallyOf, bookAnswer, tallyNumbers, MeetsBook, settingRefusal}
+use Rattle.rule_book.specs.TallyLaws.{settings-first, form-refused, table-refused, book-tallied}
 use Rattle.rule_book.specs.Tallying.{answersIn, Ready, SheetsTallied, bookRunOf}
 
 pub counted-some : (o : Option (List (List ℕ))) (n : ℕ) → Option·map length o ≡ some n → (sheets : List (List ℕ)) × (o ≡ some sheets)

@@ -9,7 +9,7 @@ use Rattle.reference.specs.Table.{tableIn}
 use Rattle.widening.specs.Widening.{Level, marks}
 use Rattle.validation.specs.Check.{IsDefect}
 use Rattle.validation.specs.Result.{Defect, Answer, defect, numbersOf, resultOf}
-use Rattle.validation.specs.DemandLaws.{SameDefect}
+use Rattle.validation.specs.Growth.{SameDefect}
 use Rattle.rule_book.specs.Book.{sheetsOf}
 use Rattle.rule_book.specs.Tally.{BookCall, single, sum, Tally}
 

@@ -14,8 +14,8 @@ use Rattle.widening.specs.Widening.{Level, marks}
 use Rattle.validation.specs.Check.{isNone, IsDefect}
 use Rattle.validation.specs.Result.{any, Call, Defect, Answer, refused, accepted, defect, Heard, refusal, acceptance, finding, isTaken, early, ofSheets, firstRefusal, Unrefused, refusedOr, numbersOf, resultOf, markBytes}
 use Rattle.validation.specs.RefusalLaws.{first-none, sheets-first}
-use Rattle.validation.specs.Growth.{againstBy, Widens}
-use Rattle.validation.specs.DemandLaws.{NotRefused, passed, SameDefect, heard, unrefused-answer, number-accepted, number-defect, passed-number, AnswersFare, results-fare}
+use Rattle.validation.specs.Growth.{againstBy, Widens, SameDefect}
+use Rattle.validation.specs.DemandLaws.{NotRefused, passed, heard, unrefused-answer, number-accepted, number-defect, passed-number, AnswersFare, results-fare}
 use Rattle.call.specs.Call.{told}
 use Rattle.rule_book.specs.Book.{sheetsOf}
 use Rattle.rule_book.specs.Tally.{BookCall, askedOf, single, answersOf, countOf, sum, passedIn, Tally, tallyOf, bookAnswer}

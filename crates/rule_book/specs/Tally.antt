@@ -3,10 +3,11 @@ use Prim.Native.Nat.{ℕ, _+_}
 use mathlib.Core.Bool.{cond}
 use mathlib.Core.List.{List, [], _∷_, _++_, map}
 use mathlib.Core.Option.{Option, none, some}
+use mathlib.Core.Path.{_≡_}
 use lib.ListN.{length}
 use lib.Dec.{eqb}
 use Rattle.validation.specs.Check.{isNone}
-use Rattle.validation.specs.Result.{any, Asked, Widths, Call, Answer, Refusal, ofTable, ofSettings, numbersOf, resultOf, pathBytes, scratchWords, markBytes}
+use Rattle.validation.specs.Result.{any, Asked, Widths, Call, Answer, Refusal, ofTable, ofSettings, numbersOf, resultOf, pathBytes, scratchWords, markBytes, early, firstRefusal}
 use Rattle.call.specs.Call.{Reply, Left, freeIfTold, Shape, replyTo, resultNumbers, Run, Meets}
 use Rattle.rule_book.specs.Book.{sheetsOf}
 
@@ -112,3 +113,12 @@ tallyNumbers = resultNumbers tallyShape
 
 abbrev pub MeetsBook : Run BookCall → Type 0
 MeetsBook = Meets tallyShape
+
+abbrev pub settingRefusal : BookCall → Option ℕ
+settingRefusal c = firstRefusal (ofSettings (askedOf c []) (c .lent))
+
+pub record IsTallied (c : BookCall) (t : Tally) : Type 0 where
+  pub sheets : List (List ℕ)
+  pub form : sheetsOf (c .book) ≡ some sheets
+  pub tally : t ≡ tallyOf (answersOf c sheets)
+  pub unrefused : (sheet : List ℕ) → firstRefusal (early (single c sheet)) ≡ none

@@ -16,24 +16,18 @@ use Rattle.validation.specs.Check.{isNone, IsDefect}
 use Rattle.validation.specs.Result.{Widths, areWide, Call, Answer, refused, Heard, refusal, acceptance, finding, ofTable, ofSettings, early, ofSheets, refusals, firstRefusal, numbersOf, resultOf, pathBytes, scratchWords}
 use Rattle.validation.specs.Result as Result
 use Rattle.validation.specs.RefusalLaws.{every, present, absent, are-wide, none-due, first-none, of-listed, of-first, sheets-first, capped-settings}
-use Rattle.call.specs.Call.{refusedBy, told, heardBy, tried, ifTold, Run}
-use Rattle.call.specs.CallLaws.{heard-refused, heard-told, nothing-due, front-due, front-passes, first-due, first-passes, only-tried, of-heard, heard-at, numbers-size, first-low, AllWithin, numbers-within, Untouched, refused-untouched, same-answer}
+use Rattle.call.specs.Call.{refusedBy, told, heardBy, tried, ifTold, Run, Untouched}
+use Rattle.call.specs.CallLaws.{heard-refused, heard-told, nothing-due, front-due, front-passes, first-due, first-passes, only-tried, of-heard, heard-at, numbers-size, first-low, AllWithin, numbers-within, refused-untouched, same-answer}
 use Rattle.single_check.specs.Settings.{widthsBy}
 use Rattle.single_check.specs.SheetLaws.{roomy}
 use Rattle.validation.specs.DemandLaws.{NotRefused, heard, unrefused-answer}
 use Rattle.rule_book.specs.Book.{sheetsOf, writeBook}
 use Rattle.rule_book.specs.BookLaws.{sheet-bytes, book-first, book-round-trip}
 use Rattle.rule_book.specs.ByteLaws.{passed-bytes}
-use Rattle.rule_book.specs.Tally.{BookCall, askedOf, single, ofForm, bookRefusals, bookRefusalNumbers, answersOf, countOf, sum, passedIn, Tally, defectNumbers, tallyOf, orNoSheets, tallyIn, tallyFigures, tallyShape, bookAnswer, tallyNumbers, MeetsBook}
+use Rattle.rule_book.specs.Tally.{BookCall, askedOf, single, ofForm, bookRefusals, bookRefusalNumbers, answersOf, countOf, sum, passedIn, Tally, defectNumbers, tallyOf, orNoSheets, tallyIn, tallyFigures, tallyShape, bookAnswer, tallyNumbers, MeetsBook, settingRefusal, IsTallied}
 use Rattle.rule_book.specs.Tallying.{bookRunOf}
 
 -- A book that is tallied: it is of the form, and no check of a sheet is refused before its sheets are read.
-
-pub record IsTallied (c : BookCall) (t : Tally) : Type 0 where
-  pub sheets : List (List ℕ)
-  pub form : sheetsOf (c .book) ≡ some sheets
-  pub tally : t ≡ tallyOf (answersOf c sheets)
-  pub unrefused : (sheet : List ℕ) → firstRefusal (early (single c sheet)) ≡ none
 
 pub is-tallied : (c : BookCall) (t : Tally) → bookAnswer c ≡ told t → IsTallied c t
 unfolding bookRefusals ofSettings early single askedOf tallyIn orNoSheets
@@ -200,9 +194,6 @@ module _ (c : BookCall) (t : Tally) (e : bookAnswer c ≡ told t) where
   bad-schema-counts f = rw (is .tally) (all-refused c (is .sheets) (is .unrefused) f)
 
 -- The refusals: 1 to 3 as in a single check, then 34, then those of the table.
-
-abbrev pub settingRefusal : BookCall → Option ℕ
-settingRefusal c = firstRefusal (ofSettings (askedOf c []) (c .lent))
 
 pub settings-first : (c : BookCall) (n : ℕ) → settingRefusal c ≡ some n → bookAnswer c ≡ refusedBy n
 unfolding bookRefusals

@@ -9,17 +9,8 @@ use lib.ListN.{getD}
 use Rattle.text.specs.Decimal.{isDigit}
 use Rattle.text.specs.Blank.{trim}
 use Rattle.text.specs.DecimalLaws.{isDigit-range}
-use Rattle.timestamp.specs.Instant.{digitValue, two, three, fieldsOf, isInstant, instantIn, instant}
+use Rattle.timestamp.specs.Instant.{digitValue, two, three, fieldsOf, isInstant, instantIn, instant, SmallFields}
 use Rattle.timestamp.specs.declared.Fields.{Fields}
-
-pub record SmallFields (f : Fields) : Type 0 where
-  pub year : f .year ≤ 9999
-  pub month : f .month ≤ 99
-  pub day : f .day ≤ 99
-  pub hour : f .hour ≤ 99
-  pub minute : f .minute ≤ 99
-  pub second : f .second ≤ 99
-  pub nanoseconds : f .nanoseconds ≤ 999999999
 
 digit-low : (b : ℕ) → digitValue b ≤ 9
 unfolding digitValue

@@ -4,7 +4,7 @@
 --     YYYY-MM-DDTHH:MM:SS.nnnnnnnnnZ
 --
 -- A byte past the end counts as 0, neither a digit nor a mark, so no place has to be tested for being there.
-use Prim.Native.Nat.{ℕ, zero, suc, _+_, _*_, _-_, _%_}
+use Prim.Native.Nat.{ℕ, zero, suc, _+_, _*_, _-_, _%_, _≤_}
 use mathlib.Core.Bool.{Bool, cond, not, _&&_, _||_}
 use mathlib.Core.List.{List}
 use mathlib.Core.Option.{Option, none, some}
@@ -101,3 +101,12 @@ instantIn s = cond (isInstant s (fieldsOf s)) (some (fieldsOf s)) none
 
 unfoldable pub instant : List ℕ → Option Fields
 instant s = instantIn (trim s)
+
+pub record SmallFields (f : Fields) : Type 0 where
+  pub year : f .year ≤ 9999
+  pub month : f .month ≤ 99
+  pub day : f .day ≤ 99
+  pub hour : f .hour ≤ 99
+  pub minute : f .minute ≤ 99
+  pub second : f .second ≤ 99
+  pub nanoseconds : f .nanoseconds ≤ 999999999

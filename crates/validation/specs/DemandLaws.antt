@@ -23,7 +23,7 @@ use Rattle.validation.specs.CountLaws.{VerdictIs, every-judged}
 use Rattle.validation.specs.WideningLaws.{VerdictFares, stillAccepted, sameDefect, later, passedOf, judge-fares}
 use Rattle.validation.specs.Result.{Takes, Lent, Call, Defect, Answer, refused, accepted, defect, refusalNumbers, IsRefusal, Heard, refusal, acceptance, finding, answerOf, isTaken, ofSheets, refusals, firstRefusal, Unrefused, settingFor, checked, judged, refusedOr, resultOf, numbersOf, pathAfter, Run, callOf, Meets}
 use Rattle.validation.specs.RefusalLaws.{none-due, none-of-either, refusal-listed, refusal-some, refusal-no-defect}
-use Rattle.validation.specs.Growth.{againstBy, Widens, Writes, SameFinding}
+use Rattle.validation.specs.Growth.{againstBy, Widens, Writes, SameFinding, SameDefect}
 
 -- acceptance or a defect
 abbrev pub NotRefused : Answer → Type 0
@@ -35,14 +35,6 @@ abbrev pub passed : Answer → ℕ
 passed (refused n) = 0
 passed (accepted n) = n
 passed (defect d) = d .passed
-
--- the same number, family, path, place and over place
-pub record SameDefect (d d′ : Defect) : Type 0 where
-  pub number : d′ .number ≡ d .number
-  pub family : d′ .family ≡ d .family
-  pub path : d′ .path ≡ d .path
-  pub place : d′ .place ≡ d .place
-  pub overPlace : d′ .overPlace ≡ d .overPlace
 
 accepted-no-defect : (n : ℕ) (d : Defect) → accepted n ≡ defect d → ⊥
 accepted-no-defect n d e = zero-not-one cc

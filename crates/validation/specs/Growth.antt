@@ -8,7 +8,7 @@ use lib.Seq.{sets}
 use Rattle.definition.specs.Tree.{Schema}
 use Rattle.definition.specs.Decode.{decodeSchema}
 use Rattle.widening.specs.Widening.{Level, WiderSchema}
-use Rattle.validation.specs.Result.{Takes, Lent, Call, Run}
+use Rattle.validation.specs.Result.{Takes, Lent, Call, Run, Defect}
 
 -- the same rule or template under the same settings, against another schema, with another table and other buffers
 unfoldable pub against : Call → (table schema : List ℕ) → Lent → Call
@@ -52,3 +52,11 @@ pub record SameFinding (r r′ : Run) : Type 0 where
   pub path : (p : List ℕ) × Writes p r × Writes p r′
   pub place : r′ .result .place ≡ r .result .place
   pub overPlace : r′ .result .overPlace ≡ r .result .overPlace
+
+-- the same number, family, path, place and over place
+pub record SameDefect (d d′ : Defect) : Type 0 where
+  pub number : d′ .number ≡ d .number
+  pub family : d′ .family ≡ d .family
+  pub path : d′ .path ≡ d .path
+  pub place : d′ .place ≡ d .place
+  pub overPlace : d′ .overPlace ≡ d .overPlace

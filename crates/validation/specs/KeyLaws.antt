@@ -13,8 +13,8 @@ use Rattle.definition.specs.Tree.{Schema}
 use Rattle.definition.specs.Decode.{decodeSchema}
 use Rattle.reference.specs.Setting.{Reader, oneOf}
 use Rattle.reference.specs.Walk as Walk
-use Rattle.reference.specs.Walk.{Reached, unknown, known}
-use Rattle.reference.specs.DetailLaws.{Has, WalkDetail, key-detail}
+use Rattle.reference.specs.Walk.{Reached, unknown, known, WalkDetail}
+use Rattle.reference.specs.DetailLaws.{Has, key-detail}
 use Rattle.call.specs.Call.{tried}
 use Rattle.validation.specs.Result.{Answer, refusalNumbers, Heard, firstRefusal, refusedOr}
 use Rattle.validation.specs.Result as Result

@@ -11,9 +11,8 @@ use Rattle.definition.specs.Tree.{Schema}
 use Rattle.definition.specs.Decode.{decodeSchema}
 use Rattle.reference.specs.Setting.{Reader, kernel, projection, oneOf}
 use Rattle.reference.specs.Walk as Walk
-use Rattle.reference.specs.Walk.{Reached, unknown, known}
+use Rattle.reference.specs.Walk.{Reached, unknown, known, WalkDetail}
 use Rattle.reference.specs.Reference.{keyWalk}
-use Rattle.reference.specs.DetailLaws.{WalkDetail}
 use Rattle.validation.specs.Check.{isNone}
 use Rattle.validation.specs.Result.{Defect, Answer, refused, accepted, defect, scratchWords, Refusal, firstRefusal, refusedOr, Numbers, numbersOf, ScratchAfter}
 

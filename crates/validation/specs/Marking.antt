@@ -1,13 +1,15 @@
 -- A call that is lent a mark list (docs/FORMAT.md, "Constant marks"): what it promises of the list, beside what every call promises.
-use Prim.Native.Nat.{ℕ}
+use Prim.Native.Nat.{ℕ, _*_, _<_}
 use mathlib.Core.List.{List}
 use mathlib.Core.Path.{_≡_}
-use lib.ListN.{length}
+use lib.ListN.{length, drop, getD}
 use lib.Seq.{sets}
 use Rattle.definition.specs.Decode.{decodeRule}
-use Rattle.buffer.specs.Bytes.{bytesOf}
+use Rattle.definition.specs.Tree.{Rule}
+use Rattle.buffer.specs.Bytes.{bytesOf, fieldAt}
 use Rattle.validation.specs.Result.{Call, resultOf, Run, callOf, Meets}
-use Rattle.validation.specs.Constant.{marksHeard}
+use Rattle.validation.specs.Constant.{marksHeard, marksIn}
+use Rattle.validation.specs.Marked.{Rises}
 
 -- the marks that a call hands back
 unfoldable pub marksBy : Call → List ℕ
@@ -36,3 +38,10 @@ pub record SameMarks (m m′ : MarkedRun) : Type 0 where
   pub marks : List ℕ
   pub first : MarksAre marks (m .marksBefore) (m .marks) (m .count)
   pub second : MarksAre marks (m′ .marksBefore) (m′ .marks) (m′ .count)
+
+-- an accepted rule's marks: they rise, so many are counted, each is read back from its four bytes, and all bytes after them keep their values
+pub record MarksStand (r : Rule) (m : MarkedRun) : Type 0 where
+  pub rise : Rises 0 (marksIn r)
+  pub count : m .count ≡ length (marksIn r)
+  pub reads : (i : ℕ) → i < m .count → fieldAt i (m .marks) ≡ getD (marksIn r) i 0
+  pub past : drop (4 * m .count) (m .marks) ≡ drop (4 * m .count) (m .marksBefore)

@@ -1,17 +1,17 @@
 -- What is promised of a mark list, for every run: a rule that isn't accepted gets no marks, one that is accepted gets its own, each of which is read back
 -- as it was written; what the scratch held before never matters to them, and under a widened schema they are the same.
-use Prim.Native.Nat.{ℕ, _*_, _≤_, _<_}
+use Prim.Native.Nat.{ℕ, _*_, _≤_}
 use native.Mathlib.Omega.{arith}
 use mathlib.Core.Bool.{true, false≢true}
 use mathlib.Core.List.{List, []}
 use mathlib.Core.Option.{Option, none, some}
 use mathlib.Core.Path.{_≡_, refl, ap, sym, _∙_}
-use lib.ListN.{length, drop, getD}
+use lib.ListN.{length}
 use lib.Seq.{sets}
 use borrow.Author.Tests.{leb-true}
 use Rattle.definition.specs.Tree.{Rule}
 use Rattle.definition.specs.Decode.{decodeRule}
-use Rattle.buffer.specs.Bytes.{bytesOf, fieldAt}
+use Rattle.buffer.specs.Bytes.{bytesOf}
 use Rattle.buffer.specs.BytesLaws.{field-written, past-written}
 use Rattle.widening.specs.Widening.{Level}
 use Rattle.validation.specs.Result.{Takes, Call, markBytes, Answer, refused, accepted, defect, isTaken, early, ofSettings, ofSheets, resultOf, Unrefused, numbersOf, lentOf, callOf}
@@ -21,16 +21,8 @@ use Rattle.validation.specs.DemandLaws.{heard, number-accepted}
 use Rattle.validation.specs.Demands.{SameButScratch, hasRoom, same-answer, SameButSchema, demand-3}
 use Rattle.validation.specs.ServiceCallLaws.{accepted-unrefused}
 use Rattle.validation.specs.Constant.{marksIn, marksIf, marksHeard}
-use Rattle.validation.specs.Marked.{Rises}
 use Rattle.validation.specs.ConstantLaws.{marks-rise, marks-few, marks-small, marks-same}
-use Rattle.validation.specs.Marking.{marksBy, MarkedRun, MeetsMarked, SameMarks}
-
--- an accepted rule's marks: they rise, so many are counted, each is read back from its four bytes, and all bytes after them keep their values
-pub record MarksStand (r : Rule) (m : MarkedRun) : Type 0 where
-  pub rise : Rises 0 (marksIn r)
-  pub count : m .count ≡ length (marksIn r)
-  pub reads : (i : ℕ) → i < m .count → fieldAt i (m .marks) ≡ getD (marksIn r) i 0
-  pub past : drop (4 * m .count) (m .marks) ≡ drop (4 * m .count) (m .marksBefore)
+use Rattle.validation.specs.Marking.{marksBy, MarkedRun, MeetsMarked, SameMarks, MarksStand}
 
 -- A call, by its answer.
 

@@ -15,8 +15,8 @@ use Rattle.single_check.specs.declared.settings.Settled.the-variants.{Set, Refu
 use Rattle.rule_book.specs.Book.{sheetsOf}
 use Rattle.rule_book.specs.BookLaws.{book-round-trip}
 use Rattle.rule_book.specs.Places.{sheetCount}
-use Rattle.rule_book.specs.Tally.{askedOf}
-use Rattle.rule_book.specs.TallyLaws.{settingRefusal, tally-bytes}
+use Rattle.rule_book.specs.Tally.{askedOf, settingRefusal}
+use Rattle.rule_book.specs.TallyLaws.{tally-bytes}
 use Rattle.rule_book.specs.Tallying.{answersIn}
 use Rattle.rule_book.proofs.CallSteps as Book
 use Rattle.wall.specs.Pages.{perPage, pageBytes, pageCount, pagesFrom, linesOf, pagesOf}

@@ -7,14 +7,10 @@ use lib.ListN.{length, take, drop, getD, replicate, length-append, length-take, 
 use lib.Seq.{take-at, drop-append-add, getD-append-add, getD-take, getD-drop, drop-drop}
 use Rattle.validation.specs.Result.{Answer}
 use Rattle.rule_book.specs.Tally.{countOf, sum, tallyOf}
-use Rattle.wall.specs.Pages.{perPage, pageBytes, resultLine, results, blankLine, heading, foot, page, pagesFrom, pageCount, linesOf, pagesOf}
+use Rattle.wall.specs.Pages.{perPage, pageBytes, resultLine, results, blankLine, heading, foot, page, pagesFrom, pageCount, linesOf, pagesOf, AllLines, ownCounts}
 use Rattle.wall.specs.LineLaws.{result-size, blank-size, heading-size, foot-size}
 
 -- Lines of 81 bytes, one after the other.
-
-abbrev pub AllLines : List (List ℕ) → Type 0
-AllLines [] = Unit {0}
-AllLines (l ∷ ls) = (length l ≡ 81) × AllLines ls
 
 all-append : (xs ys : List (List ℕ)) → AllLines xs → AllLines ys → AllLines (xs ++ ys)
 all-append [] ys h k = k
@@ -158,11 +154,6 @@ pages-at before (suc count) (suc i) j answers less low =
     (getD-append-add (page before (take perPage answers)) (pagesFrom (before + 1) count (drop perPage answers)) (60 * i + j) []
     ∙ pages-at (before + 1) count i j (drop perPage answers) (omega arith) low
     ∙ ap (λ (rest : List Answer). getD (page (before + 1 + i) (take perPage rest)) j []) (drop-drop (perPage * i) perPage answers))
-
--- the accepted count that each page has of its own
-unfoldable pub ownCounts : (count : ℕ) → List Answer → List ℕ
-ownCounts zero answers = []
-ownCounts (suc count) answers = countOf 0 (take perPage answers) ∷ ownCounts count (drop perPage answers)
 
 own-at : (count i : ℕ) (answers : List Answer) → i < count → getD (ownCounts count answers) i 0 ≡ countOf 0 (take perPage (drop (perPage * i) answers))
 unfolding ownCounts

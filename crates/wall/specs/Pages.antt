@@ -2,6 +2,7 @@
 use Prim.Native.Nat.{ℕ, zero, suc, _+_, _*_, _-_, _/_}
 use mathlib.Core.Bool.{cond}
 use mathlib.Core.List.{List, [], _∷_, _++_, map, flatten}
+use mathlib.Core.Path.{_≡_}
 use lib.Dec.{leb}
 use lib.ListN.{length, take, drop, replicate}
 use Rattle.text.specs.Utf8.{between}
@@ -94,3 +95,12 @@ linesOf answers = pagesFrom 0 (pageCount (length answers)) answers
 -- the pages' bytes
 unfoldable pub pagesOf : List Answer → List ℕ
 pagesOf answers = flatten (linesOf answers)
+
+abbrev pub AllLines : List (List ℕ) → Type 0
+AllLines [] = Unit {0}
+AllLines (l ∷ ls) = (length l ≡ 81) × AllLines ls
+
+-- the accepted count that each page has of its own
+unfoldable pub ownCounts : (count : ℕ) → List Answer → List ℕ
+ownCounts zero answers = []
+ownCounts (suc count) answers = countOf 0 (take perPage answers) ∷ ownCounts count (drop perPage answers)

@@ -1,13 +1,15 @@
 -- The call that prints a rule book's run: its refusals, its answer, and what it leaves in each buffer (docs/FORMAT.md, "The wall sheet").
-use Prim.Native.Nat.{ℕ, _*_}
+use Prim.Native.Nat.{ℕ, _*_, _≤_}
 use mathlib.Core.Bool.{not}
 use mathlib.Core.List.{List, [], _∷_, _++_}
+use mathlib.Core.Option.{some}
+use mathlib.Core.Path.{_≡_}
 use lib.Dec.{leb}
 use lib.ListN.{length}
 use Rattle.validation.specs.Result.{Answer, Refusal, ofTable, ofSettings, pathBytes, scratchWords}
-use Rattle.call.specs.Call.{Reply, Left, holding, ifTold, freeIfTold, Shape, replyTo, resultNumbers, Run, Meets}
+use Rattle.call.specs.Call.{Reply, Left, holding, ifTold, freeIfTold, Shape, replyTo, resultNumbers, Run, Meets, told}
 use Rattle.rule_book.specs.Book.{sheetsOf}
-use Rattle.rule_book.specs.Tally.{BookCall, askedOf, ofForm, answersOf, orNoSheets}
+use Rattle.rule_book.specs.Tally.{BookCall, askedOf, ofForm, answersOf, orNoSheets, tallyOf, bookAnswer}
 use Rattle.wall.specs.Pages.{pageBytes, pageCount, pagesOf}
 
 -- a call as for a tally, and how many bytes are lent for the pages
@@ -55,3 +57,11 @@ wallNumbers = resultNumbers wallShape
 
 abbrev pub MeetsWall : Run WallCall → Type 0
 MeetsWall = Meets wallShape
+
+pub record IsPrinted (c : WallCall) (answers : List Answer) : Type 0 where
+  pub sheets : List (List ℕ)
+  pub form : sheetsOf (c .run .book) ≡ some sheets
+  pub checked : answers ≡ answersOf (c .run) sheets
+  pub room : pageBytes * pageCount (length answers) ≤ c .pages
+  -- the same run tallies
+  pub tally : bookAnswer (c .run) ≡ told (tallyOf answers)

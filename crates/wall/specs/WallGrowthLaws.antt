@@ -13,8 +13,8 @@ use Rattle.rule_book.specs.Book.{sheetsOf}
 use Rattle.rule_book.specs.Tally.{BookCall, single, answersOf, tallyOf}
 use Rattle.rule_book.specs.BookGrowth.{SameButBookSchema}
 use Rattle.rule_book.specs.BookGrowthLaws.{book-demand-3}
-use Rattle.wall.specs.Wall.{WallCall, wallAnswer}
-use Rattle.wall.specs.WallLaws.{IsPrinted, is-printed}
+use Rattle.wall.specs.Wall.{WallCall, wallAnswer, IsPrinted}
+use Rattle.wall.specs.WallLaws.{is-printed}
 use Rattle.wall.specs.WallGrowth.{WallFares}
 
 answer-at : (c : BookCall) (sheets : List (List ℕ)) (k : ℕ) → k < length sheets → getD (answersOf c sheets) k (refused 0) ≡ resultOf (single c (getD sheets k []))

@@ -13,15 +13,15 @@ use Rattle.reference.specs.Setting.{oneOf}
 use Rattle.validation.specs.Check.{isNone}
 use Rattle.validation.specs.Result.{Widths, areWide, Answer, Refusal, ofTable, ofSettings, early, ofSheets, refusals, firstRefusal, resultOf, pathBytes, scratchWords}
 use Rattle.validation.specs.RefusalLaws.{every, present, absent, are-wide, is-set, none-due, first-none}
-use Rattle.call.specs.Call.{refusedBy, told, heardBy, tried, ifTold, Run}
-use Rattle.call.specs.CallLaws.{told-injective, heard-refused, heard-told, nothing-due, front-due, front-passes, first-due, first-passes, only-tried, of-heard, heard-at, numbers-size, first-low, AllWithin, numbers-within, Untouched, refused-untouched, isWritten, if-told-written, same-answer}
+use Rattle.call.specs.Call.{refusedBy, told, heardBy, tried, ifTold, Run, Untouched, isWritten}
+use Rattle.call.specs.CallLaws.{told-injective, heard-refused, heard-told, nothing-due, front-due, front-passes, first-due, first-passes, only-tried, of-heard, heard-at, numbers-size, first-low, AllWithin, numbers-within, refused-untouched, if-told-written, same-answer}
 use Rattle.single_check.specs.Settings.{widthsBy}
 use Rattle.rule_book.specs.Book.{sheetsOf}
-use Rattle.rule_book.specs.Tally.{BookCall, askedOf, single, ofForm, answersOf, sum, Tally, tallyOf, orNoSheets, bookAnswer}
-use Rattle.rule_book.specs.TallyLaws.{settingRefusal, no-room-due, book-tallied, cappedBook, capped-same, read-bound, lending}
-use Rattle.wall.specs.Pages.{pageBytes, resultLine, pageCount, pagesOf}
-use Rattle.wall.specs.PageLaws.{pages-size, ownCounts, lineAt, result-line, feet-add-up}
-use Rattle.wall.specs.Wall.{WallCall, wallAnswers, ofPages, wallRefusals, wallRefusalNumbers, wallFigures, wallShape, wallAnswer, wallNumbers, MeetsWall}
+use Rattle.rule_book.specs.Tally.{BookCall, askedOf, single, ofForm, answersOf, sum, Tally, tallyOf, orNoSheets, bookAnswer, settingRefusal}
+use Rattle.rule_book.specs.TallyLaws.{no-room-due, book-tallied, cappedBook, capped-same, read-bound, lending}
+use Rattle.wall.specs.Pages.{pageBytes, resultLine, pageCount, pagesOf, ownCounts}
+use Rattle.wall.specs.PageLaws.{pages-size, lineAt, result-line, feet-add-up}
+use Rattle.wall.specs.Wall.{WallCall, wallAnswers, ofPages, wallRefusals, wallRefusalNumbers, wallFigures, wallShape, wallAnswer, wallNumbers, MeetsWall, IsPrinted}
 use Rattle.wall.specs.Printing.{wallRunOf}
 
 -- The refusals: 1 to 3 as in a single check, then 34, then 33, then those of the table.
@@ -71,14 +71,6 @@ module _ (c : WallCall) (h : settingRefusal (c .run) ≡ none) where
       wall-printed e = then-table ∙ nothing-due (ofTable (c .run .table)) (wallAnswers (c .run)) e ∙ rw form
 
 -- What was printed: the file is of the form, and no refusal is due.
-
-pub record IsPrinted (c : WallCall) (answers : List Answer) : Type 0 where
-  pub sheets : List (List ℕ)
-  pub form : sheetsOf (c .run .book) ≡ some sheets
-  pub checked : answers ≡ answersOf (c .run) sheets
-  pub room : pageBytes * pageCount (length answers) ≤ c .pages
-  -- the same run tallies
-  pub tally : bookAnswer (c .run) ≡ told (tallyOf answers)
 
 pub is-printed : (c : WallCall) (answers : List Answer) → wallAnswer c ≡ told answers → IsPrinted c answers
 unfolding wallRefusals wallAnswers ofSettings orNoSheets

@@ -15,17 +15,9 @@ use Rattle.definition.specs.Within.{FieldRises, ItemsRise, MembersRise, Argumen
 use Rattle.definition.specs.RisingLaws.{AllBehind, rising-behind}
 use Rattle.widening.specs.Widening.{Level, only, anything, marks, MayOpen, listed, anyMark, Opened, kept, opened, MayGrow, closed, WiderField, wider, WiderItems, neither, both, WiderMembers, end, keep, more, WiderHolder, WiderArguments, without, appear, stay, WiderSchema}
 use Rattle.widening.specs.Decision.{Reason, Difference, growth, breach, breachIf, sameTag, sameItemsMark, closes, ownDifferences, added, allAdded, missing, sought, fieldDifferences, itemsDifferences, membersDifferences, argumentsMarks, argumentsDifferences, differences, Decision, widening, refuted, withGrowth, decided, widens}
+use Rattle.widening.specs.Differences.{Allowed, AllAllowed, FirstBreach, nothing, also}
 
 -- Which differences a level allows.
-
-abbrev pub Allowed : Difference → Level → Type 0
-Allowed growth (only may) = ⊥
-Allowed growth anything = Unit {0}
-Allowed (breach why e e′) l = ⊥
-
-pub data AllAllowed : List Difference → Level → Type 0 where
-  nothing : {l : Level} → AllAllowed [] l
-  also : {d : Difference} {ds : List Difference} {l : Level} → Allowed d l → AllAllowed ds l → AllAllowed (d ∷ ds) l
 
 first-allowed : {d : Difference} {ds : List Difference} {l : Level} → AllAllowed (d ∷ ds) l → Allowed d l
 first-allowed (also a others) = a
@@ -327,13 +319,6 @@ widens-anything s s′ r = (
   λ e. schema-sound s s′ anything anything-every (more-allow (differences s s′) (e .0) (decided-sound (differences s s′) (e .0) (e .1))),
   λ w. decided-anything (differences s s′) (schema-complete w r),
 )
-
--- all that is listed before it is allowed
-pub record FirstBreach (ds : List Difference) (why : Reason) (e e′ : ℕ) : Type 0 where
-  pub before : List Difference
-  pub after : List Difference
-  pub listed : ds ≡ before ++ (breach why e e′ ∷ after)
-  pub none-before : AllAllowed before anything
 
 refuted-growth : (d : Decision) (why : Reason) (e e′ : ℕ) → withGrowth d ≡ refuted why e e′ → d ≡ refuted why e e′
 unfolding withGrowth

@@ -12,14 +12,8 @@ use Rattle.definition.specs.Decode.{decodeSchema}
 use Rattle.definition.specs.Within.{fieldEntries, itemsEntries, membersEntries, FieldFrom, ItemsFrom, MembersFrom, ArgumentsFrom}
 use Rattle.definition.specs.RoundTrip.{schema-round-trip}
 use Rattle.reference.specs.Walk.{entryOf}
-use Rattle.widening.specs.Decision.{Reason, Difference, growth, breach, breachIf, ownDifferences, added, allAdded, missing, sought, fieldDifferences, itemsDifferences, membersDifferences, argumentsMarks, argumentsDifferences, differences}
-
--- the entries in the first sheet are `n` at least, and never fall
-pub data InOrder : ℕ → List Difference → Type 0 where
-  end : {n : ℕ} → InOrder n []
-  growing : {n : ℕ} {ds : List Difference} → InOrder n ds → InOrder n (growth ∷ ds)
-  nowhere : {n e′ : ℕ} {why : Reason} {ds : List Difference} → InOrder n ds → InOrder n (breach why 0 e′ ∷ ds)
-  at : {n e e′ : ℕ} {why : Reason} {ds : List Difference} → n ≤ e → InOrder e ds → InOrder n (breach why e e′ ∷ ds)
+use Rattle.widening.specs.Decision.{Reason, Difference, breachIf, ownDifferences, added, allAdded, missing, sought, fieldDifferences, itemsDifferences, membersDifferences, argumentsMarks, argumentsDifferences, differences}
+use Rattle.widening.specs.Differences.{InOrder, end, growing, nowhere, at}
 
 from-earlier : {k : ℕ} {ds : List Difference} (n : ℕ) → n ≤ k → InOrder k ds → InOrder n ds
 from-earlier n l end = end

@@ -4,6 +4,7 @@ pub mod WalkLaws
 pub mod ReferenceLaws
 pub mod DistinctLaws
 pub mod Decision
+pub mod Differences
 pub mod DecisionLaws
 pub mod DecisionOrderLaws
 pub mod SheetDecision
