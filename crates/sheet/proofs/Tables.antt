@@ -4,9 +4,9 @@ use mathlib.Core.Bool.{Bool, cond}
 use mathlib.Core.List.{List, [], _∷_, _++_, map}
 use mathlib.Core.Path.{_≡_, refl}
 use lib.ListN.{length}
+use Rattle.sheet.specs.Operators.{literal, many, negation, one, two, comparison, quantifier, Operator, operatorCount, operators, shapeOf, operatorName, isServiceOperator, isInstantTest, isAffix, isObserved}
 use Rattle.text.specs.Ascii.{ascii}
 use Rattle.text.specs.Numeral.{decimalOf}
-use Rattle.sheet.specs.Operators.{Shape, literal, many, negation, one, two, comparison, quantifier, Operator, operatorCount, operators, shapeOf, operatorName, isServiceOperator, isInstantTest, isAffix, isObserved}
 use Rattle.sheet.specs.FieldKinds.{FieldKind, kindCount, fieldKinds, kindName}
 use Rattle.sheet.specs.Computing.{computing}
 

@@ -55,11 +55,12 @@ fieldKinds =
     ∷ kind kindCount "binary64"
     ∷ []
 
--- nothing where no kind has that number
-unfoldable pub nameIn : List FieldKind → ℕ → List ℕ
-nameIn [] n = []
-nameIn (k ∷ kinds) n = let later = nameIn kinds n in cond (eqb (k .number) n) (k .name) later
+-- the last kind's where no kind has that number
+unfoldable pub nameIn : (last : List ℕ) → List FieldKind → ℕ → List ℕ
+nameIn last [] n = last
+nameIn last (k ∷ kinds) n = let later = nameIn (k .name) kinds n in cond (eqb n (k .number)) (k .name) later
 
+-- `FieldKind::as_str`
 unfoldable pub kindName : ℕ → List ℕ
 unfolding fieldKinds nameIn
-kindName n = nameIn fieldKinds n
+kindName n = nameIn [] fieldKinds n

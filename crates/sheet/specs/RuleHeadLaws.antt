@@ -8,7 +8,7 @@ use mathlib.Core.Path.{_≡_, refl, sym}
 use native.Mathlib.Omega.{arith}
 use lib.Dec.{leb}
 use lib.ListN.{length}
-use borrow.Author.Tests.{leb-true, leb-false, le-leb, lt-leb}
+use borrow.Author.Tests.{leb-true, leb-false, le-leb}
 use Rattle.text.specs.Ascii.{ascii}
 use Rattle.text.specs.Reader.{Reader, _>>=_, _>>_, andThen, pure, either, orElse}
 use Rattle.text.specs.CaseLaws.{by-test}

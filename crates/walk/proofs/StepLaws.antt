@@ -1,6 +1,6 @@
 -- One segment: how each way through the code answers what the step on the tree is.
 use Prim.Native.Nat.{ℕ}
-use mathlib.Core.Bool.{Bool, true, false, cond, _&&_}
+use mathlib.Core.Bool.{Bool, true, false, cond}
 use mathlib.Core.List.{List, [], _∷_}
 use mathlib.Core.Option.{Option, none}
 use mathlib.Core.Path.{_≡_, refl, sym, _∙_}
@@ -17,7 +17,7 @@ use Rattle.definition.specs.Tree as Tree
 use Rattle.definition.specs.Tree.{Text, Field, field, Items, absent, element, Members}
 use Rattle.reference.specs.Path.{isCount, isOrdinal}
 use Rattle.reference.specs.Setting.{Reader}
-use Rattle.reference.specs.Walk.{Step, refuse, free, lookup, memberStep, itemStep, isEmpty, arrayStep, mapStep, isTag, contentKey, unionStep, textCount, walkStep, arrayField, mapField, stringField, unionField, otherField, formOfKind, walkInto}
+use Rattle.reference.specs.Walk.{refuse, free, lookup, memberStep, itemStep, isEmpty, arrayStep, mapStep, isTag, contentKey, unionStep, textCount, arrayField, mapField, stringField, unionField, otherField, formOfKind, walkInto, walkStep}
 use Rattle.schema.specs.Slot.{HolderAt, ElementAt, FieldParts, PartsOf}
 use Rattle.schema.specs.Lookup.{FoundAt, LookedUp}
 use Rattle.walk.specs.DotLaws.{segment-empty, segment-full}
