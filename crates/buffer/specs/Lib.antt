@@ -1,4 +1,6 @@
 pub mod Wrote
 pub mod WroteLaws
+pub mod Laid
+pub mod LaidLaws
 pub mod Bytes
 pub mod BytesLaws

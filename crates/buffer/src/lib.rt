@@ -1,4 +1,6 @@
 // Bytes written one after another into a lent buffer; what does not fit is left out.
+pub mod lay; // lay.rt: the same with the true end
+
 use text::wide;
 ghost use mathlib.Core.List.{[], _∷_};
 ghost use mathlib.Core.Path.{_≡_};

@@ -1,0 +1,1 @@
+// Rules as JSON: definitions and laws, in specs/. There is no code.
