@@ -1,4 +1,4 @@
-/* Checks a good and a bad rule of a mill from C, and a third under the mill's own name table, where one has a constant condition; tallies a book of two rules; then asks whether a schema has grown. In this folder, after `rt staticlib entity_rules` in the repository's root:
+/* Checks a good and a bad rule of a mill from C, explains the bad one, and checks a third under the mill's own name table, where one has a constant condition; tallies a book of two rules; then asks whether a schema has grown. In this folder, after `rt staticlib entity_rules` in the repository's root:
  *
  *   cc check.c -I../include -L../../target/staticlib -lentity_rules -o ../../target/check && ../../target/check
  *
@@ -6,6 +6,7 @@
  *
  *   good: accepted, 9 checks passed
  *   bad: defect 18 of family 8, detail 3, at entry 5, bad.assert.for_all.that.eq[0], after 8 checks
+ *   bad: '$bar.threded' cannot resolve: '$bar' declares no property 'threded'
  *   own: accepted, 10 checks passed
  *   own: entry 6 is always true
  *   book: 2 read, 1 accepted, 1 with defect 18, 17 checks passed
@@ -50,6 +51,22 @@ static void check(const char *label, const char *schema, const char *rule) {
                                    bytes(rule), strlen(rule),
                                    path, sizeof path, result, sizeof result);
   show(label, number, result, sizeof result);
+}
+
+/* Prints the message of a rule's defect, as entity-runtime has it. */
+static void explain(const char *label, const char *schema, const char *rule) {
+  uint8_t message[1024];
+  uint8_t result[ENTITY_RULES_EXPLAIN_RESULT_BYTES];
+  rulecheck_explain(ENTITY_RULES_PRECONDITION, ENTITY_RULES_SERVICE_1,
+                    bytes(label), strlen(label), bytes(""), 0,
+                    bytes(schema), strlen(schema), bytes(rule), strlen(rule),
+                    path, sizeof path, marks, sizeof marks, message, sizeof message, result, sizeof result);
+  uint32_t length = rulecheck_field(result, sizeof result, ENTITY_RULES_MESSAGE_LENGTH);
+  if (rulecheck_field(result, sizeof result, ENTITY_RULES_MESSAGE_REFUSAL) != 0) {
+    printf("%s: a message of %u bytes\n", label, (unsigned)length);
+  } else {
+    printf("%s: %.*s\n", label, (int)length, (const char *)message);
+  }
 }
 
 /* Checks a rule by the table that is loaded, and prints which of its conditions are constant. */
@@ -125,6 +142,7 @@ int main(void) {
                     "V,5,12,$bar.threded\n"
                     "V,3,0,\n";
   check("bad", schema, bad);
+  explain("bad", schema, bad);
   /* In this mill outcome selectors read the state, the fifth mark of entry 5. */
   const char *own = "N,1,1,1,1,1,1,0,0,0,0\n"
                     "N,2,1,1,1,1,0,1,1,1,1\n"

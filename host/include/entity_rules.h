@@ -2,20 +2,20 @@
  * to open in one found, and instants read: the C functions of libentity_rules.a.
  *
  * docs/FORMAT.md says what the sheets hold and what each number means. Lengths are in bytes. A pointer must lead to as many bytes
- * as the length after it says, and must not be null, even where that is 0. path, marks, list, result, pages, buffer and fields must not overlap each other
+ * as the length after it says, and must not be null, even where that is 0. path, marks, message, list, result, pages, buffer and fields must not overlap each other
  * or anything else. No function keeps a pointer, allocates or waits, so any number of threads may call them at once. A call
  * takes up to about 330 KB of stack: 16 KB for its scratch, the rest by how deep the sheets nest, most for a rule with 64 levels of values in
  * 256 of conditions. A path under 32,768 bytes or a result under 28 is refusal 3, and is not written; rulecheck_check needs a result of 32,
- * rulecheck_tally of 144, rulecheck_wall of 16, rulecheck_openings of 12.
+ * rulecheck_explain of 40, rulecheck_tally of 144, rulecheck_wall of 16, rulecheck_openings of 12.
  */
 #ifndef ENTITY_RULES_H
 #define ENTITY_RULES_H
 
 /* The version of this header and of the crate. */
-#define ENTITY_RULES_VERSION "0.2.0"
+#define ENTITY_RULES_VERSION "0.3.0"
 
 /* The same as the library's rulecheck_version() answers it. */
-#define ENTITY_RULES_VERSION_NUMBER 0x000200u
+#define ENTITY_RULES_VERSION_NUMBER 0x000300u
 
 #include <stddef.h>
 #include <stdint.h>
@@ -50,7 +50,7 @@ enum entity_rules_reader {
   ENTITY_RULES_PROJECTION = 2
 };
 
-/* The number of an answer: 0, a refusal (1 to 5, 33 to 38) or a defect (11 to 22). */
+/* The number of an answer: 0, a refusal (1 to 5, 33 to 38) or a defect (11 to 22). The refusal 39 stands beside a defect, at ENTITY_RULES_MESSAGE_REFUSAL. */
 enum entity_rules_number {
   ENTITY_RULES_ACCEPTED = 0,
   ENTITY_RULES_REFUSED_SETTING = 1,
@@ -75,7 +75,8 @@ enum entity_rules_number {
   ENTITY_RULES_REFUSED_MARK_LIST = 35,
   ENTITY_RULES_REFUSED_OPENING_LIST = 36,
   ENTITY_RULES_REFUSED_TABLE_FORM = 37,
-  ENTITY_RULES_REFUSED_TABLE_MARK = 38
+  ENTITY_RULES_REFUSED_TABLE_MARK = 38,
+  ENTITY_RULES_REFUSED_MESSAGE_BUFFER = 39
 };
 
 /* The family of a defect. */
@@ -128,7 +129,7 @@ enum entity_rules_collection_fault {
   ENTITY_RULES_OVER_NO_NAME = 5
 };
 
-/* The numbers of a result, by their index; only rulecheck_check has the last one. */
+/* The numbers of a result, by their index; only rulecheck_check and rulecheck_explain have the count of marks, and only the latter has the last two. */
 enum entity_rules_field {
   ENTITY_RULES_NUMBER = 0,
   ENTITY_RULES_FAMILY = 1,
@@ -137,7 +138,9 @@ enum entity_rules_field {
   ENTITY_RULES_OVER_PLACE = 4,
   ENTITY_RULES_PASSED = 5,
   ENTITY_RULES_PATH_LENGTH = 6,
-  ENTITY_RULES_MARK_COUNT = 7
+  ENTITY_RULES_MARK_COUNT = 7,
+  ENTITY_RULES_MESSAGE_REFUSAL = 8,
+  ENTITY_RULES_MESSAGE_LENGTH = 9
 };
 
 /* The numbers of a result of rulecheck_widens, by their index; the first is ENTITY_RULES_NUMBER. */
@@ -228,6 +231,9 @@ enum entity_rules_instant_field {
 #define ENTITY_RULES_MARKS_BYTES 8192
 #define ENTITY_RULES_CHECK_RESULT_BYTES 32
 
+/* The result of rulecheck_explain, which is lent path and marks as rulecheck_check is. */
+#define ENTITY_RULES_EXPLAIN_RESULT_BYTES 40
+
 /* The list of rulecheck_openings. */
 #define ENTITY_RULES_OPENING_LIST_BYTES 4100
 
@@ -262,6 +268,21 @@ uint32_t rulecheck_check(uint64_t kind, uint64_t semantics,
                          uint8_t *path, size_t path_length,
                          uint8_t *marks, size_t marks_length,
                          uint8_t *result, size_t result_length);
+
+/* Checks as rulecheck_check does, and writes the message of a defect to the start of message: the sentence that entity-runtime has for it, byte for byte, or
+ * where it has none the operator, the depth, the side or the bind. It is UTF-8 and has no 0 at its end. A result under 40 bytes is refusal 3. After the eight numbers
+ * of rulecheck_check come two: at index 8, 39 if message is shorter than the message, and else 0; at index 9 the message's length, with 39 too. message is then
+ * unchanged, and verdict, path and marks are given all the same, so that a host can call again with a buffer of that length. message keeps its
+ * other bytes in every case, and all of them where there is no defect; both numbers are 0 then. */
+uint32_t rulecheck_explain(uint64_t kind, uint64_t semantics,
+                           const uint8_t *label, size_t label_length,
+                           const uint8_t *table, size_t table_length,
+                           const uint8_t *schema, size_t schema_length,
+                           const uint8_t *rule, size_t rule_length,
+                           uint8_t *path, size_t path_length,
+                           uint8_t *marks, size_t marks_length,
+                           uint8_t *message, size_t message_length,
+                           uint8_t *result, size_t result_length);
 
 /* Loads a name table: copies it to the start of buffer, from which later checks can be lent it, and returns 0. Returns 37 for what is not a
  * table of exactly 176 bytes and for a buffer under 176, then 38 as rulecheck_check does; buffer is then unchanged. It keeps its other

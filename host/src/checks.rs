@@ -2,7 +2,7 @@
 
 use crate::constants::{Constant, constants};
 use crate::limits::{
-    CHECK_RESULT_BYTES, MARKS_BYTES, OPENING_LIST_BYTES, OPENINGS_BYTES, PATH_BYTES, TALLY_BYTES,
+    EXPLAIN_RESULT_BYTES, MARKS_BYTES, OPENING_LIST_BYTES, OPENINGS_BYTES, PATH_BYTES, TALLY_BYTES,
     WALL_BYTES,
 };
 use crate::openings;
@@ -12,6 +12,9 @@ use crate::sheets::{RuleBytes, SchemaBytes};
 use crate::tally::{self, Tally};
 use crate::verdict::{self, Verdict};
 use crate::{raw, wall};
+
+/// Room for a message at first. Longer ones print a large value, or tell of long names.
+const USUAL_MESSAGE_BYTES: usize = 1_024;
 
 /// A check of a rule or template, as the first letter of its sheet says, with everything that it can be lent.
 ///
@@ -90,21 +93,32 @@ impl<'a> Check<'a> {
     ) -> Result<Checked, Refusal> {
         let (schema, rule) = (schema.into().0, rule.into().0);
         let (mut path, mut marks) = (vec![0; PATH_BYTES], vec![0; MARKS_BYTES]);
-        let mut result = [0; CHECK_RESULT_BYTES];
+        let mut result = [0; EXPLAIN_RESULT_BYTES];
         let (kind, semantics) = (self.kind.number().into(), self.semantics.number().into());
-        raw::check(
-            kind,
-            semantics,
-            self.label,
-            self.table,
-            schema,
-            rule,
-            &mut path,
-            &mut marks,
-            &mut result,
-        );
+        let mut message = vec![0; USUAL_MESSAGE_BYTES];
+        let mut explain = |message: &mut [u8]| {
+            raw::explain(
+                kind,
+                semantics,
+                self.label,
+                self.table,
+                schema,
+                rule,
+                &mut path,
+                &mut marks,
+                message,
+                &mut result,
+            );
+            (raw::field(&result, 8), raw::field(&result, 9))
+        };
+        let (is_short, length) = explain(&mut message);
+        let length = usize::try_from(length).unwrap_or(usize::MAX);
+        if is_short == Refusal::Message.number() {
+            message = vec![0; length];
+            explain(&mut message);
+        }
         let numbers = raw::numbers(&result);
-        let verdict = verdict::answer(numbers, &path)?;
+        let verdict = verdict::answer(numbers, &path, message.get(..length))?;
         let constants = constants(&marks, raw::field(&result, 7));
         Ok(Checked {
             verdict,

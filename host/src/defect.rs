@@ -110,6 +110,7 @@ numbered! {
 /// assert_eq!(defect.number, DefectNumber::Reference);
 /// assert_eq!(defect.path, "threaded.assert.exists");
 /// assert_eq!(defect.place, 3);
+/// assert_eq!(defect.message, "'$fields.bars' cannot resolve: unknown field 'bars'");
 /// assert_eq!(
 ///     defect.to_string(),
 ///     "threaded.assert.exists: a reference cannot be read: the record or the arguments are closed and have no field of that name (entry 3)"
@@ -132,10 +133,12 @@ pub struct Defect {
     pub passed: u32,
     /// The way from the label to the fault.
     pub path: String,
+    /// What entity-runtime says of it, byte for byte: its sentence; or, where it has none, the operator (of 15), the depth (of 13), the side (of 17) or the bind (of 21).
+    pub message: String,
 }
 
 impl Defect {
-    /// What is wrong, in words and without the place.
+    /// What is wrong, in this crate's own words and without the place.
     ///
     /// ```
     /// # use entity_rules::{check_template, Kind, Semantics};

@@ -300,7 +300,20 @@ fn call(
 ) -> Result<Verdict, Refusal> {
     let mut path = vec![0; PATH_BYTES];
     let mut result = [0; RESULT_BYTES];
-    let (kind, semantics) = (kind.number().into(), semantics.number().into());
-    entry(kind, semantics, label, schema, rule, &mut path, &mut result);
-    verdict::answer(raw::numbers(&result), &path)
+    let settings = (kind.number().into(), semantics.number().into());
+    let number = entry(
+        settings.0,
+        settings.1,
+        label,
+        schema,
+        rule,
+        &mut path,
+        &mut result,
+    );
+    // The message of a defect takes the other call; what is accepted is not checked again.
+    if DefectNumber::from_number(number).is_some() {
+        let checked = Check::new(kind, semantics, label).run(schema, rule)?;
+        return Ok(checked.verdict);
+    }
+    verdict::answer(raw::numbers(&result), &path, None)
 }

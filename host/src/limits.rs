@@ -51,6 +51,9 @@ pub const RESULT_BYTES: usize = 28;
 /// Bytes that the check with a list of marks needs for the result: the seven numbers, and how many marks there are.
 pub const CHECK_RESULT_BYTES: usize = 32;
 
+/// Bytes that the check with a message needs for the result: the eight numbers, whether the message did not fit, and its length.
+pub const EXPLAIN_RESULT_BYTES: usize = 40;
+
 /// Bytes that a tally needs for its result: eighteen numbers of eight bytes.
 pub const TALLY_BYTES: usize = 144;
 

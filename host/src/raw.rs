@@ -21,9 +21,9 @@
 mod functions;
 
 use functions::{
-    rulecheck_check, rulecheck_count, rulecheck_field, rulecheck_finite, rulecheck_instant,
-    rulecheck_load_table, rulecheck_openings, rulecheck_path, rulecheck_rule, rulecheck_tally,
-    rulecheck_template, rulecheck_version, rulecheck_wall, rulecheck_widens,
+    rulecheck_check, rulecheck_count, rulecheck_explain, rulecheck_field, rulecheck_finite,
+    rulecheck_instant, rulecheck_load_table, rulecheck_openings, rulecheck_path, rulecheck_rule,
+    rulecheck_tally, rulecheck_template, rulecheck_version, rulecheck_wall, rulecheck_widens,
 };
 
 /// Checks a rule; the answer is the number, and `result` takes all seven numbers.
@@ -139,6 +139,58 @@ pub fn check(
         rule,
         path.into(),
         marks.into(),
+        result.into(),
+    )
+}
+
+/// Checks a rule or a template and writes the message of its defect, as entity-runtime has it; otherwise as [`check`].
+///
+/// The result has 40 bytes. After the eight numbers of [`check`], at index 8, is 39 if the buffer cannot take the message, and else 0; at index 9 is how
+/// many bytes the message has, whether it was written or not. With 39 the buffer for it keeps all its bytes, and everything else is as it would be with a longer
+/// one; without it the message is at the buffer's start, and its other bytes stay. What is accepted or refused has no message: both numbers are 0.
+///
+/// ```
+/// use entity_rules::raw;
+///
+/// let (mut path, mut marks, mut result) = (vec![0; 32_768], vec![0; 8_192], [0; 40]);
+/// let (schema, template) = (b"H,0,0,-,0\n", b"T\nV,5,9,$fields.a\n");
+/// let mut message = [b'-'; 52];
+/// let mut explain = |message: &mut [u8]| {
+///     let number = raw::explain(3, 1, b"", &[], schema, template, &mut path, &mut marks, message, &mut result);
+///     [number, raw::field(&result, 8), raw::field(&result, 9)]
+/// };
+///
+/// assert_eq!(explain(&mut message[..44]), [18, 39, 45]);
+/// assert_eq!(message, [b'-'; 52]);
+/// assert_eq!(explain(&mut message), [18, 0, 45]);
+/// assert_eq!(&message, b"'$fields.a' cannot resolve: unknown field 'a'-------");
+/// ```
+#[expect(
+    clippy::too_many_arguments,
+    reason = "as many as the C function has slices and numbers"
+)]
+pub fn explain(
+    kind: u64,
+    semantics: u64,
+    label: &[u8],
+    table: &[u8],
+    schema: &[u8],
+    rule: &[u8],
+    path: &mut [u8],
+    marks: &mut [u8],
+    message: &mut [u8],
+    result: &mut [u8],
+) -> u32 {
+    rulecheck_explain(
+        kind,
+        semantics,
+        label,
+        table,
+        schema,
+        rule,
+        path.into(),
+        marks.into(),
+        message.into(),
         result.into(),
     )
 }
@@ -356,8 +408,8 @@ pub fn count(result: &[u8], index: u32) -> u64 {
     rulecheck_count(result, index)
 }
 
-/// One of the numbers in a result: 0 number, 1 family, 2 detail, 3 place, 4 over place, 5 passed, 6 path length, after [`check`] 7 how many marks; after
-/// [`widens`] and [`openings`] their own. Or one of the marks in a list.
+/// One of the numbers in a result: 0 number, 1 family, 2 detail, 3 place, 4 over place, 5 passed, 6 path length, after [`check`] 7 how many marks, after [`explain`] 8
+/// whether the message did not fit and 9 its length; after [`widens`] and [`openings`] their own. Or one of the marks in a list.
 ///
 /// The answer is 0 where the four bytes do not lie in the result.
 ///
@@ -382,7 +434,7 @@ pub(crate) fn numbers(result: &[u8]) -> [u32; 7] {
 /// The version of the library that is linked: major, minor and patch, eight bits for each of the last two.
 ///
 /// ```
-/// assert_eq!(entity_rules::raw::version(), 0x00_02_00);
+/// assert_eq!(entity_rules::raw::version(), 0x00_03_00);
 /// ```
 #[must_use]
 pub fn version() -> u32 {

@@ -6,7 +6,7 @@ use std::fmt;
 
 /// Why a call was not answered.
 ///
-/// The typed functions never meet [`Setting`](Refusal::Setting), [`Width`](Refusal::Width), [`Output`](Refusal::Output), [`Marks`](Refusal::Marks) and [`Openings`](Refusal::Openings), since
+/// The typed functions never meet [`Setting`](Refusal::Setting), [`Width`](Refusal::Width), [`Output`](Refusal::Output), [`Marks`](Refusal::Marks), [`Openings`](Refusal::Openings) and [`Message`](Refusal::Message), since
 /// their settings are known ones and their buffers wide enough.
 ///
 /// ```
@@ -45,6 +45,8 @@ pub enum Refusal {
     TableForm,
     /// 38: a mark of the name table breaks one of its two conditions. [`Table::read`](crate::Table::read) says which.
     TableMark,
+    /// 39, which stands beside a defect in a field of its own: the buffer for its message is too short.
+    Message,
     /// The library that is linked gave these seven numbers, which this crate does not know: they are of different versions.
     Unknown([u32; 7]),
 }
@@ -69,6 +71,7 @@ impl Refusal {
             Self::Openings => 36,
             Self::TableForm => 37,
             Self::TableMark => 38,
+            Self::Message => 39,
             Self::Unknown([number, ..]) => number,
         }
     }
@@ -93,6 +96,7 @@ impl Refusal {
             Self::Openings => "opening list",
             Self::TableForm => "table form",
             Self::TableMark => "table mark",
+            Self::Message => "message buffer",
             Self::Unknown(_) => "unknown",
         }
     }
@@ -147,7 +151,7 @@ impl fmt::Display for Refusal {
             Self::Label => f.pad("the label is over 256 bytes long, or not UTF-8"),
             Self::Path => f.pad("the path is over 512 bytes long, or not UTF-8"),
             Self::Width => f.pad(
-                "the path buffer is under 32,768 bytes, or the result under 28 (32 for a check with marks, 144 for a tally, 16 for a wall sheet, 12 for openings)",
+                "the path buffer is under 32,768 bytes, or the result under 28 (32 for a check with marks, 40 with a message, 144 for a tally, 16 for a wall sheet, 12 for openings)",
             ),
             Self::SchemaSheet => f.pad("the schema sheet is not well formed"),
             Self::NewSchemaSheet => f.pad("the new schema's sheet is not well formed"),
@@ -162,6 +166,7 @@ impl fmt::Display for Refusal {
             Self::TableMark => f.pad(
                 "a mark of the name table hides a name that every kind reads, or shows $old_fields where $fields is hidden",
             ),
+            Self::Message => f.pad("the buffer for the message is too short"),
             Self::Unknown(numbers) => write!(f, "the library gave an unknown answer, {numbers:?}"),
         }
     }

@@ -134,15 +134,19 @@ impl fmt::Display for PathVerdict {
     }
 }
 
-/// The verdict or refusal that a call's numbers and path buffer stand for.
-pub(crate) fn answer(numbers: [u32; 7], path: &[u8]) -> Result<Verdict, Refusal> {
+/// The verdict or refusal that a call's numbers, path buffer and message stand for. Only a defect has a message.
+pub(crate) fn answer(
+    numbers: [u32; 7],
+    path: &[u8],
+    message: Option<&[u8]>,
+) -> Result<Verdict, Refusal> {
     let [number, _, _, _, _, passed, _] = numbers;
     if number == 0 {
         return Ok(Verdict::Accepted { passed });
     }
     match Refusal::from_number(number) {
         Some(refusal) => Err(refusal),
-        None => defect(numbers, path)
+        None => defect(numbers, path, message)
             .map(Verdict::Defect)
             .ok_or(Refusal::Unknown(numbers)),
     }
@@ -165,8 +169,8 @@ pub(crate) fn path_answer(numbers: [u32; 7]) -> Result<PathVerdict, Refusal> {
     }
 }
 
-/// The defect, where the library keeps to the format. The path is then UTF-8, since its label and keys are.
-fn defect(numbers: [u32; 7], path: &[u8]) -> Option<Defect> {
+/// The defect, where the library keeps to the format. Path and message are then UTF-8, since label, keys and texts are.
+fn defect(numbers: [u32; 7], path: &[u8], message: Option<&[u8]>) -> Option<Defect> {
     let [number, family, detail, place, over_place, passed, length] = numbers;
     let number = DefectNumber::from_number(number)?;
     let path = path.get(..usize::try_from(length).ok()?)?;
@@ -178,6 +182,7 @@ fn defect(numbers: [u32; 7], path: &[u8]) -> Option<Defect> {
         over_place: (over_place != 0).then_some(over_place),
         passed,
         path: String::from_utf8_lossy(path).into_owned(),
+        message: String::from_utf8_lossy(message?).into_owned(),
     })
 }
 
@@ -194,8 +199,17 @@ mod tests {
             [11, 1, 1, 1, 0, 0, 0],
             [11, 1, 0, 1, 0, 0, 3],
         ] {
-            assert_eq!(answer(numbers, b"ab"), Err(Refusal::Unknown(numbers)));
+            let answer = answer(numbers, b"ab", Some(b""));
+            assert_eq!(answer, Err(Refusal::Unknown(numbers)));
         }
+    }
+
+    #[test]
+    fn a_defect_without_its_message_is_unknown() {
+        let numbers = [11, 1, 0, 1, 0, 0, 2];
+        let told = answer(numbers, b"ab", Some(b"rule name cannot be empty"));
+        assert!(told.is_ok_and(|verdict| !verdict.is_accepted()));
+        assert_eq!(answer(numbers, b"ab", None), Err(Refusal::Unknown(numbers)));
     }
 
     #[test]

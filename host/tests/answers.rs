@@ -84,6 +84,7 @@ impl<'a> Case<'a> {
                     over_place: Some(over_place).filter(|&place| place != 0),
                     passed,
                     path: String::from_utf8(self.path.to_vec()).expect("a path is UTF-8"),
+                    message: String::new(),
                 })
             }
         })
@@ -112,6 +113,17 @@ fn for_each_case(mut look: impl FnMut(&Case)) {
     assert_eq!(count, 5_427);
 }
 
+/// An answer without its message, of which the list says nothing.
+fn unsaid(answer: Result<Verdict, Refusal>) -> Result<Verdict, Refusal> {
+    answer.map(|verdict| match verdict {
+        Verdict::Defect(defect) => Verdict::Defect(Defect {
+            message: String::new(),
+            ..defect
+        }),
+        accepted => accepted,
+    })
+}
+
 #[test]
 fn the_typed_functions_answer_every_case() {
     for_each_case(|case| {
@@ -120,19 +132,15 @@ fn the_typed_functions_answer_every_case() {
             return;
         };
         let expected = case.expected();
-        assert_eq!(
-            check(kind, semantics, case.label, case.schema, case.rule),
-            expected
-        );
+        let answer = check(kind, semantics, case.label, case.schema, case.rule);
+        assert_eq!(unsaid(answer), expected);
         let same = if case.is_template() {
             check_template
         } else {
             check_rule
         };
-        assert_eq!(
-            same(kind, semantics, case.label, case.schema, case.rule),
-            expected
-        );
+        let answer = same(kind, semantics, case.label, case.schema, case.rule);
+        assert_eq!(unsaid(answer), expected);
     });
 }
 
@@ -278,6 +286,8 @@ fn the_worked_example() {
         over_place: Some(3),
         passed: 9,
         path: "r.assert.for_all.that.lt[0]".to_owned(),
+        message: "'$b.count' cannot resolve: '$b' is a integer field, so 'count' resolves to nothing; `count` reads a text, an array or a map"
+            .to_owned(),
     };
     assert_eq!(verdict, Ok(Verdict::Defect(defect)));
 }

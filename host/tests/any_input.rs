@@ -2,7 +2,9 @@
 
 mod support;
 
-use entity_rules::limits::{PATH_BYTES, RESULT_BYTES};
+use entity_rules::limits::{
+    CHECK_RESULT_BYTES, EXPLAIN_RESULT_BYTES, MARKS_BYTES, PATH_BYTES, RESULT_BYTES,
+};
 use entity_rules::{Kind, Refusal, Semantics, check, check_rule, check_template, raw};
 use support::Random;
 
@@ -124,6 +126,64 @@ fn the_c_functions_answer_anything() {
         assert!(result.iter().skip(RESULT_BYTES).all(|&byte| byte == 0xBB));
     }
     assert!(seen[..=5].iter().all(|&count| count > 50), "{seen:?}");
+}
+
+#[test]
+fn a_message_goes_with_the_answer_of_the_check() {
+    let mut random = Random(0x5EED_0008);
+    let mut seen = [0; 2];
+    for _ in 0..10_000 {
+        let Call {
+            kind,
+            semantics,
+            label,
+            schema,
+            rule,
+            ..
+        } = Call::any(&mut random);
+        let (mut path, mut marks) = (vec![0xAA; PATH_BYTES], vec![0xCC; MARKS_BYTES]);
+        let mut result = [0xBB; EXPLAIN_RESULT_BYTES];
+        let number = raw::check(
+            kind,
+            semantics,
+            label,
+            b"",
+            &schema,
+            &rule,
+            &mut path,
+            &mut marks,
+            &mut result,
+        );
+        let checked = (number, result[..CHECK_RESULT_BYTES].to_vec(), path, marks);
+
+        let (mut path, mut marks) = (vec![0xAA; PATH_BYTES], vec![0xCC; MARKS_BYTES]);
+        let mut message = vec![0xDD; random.pick(&[0, 10, 50, 100, 1_000])];
+        let number = raw::explain(
+            kind,
+            semantics,
+            label,
+            b"",
+            &schema,
+            &rule,
+            &mut path,
+            &mut marks,
+            &mut message,
+            &mut result,
+        );
+        let explained = (number, result[..CHECK_RESULT_BYTES].to_vec(), path, marks);
+        assert!(explained == checked, "{number}");
+
+        let [short, length] = [8, 9].map(|index| raw::field(&result, index) as usize);
+        let is_defect = (11..=22).contains(&number);
+        assert_eq!(short == 39, is_defect && length > message.len());
+        assert!(short == 0 || short == 39);
+        assert!(is_defect || length == 0);
+        let written = if short == 0 { length } else { 0 };
+        assert!(message[written..].iter().all(|&byte| byte == 0xDD));
+        assert!(std::str::from_utf8(&message[..written]).is_ok());
+        seen[usize::from(short == 39)] += usize::from(is_defect);
+    }
+    assert!(seen.iter().all(|&count| count > 100), "{seen:?}");
 }
 
 #[test]

@@ -3,8 +3,9 @@
 mod support;
 
 use entity_rules::limits::{
-    CHECK_RESULT_BYTES, MARKS_BYTES, MAX_KEY_BYTES, OPENING_LIST_BYTES, OPENINGS_BYTES, PAGE_BYTES,
-    PAGE_SHEETS, PATH_BYTES, RESULT_BYTES, TABLE_BYTES, TALLY_BYTES, WALL_BYTES,
+    CHECK_RESULT_BYTES, EXPLAIN_RESULT_BYTES, MARKS_BYTES, MAX_KEY_BYTES, OPENING_LIST_BYTES,
+    OPENINGS_BYTES, PAGE_BYTES, PAGE_SHEETS, PATH_BYTES, RESULT_BYTES, TABLE_BYTES, TALLY_BYTES,
+    WALL_BYTES,
 };
 use entity_rules::{
     BreachReason, CollectionFault, DefectNumber, Family, InstantFault, Kind, Reader,
@@ -58,6 +59,7 @@ fn runs(program: &Path) {
         printed,
         "good: accepted, 9 checks passed\n\
          bad: defect 18 of family 8, detail 3, at entry 5, bad.assert.for_all.that.eq[0], after 8 checks\n\
+         bad: '$bar.threded' cannot resolve: '$bar' declares no property 'threded'\n\
          own: accepted, 10 checks passed\n\
          own: entry 6 is always true\n\
          book: 2 read, 1 accepted, 1 with defect 18, 17 checks passed\n\
@@ -140,6 +142,7 @@ fn the_header_has_the_numbers_of_the_crate() {
         ("OPENING_LIST", Refusal::Openings),
         ("TABLE_FORM", Refusal::TableForm),
         ("TABLE_MARK", Refusal::TableMark),
+        ("MESSAGE_BUFFER", Refusal::Message),
     ];
     let refusals = refusals.map(|(name, one)| (format!("REFUSED_{name}"), one.number()));
     let reasons = BreachReason::ALL
@@ -188,13 +191,16 @@ fn the_header_has_the_numbers_of_the_crate() {
     ];
     let counts = counts.map(|(name, index)| (format!("TALLY_{name}"), index));
     let walls = [("WALL_NUMBER".to_owned(), 0), ("WALL_PAGES".to_owned(), 1)];
+    let messages = [("MESSAGE_REFUSAL", 8), ("MESSAGE_LENGTH", 9)];
+    let messages = messages.map(|(name, index)| (name.to_owned(), index));
     let openings = [
         ("OPENINGS_SET".to_owned(), 1),
         ("OPENINGS_COUNT".to_owned(), 2),
         ("OPENING_ARGUMENTS".to_owned(), 0),
         ("OPENING_RECORD".to_owned(), 1),
     ];
-    let counts = counts.into_iter().chain(walls).chain(openings);
+    let counts = counts.into_iter().chain(walls).chain(messages);
+    let counts = counts.chain(openings);
     let settings = kinds.chain(semantics).chain(readers);
     let answers = defects.chain(families).chain(refusals);
     let answers = answers
@@ -218,6 +224,7 @@ fn the_header_has_the_numbers_of_the_crate() {
         ("RESULT_BYTES", RESULT_BYTES),
         ("MARKS_BYTES", MARKS_BYTES),
         ("CHECK_RESULT_BYTES", CHECK_RESULT_BYTES),
+        ("EXPLAIN_RESULT_BYTES", EXPLAIN_RESULT_BYTES),
         ("TALLY_BYTES", TALLY_BYTES),
         ("WALL_BYTES", WALL_BYTES),
         ("OPENINGS_BYTES", OPENINGS_BYTES),
@@ -246,8 +253,8 @@ fn the_header_declares_what_the_crate_calls() {
     functions.sort();
     let called = include_str!("../src/raw/functions.rs");
     assert_eq!(functions, declared(called, "    rulecheck_"));
-    assert_eq!(functions.len(), 14);
-    assert!(include_str!("../README.md").contains("declares the fourteen functions"));
+    assert_eq!(functions.len(), 15);
+    assert!(include_str!("../README.md").contains("declares the fifteen functions"));
 }
 
 #[test]

@@ -236,10 +236,29 @@ fn names_and_texts_of_any_letters_are_written() {
         .at("physicalLocation")
         .at("artifactLocation");
     assert_eq!(artifact.is_text("uri"), "%C3%BC%22%25.rule");
-    assert!(
-        results[0]
-            .at("message")
-            .is_text("text")
-            .contains("no field `\"é\\\\u{1b}` and is closed")
-    );
+    let message = "'$fields.\"é\\\x1b' cannot resolve: unknown field '\"é\\\x1b'";
+    assert_eq!(results[0].at("message").is_text("text"), message);
+}
+
+#[test]
+fn what_has_no_sentence_is_explained() {
+    let folder = Path::new(env!("CARGO_TARGET_TMPDIR")).join("sarif_words");
+    let _ = fs::remove_dir_all(&folder);
+    fs::create_dir_all(&folder).expect("a folder");
+    fs::write(folder.join("s"), "H,0,0,-,0\n").expect("a schema");
+    let deep = format!("R,-,-,\n{}C,1,1,\n", "C,4,0,\n".repeat(40));
+    let bind = "R,-,-,\nC,20,3,a.b\nV,1,0,\nC,1,1,\n".to_owned();
+    for (file, sheet) in [("deep", deep), ("bind", bind)] {
+        fs::write(folder.join(file), sheet).expect("a rule");
+    }
+    let (_, log) = run(&folder, "s deep bind");
+    let messages: Vec<String> = hold(&log)
+        .iter()
+        .map(|result| result.at("message").is_text("text"))
+        .collect();
+    let expected = [
+        "conditions nest deeper than 32: `41`",
+        "a bind is blank or contains a dot: `a.b`",
+    ];
+    assert_eq!(messages, expected);
 }

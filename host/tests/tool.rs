@@ -481,7 +481,7 @@ fn machines_read_json() {
     );
     assert_eq!(
         lines[1],
-        r#"{"file":"misspelt.rule","verdict":"defect","number":18,"word":"reference","explanation":"a reference cannot be read: the closed object `$fields.bars[]` has no property `threded`","family":8,"family_name":"QuantifierBodyScope","detail":3,"place":5,"over_place":3,"passed":8,"path":"misspelt.assert.for_all.that.eq[0]","line":5,"entry":"string \"$bar.threded\"","over_entry":"string \"$fields.bars\"","segment":"threded","segment_byte":5,"suggestion":"threaded"}"#
+        r#"{"file":"misspelt.rule","verdict":"defect","number":18,"word":"reference","explanation":"a reference cannot be read: the closed object `$fields.bars[]` has no property `threded`","message":"'$bar.threded' cannot resolve: '$bar' declares no property 'threded'","family":8,"family_name":"QuantifierBodyScope","detail":3,"place":5,"over_place":3,"passed":8,"path":"misspelt.assert.for_all.that.eq[0]","line":5,"entry":"string \"$bar.threded\"","over_entry":"string \"$fields.bars\"","segment":"threded","segment_byte":5,"suggestion":"threaded"}"#
     );
     assert!(
         lines[2].starts_with(r#"{"file":"missing.rule","verdict":"unreadable","explanation":""#)
@@ -530,7 +530,7 @@ fn the_readme_has_every_key() {
             keys.insert(key);
         }
     }
-    assert_eq!(keys.len(), 29);
+    assert_eq!(keys.len(), 30);
 }
 
 #[test]
@@ -842,6 +842,38 @@ fn machines_read_json_of_two_schemas() {
     assert!(out.starts_with(&format!("{widening}{lines}")), "{out}");
     assert!(out.contains(r#"},"new":{"verdict":"accepted","number":0,"passed":6}}"#));
     assert!(out.contains(r#"{"file":"missing.rule","verdict":"unreadable","#));
+}
+
+/// The field that refuses is of another kind, and so the message is another; number, detail, place and path are not.
+#[test]
+fn an_answer_is_as_before_whatever_is_said_of_it() {
+    let folder = folder("said");
+    for (file, kind) in [("o", 2), ("n", 4)] {
+        let schema = format!("H,0,1,-,0\nF,{kind},0,0,0,1,-,a\n");
+        fs::write(folder.join(file), schema).expect("a schema");
+    }
+    fs::write(folder.join("r"), "R,-,-,\nC,5,0,\nV,5,11,$fields.a.x\n").expect("a rule");
+    for (schema, kind) in [("o", "integer"), ("n", "boolean")] {
+        let (_, out, _) = run_check(&folder, &format!("{schema} r"));
+        let told = format!("'a' is a {kind} field, so 'x' resolves to nothing");
+        let row = format!("\n  message '$fields.a.x' cannot resolve: {told}\n");
+        assert!(out.contains(&row), "{out}");
+    }
+    let (_, out) = printed(&folder, &format!("upgrade o n r {SETTINGS}"));
+    assert!(out.contains("\nr: as before\n"), "{out}");
+}
+
+/// A blank bind has an empty message, which has no row; a message is printed so that it steers no terminal.
+#[test]
+fn messages_are_printed_for_a_terminal() {
+    let folder = folder("terminal");
+    fs::write(folder.join("s"), "H,0,0,-,0\n").expect("a schema");
+    fs::write(folder.join("r"), "R,-,-,\nC,20,0,\nV,1,0,\nC,1,1,\n").expect("a rule");
+    fs::write(folder.join("t"), "T\nV,5,9,$fields.\x1b\n").expect("a template");
+    let (_, out, _) = run_check(&folder, "s r t");
+    assert!(!out.contains("message \n"));
+    let row = "\n  message '$fields.\\u{1b}' cannot resolve: unknown field '\\u{1b}'\n";
+    assert!(out.contains(row), "{out}");
 }
 
 #[test]

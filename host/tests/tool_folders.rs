@@ -71,6 +71,7 @@ fn files_come_in_the_order_of_their_bytes_without_hidden_ones() {
     let expected = "\
 rules/B: accepted, all 4 checks passed
 rules/a-1:1: defect 11 (name): the rule's name is blank
+  message rule name cannot be empty
   path    a-1
   at      entry 1, rule \"\"
   family  1 InvalidRule, a fault of the rule
@@ -144,7 +145,10 @@ fn a_list_gives_kinds_and_labels() {
     let (status, out) = run("");
     assert_eq!(status, Some(1));
     assert!(out.starts_with("rules/a: accepted, "));
-    assert!(out.contains("may not read `$to_state`\n  path    gate one.assert.eq[0]\n"));
+    assert!(out.contains(
+        "may not read `$to_state`\n  message '$to_state' is not a reference available here; "
+    ));
+    assert!(out.contains("\n  path    gate one.assert.eq[0]\n"));
     assert!(out.contains("  path    c.assert.eq[0]\n"));
     assert!(out.ends_with("3 rules: 1 accepted, 2 with a defect, 0 refused\n"));
 

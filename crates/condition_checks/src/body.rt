@@ -119,7 +119,7 @@ fn validate_leaf(
 }
 
 // The bind of the quantifier at word `i`.
-fn bind_of(rule: &[u8], words: &[u32], i: usize) -> BindRead
+pub fn bind_of(rule: &[u8], words: &[u32], i: usize) -> BindRead
     ensures { λ r. ⌜ BindAt (now (rule .entry)) (now (words .entry)) i r ⌝ }
 {
     let ConditionRead::Is(head, _) = condition_head(rule, start_of(words, i)) else {
@@ -146,7 +146,7 @@ fn is_wrong_bind(name: &[u8]) -> bool
 }
 
 // What the value of word `i` leads to as the value of `in`.
-fn collection_of(schema: &[u8], rule: &[u8], words: &[u32], scope: Scope, i: usize) -> Collected
+pub fn collection_of(schema: &[u8], rule: &[u8], words: &[u32], scope: Scope, i: usize) -> Collected
     ensures { λ r. ⌜ CollectionOf (now (schema .entry)) (now (rule .entry)) (now (words .entry)) scope i r ⌝ }
 {
     match form_of(rule, words, i) {

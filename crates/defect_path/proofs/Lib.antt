@@ -1,5 +1,5 @@
 mod Words
-mod Names
+pub mod Names
 mod Ranges
 mod Reached
 mod ValueSteps

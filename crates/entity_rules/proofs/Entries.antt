@@ -48,7 +48,7 @@ module _ (takes : Takes) (kind semantics : ℕ) (label table schema rule : List 
   cut-down = capped-same 9 (entryCall (takesOf takes) kind semantics label table schema rule need (length path) marks (length result)) (omega arith)
 
   -- a call with capped settings, a part of the path buffer and a fresh scratch is the entry's call
-  made : (k s lent : ℕ) (r : Outcome) (last scratchNow : List ℕ)
+  pub made : (k s lent : ℕ) (r : Outcome) (last scratchNow : List ℕ)
       → k ≡ min kind 9
       → s ≡ min semantics 9
       → lent ≡ pathLent need (length path) (length result)
@@ -83,7 +83,7 @@ module _ (takes : Takes) (kind semantics : ℕ) (label table schema rule : List 
     pub same : numbersBy r ≡ numbersOf answer
     pub home : last ++ drop (lent - 0) path ≡ pathAfter answer path
 
-  comes : {k s lent : ℕ} (r : Outcome) (last scratchNow : List ℕ)
+  pub comes : {k s lent : ℕ} (r : Outcome) (last scratchNow : List ℕ)
       → k ≡ min kind 9
       → s ≡ min semantics 9
       → lent ≡ pathLent need (length path) (length result)

@@ -1,5 +1,6 @@
 pub mod Writing
 pub mod Entries
+pub mod ExplainEntries
 pub mod KeyEntries
 pub mod WidensEntries
 pub mod Examples

@@ -15,3 +15,5 @@ pub mod WallEntry
 pub mod WallEntryLaws
 pub mod OpenEntry
 pub mod OpenEntryLaws
+pub mod ExplainEntry
+pub mod ExplainEntryLaws

@@ -1,6 +1,7 @@
 // The checker as C functions for a host. Each call brings a scratch of its own.
 mod result; // result.rt: the seven numbers as bytes
 mod report; // report.rt: a check with a name table and a mark list
+mod explain; // explain.rt: a check with a message buffer
 mod change; // change.rt: what is answered about two schema sheets
 mod book; // book.rt: the tally of a rule book
 mod pages; // pages.rt: a rule book's run for the wall

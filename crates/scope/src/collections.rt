@@ -20,7 +20,7 @@ ghost use Rattle.reference.specs.Reference.{behindFirst, beginsWithDollar};
 ghost use Rattle.scope.specs.Collections.{RootCollects, NameCollects, CollectionIs};
 
 // The text after the first character, if that is one byte.
-fn behind_first(text: &[u8]) -> &[u8]
+pub fn behind_first(text: &[u8]) -> &[u8]
     ensures { λ r. ⌜ now r ≡ behindFirst (now (text .entry)) ⌝ }
 {
     if text.len() == 0 {

@@ -16,7 +16,7 @@ use sheet::schema_heads::OBJECT;
 use sheet::schema_heads::UNION;
 ghost use Rattle.walk.specs.Steps.{FieldSteps, LastField, FieldsAt, DeclaredElement, ElementOfField, ElementIs};
 
-fn field_step(schema: &[u8], words: &[u32], field: IndexedField, segment: &[u8]) -> FieldStep
+pub fn field_step(schema: &[u8], words: &[u32], field: IndexedField, segment: &[u8]) -> FieldStep
     ensures { λ r. ⌜ FieldSteps (now (schema .entry)) (now (words .entry)) field (now (segment .entry)) r ⌝ }
 {
     let kind = field.kind;

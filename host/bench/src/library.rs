@@ -1,23 +1,25 @@
 //! The library through its C functions.
 
 use crate::functions::{
-    rulecheck_check, rulecheck_count, rulecheck_field, rulecheck_openings, rulecheck_rule, rulecheck_tally, rulecheck_template,
-    rulecheck_widens, Lent,
+    rulecheck_check, rulecheck_count, rulecheck_explain, rulecheck_field, rulecheck_openings, rulecheck_rule, rulecheck_tally,
+    rulecheck_template, rulecheck_widens, Lent,
 };
 use crate::sheets::Sample;
 
-/// What a caller lends for a path, for marks and for openings, and where the numbers of a check or of a tally go.
+/// What a caller lends for a path, for marks, for a message and for openings, and where the numbers of a check or of a tally go.
 pub struct Buffers {
     path: Vec<u8>,
     marks: Vec<u8>,
+    message: Vec<u8>,
     openings: Vec<u8>,
-    result: [u8; 32],
+    result: [u8; 40],
     tally: [u8; 144],
 }
 
 impl Buffers {
     pub fn new() -> Self {
-        Self { path: vec![0; 32_768], marks: vec![0; 8_192], openings: vec![0; 4_100], result: [0; 32], tally: [0; 144] }
+        let [path, marks, message, openings] = [32_768, 8_192, 200_000, 4_100].map(|length| vec![0; length]);
+        Self { path, marks, message, openings, result: [0; 40], tally: [0; 144] }
     }
 }
 
@@ -45,6 +47,14 @@ pub fn tally(sample: &Sample, book: &[u8], buffers: &mut Buffers) -> u64 {
 pub fn mark(sample: &Sample, buffers: &mut Buffers) -> u32 {
     let [path, marks, result] = [&mut buffers.path[..], &mut buffers.marks, &mut buffers.result].map(Lent::from);
     rulecheck_check(sample.kind, sample.semantics, b"rule", b"", &sample.schema, &sample.rule, path, marks, result)
+}
+
+/// One whole check that marks constant conditions and writes a defect's message, under the stock table; the answer is the number, and the message's length.
+pub fn explain(sample: &Sample, buffers: &mut Buffers) -> (u32, u32) {
+    let lent = [&mut buffers.path[..], &mut buffers.marks, &mut buffers.message, &mut buffers.result];
+    let [path, marks, message, result] = lent.map(Lent::from);
+    let number = rulecheck_explain(sample.kind, sample.semantics, b"rule", b"", &sample.schema, &sample.rule, path, marks, message, result);
+    (number, rulecheck_field(&buffers.result, 9))
 }
 
 /// The fewest marks to open, under the stock table; the answer is how many there are, none where no opening helps or a sheet is refused.

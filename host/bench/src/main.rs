@@ -1,11 +1,12 @@
 //! Measures the library beside the Rust on the same sheets and writes the figures, and a plot, into a document: `bench DOCUMENT`.
 //! `bench once GROUP SIDE SIZE` makes a single call for valgrind to count, `bench time GROUP SIDE SIZE` prints how many nanoseconds it takes;
 //! `bench plain` prints the figures only, without counting; `bench marks` prints what it costs to mark constant conditions; `bench books DOCUMENT` writes the
-//! figures of rule books alone, and `bench openings DOCUMENT` those of openings; `bench files FOLDER` writes a file for `rulecheck` for each group, which sketches are measured on.
+//! figures of rule books alone, `bench openings DOCUMENT` those of openings, and `bench messages DOCUMENT` those of messages; `bench files FOLDER` writes a file for `rulecheck` for each group, which sketches are measured on.
 
 mod books;
 mod library;
 mod measure;
+mod messages;
 mod openings;
 mod pairs;
 mod plot;
@@ -34,7 +35,7 @@ use std::path::Path;
 use std::process::ExitCode;
 
 const USAGE: &str =
-    "usage: bench DOCUMENT | bench plain | bench marks | bench books DOCUMENT | bench openings DOCUMENT | bench files FOLDER | bench once GROUP SIDE SIZE | bench time GROUP SIDE SIZE";
+    "usage: bench DOCUMENT | bench plain | bench marks | bench books DOCUMENT | bench openings DOCUMENT | bench messages DOCUMENT | bench files FOLDER | bench once GROUP SIDE SIZE | bench time GROUP SIDE SIZE";
 
 /// Who answers.
 #[derive(Clone, Copy)]
@@ -67,6 +68,9 @@ fn main() -> ExitCode {
         ["once", "openings", side, row] => on_openings(side, row, |call| measure::counted_call(call)),
         ["time", "openings", side, row] => on_openings(side, row, |call| println!("{:.0}", measure::time(call))),
         ["openings", document] => report::write(document, &[report::openings_part(&openings::rows(true))]),
+        ["once", "messages", side, row] => on_messages(side, row, |call| measure::counted_call(call)),
+        ["time", "messages", side, row] => on_messages(side, row, |call| println!("{:.0}", measure::time(call))),
+        ["messages", document] => report::write(document, &[report::messages_part(&messages::rows(true))]),
         ["once", group, side, size] => on_sample(group, side, size, |call| measure::counted_call(call)),
         ["time", group, side, size] => on_sample(group, side, size, |call| println!("{:.0}", measure::time(call))),
         ["marks"] => marks(),
@@ -93,6 +97,11 @@ fn on_book(side: &str, size: &str, measured: impl FnOnce(&mut dyn FnMut() -> boo
 /// Hands on the call of one side for that row of openings.
 fn on_openings(side: &str, row: &str, measured: impl FnOnce(&mut dyn FnMut() -> bool)) -> Result<(), String> {
     openings::on_row(side, row.parse().map_err(|_| "the row is not a number")?, measured)
+}
+
+/// Hands on the call of one side for that row of messages.
+fn on_messages(side: &str, row: &str, measured: impl FnOnce(&mut dyn FnMut() -> bool)) -> Result<(), String> {
+    messages::on_row(side, row.parse().map_err(|_| "the row is not a number")?, measured)
 }
 
 /// Hands on the call of one side for the sample of that group and size.
@@ -161,8 +170,9 @@ fn all(counting: bool) -> Result<Figures, String> {
     eprintln!("bench: pairs of schemas");
     let pairs = pairs::compared();
     let openings = openings::rows(counting);
+    let messages = messages::rows(counting);
     let books = books::rows(counting);
-    Ok(Figures { rows, numbers, acceptance, pairs, openings, stack, books })
+    Ok(Figures { rows, numbers, acceptance, pairs, openings, messages, stack, books })
 }
 
 fn row(group: &'static Group, counting: bool) -> Result<Row, String> {

@@ -2,7 +2,7 @@
 
 use crate::pairs::Compared;
 use crate::row::Row;
-use crate::{books, openings, plot};
+use crate::{books, messages, openings, plot};
 use std::fs;
 use std::path::Path;
 
@@ -20,6 +20,7 @@ pub struct Figures {
     pub acceptance: Vec<Acceptance>,
     pub pairs: Vec<Compared>,
     pub openings: Vec<openings::Row>,
+    pub messages: Vec<messages::Row>,
     /// What a call takes of the stack, in bytes.
     pub stack: Vec<(&'static str, usize)>,
     pub books: Vec<books::Row>,
@@ -38,6 +39,11 @@ pub fn openings_part(rows: &[openings::Row]) -> Part {
     ("openings", openings::table(rows))
 }
 
+/// The messages of defects.
+pub fn messages_part(rows: &[messages::Row]) -> Part {
+    ("messages", messages::table(rows))
+}
+
 /// Puts each part where the document has a place for it.
 pub fn write(document: &str, parts: &[Part]) -> Result<(), String> {
     let mut text = fs::read_to_string(document).map_err(|error| format!("{document}: {error}"))?;
@@ -50,7 +56,7 @@ pub fn write(document: &str, parts: &[Part]) -> Result<(), String> {
 impl Figures {
     pub fn tables(&self) -> String {
         let own = [self.checks(), self.counts(), self.long_numbers(), self.acceptances(), self.comparisons(), self.stacks()];
-        let more = [openings_part(&self.openings)].into_iter().chain(book_parts(&self.books));
+        let more = [openings_part(&self.openings), messages_part(&self.messages)].into_iter().chain(book_parts(&self.books));
         own.into_iter().chain(more.map(|(_, part)| part)).collect::<Vec<_>>().join("\n")
     }
 
@@ -65,6 +71,7 @@ impl Figures {
             ("pairs", self.comparisons()),
             ("stack", self.stacks()),
             openings_part(&self.openings),
+            messages_part(&self.messages),
         ];
         write(document, &parts)?;
         write(document, &book_parts(&self.books))?;

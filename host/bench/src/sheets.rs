@@ -345,6 +345,34 @@ pub fn sheets() -> Vec<Sheet> {
     ]
 }
 
+/// Sheets with and without a defect, for the messages: accepted ones, small and early defects, one in the innermost of 31 bodies, and a value that is printed.
+pub fn told() -> Vec<(&'static str, Sample)> {
+    let listed = |name: &str| GROUPS.iter().find(|group| group.name == name).map(|group| (group.name, (group.make)(group.listed)));
+    let early = ["early defect in a large rule", "early defect among many references"].into_iter().filter_map(listed);
+    let lost = |sample: Sample| {
+        let rule = String::from_utf8_lossy(&sample.rule).replacen("$fields.weight_00", "$fields.weight_99", 1);
+        Sample { rule: rule.into_bytes(), ..sample }.with_defect(18)
+    };
+    let innermost = |_| {
+        let chain = (0..31).fold(plain(2, "a"), |inner, _| format!("{}F,7,0,0,1,0,-,\n{inner}", array("a")));
+        let over = |i| if i == 0 { "$fields.a".to_owned() } else { format!("$b{}.a", i - 1) };
+        let quantifiers = each(31, |i| format!("C,20,{},b{i}\n{}", format!("b{i}").len(), text(&over(i))));
+        let body = format!("C,5,0,\n{}", text("$b30.lost"));
+        Sample::new(format!("H,0,1,-,0\n{chain}"), format!("R,-,-,\n{quantifiers}{body}")).with_defect(18)
+    };
+    let printed = |texts: usize| {
+        let list = format!("V,6,{texts},\n{}", text("a \"quoted\" text\n").repeat(texts));
+        Sample::new("H,0,0,-,0\n".to_owned(), format!("R,-,-,\nC,16,0,\n{list}{}", text("a"))).with_defect(19)
+    };
+    let small = [
+        ("small, accepted", small(4)),
+        ("small, a name that is not there", lost(small(4))),
+        ("611 schema entries, accepted", typical(611)),
+    ];
+    let large = [("in the innermost of 31 bodies", innermost(())), ("a list of 1,000 texts that is printed", printed(1_000))];
+    small.into_iter().chain(early).chain(large).collect()
+}
+
 /// The sheets that go deepest into the stack.
 pub fn deepest() -> Vec<(&'static str, Sample)> {
     let empty = || "H,1,0,-,0\n".to_owned();

@@ -63,6 +63,7 @@ functions! {
     rulecheck_rule(kind: u64, semantics: u64; label, schema, rule; path, result) -> u32;
     rulecheck_template(kind: u64, semantics: u64; label, schema, rule; path, result) -> u32;
     rulecheck_check(kind: u64, semantics: u64; label, table, schema, rule; path, marks, result) -> u32;
+    rulecheck_explain(kind: u64, semantics: u64; label, table, schema, rule; path, marks, message, result) -> u32;
     rulecheck_load_table(; table; buffer) -> u32;
     rulecheck_path(semantics: u64, reader: u64; path, schema; result) -> u32;
     rulecheck_widens(; first, second; result) -> u32;

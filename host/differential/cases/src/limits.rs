@@ -22,3 +22,6 @@ pub const RESULT_BYTES: usize = 28;
 
 /// The same of the entry that is lent a list of marks, whose count comes after the seven numbers.
 pub const CHECK_RESULT_BYTES: usize = 32;
+
+/// The same of the one that writes a message, after which come 39 or 0 and its length.
+pub const EXPLAIN_RESULT_BYTES: usize = 40;

@@ -32,16 +32,20 @@ pub fn lines() -> Vec<Sample> {
     texts.chain(numbers.map(number)).collect()
 }
 
+/// How many digits of its fields precede an instant that is read.
+const FIELD_DIGITS: usize = 23;
+
 /// `u` UTF-8 and `b` blank text in hexadecimal, `i` instants as text; then the verdict.
 fn text(line: &str) -> Sample {
     let (head, rest) = line.split_at(2);
-    let kind = match &head[..1] {
-        "u" => Kind::Utf8,
-        "b" => Kind::Blank,
-        _ => Kind::Instant,
+    let holds = head.ends_with('+');
+    let (kind, bytes) = match &head[..1] {
+        "u" => (Kind::Utf8, bytes_of(rest)),
+        "b" => (Kind::Blank, bytes_of(rest)),
+        _ if holds => (Kind::Instant, rest.as_bytes()[FIELD_DIGITS..].to_vec()),
+        _ => (Kind::Instant, rest.as_bytes().to_vec()),
     };
-    let bytes = if kind == Kind::Instant { rest.as_bytes().to_vec() } else { bytes_of(rest) };
-    Sample { kind, bytes, holds: head.ends_with('+'), finite: true, compared: 0 }
+    Sample { kind, bytes, holds, finite: true, compared: 0 }
 }
 
 /// `n` no number, `f` finite, `i` not finite; then how many digits are compared, in three digits, and a comma.

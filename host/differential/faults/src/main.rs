@@ -125,7 +125,7 @@ fn difference(question: &Question, faulty: Faulty) -> Option<String> {
     let held = || match question {
         Question::Case(case) => library::checks::hold(case, &(faulty.answer)(&case.call()), Extent::Some),
         Question::Message(case, message) => match (faulty.message)(&case.call()) {
-            Some(found) if found == *message => Ok(()),
+            Some(found) if found == *message => library::messages::hold(case, &(faulty.answer)(&case.call()), Some(&found), Extent::Some),
             found => Err(format!("the faulty model's message is {found:?}, the Rust's {message:?}")),
         },
         Question::Key(case) => library::keys::hold(case, &(faulty.key_answer)(&case.call()), Extent::Some),

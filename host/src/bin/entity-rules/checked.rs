@@ -85,7 +85,7 @@ pub enum Outcome {
         constants: Vec<Always>,
     },
     Defect {
-        defect: Defect,
+        defect: Box<Defect>,
         at: Option<Spot>,
         over: Option<Spot>,
         blame: Option<Box<Blame>>,
@@ -117,6 +117,14 @@ pub struct Spot {
     pub text: String,
 }
 
+/// A defect without what is said of it.
+fn unsaid(defect: &Defect) -> Defect {
+    Defect {
+        message: String::new(),
+        ..defect.clone()
+    }
+}
+
 impl From<NoSheet> for Outcome {
     fn from(why: NoSheet) -> Self {
         match why {
@@ -142,11 +150,13 @@ impl Outcome {
         }
     }
 
-    /// Whether it is the same answer as another, to the last number.
+    /// Whether it is the same answer as another, to the last number. The messages may differ: another schema can have a field of another kind there.
     pub fn is_same(&self, other: &Self) -> bool {
         match (self, other) {
             (Self::Accepted { passed }, Self::Accepted { passed: others }) => passed == others,
-            (Self::Defect { defect, .. }, Self::Defect { defect: others, .. }) => defect == others,
+            (Self::Defect { defect, .. }, Self::Defect { defect: other, .. }) => {
+                unsaid(defect) == unsaid(other)
+            }
             _ => false,
         }
     }
@@ -431,6 +441,6 @@ fn located(defect: Defect, schema: &[u8], rule: Rule<'_>, readable: &Readable<'_
         over: defect.over_place.and_then(|place| spot(place, None)),
         blame: blame.map(Box::new),
         hint: hint(readable, defect.detail, text),
-        defect,
+        defect: Box::new(defect),
     }
 }

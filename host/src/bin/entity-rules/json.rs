@@ -139,6 +139,7 @@ fn defect_members(
     object.text("word", defect.number.word());
     let explanation = explained(defect.explanation(), blame);
     object.text("explanation", &explanation);
+    object.text("message", &defect.message);
     object.number("family", defect.family.number());
     object.text("family_name", defect.family.name());
     object.number("detail", defect.detail.number());

@@ -8,7 +8,7 @@ use crate::hint::INSTANT;
 use crate::printed::{name, visible};
 use crate::subject::Subject;
 use crate::terminal::{columns, is_dumb, is_plain};
-use entity_rules::{Defect, DefectNumber, Instant, PathVerdict, Refusal};
+use entity_rules::{Defect, DefectNumber, Family, Instant, PathVerdict, Refusal};
 
 /// The colours, or none.
 pub struct Palette {
@@ -173,6 +173,18 @@ pub fn explained(explanation: String, blame: Option<&Blame>) -> String {
     })
 }
 
+/// What entity-runtime says of a defect; where it has no sentence, what is wrong and then its word.
+pub fn sentence(defect: &Defect) -> String {
+    let word = &defect.message;
+    match defect.family {
+        Family::SemanticsKeyNotAvailable
+        | Family::ConditionTooDeep
+        | Family::CompareOperandNotAddressable
+        | Family::QuantifierBindInvalid => format!("{}: `{word}`", defect.number),
+        _ => word.clone(),
+    }
+}
+
 /// Marks under the part at fault, after as many blanks as what is before it takes, and what helps.
 fn marks(before: &str, part: &str, blame: &Blame) -> String {
     let marks = "^".repeat(columns(part).max(1));
@@ -205,7 +217,10 @@ fn rows(
     hint: &Option<String>,
 ) -> Vec<(&'static str, String)> {
     let family = defect.family;
-    let mut rows = vec![("path", visible(&defect.path))];
+    let told = Some(&defect.message).filter(|message| !message.is_empty());
+    let told = told.map(|message| ("message", visible(message)));
+    let mut rows: Vec<_> = told.into_iter().collect();
+    rows.push(("path", visible(&defect.path)));
     if let Some(spot) = at {
         rows.push(("at", spot_text(spot)));
         rows.extend(blame.map(|blame| ("", string_marks(spot, blame))));

@@ -3,7 +3,7 @@
 use crate::checked::{Checked, Outcome};
 use crate::object::Object;
 use crate::region::Region;
-use crate::report::{explained, not_read, refused};
+use crate::report::{explained, not_read, refused, sentence};
 use crate::subject::Subject;
 use entity_rules::{Defect, DefectNumber, Detail, PathVerdict};
 use std::collections::BTreeMap;
@@ -94,13 +94,12 @@ fn found(outcome: &Outcome) -> Option<Found> {
         Outcome::Defect {
             defect, at, blame, ..
         } => {
-            let explanation = explained(defect.explanation(), blame.as_deref());
             let help = blame.as_ref().and_then(|blame| blame.help.as_ref());
             let help = help.map(|help| format!("; {}", help.text()));
             Some(Found {
                 id: id(defect),
                 meaning: defect.explanation(),
-                message: format!("{explanation}{}", help.unwrap_or_default()),
+                message: format!("{}{}", sentence(defect), help.unwrap_or_default()),
                 region: at.as_ref().map(|spot| *spot.region),
                 path: Some(defect.path.clone()),
             })

@@ -1,7 +1,7 @@
 //! The buffers that are lent, each amid bytes that the library must not touch.
 
 use super::entry::{numbers, Entry};
-use super::lent::{Lent, OpeningsLent, Slot, TallyLent, WallLent};
+use super::lent::{ExplainLent, Lent, OpeningsLent, Slot, TallyLent, WallLent};
 use super::raw;
 use cases::books::BookCase;
 use cases::case::Case;
@@ -66,7 +66,44 @@ impl Arena {
         let told: Vec<u32> = numbers(expected).into_iter().chain(count).collect();
         self.result(&lent.slot(), &told)?;
         self.list(lent.pattern, marks)?;
-        self.path(lent, expected)
+        self.path(lent.pattern, expected)
+    }
+
+    /// Makes the call for an answer with its marks and message, which has a buffer of its own amid other bytes; the inputs must keep their bytes as well.
+    pub fn explain(&mut self, case: &Case, lent: &ExplainLent, (expected, marks, message): (&Answer, &[u32], &[u8])) -> Result<(), String> {
+        let slot = &lent.slot;
+        let around = &self.patterns[slot.pattern][..AROUND];
+        let inputs = [&case.label, &case.table, &case.schema, &case.rule].map(|input| [around, input, around].concat());
+        let untouched = inputs.clone();
+        let given = inputs.each_ref().map(|input| &input[AROUND..input.len() - AROUND]);
+        let is_short = lent.message < message.len();
+        let mut said: Vec<u8> = self.patterns[slot.pattern].iter().copied().cycle().take(lent.message + 2 * AROUND).collect();
+        let mut wanted = said.clone();
+        if !is_short {
+            wanted[AROUND..AROUND + message.len()].copy_from_slice(message);
+        }
+        let path = &mut self.paths[slot.pattern][AROUND..AROUND + lent.path];
+        let list = &mut self.marks[slot.pattern][AROUND..AROUND + lent.marks];
+        let start = AROUND + slot.shift;
+        let result = &mut self.results[slot.pattern][start..start + slot.length];
+        let own = &mut said[AROUND..AROUND + lent.message];
+        let number = raw::explain(case, given, [path, list, own, &mut *result]);
+        if number != expected.number {
+            return Err(format!("it returns {number}"));
+        }
+        fields(result)?;
+        if inputs != untouched {
+            return Err("a byte of its inputs, or around them, has changed".to_owned());
+        }
+        let more = [marks.len() as u32, if is_short { 39 } else { 0 }, message.len() as u32];
+        let told: Vec<u32> = numbers(expected).into_iter().chain(more).collect();
+        self.result(slot, &told)?;
+        self.list(slot.pattern, marks)?;
+        self.path(slot.pattern, expected)?;
+        match differs(&said, &wanted) {
+            Some(at) => Err(format!("byte {} of the message is {}, not {}", at as isize - AROUND as isize, said[at], wanted[at])),
+            None => Ok(()),
+        }
     }
 
     /// Makes the call for a key, whose inputs must keep their bytes as well, amid others.
@@ -257,12 +294,12 @@ impl Arena {
     }
 
     /// The path at the start, all else as it was; then the pattern again.
-    fn path(&mut self, lent: &Lent, expected: &Answer) -> Result<(), String> {
-        let found = &self.paths[lent.pattern][AROUND..AROUND + expected.path.len()];
+    fn path(&mut self, pattern: usize, expected: &Answer) -> Result<(), String> {
+        let found = &self.paths[pattern][AROUND..AROUND + expected.path.len()];
         if found != expected.path {
             return Err(format!("the path is {:?}", String::from_utf8_lossy(found)));
         }
-        self.kept_path(lent.pattern, expected.path.len())
+        self.kept_path(pattern, expected.path.len())
     }
 
     /// The path buffer as it was but for so many bytes at its start; then the pattern again.

@@ -55,6 +55,15 @@ pub struct OpeningsLent {
     pub slot: Slot,
 }
 
+/// One check with a message, with a path buffer, a list of marks and a buffer for the message of these lengths, and a result.
+#[derive(Clone, Copy, Debug, PartialEq, Eq)]
+pub struct ExplainLent {
+    pub path: usize,
+    pub marks: usize,
+    pub message: usize,
+    pub slot: Slot,
+}
+
 /// One wall sheet, with a buffer of that length for the pages.
 #[derive(Clone, Copy, Debug, PartialEq, Eq)]
 pub struct WallLent {

@@ -11,6 +11,7 @@ mod functions;
 pub mod instants;
 pub mod keys;
 pub mod lent;
+pub mod messages;
 pub mod openings;
 pub mod raw;
 pub mod tables;

@@ -2,13 +2,13 @@
 
 use crate::library::entry::Entry;
 use crate::library::functions::{
-    rulecheck_check, rulecheck_count, rulecheck_field, rulecheck_finite, rulecheck_instant, rulecheck_load_table, rulecheck_openings,
-    rulecheck_path, rulecheck_rule, rulecheck_tally, rulecheck_template, rulecheck_wall, rulecheck_widens, Lent,
+    rulecheck_check, rulecheck_count, rulecheck_explain, rulecheck_field, rulecheck_finite, rulecheck_instant, rulecheck_load_table,
+    rulecheck_openings, rulecheck_path, rulecheck_rule, rulecheck_tally, rulecheck_template, rulecheck_wall, rulecheck_widens, Lent,
 };
 use cases::books::BookCase;
 use cases::case::Case;
 use cases::keys::KeyCase;
-use cases::limits::{CHECK_RESULT_BYTES, RESULT_BYTES};
+use cases::limits::{CHECK_RESULT_BYTES, EXPLAIN_RESULT_BYTES, RESULT_BYTES};
 use cases::openings::{Opened, OpeningsCase};
 use cases::walls::WallCase;
 use cases::widens::WidensCase;
@@ -27,6 +27,37 @@ fn call(case: &Case, entry: Entry, [label, table, schema, rule]: [&[u8]; 4], [pa
         Entry::Rule => rulecheck_rule(kind, semantics, label, schema, rule, path, result),
         Entry::Template => rulecheck_template(kind, semantics, label, schema, rule, path, result),
         Entry::Check => rulecheck_check(kind, semantics, label, table, schema, rule, path, marks, result),
+    }
+}
+
+/// The answer to a case with its message: label, table, schema and rule are lent from places of their own; path buffer, marks, message and result are written.
+pub fn explain(case: &Case, inputs: [&[u8]; 4], buffers: [&mut [u8]; 4]) -> u32 {
+    call_explain(case, inputs, buffers.map(Lent::from))
+}
+
+fn call_explain(case: &Case, inputs: [&[u8]; 4], [path, marks, message, result]: [Lent<'_>; 4]) -> u32 {
+    let [label, table, schema, rule] = inputs;
+    rulecheck_explain(case.kind, case.semantics, label, table, schema, rule, path, marks, message, result)
+}
+
+/// The same with buffers fresh from the allocator and copies of the inputs, as `fresh`: the number, the seven numbers where the result has room for them, and the message, none
+/// where it did not fit.
+pub fn fresh_explain(case: &Case, message_length: usize, result_length: usize) -> (u32, Option<[u32; 7]>, Option<Vec<u8>>) {
+    let inputs = [&case.label, &case.table, &case.schema, &case.rule].map(|input| input.clone().into_boxed_slice());
+    let lengths = [case.path_len, MARKS_BYTES, message_length, result_length];
+    let [mut path, mut marks, mut message, mut result] = lengths.map(Box::<[u8]>::new_uninit_slice);
+    let buffers = [&mut path, &mut marks, &mut message, &mut result].map(|buffer| Lent::from(&mut buffer[..]));
+    let [label, table, schema, rule] = &inputs;
+    let number = call_explain(case, [label, table, schema, rule], buffers);
+    // SAFETY: the call wrote the result, if it has room, and the message as far as that says.
+    unsafe {
+        let Some(numbers) = written(result.get(..EXPLAIN_RESULT_BYTES).unwrap_or_default()) else {
+            return (number, None, None);
+        };
+        let result = std::slice::from_raw_parts(result.as_ptr().cast::<u8>(), EXPLAIN_RESULT_BYTES);
+        let [refusal, length] = [8, 9].map(|index| field(result, index));
+        let said = || std::slice::from_raw_parts(message.as_ptr().cast::<u8>(), length as usize).to_vec();
+        (number, Some(numbers), (refusal == 0).then(said))
     }
 }
 

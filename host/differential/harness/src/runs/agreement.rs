@@ -42,6 +42,7 @@ pub fn hold_with(case: &Case, extent: Extent) -> Result<Held, String> {
         return Err(format!("the case was made for {:?}, the model answers {}", case.expect, line(&answer)));
     }
     library::checks::hold(case, &answer, extent)?;
+    library::messages::hold(case, &answer, message.as_deref(), extent)?;
     let refused = refusal(case);
     if refused != if REFUSALS.contains(&answer.number) { answer.number } else { 0 } {
         return Err(format!("the model answers {}, the second reading of the refusals {refused}", line(&answer)));

@@ -60,6 +60,7 @@ impl World {
             let verdict = oracle::ask(Frame { kind, semantics, label: LABEL, table: &[] }, &self.rust, &read);
             let agreed = verdict.and_then(|verdict| same(&answer, message.as_deref(), &verdict, &read));
             let agreed = agreed.and_then(|()| library::checks::hold(&case, &answer, Extent::Some));
+            let agreed = agreed.and_then(|()| library::messages::hold(&case, &answer, message.as_deref(), Extent::Some));
             agreed.map_err(|trouble| report(&case, &trouble, "exhaustive"))?;
             tally.add((answer.number, answer.family, answer.detail), 1);
         }

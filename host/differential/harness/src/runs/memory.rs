@@ -14,7 +14,7 @@ use cases::generate::names::STOCK;
 use cases::generate::profiles;
 use cases::instants;
 use cases::keys::{self, KeyCase};
-use cases::limits::RESULT_BYTES;
+use cases::limits::{EXPLAIN_RESULT_BYTES, RESULT_BYTES};
 use cases::longest::longest;
 use cases::openings::{self, OpeningsCase};
 use cases::random::Random;
@@ -204,6 +204,21 @@ fn one(case: &Case) -> Result<(), String> {
         let wanted = (expected.number, is_wide.then(|| numbers(&expected)), expected.path, marks);
         if found != wanted {
             return Err(format!("{entry:?} answers {found:?}, not {wanted:?}"));
+        }
+    }
+    told(case, is_wide)
+}
+
+/// The message in a buffer of its length, and in one that is a byte shorter.
+fn told(case: &Case, is_wide: bool) -> Result<(), String> {
+    let (answer, message) = model::explain(&case.call());
+    let message = message.unwrap_or_default().into_bytes();
+    for length in [message.len(), message.len().saturating_sub(1)] {
+        let found = raw::fresh_explain(case, length, EXPLAIN_RESULT_BYTES - usize::from(!is_wide));
+        let said = (is_wide && message.len() <= length).then(|| message.clone());
+        let wanted = (answer.number, is_wide.then(|| numbers(&answer)), said);
+        if found != wanted {
+            return Err(format!("with a buffer of {length} bytes it is explained as {found:?}, not {wanted:?}"));
         }
     }
     Ok(())

@@ -10,7 +10,7 @@ pub struct Asked {
 }
 
 /// The numbers that can be asked for.
-const EXPECTED: &str = "explain: expected a number of an answer, 0 to 5, 11 to 22, 33 to 38, or one of these with a detail, as 18.3";
+const EXPECTED: &str = "explain: expected a number of an answer, 0 to 5, 11 to 22, 33 to 39, or one of these with a detail, as 18.3";
 
 /// Reads `18` or `18.3`.
 pub fn parse(words: &[std::ffi::OsString]) -> Result<Asked, String> {
@@ -66,6 +66,7 @@ fn refusal(number: u32) -> Option<Refusal> {
         Refusal::Openings,
         Refusal::TableForm,
         Refusal::TableMark,
+        Refusal::Message,
     ];
     all.into_iter().find(|refusal| refusal.number() == number)
 }
@@ -89,7 +90,7 @@ pub fn mend(number: u32) -> &'static str {
         1 => "Kinds go from 1 to 8, semantics from 1 to 4, readers are 1 and 2.",
         2 => "A label has at most 256 bytes, a key path 512; both are UTF-8.",
         3 => {
-            "A call is lent a path buffer of 32,768 bytes and a result of 28, for a check with marks 32, for a tally 144, for a wall sheet 16, for openings 12; only a program that calls the library can get this."
+            "A call is lent a path buffer of 32,768 bytes and a result of 28, for a check with marks 32, with a message 40, for a tally 144, for a wall sheet 16, for openings 12; only a program that calls the library can get this."
         }
         4 => "The tool names the line, the entry and the byte, and what was expected there.",
         5 => {
@@ -131,6 +132,9 @@ pub fn mend(number: u32) -> &'static str {
         }
         37 => {
             "A name table is eight rows of 22 bytes; `entity-rules table` prints the stock table."
+        }
+        39 => {
+            "It stands beside a defect, with the length that the buffer for its message must have; only a program that calls the library can get this."
         }
         _ => {
             "Every kind reads $id, $entity and $version, and $old_fields only where it reads $fields."

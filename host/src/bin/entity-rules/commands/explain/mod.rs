@@ -317,7 +317,7 @@ mod tests {
                 assert!(example(one).is_some(), "{one:?}");
             }
         }
-        for number in [0, 1, 2, 3, 4, 5, 33, 34, 35, 36, 37, 38] {
+        for number in [0, 1, 2, 3, 4, 5, 33, 34, 35, 36, 37, 38, 39] {
             assert!(text(asked(&number.to_string())).lines().count() > 2);
         }
     }

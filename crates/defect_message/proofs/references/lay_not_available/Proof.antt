@@ -1,0 +1,48 @@
+use Rattle.text.specs.Ascii.{ascii}
+use Rattle.message.specs.Tell.{notAvailable}
+use Rattle.defect_message.proofs.LayingLaws.{laid-three}
+use native.Mathlib.Omega.{arith}
+use borrow.Author.Needs.{needs}
+use Rattle.defect_message.proofs.references.lay_not_available.Statement.{statement}
+use Rattle.defect_message.proofs.references.lay_not_available.Tie as tie
+use Rattle.defect_message.proofs.references.lay_not_available.Reads as reads
+use Rattle.defect_message.proofs.references.lay_not_available.Lts as lts
+use Rattle.buffer.proofs.lay.lay.Reads as lay-reads
+use Rattle.defect_message.proofs.words.lay_may_read.Reads as lay-may-read-reads
+use Rattle.defect_message.proofs.words.lay_quoted.Reads as lay-quoted-reads
+
+-- src/references.rt:27:9
+lay-quoted-requires : tie.Need-lay-quoted-requires
+lay-quoted-requires c κs = search needs
+
+-- src/references.rt:28:25
+slice-aggregate-lay : tie.Need-slice-aggregate-lay
+slice-aggregate-lay c = search needs
+
+-- src/references.rt:28:9
+lay-requires : tie.Need-lay-requires
+lay-requires c κs = search needs
+
+-- src/references.rt:29:5
+lay-may-read-requires : tie.Need-lay-may-read-requires
+lay-may-read-requires c κs = search needs
+
+-- src/references.rt:24:1
+same-length : tie.Need-same-length
+same-length c = search needs
+
+-- src/references.rt:24:1
+returns : tie.Need-returns
+unfolding notAvailable ascii
+returns c = laid-three (omega arith) (c .before .before .before .before .before .before .before .before .before .before .before .lay-quoted .ensures) (c .before .before .before .before .before .before .lay .ensures) (c .before .before .lay-may-read .ensures _)
+
+pub lay-not-available-spec : {M : Type 1} → statement M
+lay-not-available-spec =
+    tie.close
+    (tie.spec
+    lay-quoted-requires
+    slice-aggregate-lay
+    lay-requires
+    lay-may-read-requires
+    same-length
+    returns)

@@ -1,0 +1,5 @@
+pub mod Refusals
+pub mod References
+pub mod Collections
+pub mod Settled
+pub mod Explained

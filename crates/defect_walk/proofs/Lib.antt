@@ -1,0 +1,4 @@
+mod ChildSteps
+mod ScopeSteps
+pub mod TellingLaws
+mod CollectionLaws

@@ -1,0 +1,3 @@
+pub mod Scoped
+pub mod Tellings
+pub mod CollectionTellings

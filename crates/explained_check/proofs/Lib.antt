@@ -1,0 +1,4 @@
+mod SayingSteps
+pub mod ExplainedSteps
+pub mod Edges
+pub mod StockNames

@@ -1,0 +1,3 @@
+pub mod ExplainedLaws
+pub mod Runs
+pub mod Saying

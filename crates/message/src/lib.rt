@@ -1,0 +1,1 @@
+// What a defect says, in the words of the Rust (docs/FORMAT.md, "Messages").
