@@ -8,23 +8,18 @@ use Rattle.defect_message.proofs.collections.lay_between.Lts as lts
 use Rattle.buffer.proofs.lay.lay.Reads as lay-reads
 use Rattle.defect_message.proofs.words.lay_kind.Reads as lay-kind-reads
 
--- src/collections.rt:42:9
 lay-requires : tie.Need-lay-requires
 lay-requires c κs = search needs
 
--- src/collections.rt:43:9
 lay-kind-requires : tie.Need-lay-kind-requires
 lay-kind-requires c κs = search needs
 
--- src/collections.rt:44:5
 lay-requires-2 : tie.Need-lay-requires-2
 lay-requires-2 c κs = search needs
 
--- src/collections.rt:39:1
 same-length : tie.Need-same-length
 same-length c = search needs
 
--- src/collections.rt:39:1
 returns : tie.Need-returns
 returns c = laid-three (omega arith) (c .before .before .before .before .before .before .before .before .before .before .lay .ensures) (c .before .before .before .before .before .before .lay-kind .ensures) (c .before .before .lay2 .ensures)
 

@@ -13,68 +13,52 @@ use Rattle.buffer.proofs.lay.lay.Reads as lay-reads
 use Rattle.defect_message.proofs.collections.lay_collection_text.Reads as lay-collection-text-reads
 use Rattle.value_checks.proofs.operand.form_of.Reads as form-of-reads
 
--- src/collections.rt:151:11
 form-of-requires : tie.Need-form-of-requires
 form-of-requires c κs = search needs
 
--- src/collections.rt:152:20
 enum-known-part : tie.Need-enum-known-part
 enum-known-part c = search needs
 
--- src/collections.rt:153:69
 bytes-of-requires : tie.Need-bytes-of-requires
 bytes-of-requires c κs = search needs
 
--- src/collections.rt:153:13
 lay-collection-text-requires : tie.Need-lay-collection-text-requires
 lay-collection-text-requires c κs = search needs
 
--- src/collections.rt:155:29
 enum-told : tie.Need-enum-told
 enum-told c = search needs
 
--- src/collections.rt:155:37
 slice-aggregate-lay : tie.Need-slice-aggregate-lay
 slice-aggregate-lay c = search needs
 
--- src/collections.rt:155:25
 lay-requires : tie.Need-lay-requires
 lay-requires c κs = search needs
 
--- src/collections.rt:156:28
 enum-told-2 : tie.Need-enum-told-2
 enum-told-2 c = search needs
 
--- src/collections.rt:156:36
 slice-aggregate-lay-2 : tie.Need-slice-aggregate-lay-2
 slice-aggregate-lay-2 c = search needs
 
--- src/collections.rt:156:24
 lay-requires-2 : tie.Need-lay-requires-2
 lay-requires-2 c κs = search needs
 
--- src/collections.rt:140:1
 same-length : tie.Need-same-length
 same-length c = search needs
 
--- src/collections.rt:140:1
 returns : tie.Need-returns
 returns c = string-said (λ (v : Value) (a : ValueAt (c .before .before .before .before .before .before .before .before .before .before .before .before .before .args .rule .now) (c .before .before .before .before .before .before .before .before .before .before .before .before .before .args .words .now) (c .before .before .before .before .before .before .before .before .before .before .before .before .before .args .i) v). rw (c .before .before .before .before .before .before .part .given .1) at (c .before .before .before .before .before .before .before .before .form-of .ensures v a)) (c .before .before .before .bytes-of .ensures) (c .before .before .lay-collection-text .ensures)
 
--- src/collections.rt:140:1
 same-length-2 : tie.Need-same-length-2
 same-length-2 c = search needs
 
--- src/collections.rt:140:1
 returns-2 : tie.Need-returns-2
 unfolding ascii
 returns-2 c = other-said (λ (v : Value) (a : ValueAt (c .before .before .before .before .before .before .before .before .before .before .before .before .args .rule .now) (c .before .before .before .before .before .before .before .before .before .before .before .before .args .words .now) (c .before .before .before .before .before .before .before .before .before .before .before .before .args .i) v). rw (c .before .before .before .before .before .enum-told .given .1) at (c .before .before .before .before .before .before .before .form-of .ensures v a) .1) (c .before .before .lay .ensures)
 
--- src/collections.rt:140:1
 same-length-3 : tie.Need-same-length-3
 same-length-3 c = search needs
 
--- src/collections.rt:140:1
 returns-3 : tie.Need-returns-3
 unfolding ascii
 returns-3 c = other-said (λ (v : Value) (a : ValueAt (c .before .before .before .before .before .before .before .before .before .before .before .before .args .rule .now) (c .before .before .before .before .before .before .before .before .before .before .before .before .args .words .now) (c .before .before .before .before .before .before .before .before .before .before .before .before .args .i) v). rw (c .before .before .before .before .before .enum-told2 .given .1) at (c .before .before .before .before .before .before .before .form-of .ensures v a) .1) (c .before .before .lay2 .ensures)

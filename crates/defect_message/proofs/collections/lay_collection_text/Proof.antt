@@ -9,23 +9,18 @@ use Rattle.defect_walk.proofs.collection_telling.text_collecting.Reads as text-
 use Rattle.defect_message.proofs.collections.lay_collecting.Reads as lay-collecting-reads
 use Rattle.scope.proofs.collections.behind_first.Reads as behind-first-reads
 
--- src/collections.rt:134:9
 behind-first-requires : tie.Need-behind-first-requires
 behind-first-requires c κs = search needs
 
--- src/collections.rt:135:9
 text-collecting-requires : tie.Need-text-collecting-requires
 text-collecting-requires c κs = search needs
 
--- src/collections.rt:136:5
 lay-collecting-requires : tie.Need-lay-collecting-requires
 lay-collecting-requires c κs = search needs
 
--- src/collections.rt:123:1
 same-length : tie.Need-same-length
 same-length c = search needs
 
--- src/collections.rt:123:1
 returns : tie.Need-returns
 returns c = search (text-laid, needs)
 

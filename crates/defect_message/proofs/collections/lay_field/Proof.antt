@@ -13,132 +13,100 @@ use Rattle.defect_message.proofs.collections.lay_naming.Reads as lay-na
 use Rattle.schema.proofs.index.indexed_field.Reads as indexed-field-reads
 use Rattle.walk.proofs.path.first_end.Reads as first-end-reads
 
--- src/collections.rt:68:9
 returns : tie.Need-returns
 returns c = field-past (omega arith)
 
--- src/collections.rt:70:16
 indexed-field-requires : tie.Need-indexed-field-requires
 indexed-field-requires c κs = search needs
 
--- src/collections.rt:71:16
 sub-path : tie.Need-sub-path
 sub-path c = search needs
 
--- src/collections.rt:71:16
 part-path-start : tie.Need-part-path-start
 part-path-start c = search needs
 
--- src/collections.rt:71:16
 part-path-end : tie.Need-part-path-end
 part-path-end c = search needs
 
--- src/collections.rt:72:9
 first-end-requires : tie.Need-first-end-requires
 first-end-requires c κs = search needs
 
--- src/collections.rt:74:55
 enum-told : tie.Need-enum-told
 enum-told c = search needs
 
--- src/collections.rt:74:69
 slice-aggregate-lay-memberless : tie.Need-slice-aggregate-lay-memberless
 slice-aggregate-lay-memberless c = search (ends-length, needs)
 
--- src/collections.rt:74:40
 lay-memberless-requires : tie.Need-lay-memberless-requires
 lay-memberless-requires c κs = search needs
 
--- src/collections.rt:76:24
 enum-told-2 : tie.Need-enum-told-2
 enum-told-2 c = search needs
 
--- src/collections.rt:76:32
 slice-aggregate-lay-naming : tie.Need-slice-aggregate-lay-naming
 slice-aggregate-lay-naming c = search (ends-length, needs)
 
--- src/collections.rt:76:65
 slice-aggregate-lay-naming-2 : tie.Need-slice-aggregate-lay-naming-2
 slice-aggregate-lay-naming-2 c = search (ends-length, needs)
 
--- src/collections.rt:76:13
 lay-naming-requires : tie.Need-lay-naming-requires
 lay-naming-requires c κs = search needs
 
--- src/collections.rt:78:53
 enum-told-3 : tie.Need-enum-told-3
 enum-told-3 c = search needs
 
--- src/collections.rt:78:67
 slice-aggregate-lay-memberless-2 : tie.Need-slice-aggregate-lay-memberless-2
 slice-aggregate-lay-memberless-2 c = search (ends-length, needs)
 
--- src/collections.rt:78:38
 lay-memberless-requires-2 : tie.Need-lay-memberless-requires-2
 lay-memberless-requires-2 c κs = search needs
 
--- src/collections.rt:79:59
 enum-told-4 : tie.Need-enum-told-4
 enum-told-4 c = search needs
 
--- src/collections.rt:79:73
 slice-aggregate-lay-memberless-3 : tie.Need-slice-aggregate-lay-memberless-3
 slice-aggregate-lay-memberless-3 c = search (ends-length, needs)
 
--- src/collections.rt:79:44
 lay-memberless-requires-3 : tie.Need-lay-memberless-requires-3
 lay-memberless-requires-3 c κs = search needs
 
--- src/collections.rt:80:51
 enum-told-5 : tie.Need-enum-told-5
 enum-told-5 c = search needs
 
--- src/collections.rt:80:65
 slice-aggregate-lay-memberless-4 : tie.Need-slice-aggregate-lay-memberless-4
 slice-aggregate-lay-memberless-4 c = search (ends-length, needs)
 
--- src/collections.rt:80:36
 lay-memberless-requires-4 : tie.Need-lay-memberless-requires-4
 lay-memberless-requires-4 c κs = search needs
 
--- src/collections.rt:55:1
 same-length : tie.Need-same-length
 same-length c = search needs
 
--- src/collections.rt:55:1
 returns-2 : tie.Need-returns-2
 returns-2 c = string-laid refl (c .before .before .before .before .before .before .before .first-end .ensures) (c .before .before .before .before .before .before .before .before .before .indexed-field .ensures) (c .before .before .lay-memberless .ensures) (c .before .before .before .before .before .enum-told .given .1)
 
--- src/collections.rt:55:1
 same-length-2 : tie.Need-same-length-2
 same-length-2 c = search needs
 
--- src/collections.rt:55:1
 returns-3 : tie.Need-returns-3
 unfolding ascii
 returns-3 c = property-laid refl (c .before .before .before .before .before .before .before .before .first-end .ensures) (c .before .before .before .before .before .before .enum-told2 .given .1) (c .before .before .lay-naming .ensures)
 
--- src/collections.rt:55:1
 same-length-3 : tie.Need-same-length-3
 same-length-3 c = search needs
 
--- src/collections.rt:55:1
 returns-4 : tie.Need-returns-4
 returns-4 c = member-laid refl (c .before .before .before .before .before .before .before .first-end .ensures) (c .before .before .before .before .before .before .before .before .before .indexed-field .ensures) (c .before .before .lay-memberless2 .ensures) (c .before .before .before .before .before .enum-told3 .given .1)
 
--- src/collections.rt:55:1
 same-length-4 : tie.Need-same-length-4
 same-length-4 c = search needs
 
--- src/collections.rt:55:1
 returns-5 : tie.Need-returns-5
 returns-5 c = collection-laid refl (c .before .before .before .before .before .before .before .first-end .ensures) (c .before .before .before .before .before .before .before .before .before .indexed-field .ensures) (c .before .before .lay-memberless3 .ensures) (c .before .before .before .before .before .enum-told4 .given .1)
 
--- src/collections.rt:55:1
 same-length-5 : tie.Need-same-length-5
 same-length-5 c = search needs
 
--- src/collections.rt:55:1
 returns-6 : tie.Need-returns-6
 returns-6 c = name-laid refl (c .before .before .before .before .before .before .before .first-end .ensures) (c .before .before .before .before .before .before .before .before .before .indexed-field .ensures) (c .before .before .lay-memberless4 .ensures) (c .before .before .before .before .before .enum-told5 .given .1)
 

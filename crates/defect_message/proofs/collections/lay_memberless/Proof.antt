@@ -9,27 +9,21 @@ use Rattle.defect_message.proofs.collections.lay_memberless.Lts as lts
 use Rattle.defect_message.proofs.collections.lay_between.Reads as lay-between-reads
 use Rattle.defect_message.proofs.words.lay_quoted.Reads as lay-quoted-reads
 
--- src/collections.rt:50:36
 slice-aggregate-lay-between : tie.Need-slice-aggregate-lay-between
 slice-aggregate-lay-between c = search needs
 
--- src/collections.rt:50:49
 slice-aggregate-lay-between-2 : tie.Need-slice-aggregate-lay-between-2
 slice-aggregate-lay-between-2 c = search needs
 
--- src/collections.rt:50:9
 lay-between-requires : tie.Need-lay-between-requires
 lay-between-requires c κs = search needs
 
--- src/collections.rt:51:5
 lay-quoted-requires : tie.Need-lay-quoted-requires
 lay-quoted-requires c κs = search needs
 
--- src/collections.rt:47:1
 same-length : tie.Need-same-length
 same-length c = search needs
 
--- src/collections.rt:47:1
 returns : tie.Need-returns
 unfolding ascii
 returns c = memberless-laid _ _ (omega arith) (c .before .before .before .before .before .before .lay-between .ensures) (c .before .before .lay-quoted .ensures)

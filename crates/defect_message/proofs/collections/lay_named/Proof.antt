@@ -8,19 +8,15 @@ use Rattle.defect_message.proofs.collections.lay_named.Lts as lts
 use Rattle.buffer.proofs.lay.lay.Reads as lay-reads
 use Rattle.defect_message.proofs.words.lay_quoted.Reads as lay-quoted-reads
 
--- src/collections.rt:34:9
 lay-quoted-requires : tie.Need-lay-quoted-requires
 lay-quoted-requires c κs = search needs
 
--- src/collections.rt:35:5
 lay-requires : tie.Need-lay-requires
 lay-requires c κs = search needs
 
--- src/collections.rt:31:1
 same-length : tie.Need-same-length
 same-length c = search needs
 
--- src/collections.rt:31:1
 returns : tie.Need-returns
 returns c = laid-two (omega arith) (c .before .before .before .before .before .before .lay-quoted .ensures) (c .before .before .lay .ensures)
 

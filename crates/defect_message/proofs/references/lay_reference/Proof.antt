@@ -8,35 +8,27 @@ use Rattle.defect_message.proofs.references.lay_reference.Lts as lts
 use Rattle.defect_message.proofs.references.lay_telling.Reads as lay-telling-reads
 use Rattle.defect_walk.proofs.telling.reference_telling.Reads as reference-telling-reads
 
--- src/references.rt:107:9
 returns : tie.Need-returns
 returns c = reference-blank (omega arith)
 
--- src/references.rt:109:65
 sub-reference-telling : tie.Need-sub-reference-telling
 sub-reference-telling c = search needs
 
--- src/references.rt:109:65
 part-reference-telling-start : tie.Need-part-reference-telling-start
 part-reference-telling-start c = search needs
 
--- src/references.rt:109:65
 part-reference-telling-end : tie.Need-part-reference-telling-end
 part-reference-telling-end c = search needs
 
--- src/references.rt:109:9
 reference-telling-requires : tie.Need-reference-telling-requires
 reference-telling-requires c κs = search needs
 
--- src/references.rt:110:5
 lay-telling-requires : tie.Need-lay-telling-requires
 lay-telling-requires c κs = search needs
 
--- src/references.rt:94:1
 same-length : tie.Need-same-length
 same-length c = search needs
 
--- src/references.rt:94:1
 returns-2 : tie.Need-returns-2
 returns-2 c = reference-laid (c .before .before .before .before .reference-telling .ensures) (c .before .before .lay-telling .ensures)
 

@@ -14,108 +14,82 @@ use Rattle.defect_message.proofs.references.lay_unknown_root.Reads as l
 use Rattle.defect_message.proofs.references.lay_unresolved.Reads as lay-unresolved-reads
 use Rattle.defect_message.proofs.refusal.lay_refusal.Reads as lay-refusal-reads
 
--- src/references.rt:75:29
 enum-told : tie.Need-enum-told
 enum-told c = search needs
 
--- src/references.rt:76:52
 enum-told-2 : tie.Need-enum-told-2
 enum-told-2 c = search needs
 
--- src/references.rt:76:34
 lay-not-available-requires : tie.Need-lay-not-available-requires
 lay-not-available-requires c κs = search needs
 
--- src/references.rt:77:50
 enum-told-3 : tie.Need-enum-told-3
 enum-told-3 c = search needs
 
--- src/references.rt:77:33
 lay-no-reference-requires : tie.Need-lay-no-reference-requires
 lay-no-reference-requires c κs = search needs
 
--- src/references.rt:79:39
 enum-told-4 : tie.Need-enum-told-4
 enum-told-4 c = search needs
 
--- src/references.rt:79:17
 lay-unresolved-requires : tie.Need-lay-unresolved-requires
 lay-unresolved-requires c κs = search needs
 
--- src/references.rt:80:28
 slice-aggregate-lay : tie.Need-slice-aggregate-lay
 slice-aggregate-lay c = search needs
 
--- src/references.rt:80:13
 lay-requires : tie.Need-lay-requires
 lay-requires c κs = search needs
 
--- src/references.rt:82:30
 enum-known-telling : tie.Need-enum-known-telling
 enum-known-telling c = search needs
 
--- src/references.rt:83:17
 lay-unresolved-requires-2 : tie.Need-lay-unresolved-requires-2
 lay-unresolved-requires-2 c κs = search needs
 
--- src/references.rt:84:13
 lay-unknown-root-requires : tie.Need-lay-unknown-root-requires
 lay-unknown-root-requires c κs = search needs
 
--- src/references.rt:86:26
 enum-known-telling-2 : tie.Need-enum-known-telling-2
 enum-known-telling-2 c = search needs
 
--- src/references.rt:87:17
 lay-unresolved-requires-3 : tie.Need-lay-unresolved-requires-3
 lay-unresolved-requires-3 c κs = search needs
 
--- src/references.rt:88:13
 lay-refusal-requires : tie.Need-lay-refusal-requires
 lay-refusal-requires c κs = search needs
 
--- src/references.rt:63:1
 returns : tie.Need-returns
 returns c = nothing-told (c .enum-told .given .1) (omega arith) refl refl
 
--- src/references.rt:63:1
 same-length : tie.Need-same-length
 same-length c = search needs
 
--- src/references.rt:63:1
 returns-2 : tie.Need-returns-2
 returns-2 c = unavailable-told (c .before .before .before .before .enum-told2 .given .1) (c .before .before .lay-not-available .ensures)
 
--- src/references.rt:63:1
 same-length-2 : tie.Need-same-length-2
 same-length-2 c = search needs
 
--- src/references.rt:63:1
 returns-3 : tie.Need-returns-3
 returns-3 c = no-reference-told (c .before .before .before .before .enum-told3 .given .1) (c .before .before .lay-no-reference .ensures)
 
--- src/references.rt:63:1
 same-length-3 : tie.Need-same-length-3
 same-length-3 c = search needs
 
--- src/references.rt:63:1
 returns-4 : tie.Need-returns-4
 unfolding ascii
 returns-4 c = empty-told (omega arith) (c .before .before .before .before .before .before .before .lay-unresolved .ensures) (c .before .before .before .before .before .before .before .before .before .enum-told4 .given .1) (c .before .before .lay .ensures)
 
--- src/references.rt:63:1
 same-length-4 : tie.Need-same-length-4
 same-length-4 c = search needs
 
--- src/references.rt:63:1
 returns-5 : tie.Need-returns-5
 returns-5 c = unknown-told (omega arith) (c .before .before .before .before .before .before .lay-unresolved2 .ensures) (c .before .before .before .before .before .before .before .before .before .telling .given .1) (c .before .before .lay-unknown-root .ensures)
 
--- src/references.rt:63:1
 same-length-5 : tie.Need-same-length-5
 same-length-5 c = search needs
 
--- src/references.rt:63:1
 returns-6 : tie.Need-returns-6
 returns-6 c = refusal-told (omega arith) (c .before .before .before .before .before .before .lay-unresolved3 .ensures) (c .before .before .before .before .before .before .before .before .before .telling2 .given .1) (c .before .before .lay-refusal .ensures)
 

@@ -16,55 +16,42 @@ use Rattle.defect_message.proofs.words.lay_noun.Reads as lay-noun-reads
 use Rattle.defect_message.proofs.words.lay_quoted.Reads as lay-quoted-reads
 use Rattle.walk.proofs.path.first_end.Reads as first-end-reads
 
--- src/references.rt:53:9
 returns : tie.Need-returns
 returns c = unknown-past (omega arith)
 
--- src/references.rt:55:16
 sub-path : tie.Need-sub-path
 sub-path c = search needs
 
--- src/references.rt:55:16
 part-path-start : tie.Need-part-path-start
 part-path-start c = search needs
 
--- src/references.rt:55:16
 part-path-end : tie.Need-part-path-end
 part-path-end c = search needs
 
--- src/references.rt:56:9
 first-end-requires : tie.Need-first-end-requires
 first-end-requires c κs = search needs
 
--- src/references.rt:57:25
 slice-aggregate-lay : tie.Need-slice-aggregate-lay
 slice-aggregate-lay c = search needs
 
--- src/references.rt:57:9
 lay-requires : tie.Need-lay-requires
 lay-requires c κs = search needs
 
--- src/references.rt:58:9
 lay-noun-requires : tie.Need-lay-noun-requires
 lay-noun-requires c κs = search needs
 
--- src/references.rt:59:9
 lay-byte-requires : tie.Need-lay-byte-requires
 lay-byte-requires c κs = search needs
 
--- src/references.rt:60:24
 slice-aggregate-lay-quoted : tie.Need-slice-aggregate-lay-quoted
 slice-aggregate-lay-quoted c = search (ends-length, needs)
 
--- src/references.rt:60:5
 lay-quoted-requires : tie.Need-lay-quoted-requires
 lay-quoted-requires c κs = search needs
 
--- src/references.rt:49:1
 same-length : tie.Need-same-length
 same-length c = search needs
 
--- src/references.rt:49:1
 returns-2 : tie.Need-returns-2
 unfolding unknownRoot ascii
 returns-2 c = unknown-laid refl (c .before .before .before .before .before .before .before .before .before .before .before .before .before .before .before .before .before .before .first-end .ensures) (laid-four (omega arith) (c .before .before .before .before .before .before .before .before .before .before .before .before .before .before .before .lay .ensures) (c .before .before .before .before .before .before .before .before .before .before .before .lay-noun .ensures) (c .before .before .before .before .before .before .before .lay-byte .ensures) (c .before .before .lay-quoted .ensures))

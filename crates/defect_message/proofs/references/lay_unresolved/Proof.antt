@@ -9,23 +9,18 @@ use Rattle.defect_message.proofs.references.lay_unresolved.Lts as lts
 use Rattle.buffer.proofs.lay.lay.Reads as lay-reads
 use Rattle.defect_message.proofs.words.lay_quoted.Reads as lay-quoted-reads
 
--- src/references.rt:44:9
 lay-quoted-requires : tie.Need-lay-quoted-requires
 lay-quoted-requires c κs = search needs
 
--- src/references.rt:45:17
 slice-aggregate-lay : tie.Need-slice-aggregate-lay
 slice-aggregate-lay c = search needs
 
--- src/references.rt:45:5
 lay-requires : tie.Need-lay-requires
 lay-requires c κs = search needs
 
--- src/references.rt:41:1
 same-length : tie.Need-same-length
 same-length c = search needs
 
--- src/references.rt:41:1
 returns : tie.Need-returns
 unfolding ascii
 returns c = laid-two (omega arith) (c .before .before .before .before .before .before .before .lay-quoted .ensures) (c .before .before .lay .ensures)

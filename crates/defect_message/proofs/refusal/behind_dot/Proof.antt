@@ -6,39 +6,30 @@ use Rattle.defect_message.proofs.refusal.behind_dot.Tie as tie
 use Rattle.defect_message.proofs.refusal.behind_dot.Reads as reads
 use Rattle.defect_message.proofs.refusal.behind_dot.Lts as lts
 
--- src/refusal.rt:156:22
 add-result : tie.Need-add-result
 add-result c = search needs
 
--- src/refusal.rt:156:16
 sub-result : tie.Need-sub-result
 sub-result c = search needs
 
--- src/refusal.rt:156:16
 part-result-start : tie.Need-part-result-start
 part-result-start c = search needs
 
--- src/refusal.rt:156:16
 part-result-end : tie.Need-part-result-end
 part-result-end c = search needs
 
--- src/refusal.rt:156:9
 returns : tie.Need-returns
 returns c = rest-joined _ _ (c .before .before .pre) (omega arith)
 
--- src/refusal.rt:158:5
 sub-result-2 : tie.Need-sub-result-2
 sub-result-2 c = search needs
 
--- src/refusal.rt:158:5
 part-result-start-2 : tie.Need-part-result-start-2
 part-result-start-2 c = search needs
 
--- src/refusal.rt:158:5
 part-result-end-2 : tie.Need-part-result-end-2
 part-result-end-2 c = search needs
 
--- src/refusal.rt:151:1
 returns-2 : tie.Need-returns-2
 returns-2 c = rest-none _ _ (c .before .before .pre) (omega arith)
 

@@ -9,60 +9,46 @@ use Rattle.defect_message.proofs.refusal.lay_carried.Reads as reads
 use Rattle.defect_message.proofs.refusal.lay_carried.Lts as lts
 use Rattle.defect_message.proofs.words.lay_both.Reads as lay-both-reads
 
--- src/refusal.rt:27:24
 slice-aggregate-same-bytes : tie.Need-slice-aggregate-same-bytes
 slice-aggregate-same-bytes c = search needs
 
--- src/refusal.rt:27:8
 same-bytes-requires : tie.Need-same-bytes-requires
 same-bytes-requires c κs = search needs
 
--- src/refusal.rt:28:38
 slice-aggregate-lay-both : tie.Need-slice-aggregate-lay-both
 slice-aggregate-lay-both c = search needs
 
--- src/refusal.rt:28:48
 slice-aggregate-lay-both-2 : tie.Need-slice-aggregate-lay-both-2
 slice-aggregate-lay-both-2 c = search needs
 
--- src/refusal.rt:28:60
 slice-aggregate-lay-both-3 : tie.Need-slice-aggregate-lay-both-3
 slice-aggregate-lay-both-3 c = search needs
 
--- src/refusal.rt:28:9
 lay-both-requires : tie.Need-lay-both-requires
 lay-both-requires c κs = search needs
 
--- src/refusal.rt:28:9
 same-length : tie.Need-same-length
 same-length c = search needs
 
--- src/refusal.rt:28:9
 returns : tie.Need-returns
 unfolding ascii
 returns c = carried-content _ (c .before .before .before .before .before .before .before .before .same-bytes .ensures) (c .before .before .before .before .before .before .before .if1 .taken) (c .before .before .lay-both .ensures)
 
--- src/refusal.rt:30:27
 slice-aggregate-lay-both-4 : tie.Need-slice-aggregate-lay-both-4
 slice-aggregate-lay-both-4 c = search needs
 
--- src/refusal.rt:30:37
 slice-aggregate-lay-both-5 : tie.Need-slice-aggregate-lay-both-5
 slice-aggregate-lay-both-5 c = search needs
 
--- src/refusal.rt:30:47
 slice-aggregate-lay-both-6 : tie.Need-slice-aggregate-lay-both-6
 slice-aggregate-lay-both-6 c = search needs
 
--- src/refusal.rt:30:5
 lay-both-requires-2 : tie.Need-lay-both-requires-2
 lay-both-requires-2 c κs = search needs
 
--- src/refusal.rt:24:1
 same-length-2 : tie.Need-same-length-2
 same-length-2 c = search needs
 
--- src/refusal.rt:24:1
 returns-2 : tie.Need-returns-2
 unfolding ascii
 returns-2 c = carried-value _ (c .before .before .before .before .before .before .before .before .same-bytes .ensures) (c .before .before .before .before .before .before .before .if1 .left) (c .before .before .lay-both2 .ensures)

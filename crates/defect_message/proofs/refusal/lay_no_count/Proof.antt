@@ -11,35 +11,27 @@ use Rattle.buffer.proofs.lay.lay.Reads as lay-reads
 use Rattle.defect_message.proofs.words.lay_kind.Reads as lay-kind-reads
 use Rattle.defect_message.proofs.words.lay_quoted.Reads as lay-quoted-reads
 
--- src/refusal.rt:60:9
 lay-quoted-requires : tie.Need-lay-quoted-requires
 lay-quoted-requires c κs = search needs
 
--- src/refusal.rt:61:25
 slice-aggregate-lay : tie.Need-slice-aggregate-lay
 slice-aggregate-lay c = search needs
 
--- src/refusal.rt:61:9
 lay-requires : tie.Need-lay-requires
 lay-requires c κs = search needs
 
--- src/refusal.rt:62:9
 lay-kind-requires : tie.Need-lay-kind-requires
 lay-kind-requires c κs = search needs
 
--- src/refusal.rt:66:9
 slice-aggregate-lay-2 : tie.Need-slice-aggregate-lay-2
 slice-aggregate-lay-2 c = search needs
 
--- src/refusal.rt:63:5
 lay-requires-2 : tie.Need-lay-requires-2
 lay-requires-2 c κs = search needs
 
--- src/refusal.rt:57:1
 same-length : tie.Need-same-length
 same-length c = search needs
 
--- src/refusal.rt:57:1
 returns : tie.Need-returns
 unfolding noCount ascii
 returns c = laid-four (omega arith) (c .before .before .before .before .before .before .before .before .before .before .before .before .before .before .before .before .lay-quoted .ensures) (c .before .before .before .before .before .before .before .before .before .before .before .lay .ensures) (c .before .before .before .before .before .before .before .lay-kind .ensures) (c .before .before .lay2 .ensures)

@@ -11,47 +11,36 @@ use Rattle.buffer.proofs.lay.lay.Reads as lay-reads
 use Rattle.defect_message.proofs.words.lay_kind.Reads as lay-kind-reads
 use Rattle.defect_message.proofs.words.lay_quoted.Reads as lay-quoted-reads
 
--- src/refusal.rt:79:9
 lay-quoted-requires : tie.Need-lay-quoted-requires
 lay-quoted-requires c κs = search needs
 
--- src/refusal.rt:80:25
 slice-aggregate-lay : tie.Need-slice-aggregate-lay
 slice-aggregate-lay c = search needs
 
--- src/refusal.rt:80:9
 lay-requires : tie.Need-lay-requires
 lay-requires c κs = search needs
 
--- src/refusal.rt:81:9
 lay-kind-requires : tie.Need-lay-kind-requires
 lay-kind-requires c κs = search needs
 
--- src/refusal.rt:82:25
 slice-aggregate-lay-2 : tie.Need-slice-aggregate-lay-2
 slice-aggregate-lay-2 c = search needs
 
--- src/refusal.rt:82:9
 lay-requires-2 : tie.Need-lay-requires-2
 lay-requires-2 c κs = search needs
 
--- src/refusal.rt:83:9
 lay-quoted-requires-2 : tie.Need-lay-quoted-requires-2
 lay-quoted-requires-2 c κs = search needs
 
--- src/refusal.rt:84:17
 slice-aggregate-lay-3 : tie.Need-slice-aggregate-lay-3
 slice-aggregate-lay-3 c = search needs
 
--- src/refusal.rt:84:5
 lay-requires-3 : tie.Need-lay-requires-3
 lay-requires-3 c κs = search needs
 
--- src/refusal.rt:70:1
 same-length : tie.Need-same-length
 same-length c = search needs
 
--- src/refusal.rt:70:1
 returns : tie.Need-returns
 unfolding noMember ascii
 returns c = laid-six (omega arith) (c .before .before .before .before .before .before .before .before .before .before .before .before .before .before .before .before .before .before .before .before .before .before .before .before .before .lay-quoted .ensures) (c .before .before .before .before .before .before .before .before .before .before .before .before .before .before .before .before .before .before .before .before .lay .ensures) (c .before .before .before .before .before .before .before .before .before .before .before .before .before .before .before .before .lay-kind .ensures) (c .before .before .before .before .before .before .before .before .before .before .before .lay2 .ensures) (c .before .before .before .before .before .before .before .lay-quoted2 .ensures) (c .before .before .lay3 .ensures)

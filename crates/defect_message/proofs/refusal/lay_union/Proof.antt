@@ -13,68 +13,52 @@ use Rattle.defect_message.proofs.refusal.lay_union.Lts as lts
 use Rattle.defect_message.proofs.refusal.lay_carried.Reads as lay-carried-reads
 use Rattle.defect_message.proofs.words.lay_both.Reads as lay-both-reads
 
--- src/refusal.rt:47:9
 slice-aggregate-lay-both : tie.Need-slice-aggregate-lay-both
 slice-aggregate-lay-both c = search needs
 
--- src/refusal.rt:49:9
 slice-aggregate-lay-both-2 : tie.Need-slice-aggregate-lay-both-2
 slice-aggregate-lay-both-2 c = search needs
 
--- src/refusal.rt:43:9
 lay-both-requires : tie.Need-lay-both-requires
 lay-both-requires c κs = search needs
 
--- src/refusal.rt:52:26
 enum-known-tag : tie.Need-enum-known-tag
 enum-known-tag c = search needs
 
--- src/refusal.rt:52:58
 bytes-of-requires : tie.Need-bytes-of-requires
 bytes-of-requires c κs = search needs
 
--- src/refusal.rt:52:35
 lay-carried-requires : tie.Need-lay-carried-requires
 lay-carried-requires c κs = search needs
 
--- src/refusal.rt:53:42
 enum-told : tie.Need-enum-told
 enum-told c = search needs
 
--- src/refusal.rt:53:53
 slice-aggregate-lay-both-3 : tie.Need-slice-aggregate-lay-both-3
 slice-aggregate-lay-both-3 c = search needs
 
--- src/refusal.rt:53:58
 slice-aggregate-lay-both-4 : tie.Need-slice-aggregate-lay-both-4
 slice-aggregate-lay-both-4 c = search needs
 
--- src/refusal.rt:53:68
 slice-aggregate-lay-both-5 : tie.Need-slice-aggregate-lay-both-5
 slice-aggregate-lay-both-5 c = search needs
 
--- src/refusal.rt:53:78
 slice-aggregate-lay-both-6 : tie.Need-slice-aggregate-lay-both-6
 slice-aggregate-lay-both-6 c = search needs
 
--- src/refusal.rt:53:33
 lay-both-requires-2 : tie.Need-lay-both-requires-2
 lay-both-requires-2 c κs = search needs
 
--- src/refusal.rt:33:1
 same-length : tie.Need-same-length
 same-length c = search needs
 
--- src/refusal.rt:33:1
 returns : tie.Need-returns
 unfolding ascii
 returns c = union-tagged _ _ _ (omega arith) (c .before .before .before .before .before .before .tag .given .1) (c .before .before .before .before .before .before .before .before .before .before .lay-both .ensures) (c .before .before .before .bytes-of .ensures) (c .before .before .lay-carried .ensures)
 
--- src/refusal.rt:33:1
 same-length-2 : tie.Need-same-length-2
 same-length-2 c = search needs
 
--- src/refusal.rt:33:1
 returns-2 : tie.Need-returns-2
 unfolding ascii
 returns-2 c = union-untagged _ _ _ (omega arith) (c .before .before .before .before .before .before .before .before .enum-told .given .1) (c .before .before .before .before .before .before .before .before .before .before .before .before .lay-both .ensures) (c .before .before .lay-both2 .ensures)

@@ -7,39 +7,30 @@ use Rattle.defect_message.proofs.settled.lay_behind_first.Reads as read
 use Rattle.defect_message.proofs.settled.lay_behind_first.Lts as lts
 use Rattle.defect_message.proofs.words.lay_quoted.Reads as lay-quoted-reads
 
--- src/settled.rt:59:9
 lay-quoted-requires : tie.Need-lay-quoted-requires
 lay-quoted-requires c κs = search needs
 
--- src/settled.rt:59:9
 same-length : tie.Need-same-length
 same-length c = search needs
 
--- src/settled.rt:59:9
 returns : tie.Need-returns
 returns c = behind-none (c .before .before .before .before .before .before .before .args .text .now) (omega arith) (c .before .before .lay-quoted .ensures)
 
--- src/settled.rt:61:24
 sub-lay-quoted : tie.Need-sub-lay-quoted
 sub-lay-quoted c = search needs
 
--- src/settled.rt:61:24
 part-lay-quoted-start : tie.Need-part-lay-quoted-start
 part-lay-quoted-start c = search needs
 
--- src/settled.rt:61:24
 part-lay-quoted-end : tie.Need-part-lay-quoted-end
 part-lay-quoted-end c = search needs
 
--- src/settled.rt:61:5
 lay-quoted-requires-2 : tie.Need-lay-quoted-requires-2
 lay-quoted-requires-2 c κs = search needs
 
--- src/settled.rt:55:1
 same-length-2 : tie.Need-same-length-2
 same-length-2 c = search needs
 
--- src/settled.rt:55:1
 returns-2 : tie.Need-returns-2
 returns-2 c = behind-some (c .before .before .before .before .before .before .before .before .args .text .now) (c .before .before .lay-quoted2 .ensures)
 

@@ -9,35 +9,27 @@ use Rattle.defect_message.proofs.settled.lay_bind.Lts as lts
 use Rattle.buffer.proofs.lay.lay.Reads as lay-reads
 use Rattle.condition_checks.proofs.body.bind_of.Reads as bind-of-reads
 
--- src/settled.rt:140:30
 bind-of-requires : tie.Need-bind-of-requires
 bind-of-requires c κs = search needs
 
--- src/settled.rt:140:22
 enum-known-name : tie.Need-enum-known-name
 enum-known-name c = search needs
 
--- src/settled.rt:141:9
 enum-told : tie.Need-enum-told
 enum-told c = search needs
 
--- src/settled.rt:141:9
 returns : tie.Need-returns
 returns c = bind-bad (c .before .before .bind-of .ensures) (c .enum-told .given .1)
 
--- src/settled.rt:143:17
 bytes-of-requires : tie.Need-bytes-of-requires
 bytes-of-requires c κs = search needs
 
--- src/settled.rt:143:5
 lay-requires : tie.Need-lay-requires
 lay-requires c κs = search needs
 
--- src/settled.rt:137:1
 same-length : tie.Need-same-length
 same-length c = search needs
 
--- src/settled.rt:137:1
 returns-2 : tie.Need-returns-2
 returns-2 c = bind-laid (c .before .before .before .before .before .before .before .before .bind-of .ensures) (c .before .before .before .before .before .before .name .given .1) (c .before .before .before .bytes-of .ensures) (c .before .before .lay .ensures)
 

@@ -11,27 +11,21 @@ use Rattle.buffer.proofs.lay.lay.Reads as lay-reads
 use Rattle.buffer.proofs.lay.lay_byte.Reads as lay-byte-reads
 use Rattle.defect_message.proofs.operator.lay_operator.Reads as lay-operator-reads
 
--- src/settled.rt:149:9
 lay-byte-requires : tie.Need-lay-byte-requires
 lay-byte-requires c κs = search needs
 
--- src/settled.rt:150:9
 lay-operator-requires : tie.Need-lay-operator-requires
 lay-operator-requires c κs = search needs
 
--- src/settled.rt:151:17
 slice-aggregate-lay : tie.Need-slice-aggregate-lay
 slice-aggregate-lay c = search needs
 
--- src/settled.rt:151:5
 lay-requires : tie.Need-lay-requires
 lay-requires c κs = search needs
 
--- src/settled.rt:146:1
 same-length : tie.Need-same-length
 same-length c = search needs
 
--- src/settled.rt:146:1
 returns : tie.Need-returns
 unfolding ascii
 returns c = empty-laid _ (omega arith) (c .before .before .before .before .before .before .before .before .before .before .before .lay-byte .ensures) (c .before .before .before .before .before .before .before .lay-operator .ensures) (c .before .before .lay .ensures)

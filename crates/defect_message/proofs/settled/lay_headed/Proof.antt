@@ -11,47 +11,36 @@ use Rattle.defect_message.proofs.settled.lay_empty.Reads as lay-empty-r
 use Rattle.rule.proofs.index.start_of.Reads as start-of-reads
 use Rattle.rule.proofs.kind.operator_at.Reads as operator-at-reads
 
--- src/settled.rt:158:32
 start-of-requires : tie.Need-start-of-requires
 start-of-requires c κs = search needs
 
--- src/settled.rt:158:9
 operator-at-requires : tie.Need-operator-at-requires
 operator-at-requires c κs = search needs
 
--- src/settled.rt:160:9
 lay-operator-requires : tie.Need-lay-operator-requires
 lay-operator-requires c κs = search needs
 
--- src/settled.rt:160:9
 same-length : tie.Need-same-length
 same-length c = search needs
 
--- src/settled.rt:160:9
 returns : tie.Need-returns
 returns c = headed-operator _ _ _ (c .before .before .before .before .before .before .start-of .ensures) (c .before .before .before .before .before .operator-at .ensures) (c .before .before .before .before .if1 .taken) (c .before .before .lay-operator .ensures)
 
--- src/settled.rt:163:9
 lay-empty-requires : tie.Need-lay-empty-requires
 lay-empty-requires c κs = search needs
 
--- src/settled.rt:163:9
 same-length-2 : tie.Need-same-length-2
 same-length-2 c = search needs
 
--- src/settled.rt:163:9
 returns-2 : tie.Need-returns-2
 returns-2 c = headed-empty _ _ _ (c .before .before .before .before .before .before .before .start-of .ensures) (c .before .before .before .before .before .before .operator-at .ensures) (c .before .before .before .before .if2 .taken) (c .before .before .lay-empty .ensures)
 
--- src/settled.rt:165:5
 lay-bind-requires : tie.Need-lay-bind-requires
 lay-bind-requires c κs = search needs
 
--- src/settled.rt:155:1
 same-length-3 : tie.Need-same-length-3
 same-length-3 c = search needs
 
--- src/settled.rt:155:1
 returns-3 : tie.Need-returns-3
 returns-3 c = headed-bind _ (c .before .before .before .before .before .if1 .left) (c .before .before .before .before .if2 .left) (c .before .before .lay-bind .ensures)
 

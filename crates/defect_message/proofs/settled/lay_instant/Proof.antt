@@ -11,56 +11,43 @@ use Rattle.defect_message.proofs.settled.lay_instant_forms.Reads as lay
 use Rattle.defect_message.proofs.settled.lay_unescaped.Reads as lay-unescaped-reads
 use Rattle.defect_message.proofs.settled.lay_value_and.Reads as lay-value-and-reads
 
--- src/settled.rt:86:55
 slice-aggregate-lay-value-and : tie.Need-slice-aggregate-lay-value-and
 slice-aggregate-lay-value-and c = search needs
 
--- src/settled.rt:86:13
 lay-value-and-requires : tie.Need-lay-value-and-requires
 lay-value-and-requires c κs = search needs
 
--- src/settled.rt:87:13
 lay-unescaped-requires : tie.Need-lay-unescaped-requires
 lay-unescaped-requires c κs = search needs
 
--- src/settled.rt:88:29
 slice-aggregate-lay : tie.Need-slice-aggregate-lay
 slice-aggregate-lay c = search needs
 
--- src/settled.rt:88:13
 lay-requires : tie.Need-lay-requires
 lay-requires c κs = search needs
 
--- src/settled.rt:89:9
 lay-instant-forms-requires : tie.Need-lay-instant-forms-requires
 lay-instant-forms-requires c κs = search needs
 
--- src/settled.rt:89:9
 same-length : tie.Need-same-length
 same-length c = search needs
 
--- src/settled.rt:89:9
 returns : tie.Need-returns
 unfolding ascii
 returns c = instant-escaped _ (omega arith) (c .before .before .before .before .before .before .before .before .before .before .before .before .before .before .before .before .before .before .if1 .taken) (c .before .before .before .before .before .before .before .before .before .before .before .before .before .before .before .lay-value-and .ensures) (c .before .before .before .before .before .before .before .before .before .before .before .lay-unescaped .ensures) (c .before .before .before .before .before .before .lay .ensures) (c .before .before .lay-instant-forms .ensures)
 
--- src/settled.rt:97:9
 slice-aggregate-lay-value-and-2 : tie.Need-slice-aggregate-lay-value-and-2
 slice-aggregate-lay-value-and-2 c = search needs
 
--- src/settled.rt:91:9
 lay-value-and-requires-2 : tie.Need-lay-value-and-requires-2
 lay-value-and-requires-2 c κs = search needs
 
--- src/settled.rt:99:5
 lay-instant-forms-requires-2 : tie.Need-lay-instant-forms-requires-2
 lay-instant-forms-requires-2 c κs = search needs
 
--- src/settled.rt:75:1
 same-length-2 : tie.Need-same-length-2
 same-length-2 c = search needs
 
--- src/settled.rt:75:1
 returns-2 : tie.Need-returns-2
 unfolding ascii
 returns-2 c = instant-unread _ (omega arith) (c .before .before .before .before .before .before .before .before .before .if1 .left) (c .before .before .before .before .before .before .lay-value-and2 .ensures) (c .before .before .lay-instant-forms2 .ensures)

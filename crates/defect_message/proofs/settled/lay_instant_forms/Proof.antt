@@ -9,27 +9,21 @@ use Rattle.defect_message.proofs.settled.lay_instant_forms.Reads as rea
 use Rattle.defect_message.proofs.settled.lay_instant_forms.Lts as lts
 use Rattle.buffer.proofs.lay.lay.Reads as lay-reads
 
--- src/settled.rt:45:9
 slice-aggregate-lay : tie.Need-slice-aggregate-lay
 slice-aggregate-lay c = search needs
 
--- src/settled.rt:42:9
 lay-requires : tie.Need-lay-requires
 lay-requires c κs = search needs
 
--- src/settled.rt:50:9
 slice-aggregate-lay-2 : tie.Need-slice-aggregate-lay-2
 slice-aggregate-lay-2 c = search needs
 
--- src/settled.rt:47:5
 lay-requires-2 : tie.Need-lay-requires-2
 lay-requires-2 c κs = search needs
 
--- src/settled.rt:39:1
 same-length : tie.Need-same-length
 same-length c = search needs
 
--- src/settled.rt:39:1
 returns : tie.Need-returns
 unfolding instantForms ascii
 returns c = laid-two (omega arith) (c .before .before .before .before .before .before .before .lay .ensures) (c .before .before .lay2 .ensures)

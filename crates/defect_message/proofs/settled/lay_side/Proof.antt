@@ -8,36 +8,28 @@ use Rattle.defect_message.proofs.settled.lay_side.Reads as reads
 use Rattle.defect_message.proofs.settled.lay_side.Lts as lts
 use Rattle.buffer.proofs.lay.lay.Reads as lay-reads
 
--- src/settled.rt:191:28
 slice-aggregate-lay : tie.Need-slice-aggregate-lay
 slice-aggregate-lay c = search needs
 
--- src/settled.rt:191:9
 lay-requires : tie.Need-lay-requires
 lay-requires c κs = search needs
 
--- src/settled.rt:191:9
 same-length : tie.Need-same-length
 same-length c = search needs
 
--- src/settled.rt:191:9
 returns : tie.Need-returns
 unfolding ascii
 returns c = rw (c .before .before .before .before .before .if1 .taken) (c .before .before .lay .ensures)
 
--- src/settled.rt:193:17
 slice-aggregate-lay-2 : tie.Need-slice-aggregate-lay-2
 slice-aggregate-lay-2 c = search needs
 
--- src/settled.rt:193:5
 lay-requires-2 : tie.Need-lay-requires-2
 lay-requires-2 c κs = search needs
 
--- src/settled.rt:187:1
 same-length-2 : tie.Need-same-length-2
 same-length-2 c = search needs
 
--- src/settled.rt:187:1
 returns-2 : tie.Need-returns-2
 unfolding ascii
 returns-2 c = rw (ne-eqb _ 1 (c .before .before .before .before .before .if1 .left)) (c .before .before .lay2 .ensures)

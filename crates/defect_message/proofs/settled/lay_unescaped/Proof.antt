@@ -13,67 +13,51 @@ use Rattle.defect_message.proofs.settled.lay_behind_first.Reads as lay-
 use Rattle.defect_message.proofs.words.lay_quoted.Reads as lay-quoted-reads
 use Rattle.value_checks.proofs.operand.form_of.Reads as form-of-reads
 
--- src/settled.rt:68:11
 form-of-requires : tie.Need-form-of-requires
 form-of-requires c κs = search needs
 
--- src/settled.rt:69:20
 enum-known-part : tie.Need-enum-known-part
 enum-known-part c = search needs
 
--- src/settled.rt:69:54
 bytes-of-requires : tie.Need-bytes-of-requires
 bytes-of-requires c κs = search needs
 
--- src/settled.rt:69:29
 lay-behind-first-requires : tie.Need-lay-behind-first-requires
 lay-behind-first-requires c κs = search needs
 
--- src/settled.rt:70:36
 enum-told : tie.Need-enum-told
 enum-told c = search needs
 
--- src/settled.rt:70:44
 slice-aggregate-lay-quoted : tie.Need-slice-aggregate-lay-quoted
 slice-aggregate-lay-quoted c = search needs
 
--- src/settled.rt:70:25
 lay-quoted-requires : tie.Need-lay-quoted-requires
 lay-quoted-requires c κs = search needs
 
--- src/settled.rt:71:35
 enum-told-2 : tie.Need-enum-told-2
 enum-told-2 c = search needs
 
--- src/settled.rt:71:43
 slice-aggregate-lay-quoted-2 : tie.Need-slice-aggregate-lay-quoted-2
 slice-aggregate-lay-quoted-2 c = search needs
 
--- src/settled.rt:71:24
 lay-quoted-requires-2 : tie.Need-lay-quoted-requires-2
 lay-quoted-requires-2 c κs = search needs
 
--- src/settled.rt:65:1
 same-length : tie.Need-same-length
 same-length c = search needs
 
--- src/settled.rt:65:1
 returns : tie.Need-returns
 returns c = unescaped-string (λ (v : Value) (a : ValueAt (c .before .before .before .before .before .before .before .before .before .before .before .before .args .rule .now) (c .before .before .before .before .before .before .before .before .before .before .before .before .args .words .now) (c .before .before .before .before .before .before .before .before .before .before .before .before .args .i) v). rw (c .before .before .before .before .before .before .part .given .1) at (c .before .before .before .before .before .before .before .before .form-of .ensures v a)) (c .before .before .before .bytes-of .ensures) (c .before .before .lay-behind-first .ensures)
 
--- src/settled.rt:65:1
 same-length-2 : tie.Need-same-length-2
 same-length-2 c = search needs
 
--- src/settled.rt:65:1
 returns-2 : tie.Need-returns-2
 returns-2 c = unescaped-other (λ (v : Value) (a : ValueAt (c .before .before .before .before .before .before .before .before .before .before .before .args .rule .now) (c .before .before .before .before .before .before .before .before .before .before .before .args .words .now) (c .before .before .before .before .before .before .before .before .before .before .before .args .i) v). rw (c .before .before .before .before .before .enum-told .given .1) at (c .before .before .before .before .before .before .before .form-of .ensures v a) .1) (c .before .before .lay-quoted .ensures)
 
--- src/settled.rt:65:1
 same-length-3 : tie.Need-same-length-3
 same-length-3 c = search needs
 
--- src/settled.rt:65:1
 returns-3 : tie.Need-returns-3
 returns-3 c = unescaped-other (λ (v : Value) (a : ValueAt (c .before .before .before .before .before .before .before .before .before .before .before .args .rule .now) (c .before .before .before .before .before .before .before .before .before .before .before .args .words .now) (c .before .before .before .before .before .before .before .before .before .before .before .args .i) v). rw (c .before .before .before .before .before .enum-told2 .given .1) at (c .before .before .before .before .before .before .before .form-of .ensures v a) .1) (c .before .before .lay-quoted2 .ensures)
 

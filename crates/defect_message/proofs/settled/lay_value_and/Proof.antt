@@ -8,19 +8,15 @@ use Rattle.defect_message.proofs.settled.lay_value_and.Lts as lts
 use Rattle.buffer.proofs.lay.lay.Reads as lay-reads
 use Rattle.json_value.proofs.lay_value.Reads as lay-value-reads
 
--- src/settled.rt:35:9
 lay-value-requires : tie.Need-lay-value-requires
 lay-value-requires c κs = search needs
 
--- src/settled.rt:36:5
 lay-requires : tie.Need-lay-requires
 lay-requires c κs = search needs
 
--- src/settled.rt:32:1
 same-length : tie.Need-same-length
 same-length c = search needs
 
--- src/settled.rt:32:1
 returns : tie.Need-returns
 returns c = value-laid (omega arith) (c .before .before .before .before .before .before .lay-value .ensures) (c .before .before .lay .ensures)
 

@@ -9,49 +9,38 @@ use Rattle.defect_message.proofs.settled.lay_valued.Lts as lts
 use Rattle.defect_message.proofs.settled.lay_instant.Reads as lay-instant-reads
 use Rattle.defect_message.proofs.settled.lay_value_and.Reads as lay-value-and-reads
 
--- src/settled.rt:121:13
 slice-aggregate-lay-value-and : tie.Need-slice-aggregate-lay-value-and
 slice-aggregate-lay-value-and c = search needs
 
--- src/settled.rt:115:9
 lay-value-and-requires : tie.Need-lay-value-and-requires
 lay-value-and-requires c κs = search needs
 
--- src/settled.rt:115:9
 same-length : tie.Need-same-length
 same-length c = search needs
 
--- src/settled.rt:115:9
 returns : tie.Need-returns
 unfolding ascii
 returns c = valued-literal _ _ (c .before .before .before .before .before .if1 .taken) (c .before .before .lay-value-and .ensures)
 
--- src/settled.rt:131:13
 slice-aggregate-lay-value-and-2 : tie.Need-slice-aggregate-lay-value-and-2
 slice-aggregate-lay-value-and-2 c = search needs
 
--- src/settled.rt:125:9
 lay-value-and-requires-2 : tie.Need-lay-value-and-requires-2
 lay-value-and-requires-2 c κs = search needs
 
--- src/settled.rt:125:9
 same-length-2 : tie.Need-same-length-2
 same-length-2 c = search needs
 
--- src/settled.rt:125:9
 returns-2 : tie.Need-returns-2
 unfolding ascii
 returns-2 c = valued-affix _ _ (c .before .before .before .before .before .if2 .taken) (c .before .before .lay-value-and2 .ensures)
 
--- src/settled.rt:134:5
 lay-instant-requires : tie.Need-lay-instant-requires
 lay-instant-requires c κs = search needs
 
--- src/settled.rt:103:1
 same-length-3 : tie.Need-same-length-3
 same-length-3 c = search needs
 
--- src/settled.rt:103:1
 returns-3 : tie.Need-returns-3
 returns-3 c = valued-instant _ _ (c .before .before .before .before .before .if1 .left) (c .before .before .before .before .if2 .left) (c .before .before .lay-instant .ensures)
 

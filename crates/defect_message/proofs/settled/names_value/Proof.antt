@@ -7,17 +7,14 @@ use Rattle.defect_message.proofs.settled.names_value.Tie as tie
 use Rattle.defect_message.proofs.settled.names_value.Reads as reads
 use Rattle.defect_message.proofs.settled.names_value.Lts as lts
 
--- src/settled.rt:200:9
 returns : tie.Need-returns
 unfolding namesValue
 returns c = rw (c .if1 .taken)
 
--- src/settled.rt:203:9
 returns-2 : tie.Need-returns-2
 unfolding namesValue
 returns-2 c = rw (c .if2 .taken)
 
--- src/settled.rt:196:1
 returns-3 : tie.Need-returns-3
 unfolding namesValue
 returns-3 c = rw (ne-eqb _ 14 (c .before .if1 .left), ne-eqb _ 19 (c .if2 .left))

@@ -9,138 +9,106 @@ use Rattle.defect_message.proofs.words.lay_allowed.Reads as reads
 use Rattle.defect_message.proofs.words.lay_allowed.Lts as lts
 use Rattle.buffer.proofs.lay.lay.Reads as lay-reads
 
--- src/words.rt:104:13
 slice-aggregate-lay : tie.Need-slice-aggregate-lay
 slice-aggregate-lay c = search needs
 
--- src/words.rt:101:14
 lay-requires : tie.Need-lay-requires
 lay-requires c κs = search needs
 
--- src/words.rt:109:13
 slice-aggregate-lay-2 : tie.Need-slice-aggregate-lay-2
 slice-aggregate-lay-2 c = search needs
 
--- src/words.rt:106:14
 lay-requires-2 : tie.Need-lay-requires-2
 lay-requires-2 c κs = search needs
 
--- src/words.rt:114:13
 slice-aggregate-lay-3 : tie.Need-slice-aggregate-lay-3
 slice-aggregate-lay-3 c = search needs
 
--- src/words.rt:111:14
 lay-requires-3 : tie.Need-lay-requires-3
 lay-requires-3 c κs = search needs
 
--- src/words.rt:119:13
 slice-aggregate-lay-4 : tie.Need-slice-aggregate-lay-4
 slice-aggregate-lay-4 c = search needs
 
--- src/words.rt:116:14
 lay-requires-4 : tie.Need-lay-requires-4
 lay-requires-4 c κs = search needs
 
--- src/words.rt:124:13
 slice-aggregate-lay-5 : tie.Need-slice-aggregate-lay-5
 slice-aggregate-lay-5 c = search needs
 
--- src/words.rt:121:14
 lay-requires-5 : tie.Need-lay-requires-5
 lay-requires-5 c κs = search needs
 
--- src/words.rt:126:26
 slice-aggregate-lay-6 : tie.Need-slice-aggregate-lay-6
 slice-aggregate-lay-6 c = search needs
 
--- src/words.rt:126:14
 lay-requires-6 : tie.Need-lay-requires-6
 lay-requires-6 c κs = search needs
 
--- src/words.rt:130:13
 slice-aggregate-lay-7 : tie.Need-slice-aggregate-lay-7
 slice-aggregate-lay-7 c = search needs
 
--- src/words.rt:127:14
 lay-requires-7 : tie.Need-lay-requires-7
 lay-requires-7 c κs = search needs
 
--- src/words.rt:135:13
 slice-aggregate-lay-8 : tie.Need-slice-aggregate-lay-8
 slice-aggregate-lay-8 c = search needs
 
--- src/words.rt:132:14
 lay-requires-8 : tie.Need-lay-requires-8
 lay-requires-8 c κs = search needs
 
--- src/words.rt:97:1
 same-length : tie.Need-same-length
 same-length c = search needs
 
--- src/words.rt:97:1
 returns : tie.Need-returns
 unfolding allowed ascii
 returns c = rw (c .before .before .before .before .before .match .keys1) (c .before .before .lay .ensures)
 
--- src/words.rt:97:1
 same-length-2 : tie.Need-same-length-2
 same-length-2 c = search needs
 
--- src/words.rt:97:1
 returns-2 : tie.Need-returns-2
 unfolding allowed ascii
 returns-2 c = rw (c .before .before .before .before .before .match .keys2) (c .before .before .lay2 .ensures)
 
--- src/words.rt:97:1
 same-length-3 : tie.Need-same-length-3
 same-length-3 c = search needs
 
--- src/words.rt:97:1
 returns-3 : tie.Need-returns-3
 unfolding allowed ascii
 returns-3 c = rw (c .before .before .before .before .before .match .keys3) (c .before .before .lay3 .ensures)
 
--- src/words.rt:97:1
 same-length-4 : tie.Need-same-length-4
 same-length-4 c = search needs
 
--- src/words.rt:97:1
 returns-4 : tie.Need-returns-4
 unfolding allowed ascii
 returns-4 c = rw (c .before .before .before .before .before .match .keys4) (c .before .before .lay4 .ensures)
 
--- src/words.rt:97:1
 same-length-5 : tie.Need-same-length-5
 same-length-5 c = search needs
 
--- src/words.rt:97:1
 returns-5 : tie.Need-returns-5
 unfolding allowed ascii
 returns-5 c = rw (c .before .before .before .before .before .match .keys5) (c .before .before .lay5 .ensures)
 
--- src/words.rt:97:1
 same-length-6 : tie.Need-same-length-6
 same-length-6 c = search needs
 
--- src/words.rt:97:1
 returns-6 : tie.Need-returns-6
 unfolding allowed ascii
 returns-6 c = rw (c .before .before .before .before .before .match .keys6) (c .before .before .lay6 .ensures)
 
--- src/words.rt:97:1
 same-length-7 : tie.Need-same-length-7
 same-length-7 c = search needs
 
--- src/words.rt:97:1
 returns-7 : tie.Need-returns-7
 unfolding allowed ascii
 returns-7 c = rw (c .before .before .before .before .before .match .keys7) (c .before .before .lay7 .ensures)
 
--- src/words.rt:97:1
 same-length-8 : tie.Need-same-length-8
 same-length-8 c = search needs
 
--- src/words.rt:97:1
 returns-8 : tie.Need-returns-8
 unfolding allowed ascii
 returns-8 c = rw (allowed-last _ (c .before .before .before .before .before .match .rest .0 .0 .0 .0 .0 .0 .1) (c .before .before .before .before .before .match .rest .0 .0 .0 .0 .0 .1) (c .before .before .before .before .before .match .rest .0 .0 .0 .0 .1) (c .before .before .before .before .before .match .rest .0 .0 .0 .1) (c .before .before .before .before .before .match .rest .0 .0 .1) (c .before .before .before .before .before .match .rest .0 .1) (c .before .before .before .before .before .match .rest .1)) (c .before .before .lay8 .ensures)

@@ -8,27 +8,21 @@ use Rattle.defect_message.proofs.words.lay_both.Lts as lts
 use Rattle.buffer.proofs.lay.lay.Reads as lay-reads
 use Rattle.defect_message.proofs.words.lay_quoted.Reads as lay-quoted-reads
 
--- src/words.rt:31:9
 lay-quoted-requires : tie.Need-lay-quoted-requires
 lay-quoted-requires c κs = search needs
 
--- src/words.rt:32:9
 lay-requires : tie.Need-lay-requires
 lay-requires c κs = search needs
 
--- src/words.rt:33:9
 lay-quoted-requires-2 : tie.Need-lay-quoted-requires-2
 lay-quoted-requires-2 c κs = search needs
 
--- src/words.rt:34:5
 lay-requires-2 : tie.Need-lay-requires-2
 lay-requires-2 c κs = search needs
 
--- src/words.rt:21:1
 same-length : tie.Need-same-length
 same-length c = search needs
 
--- src/words.rt:21:1
 returns : tie.Need-returns
 returns c = laid-four (omega arith) (c .before .before .before .before .before .before .before .before .before .before .before .before .before .before .lay-quoted .ensures) (c .before .before .before .before .before .before .before .before .before .before .lay .ensures) (c .before .before .before .before .before .before .lay-quoted2 .ensures) (c .before .before .lay2 .ensures)
 

@@ -11,35 +11,27 @@ use Rattle.buffer.proofs.lay.lay.Reads as lay-reads
 use Rattle.defect_message.proofs.words.lay_allowed.Reads as lay-allowed-reads
 use Rattle.defect_message.proofs.words.lay_what.Reads as lay-what-reads
 
--- src/words.rt:144:25
 slice-aggregate-lay : tie.Need-slice-aggregate-lay
 slice-aggregate-lay c = search needs
 
--- src/words.rt:144:9
 lay-requires : tie.Need-lay-requires
 lay-requires c κs = search needs
 
--- src/words.rt:145:9
 lay-what-requires : tie.Need-lay-what-requires
 lay-what-requires c κs = search needs
 
--- src/words.rt:146:25
 slice-aggregate-lay-2 : tie.Need-slice-aggregate-lay-2
 slice-aggregate-lay-2 c = search needs
 
--- src/words.rt:146:9
 lay-requires-2 : tie.Need-lay-requires-2
 lay-requires-2 c κs = search needs
 
--- src/words.rt:147:5
 lay-allowed-requires : tie.Need-lay-allowed-requires
 lay-allowed-requires c κs = search needs
 
--- src/words.rt:141:1
 same-length : tie.Need-same-length
 same-length c = search needs
 
--- src/words.rt:141:1
 returns : tie.Need-returns
 unfolding mayRead ascii
 returns c = λ t. laid-four (omega arith) (c .before .before .before .before .before .before .before .before .before .before .before .before .before .before .before .lay .ensures) (c .before .before .before .before .before .before .before .before .before .before .before .lay-what .ensures) (c .before .before .before .before .before .before .lay2 .ensures) (c .before .before .lay-allowed .ensures)

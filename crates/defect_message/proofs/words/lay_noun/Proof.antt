@@ -10,119 +10,92 @@ use Rattle.defect_message.proofs.words.lay_noun.Reads as reads
 use Rattle.defect_message.proofs.words.lay_noun.Lts as lts
 use Rattle.buffer.proofs.lay.lay.Reads as lay-reads
 
--- src/words.rt:155:21
 enum-told : tie.Need-enum-told
 enum-told c = search needs
 
--- src/words.rt:156:25
 enum-told-2 : tie.Need-enum-told-2
 enum-told-2 c = search needs
 
--- src/words.rt:157:26
 enum-told-3 : tie.Need-enum-told-3
 enum-told-3 c = search needs
 
--- src/words.rt:158:29
 enum-told-4 : tie.Need-enum-told-4
 enum-told-4 c = search needs
 
--- src/words.rt:158:37
 slice-aggregate-lay : tie.Need-slice-aggregate-lay
 slice-aggregate-lay c = search needs
 
--- src/words.rt:158:25
 lay-requires : tie.Need-lay-requires
 lay-requires c κs = search needs
 
--- src/words.rt:159:24
 enum-told-5 : tie.Need-enum-told-5
 enum-told-5 c = search needs
 
--- src/words.rt:160:26
 enum-told-6 : tie.Need-enum-told-6
 enum-told-6 c = search needs
 
--- src/words.rt:161:28
 enum-told-7 : tie.Need-enum-told-7
 enum-told-7 c = search needs
 
--- src/words.rt:162:27
 enum-told-8 : tie.Need-enum-told-8
 enum-told-8 c = search needs
 
--- src/words.rt:162:35
 slice-aggregate-lay-2 : tie.Need-slice-aggregate-lay-2
 slice-aggregate-lay-2 c = search needs
 
--- src/words.rt:162:23
 lay-requires-2 : tie.Need-lay-requires-2
 lay-requires-2 c κs = search needs
 
--- src/words.rt:163:32
 enum-told-9 : tie.Need-enum-told-9
 enum-told-9 c = search needs
 
--- src/words.rt:163:40
 slice-aggregate-lay-3 : tie.Need-slice-aggregate-lay-3
 slice-aggregate-lay-3 c = search needs
 
--- src/words.rt:163:28
 lay-requires-3 : tie.Need-lay-requires-3
 lay-requires-3 c κs = search needs
 
--- src/words.rt:151:1
 returns : tie.Need-returns
 unfolding nameIs nounOf
 returns c = rw (c .enum-told .given .1) (laid-nothing _ _ (omega arith))
 
--- src/words.rt:151:1
 returns-2 : tie.Need-returns-2
 unfolding nameIs nounOf
 returns-2 c = rw (c .enum-told2 .given .1) (laid-nothing _ _ (omega arith))
 
--- src/words.rt:151:1
 returns-3 : tie.Need-returns-3
 unfolding nameIs nounOf
 returns-3 c = rw (c .enum-told3 .given .1) (laid-nothing _ _ (omega arith))
 
--- src/words.rt:151:1
 same-length : tie.Need-same-length
 same-length c = search needs
 
--- src/words.rt:151:1
 returns-4 : tie.Need-returns-4
 unfolding nameIs nounOf ascii
 returns-4 c = rw (c .before .before .before .before .before .enum-told4 .given .1) (c .before .before .lay .ensures)
 
--- src/words.rt:151:1
 returns-5 : tie.Need-returns-5
 unfolding nameIs nounOf
 returns-5 c = rw (c .enum-told5 .given .1) (laid-nothing _ _ (omega arith))
 
--- src/words.rt:151:1
 returns-6 : tie.Need-returns-6
 unfolding nameIs nounOf
 returns-6 c = rw (c .enum-told6 .given .1) (laid-nothing _ _ (omega arith))
 
--- src/words.rt:151:1
 returns-7 : tie.Need-returns-7
 unfolding nameIs nounOf
 returns-7 c = rw (c .enum-told7 .given .1) (laid-nothing _ _ (omega arith))
 
--- src/words.rt:151:1
 same-length-2 : tie.Need-same-length-2
 same-length-2 c = search needs
 
--- src/words.rt:151:1
 returns-8 : tie.Need-returns-8
 unfolding nameIs nounOf ascii
 returns-8 c = rw (c .before .before .before .before .before .enum-told8 .given .1) (c .before .before .lay2 .ensures)
 
--- src/words.rt:151:1
 same-length-3 : tie.Need-same-length-3
 same-length-3 c = search needs
 
--- src/words.rt:151:1
 returns-9 : tie.Need-returns-9
 unfolding nameIs nounOf ascii
 returns-9 c = rw (c .before .before .before .before .before .enum-told9 .given .1) (c .before .before .lay3 .ensures)

@@ -10,23 +10,18 @@ use Rattle.defect_message.proofs.words.lay_quoted.Lts as lts
 use Rattle.buffer.proofs.lay.lay.Reads as lay-reads
 use Rattle.buffer.proofs.lay.lay_byte.Reads as lay-byte-reads
 
--- src/words.rt:15:9
 lay-byte-requires : tie.Need-lay-byte-requires
 lay-byte-requires c κs = search needs
 
--- src/words.rt:16:9
 lay-requires : tie.Need-lay-requires
 lay-requires c κs = search needs
 
--- src/words.rt:17:5
 lay-byte-requires-2 : tie.Need-lay-byte-requires-2
 lay-byte-requires-2 c κs = search needs
 
--- src/words.rt:12:1
 same-length : tie.Need-same-length
 same-length c = search needs
 
--- src/words.rt:12:1
 returns : tie.Need-returns
 unfolding inQuotes ascii
 returns c = laid-three (omega arith) (c .before .before .before .before .before .before .before .before .before .before .lay-byte .ensures) (c .before .before .before .before .before .before .lay .ensures) (c .before .before .lay-byte2 .ensures)

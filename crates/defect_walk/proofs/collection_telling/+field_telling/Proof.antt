@@ -35,80 +35,61 @@ field-telling-below t =
 abbrev cs-field-telling : ℕ → field-telling-lts.Claims
 cs-field-telling t = (indexed-field-reads.Asked, indexed-field-reads.Learnt, first-end-reads.Asked, first-end-reads.Learnt, field-step-reads.Asked, field-step-reads.Learnt, element-telling-reads.Asked, element-telling-reads.Learnt, field-telling-below t, field-telling.Post)
 
--- src/collection_telling.rt:64:9
 field-telling-indexed-field-requires : (t : ℕ) → field-telling-lts.Need-indexed-field-requires (cs-field-telling t) (field-telling-at t) field-telling.Post
 field-telling-indexed-field-requires t c κs = search needs
 
--- src/collection_telling.rt:65:9
 field-telling-first-end-requires : (t : ℕ) → field-telling-lts.Need-first-end-requires (cs-field-telling t) (field-telling-at t) field-telling.Post
 field-telling-first-end-requires t c κs = search needs
 
--- src/collection_telling.rt:66:44
 field-telling-slice-aggregate-field-step :
     (t : ℕ) → field-telling-lts.Need-slice-aggregate-field-step (cs-field-telling t) (field-telling-at t) field-telling.Post
 field-telling-slice-aggregate-field-step t c = search (ends-length, needs)
 
--- src/collection_telling.rt:66:11
 field-telling-field-step-requires : (t : ℕ) → field-telling-lts.Need-field-step-requires (cs-field-telling t) (field-telling-at t) field-telling.Post
 field-telling-field-step-requires t c κs = search needs
 
--- src/collection_telling.rt:67:27
 field-telling-enum-known-fault : (t : ℕ) → field-telling-lts.Need-enum-known-fault (cs-field-telling t) (field-telling-at t) field-telling.Post
 field-telling-enum-known-fault t c = search needs
 
--- src/collection_telling.rt:68:28
 field-telling-enum-told : (t : ℕ) → field-telling-lts.Need-enum-told (cs-field-telling t) (field-telling-at t) field-telling.Post
 field-telling-enum-told t c = search needs
 
--- src/collection_telling.rt:69:25
 field-telling-enum-known-next : (t : ℕ) → field-telling-lts.Need-enum-known-next (cs-field-telling t) (field-telling-at t) field-telling.Post
 field-telling-enum-known-next t c = search needs
 
--- src/collection_telling.rt:71:17
 field-telling-element-telling-requires : (t : ℕ) → field-telling-lts.Need-element-telling-requires (cs-field-telling t) (field-telling-at t) field-telling.Post
 field-telling-element-telling-requires t c κs = search needs
 
--- src/collection_telling.rt:71:17
 field-telling-returns : (t : ℕ) → field-telling-lts.Need-returns (cs-field-telling t) (field-telling-at t) field-telling.Post
 field-telling-returns t c = search (field-last, needs)
 
--- src/collection_telling.rt:73:54
 field-telling-add-field-telling : (t : ℕ) → field-telling-lts.Need-add-field-telling (cs-field-telling t) (field-telling-at t) field-telling.Post
 field-telling-add-field-telling t c = search (ends-within, needs)
 
--- src/collection_telling.rt:73:48
 field-telling-sub-field-telling : (t : ℕ) → field-telling-lts.Need-sub-field-telling (cs-field-telling t) (field-telling-at t) field-telling.Post
 field-telling-sub-field-telling t c = search needs
 
--- src/collection_telling.rt:73:48
 field-telling-part-field-telling-start : (t : ℕ) → field-telling-lts.Need-part-field-telling-start (cs-field-telling t) (field-telling-at t) field-telling.Post
 field-telling-part-field-telling-start t c = search needs
 
--- src/collection_telling.rt:73:48
 field-telling-part-field-telling-end : (t : ℕ) → field-telling-lts.Need-part-field-telling-end (cs-field-telling t) (field-telling-at t) field-telling.Post
 field-telling-part-field-telling-end t c = search needs
 
--- src/collection_telling.rt:73:66
 field-telling-add-field-telling-2 : (t : ℕ) → field-telling-lts.Need-add-field-telling-2 (cs-field-telling t) (field-telling-at t) field-telling.Post
 field-telling-add-field-telling-2 t c = search (ends-within, needs)
 
--- src/collection_telling.rt:73:66
 field-telling-add-field-telling-3 : (t : ℕ) → field-telling-lts.Need-add-field-telling-3 (cs-field-telling t) (field-telling-at t) field-telling.Post
 field-telling-add-field-telling-3 t c = search (ends-within, needs)
 
--- src/collection_telling.rt:73:13
 field-telling-field-telling-requires : (t : ℕ) → field-telling-lts.Need-field-telling-requires (cs-field-telling t) (field-telling-at t) field-telling.Post
 field-telling-field-telling-requires t c κs = search (ends-within, needs)
 
--- src/collection_telling.rt:54:1
 field-telling-returns-2 : (t : ℕ) → field-telling-lts.Need-returns-2 (cs-field-telling t) (field-telling-at t) field-telling.Post
 field-telling-returns-2 t c = search (field-refused, needs)
 
--- src/collection_telling.rt:54:1
 field-telling-returns-3 : (t : ℕ) → field-telling-lts.Need-returns-3 (cs-field-telling t) (field-telling-at t) field-telling.Post
 field-telling-returns-3 t c = search (field-free, needs)
 
--- src/collection_telling.rt:54:1
 field-telling-returns-4 : (t : ℕ) → field-telling-lts.Need-returns-4 (cs-field-telling t) (field-telling-at t) field-telling.Post
 field-telling-returns-4 t c = search (field-into, needs)
 

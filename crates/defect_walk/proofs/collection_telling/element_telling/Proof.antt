@@ -7,19 +7,15 @@ use Rattle.defect_walk.proofs.collection_telling.element_telling.Reads 
 use Rattle.defect_walk.proofs.collection_telling.element_telling.Lts as lts
 use Rattle.schema.proofs.index.indexed_field.Reads as indexed-field-reads
 
--- src/collection_telling.rt:43:16
 indexed-field-requires : tie.Need-indexed-field-requires
 indexed-field-requires c κs = search needs
 
--- src/collection_telling.rt:45:9
 returns : tie.Need-returns
 returns c = search (element-array, needs)
 
--- src/collection_telling.rt:48:9
 returns-2 : tie.Need-returns-2
 returns-2 c = search (element-map, needs)
 
--- src/collection_telling.rt:40:1
 returns-3 : tie.Need-returns-3
 returns-3 c = search (element-other, needs)
 

@@ -9,79 +9,60 @@ use Rattle.defect_walk.proofs.collection_telling.root_collecting.Reads 
 use Rattle.scope.proofs.name.name_of.Reads as name-of-reads
 use Rattle.scope.proofs.root.root_of.Reads as root-of-reads
 
--- src/collection_telling.rt:113:9
 returns : tie.Need-returns
 returns c = search (name-short, needs)
 
--- src/collection_telling.rt:115:35
 slice-aggregate-name-of : tie.Need-slice-aggregate-name-of
 slice-aggregate-name-of c = search (part-shorter, needs)
 
--- src/collection_telling.rt:115:27
 name-of-requires : tie.Need-name-of-requires
 name-of-requires c κs = search needs
 
--- src/collection_telling.rt:115:19
 enum-known-name : tie.Need-enum-known-name
 enum-known-name c = search needs
 
--- src/collection_telling.rt:116:9
 enum-told : tie.Need-enum-told
 enum-told c = search needs
 
--- src/collection_telling.rt:116:9
 returns-2 : tie.Need-returns-2
 returns-2 c = search (name-none, needs)
 
--- src/collection_telling.rt:119:11
 root-of-requires : tie.Need-root-of-requires
 root-of-requires c κs = search needs
 
--- src/collection_telling.rt:120:26
 enum-told-2 : tie.Need-enum-told-2
 enum-told-2 c = search needs
 
--- src/collection_telling.rt:121:26
 enum-told-3 : tie.Need-enum-told-3
 enum-told-3 c = search needs
 
--- src/collection_telling.rt:122:21
 enum-known-holder : tie.Need-enum-known-holder
 enum-known-holder c = search needs
 
--- src/collection_telling.rt:122:77
 add-root-collecting : tie.Need-add-root-collecting
 add-root-collecting c = search needs
 
--- src/collection_telling.rt:122:71
 sub-root-collecting : tie.Need-sub-root-collecting
 sub-root-collecting c = search needs
 
--- src/collection_telling.rt:122:71
 part-root-collecting-start : tie.Need-part-root-collecting-start
 part-root-collecting-start c = search needs
 
--- src/collection_telling.rt:122:71
 part-root-collecting-end : tie.Need-part-root-collecting-end
 part-root-collecting-end c = search needs
 
--- src/collection_telling.rt:122:89
 add-root-collecting-2 : tie.Need-add-root-collecting-2
 add-root-collecting-2 c = search needs
 
--- src/collection_telling.rt:122:32
 root-collecting-requires : tie.Need-root-collecting-requires
 root-collecting-requires c κs = search needs
 
--- src/collection_telling.rt:103:1
 returns-3 : tie.Need-returns-3
 returns-3 c = search (name-no-path, needs)
 
--- src/collection_telling.rt:103:1
 returns-4 : tie.Need-returns-4
 returns-4 c = search (name-absent, needs)
 
--- src/collection_telling.rt:103:1
 returns-5 : tie.Need-returns-5
 returns-5 c = search (name-rooted, needs)
 

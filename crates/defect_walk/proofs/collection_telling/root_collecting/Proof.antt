@@ -11,71 +11,54 @@ use Rattle.defect_walk.proofs.collection_telling.field_telling.Reads as
 use Rattle.schema.proofs.lookup.lookup.Reads as lookup-reads
 use Rattle.walk.proofs.path.first_end.Reads as first-end-reads
 
--- src/collection_telling.rt:89:9
 first-end-requires : tie.Need-first-end-requires
 first-end-requires c κs = search needs
 
--- src/collection_telling.rt:90:57
 slice-aggregate-lookup : tie.Need-slice-aggregate-lookup
 slice-aggregate-lookup c = search (ends-length, needs)
 
--- src/collection_telling.rt:90:27
 lookup-requires : tie.Need-lookup-requires
 lookup-requires c κs = search needs
 
--- src/collection_telling.rt:90:19
 enum-known-slot : tie.Need-enum-known-slot
 enum-known-slot c = search needs
 
--- src/collection_telling.rt:91:12
 enum-told : tie.Need-enum-told
 enum-told c = search needs
 
--- src/collection_telling.rt:92:13
 returns : tie.Need-returns
 returns c = search (collects-open, needs)
 
--- src/collection_telling.rt:94:9
 returns-2 : tie.Need-returns-2
 returns-2 c = search (collects-closed, needs)
 
--- src/collection_telling.rt:97:9
 element-telling-requires : tie.Need-element-telling-requires
 element-telling-requires c κs = search needs
 
--- src/collection_telling.rt:97:9
 returns-3 : tie.Need-returns-3
 returns-3 c = search (collects-last, needs)
 
--- src/collection_telling.rt:99:46
 add-field-telling : tie.Need-add-field-telling
 add-field-telling c = search needs
 
--- src/collection_telling.rt:99:40
 sub-field-telling : tie.Need-sub-field-telling
 sub-field-telling c = search needs
 
--- src/collection_telling.rt:99:40
 part-field-telling-start : tie.Need-part-field-telling-start
 part-field-telling-start c = search needs
 
--- src/collection_telling.rt:99:40
 part-field-telling-end : tie.Need-part-field-telling-end
 part-field-telling-end c = search needs
 
--- src/collection_telling.rt:99:58
 add-field-telling-2 : tie.Need-add-field-telling-2
 add-field-telling-2 c = search needs
 
--- src/collection_telling.rt:99:58
 add-field-telling-3 : tie.Need-add-field-telling-3
 add-field-telling-3 c = search needs
 
--- src/collection_telling.rt:99:5
 field-telling-requires : tie.Need-field-telling-requires
 field-telling-requires c κs = search needs
 
--- src/collection_telling.rt:79:1
 returns-4 : tie.Need-returns-4
 returns-4 c = search (collects-more, needs)
 

@@ -12,83 +12,63 @@ use Rattle.scope.proofs.binder.find_binder.Reads as find-binder-reads
 use Rattle.scope.proofs.collections.begins_with_dollar.Reads as begins-with-dollar-reads
 use Rattle.walk.proofs.path.first_end.Reads as first-end-reads
 
--- src/collection_telling.rt:137:9
 first-end-requires : tie.Need-first-end-requires
 first-end-requires c κs = search needs
 
--- src/collection_telling.rt:138:55
 slice-aggregate-find-binder : tie.Need-slice-aggregate-find-binder
 slice-aggregate-find-binder c = search (ends-length, needs)
 
--- src/collection_telling.rt:138:30
 find-binder-requires : tie.Need-find-binder-requires
 find-binder-requires c κs = search needs
 
--- src/collection_telling.rt:138:19
 enum-known-element : tie.Need-enum-known-element
 enum-known-element c = search needs
 
--- src/collection_telling.rt:139:12
 enum-told : tie.Need-enum-told
 enum-told c = search needs
 
--- src/collection_telling.rt:139:12
 begins-with-dollar-requires : tie.Need-begins-with-dollar-requires
 begins-with-dollar-requires c κs = search needs
 
--- src/collection_telling.rt:140:13
 name-collecting-requires : tie.Need-name-collecting-requires
 name-collecting-requires c κs = search needs
 
--- src/collection_telling.rt:140:13
 returns : tie.Need-returns
 returns c = search (text-free, needs)
 
--- src/collection_telling.rt:142:9
 returns-2 : tie.Need-returns-2
 returns-2 c = search (text-none, needs)
 
--- src/collection_telling.rt:144:24
 enum-known-element-2 : tie.Need-enum-known-element-2
 enum-known-element-2 c = search needs
 
--- src/collection_telling.rt:145:9
 enum-told-2 : tie.Need-enum-told-2
 enum-told-2 c = search needs
 
--- src/collection_telling.rt:145:9
 returns-3 : tie.Need-returns-3
 returns-3 c = search (text-unknown, needs)
 
--- src/collection_telling.rt:148:9
 returns-4 : tie.Need-returns-4
 returns-4 c = search (text-last, needs)
 
--- src/collection_telling.rt:150:48
 add-field-telling : tie.Need-add-field-telling
 add-field-telling c = search needs
 
--- src/collection_telling.rt:150:40
 sub-field-telling : tie.Need-sub-field-telling
 sub-field-telling c = search needs
 
--- src/collection_telling.rt:150:40
 part-field-telling-start : tie.Need-part-field-telling-start
 part-field-telling-start c = search needs
 
--- src/collection_telling.rt:150:40
 part-field-telling-end : tie.Need-part-field-telling-end
 part-field-telling-end c = search needs
 
--- src/collection_telling.rt:150:60
 add-field-telling-2 : tie.Need-add-field-telling-2
 add-field-telling-2 c = search needs
 
--- src/collection_telling.rt:150:5
 field-telling-requires : tie.Need-field-telling-requires
 field-telling-requires c κs = search needs
 
--- src/collection_telling.rt:127:1
 returns-5 : tie.Need-returns-5
 returns-5 c = search (text-more, needs)
 

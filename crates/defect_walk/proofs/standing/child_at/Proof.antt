@@ -14,27 +14,21 @@ Inv-loop words start end target word₀ next₀ word next = Searching words star
 abbrev μ-loop : tie.MeasureT-loop
 μ-loop words start end target word₀ next₀ word next = end - word
 
--- src/standing.rt:30:9
 behind-requires : tie.Need-behind-requires Inv-loop μ-loop
 behind-requires c κs = search needs
 
--- src/standing.rt:31:5
 loop-holds : tie.Need-loop-holds Inv-loop μ-loop
 loop-holds c = search (searching-start, needs)
 
--- src/standing.rt:33:9
 behind-requires-2 : tie.Need-behind-requires-2 Inv-loop μ-loop
 behind-requires-2 c κs = search needs
 
--- src/standing.rt:31:5
 loop-less : tie.Need-loop-less Inv-loop μ-loop
 loop-less c = omega (arith, c .before .before .loop .inv .behind .past (c .before .before .loop .inv .inside))
 
--- src/standing.rt:31:5
 loop-again : tie.Need-loop-again Inv-loop μ-loop
 loop-again c = search (searching-more, needs)
 
--- src/standing.rt:25:1
 returns : tie.Need-returns Inv-loop μ-loop
 returns c = search (searching-end, needs)
 

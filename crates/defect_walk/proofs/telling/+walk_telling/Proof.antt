@@ -33,87 +33,66 @@ walk-telling-below t =
 abbrev cs-walk-telling : ℕ → walk-telling-lts.Claims
 cs-walk-telling t = (indexed-field-reads.Asked, indexed-field-reads.Learnt, first-end-reads.Asked, first-end-reads.Learnt, walk-step-reads.Asked, walk-step-reads.Learnt, walk-telling-below t, walk-telling.Post)
 
--- src/telling.rt:50:9
 walk-telling-indexed-field-requires : (t : ℕ) → walk-telling-lts.Need-indexed-field-requires (cs-walk-telling t) (walk-telling-at t) walk-telling.Post
 walk-telling-indexed-field-requires t c κs = search needs
 
--- src/telling.rt:51:9
 walk-telling-first-end-requires : (t : ℕ) → walk-telling-lts.Need-first-end-requires (cs-walk-telling t) (walk-telling-at t) walk-telling.Post
 walk-telling-first-end-requires t c κs = search needs
 
--- src/telling.rt:52:43
 walk-telling-slice-aggregate-walk-step : (t : ℕ) → walk-telling-lts.Need-slice-aggregate-walk-step (cs-walk-telling t) (walk-telling-at t) walk-telling.Post
 walk-telling-slice-aggregate-walk-step t c = search (ends-length, needs)
 
--- src/telling.rt:52:11
 walk-telling-walk-step-requires : (t : ℕ) → walk-telling-lts.Need-walk-step-requires (cs-walk-telling t) (walk-telling-at t) walk-telling.Post
 walk-telling-walk-step-requires t c κs = search needs
 
--- src/telling.rt:53:26
 walk-telling-enum-known-fault : (t : ℕ) → walk-telling-lts.Need-enum-known-fault (cs-walk-telling t) (walk-telling-at t) walk-telling.Post
 walk-telling-enum-known-fault t c = search needs
 
--- src/telling.rt:54:24
 walk-telling-enum-known-fault-2 : (t : ℕ) → walk-telling-lts.Need-enum-known-fault-2 (cs-walk-telling t) (walk-telling-at t) walk-telling.Post
 walk-telling-enum-known-fault-2 t c = search needs
 
--- src/telling.rt:56:17
 walk-telling-returns : (t : ℕ) → walk-telling-lts.Need-returns (cs-walk-telling t) (walk-telling-at t) walk-telling.Post
 walk-telling-returns t c = search (tells-last, needs)
 
--- src/telling.rt:60:27
 walk-telling-enum-told : (t : ℕ) → walk-telling-lts.Need-enum-told (cs-walk-telling t) (walk-telling-at t) walk-telling.Post
 walk-telling-enum-told t c = search needs
 
--- src/telling.rt:61:24
 walk-telling-enum-known-next : (t : ℕ) → walk-telling-lts.Need-enum-known-next (cs-walk-telling t) (walk-telling-at t) walk-telling.Post
 walk-telling-enum-known-next t c = search needs
 
--- src/telling.rt:63:17
 walk-telling-returns-2 : (t : ℕ) → walk-telling-lts.Need-returns-2 (cs-walk-telling t) (walk-telling-at t) walk-telling.Post
 walk-telling-returns-2 t c = search (tells-arrived, needs)
 
--- src/telling.rt:69:23
 walk-telling-add-walk-telling : (t : ℕ) → walk-telling-lts.Need-add-walk-telling (cs-walk-telling t) (walk-telling-at t) walk-telling.Post
 walk-telling-add-walk-telling t c = search (ends-within, needs)
 
--- src/telling.rt:69:17
 walk-telling-sub-walk-telling : (t : ℕ) → walk-telling-lts.Need-sub-walk-telling (cs-walk-telling t) (walk-telling-at t) walk-telling.Post
 walk-telling-sub-walk-telling t c = search needs
 
--- src/telling.rt:69:17
 walk-telling-part-walk-telling-start : (t : ℕ) → walk-telling-lts.Need-part-walk-telling-start (cs-walk-telling t) (walk-telling-at t) walk-telling.Post
 walk-telling-part-walk-telling-start t c = search needs
 
--- src/telling.rt:69:17
 walk-telling-part-walk-telling-end : (t : ℕ) → walk-telling-lts.Need-part-walk-telling-end (cs-walk-telling t) (walk-telling-at t) walk-telling.Post
 walk-telling-part-walk-telling-end t c = search needs
 
--- src/telling.rt:71:17
 walk-telling-add-walk-telling-2 : (t : ℕ) → walk-telling-lts.Need-add-walk-telling-2 (cs-walk-telling t) (walk-telling-at t) walk-telling.Post
 walk-telling-add-walk-telling-2 t c = search (ends-within, needs)
 
--- src/telling.rt:71:17
 walk-telling-add-walk-telling-3 : (t : ℕ) → walk-telling-lts.Need-add-walk-telling-3 (cs-walk-telling t) (walk-telling-at t) walk-telling.Post
 walk-telling-add-walk-telling-3 t c = search (ends-within, needs)
 
--- src/telling.rt:65:13
 walk-telling-walk-telling-requires : (t : ℕ) → walk-telling-lts.Need-walk-telling-requires (cs-walk-telling t) (walk-telling-at t) walk-telling.Post
 walk-telling-walk-telling-requires t c κs = search (ends-within, needs)
 
--- src/telling.rt:38:1
 walk-telling-returns-3 : (t : ℕ) → walk-telling-lts.Need-returns-3 (cs-walk-telling t) (walk-telling-at t) walk-telling.Post
 walk-telling-returns-3 t c = search (tells-refused, needs)
 
--- src/telling.rt:38:1
 walk-telling-returns-4 : (t : ℕ) → walk-telling-lts.Need-returns-4 (cs-walk-telling t) (walk-telling-at t) walk-telling.Post
 walk-telling-returns-4 t c = search (tells-behind, needs)
 
--- src/telling.rt:38:1
 walk-telling-returns-5 : (t : ℕ) → walk-telling-lts.Need-returns-5 (cs-walk-telling t) (walk-telling-at t) walk-telling.Post
 walk-telling-returns-5 t c = search (tells-free, needs)
 
--- src/telling.rt:38:1
 walk-telling-returns-6 : (t : ℕ) → walk-telling-lts.Need-returns-6 (cs-walk-telling t) (walk-telling-at t) walk-telling.Post
 walk-telling-returns-6 t c = search (tells-into, needs)
 

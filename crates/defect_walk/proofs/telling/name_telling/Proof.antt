@@ -10,67 +10,51 @@ use Rattle.defect_walk.proofs.telling.named_telling.Reads as named-tell
 use Rattle.scope.proofs.name.may_read.Reads as may-read-reads
 use Rattle.scope.proofs.name.name_of.Reads as name-of-reads
 
--- src/telling.rt:147:9
 returns : tie.Need-returns
 returns c = search (name-behind, needs)
 
--- src/telling.rt:149:35
 slice-aggregate-name-of : tie.Need-slice-aggregate-name-of
 slice-aggregate-name-of c = search (part-length, needs)
 
--- src/telling.rt:149:27
 name-of-requires : tie.Need-name-of-requires
 name-of-requires c κs = search needs
 
--- src/telling.rt:149:19
 enum-known-name : tie.Need-enum-known-name
 enum-known-name c = search needs
 
--- src/telling.rt:150:9
 enum-told : tie.Need-enum-told
 enum-told c = search needs
 
--- src/telling.rt:150:9
 returns-2 : tie.Need-returns-2
 returns-2 c = search (name-none, needs)
 
--- src/telling.rt:153:64
 add-named-telling : tie.Need-add-named-telling
 add-named-telling c = search needs
 
--- src/telling.rt:153:58
 sub-named-telling : tie.Need-sub-named-telling
 sub-named-telling c = search needs
 
--- src/telling.rt:153:58
 part-named-telling-start : tie.Need-part-named-telling-start
 part-named-telling-start c = search needs
 
--- src/telling.rt:153:58
 part-named-telling-end : tie.Need-part-named-telling-end
 part-named-telling-end c = search needs
 
--- src/telling.rt:153:76
 add-named-telling-2 : tie.Need-add-named-telling-2
 add-named-telling-2 c = search needs
 
--- src/telling.rt:153:9
 named-telling-requires : tie.Need-named-telling-requires
 named-telling-requires c κs = search needs
 
--- src/telling.rt:153:9
 returns-3 : tie.Need-returns-3
 returns-3 c = search (name-rooted, needs)
 
--- src/telling.rt:156:8
 may-read-requires : tie.Need-may-read-requires
 may-read-requires c κs = search needs
 
--- src/telling.rt:157:9
 returns-4 : tie.Need-returns-4
 returns-4 c = search (name-read, needs)
 
--- src/telling.rt:142:1
 returns-5 : tie.Need-returns-5
 returns-5 c = search (name-refused, needs)
 

@@ -9,43 +9,33 @@ use Rattle.defect_walk.proofs.telling.root_telling.Reads as root-tellin
 use Rattle.scope.proofs.name.may_read.Reads as may-read-reads
 use Rattle.scope.proofs.root.root_of.Reads as root-of-reads
 
--- src/telling.rt:128:11
 root-of-requires : tie.Need-root-of-requires
 root-of-requires c κs = search needs
 
--- src/telling.rt:129:26
 enum-told : tie.Need-enum-told
 enum-told c = search needs
 
--- src/telling.rt:130:26
 enum-told-2 : tie.Need-enum-told-2
 enum-told-2 c = search needs
 
--- src/telling.rt:131:21
 enum-known-holder : tie.Need-enum-known-holder
 enum-known-holder c = search needs
 
--- src/telling.rt:133:16
 may-read-requires : tie.Need-may-read-requires
 may-read-requires c κs = search needs
 
--- src/telling.rt:134:17
 root-telling-requires : tie.Need-root-telling-requires
 root-telling-requires c κs = search needs
 
--- src/telling.rt:134:17
 returns : tie.Need-returns
 returns c = search (named-read, needs)
 
--- src/telling.rt:116:1
 returns-2 : tie.Need-returns-2
 returns-2 c = search (named-no-path, needs)
 
--- src/telling.rt:116:1
 returns-3 : tie.Need-returns-3
 returns-3 c = search (named-absent, needs)
 
--- src/telling.rt:116:1
 returns-4 : tie.Need-returns-4
 returns-4 c = search (named-unread, needs)
 

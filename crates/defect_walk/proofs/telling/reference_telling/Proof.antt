@@ -11,75 +11,57 @@ use Rattle.defect_walk.proofs.telling.walk_telling.Reads as walk-tellin
 use Rattle.scope.proofs.binder.find_binder.Reads as find-binder-reads
 use Rattle.walk.proofs.path.first_end.Reads as first-end-reads
 
--- src/telling.rt:173:9
 first-end-requires : tie.Need-first-end-requires
 first-end-requires c κs = search needs
 
--- src/telling.rt:174:55
 slice-aggregate-find-binder : tie.Need-slice-aggregate-find-binder
 slice-aggregate-find-binder c = search (ends-length, needs)
 
--- src/telling.rt:174:30
 find-binder-requires : tie.Need-find-binder-requires
 find-binder-requires c κs = search needs
 
--- src/telling.rt:174:19
 enum-known-element : tie.Need-enum-known-element
 enum-known-element c = search needs
 
--- src/telling.rt:175:9
 enum-told : tie.Need-enum-told
 enum-told c = search needs
 
--- src/telling.rt:175:9
 name-telling-requires : tie.Need-name-telling-requires
 name-telling-requires c κs = search needs
 
--- src/telling.rt:175:9
 returns : tie.Need-returns
 returns c = search (reference-free, needs)
 
--- src/telling.rt:177:24
 enum-known-element-2 : tie.Need-enum-known-element-2
 enum-known-element-2 c = search needs
 
--- src/telling.rt:178:9
 enum-told-2 : tie.Need-enum-told-2
 enum-told-2 c = search needs
 
--- src/telling.rt:178:9
 returns-2 : tie.Need-returns-2
 returns-2 c = search (reference-unknown, needs)
 
--- src/telling.rt:181:9
 returns-3 : tie.Need-returns-3
 returns-3 c = search (reference-whole, needs)
 
--- src/telling.rt:187:15
 add-walk-telling : tie.Need-add-walk-telling
 add-walk-telling c = search needs
 
--- src/telling.rt:187:9
 sub-walk-telling : tie.Need-sub-walk-telling
 sub-walk-telling c = search needs
 
--- src/telling.rt:187:9
 part-walk-telling-start : tie.Need-part-walk-telling-start
 part-walk-telling-start c = search needs
 
--- src/telling.rt:187:9
 part-walk-telling-end : tie.Need-part-walk-telling-end
 part-walk-telling-end c = search needs
 
--- src/telling.rt:189:9
 add-walk-telling-2 : tie.Need-add-walk-telling-2
 add-walk-telling-2 c = search needs
 
--- src/telling.rt:183:5
 walk-telling-requires : tie.Need-walk-telling-requires
 walk-telling-requires c κs = search needs
 
--- src/telling.rt:163:1
 returns-4 : tie.Need-returns-4
 returns-4 c = search (reference-path, needs)
 

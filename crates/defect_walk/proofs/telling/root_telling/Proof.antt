@@ -10,71 +10,54 @@ use Rattle.defect_walk.proofs.telling.walk_telling.Reads as walk-tellin
 use Rattle.schema.proofs.lookup.lookup.Reads as lookup-reads
 use Rattle.walk.proofs.path.first_end.Reads as first-end-reads
 
--- src/telling.rt:91:9
 first-end-requires : tie.Need-first-end-requires
 first-end-requires c κs = search needs
 
--- src/telling.rt:93:9
 returns : tie.Need-returns
 returns c = search (root-empty, needs)
 
--- src/telling.rt:95:57
 slice-aggregate-lookup : tie.Need-slice-aggregate-lookup
 slice-aggregate-lookup c = search (ends-length, needs)
 
--- src/telling.rt:95:27
 lookup-requires : tie.Need-lookup-requires
 lookup-requires c κs = search needs
 
--- src/telling.rt:95:19
 enum-known-slot : tie.Need-enum-known-slot
 enum-known-slot c = search needs
 
--- src/telling.rt:96:12
 enum-told : tie.Need-enum-told
 enum-told c = search needs
 
--- src/telling.rt:97:13
 returns-2 : tie.Need-returns-2
 returns-2 c = search (root-open, needs)
 
--- src/telling.rt:99:9
 returns-3 : tie.Need-returns-3
 returns-3 c = search (root-closed, needs)
 
--- src/telling.rt:102:9
 returns-4 : tie.Need-returns-4
 returns-4 c = search (root-last, needs)
 
--- src/telling.rt:108:15
 add-walk-telling : tie.Need-add-walk-telling
 add-walk-telling c = search needs
 
--- src/telling.rt:108:9
 sub-walk-telling : tie.Need-sub-walk-telling
 sub-walk-telling c = search needs
 
--- src/telling.rt:108:9
 part-walk-telling-start : tie.Need-part-walk-telling-start
 part-walk-telling-start c = search needs
 
--- src/telling.rt:108:9
 part-walk-telling-end : tie.Need-part-walk-telling-end
 part-walk-telling-end c = search needs
 
--- src/telling.rt:110:9
 add-walk-telling-2 : tie.Need-add-walk-telling-2
 add-walk-telling-2 c = search needs
 
--- src/telling.rt:110:9
 add-walk-telling-3 : tie.Need-add-walk-telling-3
 add-walk-telling-3 c = search needs
 
--- src/telling.rt:104:5
 walk-telling-requires : tie.Need-walk-telling-requires
 walk-telling-requires c κs = search needs
 
--- src/telling.rt:79:1
 returns-5 : tie.Need-returns-5
 returns-5 c = search (root-more, needs)
 
