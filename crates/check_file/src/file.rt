@@ -7,7 +7,7 @@ use definition::limits::MAX_FILE_BYTES;
 use text::numeral::to_size;
 use text::part::Part;
 
-#[derive(Drop)]
+#[derive(Clone, Copy)]
 pub struct Placed {
     pub kind: u32,
     pub semantics: u32,
@@ -16,7 +16,7 @@ pub struct Placed {
     pub rule: Part,
 }
 
-#[derive(Drop)]
+#[derive(Clone, Copy)]
 pub enum Taken {
     Apart(Placed),
     OtherForm,

@@ -10,7 +10,7 @@ use text::{is_digit, wide};
 
 const TOO_LARGE: u32 = MAX_FILE_BYTES as u32 + 1;
 
-#[derive(Drop)]
+#[derive(Clone, Copy)]
 pub enum CappedRead {
     // The number, and the place after it.
     Is(u32, usize),

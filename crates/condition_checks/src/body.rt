@@ -22,7 +22,7 @@ use walk::answer::{Collected, CollectionFault};
 use walk::path::has_dot;
 
 // The bind of a quantifier.
-#[derive(Drop)]
+#[derive(Clone, Copy)]
 pub enum BindRead {
     Is(Part),
     Bad,

@@ -14,14 +14,14 @@ use timestamp::{Fields, is_earlier};
 use value_checks::operand::{InstantRead, instant_form};
 
 // The instant that a value is by itself.
-#[derive(Drop)]
+#[derive(Clone, Copy)]
 pub enum Literal {
     Is(Fields),
     No,
 }
 
 // Whether a condition is constant, and then its truth.
-#[derive(Drop)]
+#[derive(Clone, Copy)]
 pub enum Constant {
     Is(bool),
     No,

@@ -20,7 +20,7 @@ use rule::index::start_of;
 use sheet::rule_heads::{ConditionHead, ConditionRead, condition_head};
 
 // How the descent goes on.
-#[derive(Drop)]
+#[derive(Clone, Copy)]
 pub enum Next {
     // Down from the condition at a word, after a place in the path.
     Condition(usize, usize),

@@ -12,7 +12,7 @@ use sheet::rule_heads::{KeyRead, ValueHead, ValueRead, key_head, value_head};
 use text::part::bytes_of;
 
 // A word further down, and the place after what the path has for the way to it.
-#[derive(Drop)]
+#[derive(Clone, Copy)]
 pub struct Step {
     pub word: usize,
     pub at: usize,

@@ -4,7 +4,7 @@ ghost use Rattle.defect_path.specs.Siblings.{Reaches};
 
 use rule::index::end_of;
 
-#[derive(Drop)]
+#[derive(Clone, Copy)]
 pub struct Sibling {
     pub word: usize,
     pub index: usize,

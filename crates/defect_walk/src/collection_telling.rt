@@ -15,7 +15,7 @@ use walk::collection::field_step;
 use walk::path::first_end;
 
 // Places are those in the text after its first character.
-#[derive(Drop)]
+#[derive(Clone, Copy)]
 pub enum CollectionTelling {
     Nothing,
     NoName,

@@ -12,7 +12,7 @@ use sheet::operators::NOT;
 use walk::answer::Collected;
 
 // A condition: its first word, and the word after its last.
-#[derive(Drop)]
+#[derive(Clone, Copy)]
 pub struct Child {
     pub word: usize,
     pub end: usize,

@@ -12,7 +12,7 @@ use walk::answer::{Reader, ReferenceFault, WalkStep};
 use walk::path::first_end;
 use walk::step::walk_step;
 
-#[derive(Drop)]
+#[derive(Clone, Copy)]
 pub enum Telling {
     Nothing,
     NotAvailable,

@@ -8,7 +8,7 @@ use text::numeral::to_size;
 pub const HEAD_BYTES: usize = 16;
 
 // A rule whose texts begin at a place that is known: its label ends at `middle`, and its sheet, which follows, at `end`.
-#[derive(Drop)]
+#[derive(Clone, Copy)]
 pub struct Lent {
     pub kind: u32,
     pub semantics: u32,

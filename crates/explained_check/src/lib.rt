@@ -16,14 +16,14 @@ use single_check::sheets::{Takes, check_sheet};
 use walk::answer::Reader;
 
 // 39 where the message has no room, else 0, and how many bytes the message has.
-#[derive(Drop)]
+#[derive(Clone, Copy)]
 pub struct Said {
     pub refusal: u32,
     pub size: u32,
 }
 
 // What is answered: the report of a check with a mark list, and what was said.
-#[derive(Drop)]
+#[derive(Clone, Copy)]
 pub struct Explained {
     pub report: Report,
     pub refusal: u32,

@@ -12,7 +12,7 @@ const NO_RULE: u32 = 31;
 // Its sheet is over a limit.
 const OVER_LIMIT: u32 = 32;
 
-#[derive(Drop)]
+#[derive(Clone, Copy)]
 pub enum Made {
     // Where it lies.
     Sheet(usize, usize),

@@ -29,7 +29,7 @@ const ALL: usize = 7;
 const WORD_BYTES: usize = 3;
 
 // What is read of a member.
-#[derive(Drop)]
+#[derive(Clone, Copy)]
 pub enum PartRead {
     // Which of the three it is, the number of the comparison (0 for a value), the place after it and the end of its entries.
     Good(usize, usize, usize, usize),
@@ -38,7 +38,7 @@ pub enum PartRead {
 }
 
 // What is read of all three.
-#[derive(Drop)]
+#[derive(Clone, Copy)]
 pub enum Three {
     // The place after the bracket, the end of the entries, the place from which on they belong in front, and the number of the comparison.
     Good(usize, usize, usize, usize),

@@ -29,7 +29,7 @@ const THAT: usize = 4;
 const ALL: usize = 7;
 
 // What is read of a quantifier's member.
-#[derive(Drop)]
+#[derive(Clone, Copy)]
 pub enum PartRead {
     // Which of the three it is, the place after it and the end of its entries.
     Good(usize, usize, usize),

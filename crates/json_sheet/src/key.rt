@@ -11,7 +11,7 @@ use text::order::same_bytes;
 const WORD_BYTES: usize = 12;
 
 // Which name stands in front of a value.
-#[derive(Drop)]
+#[derive(Clone, Copy)]
 pub enum Choice {
     // Its number, 0 where it is none that is looked for, and the place of the value.
     Is(usize, usize),

@@ -19,7 +19,7 @@ const BATCH: usize = 16384;
 const SLOTS: usize = 16384;
 
 // What is found among the keys of an object.
-#[derive(Drop)]
+#[derive(Clone, Copy)]
 pub enum Looked {
     // A key that occurs twice.
     Repeated,

@@ -22,7 +22,7 @@ const HELD_DEPTH: usize = 1023;
 const MAX_TEXT: usize = 512;
 
 // What is read of a text that may be absent.
-#[derive(Drop)]
+#[derive(Clone, Copy)]
 pub enum Optional {
     // Where the text begins, behind its quotation mark, and its length, both 0 where it is null; the place after it.
     Is(usize, usize, usize),
@@ -31,7 +31,7 @@ pub enum Optional {
 }
 
 // What is read of a member.
-#[derive(Drop)]
+#[derive(Clone, Copy)]
 pub enum MemberRead {
     // Which one it is (1 name, 2 assert, 3 message); where its text begins and how long it is, or the end of its entries and 0; the place after it.
     Is(usize, usize, usize, usize),
@@ -40,7 +40,7 @@ pub enum MemberRead {
 }
 
 // What is read of all members.
-#[derive(Drop)]
+#[derive(Clone, Copy)]
 pub enum Parts {
     // The place after the bracket, the end of the condition's entries, and where name and message begin and how long they are.
     Good(usize, usize, usize, usize, usize, usize),
@@ -49,7 +49,7 @@ pub enum Parts {
 }
 
 // What is read of a text.
-#[derive(Drop)]
+#[derive(Clone, Copy)]
 pub enum RuleRead {
     // Where its sheet lies.
     Good(usize, usize),

@@ -11,7 +11,7 @@ use json_text::unescape::lay_text;
 use text::starts_with;
 
 // What is read of a value.
-#[derive(Drop)]
+#[derive(Clone, Copy)]
 pub enum Got {
     // The place after it, and the end of its entries.
     Good(usize, usize),
@@ -20,7 +20,7 @@ pub enum Got {
 }
 
 // What is read of values side by side.
-#[derive(Drop)]
+#[derive(Clone, Copy)]
 pub enum Listed {
     // The place after the closing bracket, the end of their entries, and how many there are.
     Good(usize, usize, usize),

@@ -7,7 +7,7 @@ use crate::token::behind_spaces;
 use text::starts_with;
 
 // What is read in front of a member's value.
-#[derive(Drop)]
+#[derive(Clone, Copy)]
 pub enum KeyRead {
     // How long the name's text is, which begins behind the quotation mark, and the place of the value.
     Is(usize, usize),
@@ -16,7 +16,7 @@ pub enum KeyRead {
 }
 
 // What is read behind a value in brackets.
-#[derive(Drop)]
+#[derive(Clone, Copy)]
 pub enum Separator {
     // A comma; the place of what comes next.
     More(usize),

@@ -7,7 +7,7 @@ ghost use Rattle.json_text.specs.Places.{HexIs, DigitIs, ShortIs, PointIs};
 use text::{Decoded, decode_one, starts_with};
 
 // What is read at a place.
-#[derive(Drop)]
+#[derive(Clone, Copy)]
 pub enum Point {
     // A code point, and the place after what stands for it.
     Is(u32, usize),

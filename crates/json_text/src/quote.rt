@@ -8,7 +8,7 @@ use crate::string::plain_end;
 use buffer::lay::{lay, lay_byte};
 
 // Which escapes are written.
-#[derive(Drop)]
+#[derive(Clone, Copy)]
 pub enum Escapes {
     // A backslash before `"` and `\`, and `\u00xx`.
     Plain,

@@ -5,7 +5,7 @@ ghost use Rattle.json_text.specs.StringAt.{PlainByte, PlainAt, PlainTo, StringIs
 use crate::escape::{Point, char, size_of};
 
 // What is read at a place.
-#[derive(Drop)]
+#[derive(Clone, Copy)]
 pub enum StringRead {
     // How long the text is, and the place after the closing quotation mark.
     Is(usize, usize),

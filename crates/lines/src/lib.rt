@@ -6,7 +6,7 @@ ghost use Rattle.lines.specs.Ends.{EndIs};
 pub mod schema_sheet; // schema_sheet.rt: the entries H and F
 pub mod rule_sheet; // rule_sheet.rt: the entries R, T, C, V and K
 
-#[derive(Drop)]
+#[derive(Clone, Copy)]
 pub struct Lines<'a> {
     pub sheet: &'a [u8],
     // Where the next entry starts.

@@ -8,7 +8,7 @@ use crate::{Lines, new};
 use sheet::rule_heads::{ConditionRead, KeyRead, RuleHeadRead, ValueRead};
 
 // The heads of the sheet's first entry and of a condition after it.
-#[derive(Drop)]
+#[derive(Clone, Copy)]
 pub struct OpeningRead {
     pub head: RuleHeadRead,
     pub condition: ConditionRead,

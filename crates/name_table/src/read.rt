@@ -15,14 +15,14 @@ pub const TABLE_BYTES: usize = 176;
 // How many kinds of rules and templates there are.
 pub const KINDS: u32 = 8;
 
-#[derive(Drop)]
+#[derive(Clone, Copy)]
 pub enum RowRead {
     // The row, and the place after its entry.
     Is(Row, usize),
     Bad,
 }
 
-#[derive(Drop)]
+#[derive(Clone, Copy)]
 pub enum TableRead {
     // The row of the kind that is asked for, and whether both conditions hold of every row.
     Is(Row, bool),

@@ -6,7 +6,7 @@ ghost use Rattle.number.specs.Parts.{Ends, Spans, Raises, Splits};
 use text::is_digit;
 
 // Where a run of digits ends.
-#[derive(Drop)]
+#[derive(Clone, Copy)]
 pub enum Run {
     To(usize),
     // There is none.
@@ -14,7 +14,7 @@ pub enum Run {
 }
 
 // Where the digits after the point begin and end.
-#[derive(Drop)]
+#[derive(Clone, Copy)]
 pub enum Span {
     Over(usize, usize),
     // A point without digits.
@@ -22,7 +22,7 @@ pub enum Span {
 }
 
 // Where the exponent's digits begin, which go to the end of the text; lowered if a minus precedes them.
-#[derive(Drop)]
+#[derive(Clone, Copy)]
 pub enum Exponent {
     From { lowered: bool, at: usize },
     // No exponent, or something follows it.
@@ -30,7 +30,7 @@ pub enum Exponent {
 }
 
 // The parts of a number text, as places in it. What is left out has no digits.
-#[derive(Drop)]
+#[derive(Clone, Copy)]
 pub struct Parts {
     pub whole: usize,
     pub point: usize,
@@ -40,7 +40,7 @@ pub struct Parts {
     pub exponent: usize,
 }
 
-#[derive(Drop)]
+#[derive(Clone, Copy)]
 pub enum Found {
     Number(Parts),
     // Not a number text.

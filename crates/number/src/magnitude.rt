@@ -8,7 +8,7 @@ ghost use Rattle.number.specs.Tests.{Tests, TestsNumber};
 use crate::bound::BOUND;
 
 // A place against 10^308, the place of the bound's first digit.
-#[derive(Drop)]
+#[derive(Clone, Copy)]
 pub enum Level {
     Below,
     Even,
@@ -16,7 +16,7 @@ pub enum Level {
 }
 
 // What was found out about a number: whether its magnitude is below the bound, and how many of its digits were compared with the bound's.
-#[derive(Drop)]
+#[derive(Clone, Copy)]
 pub struct Tested {
     pub finite: bool,
     pub compared: usize,

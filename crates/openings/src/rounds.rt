@@ -19,7 +19,7 @@ use walk::answer::Reader;
 pub const MAX_MARKS: usize = MAX_SCHEMA_ENTRIES + 1;
 
 // What a round finds.
-#[derive(Drop)]
+#[derive(Clone, Copy)]
 pub enum Round {
     // All checks pass.
     Passed,

@@ -10,7 +10,7 @@ use lines::rule_sheet::{condition_head, plain_condition};
 use sheet::rule_heads::{ConditionHead, ConditionRead};
 
 // What follows a condition's head: so many values, then so many conditions.
-#[derive(Drop)]
+#[derive(Clone, Copy)]
 pub struct Operands {
     pub values: usize,
     pub conditions: usize,

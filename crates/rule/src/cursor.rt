@@ -5,7 +5,7 @@ ghost use Rattle.definition.specs.Limits.{max_sheet_bytes, max_rule_entries, wor
 use definition::limits::WORD_ENTRIES;
 
 // After what has been read: the next entry's first byte, its word, and how many more entries may be announced.
-#[derive(Drop)]
+#[derive(Clone, Copy)]
 pub struct Cursor {
     pub at: usize,
     pub word: usize,
@@ -13,7 +13,7 @@ pub struct Cursor {
 }
 
 // What reading a subtree, or several side by side, finds.
-#[derive(Drop)]
+#[derive(Clone, Copy)]
 pub enum TreeRead {
     // The place after them.
     Good(Cursor),

@@ -22,13 +22,13 @@ use sheet::rule_heads::{ConditionRead, RuleHead, RuleHeadRead};
 use value::read_value;
 
 // A well-formed sheet: `R` or `T`, and how many entries it has.
-#[derive(Drop)]
+#[derive(Clone, Copy)]
 pub struct RuleSheet {
     pub is_template: bool,
     pub entries: usize,
 }
 
-#[derive(Drop)]
+#[derive(Clone, Copy)]
 pub enum RuleRead {
     Good(RuleSheet),
     // The sheet is not well formed.

@@ -13,7 +13,7 @@ use text::order::ByteOrder;
 use text::part::{OptionalPart, Part, bytes_of};
 
 // What a value holds.
-#[derive(Drop)]
+#[derive(Clone, Copy)]
 pub enum Held {
     // So many values.
     Values(usize),
@@ -22,7 +22,7 @@ pub enum Held {
 }
 
 // What reading a key with its value finds.
-#[derive(Drop)]
+#[derive(Clone, Copy)]
 pub enum PairRead {
     // The key, and the place after the value.
     Good(Part, Cursor),

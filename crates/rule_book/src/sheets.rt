@@ -5,14 +5,14 @@ use text::numeral::NumeralRead;
 use text::part::Part;
 use text::{numeral, starts_with};
 
-#[derive(Drop)]
+#[derive(Clone, Copy)]
 pub enum NextSheet {
     // The sheet, and the place after it.
     Is(Part, usize),
     Bad,
 }
 
-#[derive(Drop)]
+#[derive(Clone, Copy)]
 pub enum Counted {
     Sheets(usize),
     Bad,

@@ -11,21 +11,21 @@ use text::order::ByteOrder;
 use text::part::Part;
 
 // Where reading is: the next entry's number, how many slots are in use, and the next byte.
-#[derive(Drop)]
+#[derive(Clone, Copy)]
 pub struct Cursor {
     pub next: usize,
     pub used: usize,
     pub at: usize,
 }
 
-#[derive(Drop)]
+#[derive(Clone, Copy)]
 pub enum OneRead {
     // The field's name, and where its last entry ends.
     Good(Part, Cursor),
     Bad,
 }
 
-#[derive(Drop)]
+#[derive(Clone, Copy)]
 pub enum ManyRead {
     // Where the last entry ends.
     Good(Cursor),

@@ -24,7 +24,7 @@ const PREFIX_END: usize = 32;
 const LENGTH_UNIT: usize = WORD_ENTRIES * PREFIX_END;
 
 // The members of the record, of the arguments or of a field: the slot of the first, and how many there are.
-#[derive(Drop)]
+#[derive(Clone, Copy)]
 pub struct Holder {
     pub opened: bool,
     pub first: usize,
@@ -32,14 +32,14 @@ pub struct Holder {
 }
 
 // The slot of a field's element.
-#[derive(Drop)]
+#[derive(Clone, Copy)]
 pub enum ElementSlot {
     At(usize),
     Absent,
 }
 
 // What a slot says of its field.
-#[derive(Drop)]
+#[derive(Clone, Copy)]
 pub struct IndexedField {
     pub entry: usize,
     pub kind: usize,

@@ -4,7 +4,7 @@ ghost use Rattle.schema.specs.Lookup.{LookedUp};
 use crate::index::{Holder, MAX_SLOTS};
 use text::order::ByteOrder;
 
-#[derive(Drop)]
+#[derive(Clone, Copy)]
 pub enum Found {
     // The member's slot.
     At(usize),

@@ -10,33 +10,33 @@ use crate::index::{Holder, MAX_SLOTS};
 use definition::limits::{MAX_FIELD_NESTING, MAX_SHEET_BYTES};
 use sheet::schema_heads::HolderHead;
 
-#[derive(Drop)]
+#[derive(Clone, Copy)]
 pub enum Arguments {
     Are(Holder),
     Absent,
 }
 
-#[derive(Drop)]
+#[derive(Clone, Copy)]
 pub struct Schema {
     pub fields: Holder,
     pub arguments: Arguments,
 }
 
-#[derive(Drop)]
+#[derive(Clone, Copy)]
 pub enum SchemaRead {
     Good(Schema),
     // The sheet is not well formed.
     Bad,
 }
 
-#[derive(Drop)]
+#[derive(Clone, Copy)]
 pub enum HolderRead {
     // The holder, and where its last entry ends.
     Good(Holder, Cursor),
     Bad,
 }
 
-#[derive(Drop)]
+#[derive(Clone, Copy)]
 pub enum ArgumentsRead {
     // The arguments, and where their last entry ends.
     Good(Arguments, Cursor),

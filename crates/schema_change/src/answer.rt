@@ -4,7 +4,7 @@ ghost use Rattle.widening.specs.Decision.{growth, breach, breach_if};
 ghost use Rattle.schema_change.specs.Answers.{reason_of, Goes, is_open_yet};
 
 // Why a schema is not a widening; docs/FORMAT.md, "Is it a widening?", in its order.
-#[derive(Drop)]
+#[derive(Clone, Copy)]
 pub enum Reason {
     FieldMissing,
     KindDiffers,
@@ -16,7 +16,7 @@ pub enum Reason {
 }
 
 // What was found.
-#[derive(Drop)]
+#[derive(Clone, Copy)]
 pub enum Change {
     // At most open marks gone from 0 to 1.
     Marks,
@@ -26,7 +26,7 @@ pub enum Change {
     Refuted(Reason, u32, u32),
 }
 
-#[derive(Drop)]
+#[derive(Clone, Copy)]
 pub enum WidensAnswer {
     // The first sheet (1) or the second (2) is not well formed.
     Malformed(u32),

@@ -13,7 +13,7 @@ use crate::place::{Entered, FieldEntry, Place, enter, skip_below};
 use sheet::schema_heads::HolderHead;
 
 // What was found, and where reading is in each sheet. After a breach nothing is read any more: the places count only as long as there is none.
-#[derive(Drop)]
+#[derive(Clone, Copy)]
 pub struct Going {
     pub found: Change,
     pub x: Place,

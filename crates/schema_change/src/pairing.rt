@@ -8,7 +8,7 @@ use text::order::{ByteOrder, compare};
 use text::part::bytes_of;
 
 // The members of a holder that are left.
-#[derive(Drop)]
+#[derive(Clone, Copy)]
 pub struct Members {
     pub left: usize,
     // The place of the first of them, and what is there.
@@ -29,7 +29,7 @@ pub fn members_from(s: &[u8], place: Place, left: usize) -> Members
     Members { left, place, next }
 }
 
-#[derive(Drop)]
+#[derive(Clone, Copy)]
 pub enum Pairing {
     // No member is left.
     Neither,

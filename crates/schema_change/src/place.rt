@@ -7,21 +7,21 @@ ghost use Rattle.schema_change.specs.Places.{Within, EnteredIs, SkipsTo};
 use sheet::schema_heads::{FieldHead, FieldRead, known_field};
 
 // Where reading is in a sheet: the next entry's number, and its first byte.
-#[derive(Drop)]
+#[derive(Clone, Copy)]
 pub struct Place {
     pub entry: u32,
     pub at: usize,
 }
 
 // A field's entry that was read: its number, what it says, and the place after it.
-#[derive(Drop)]
+#[derive(Clone, Copy)]
 pub struct FieldEntry {
     pub number: u32,
     pub head: FieldHead,
     pub next: Place,
 }
 
-#[derive(Drop)]
+#[derive(Clone, Copy)]
 pub enum Entered {
     Is(FieldEntry),
     // No field's entry is there.

@@ -9,7 +9,7 @@ use sheet::schema_heads::{FieldRead, SchemaHeadRead, known_field, schema_head};
 use text::order::{ByteOrder, compare};
 use text::part::bytes_of;
 
-#[derive(Drop)]
+#[derive(Clone, Copy)]
 pub enum Place {
     // From its first byte to the byte after it.
     Found(usize, usize),

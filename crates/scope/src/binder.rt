@@ -19,7 +19,7 @@ const LENGTH_UNIT: u64 = 131072;
 const START_UNIT: u64 = LENGTH_UNIT * 65536;
 
 // The element of the collection that a binder goes through.
-#[derive(Drop)]
+#[derive(Clone, Copy)]
 pub enum Element {
     // The field of that slot.
     Known(usize),
@@ -29,7 +29,7 @@ pub enum Element {
 
 // What a condition is in. A binder is one number, since the scope is copied with every call: where its name starts in the rule sheet and how long it
 // is, and its element. The last binder is the innermost one.
-#[derive(Drop)]
+#[derive(Clone, Copy)]
 pub struct Scope {
     pub row: Row,
     pub service: bool,
@@ -39,7 +39,7 @@ pub struct Scope {
     pub count: usize,
 }
 
-#[derive(Drop)]
+#[derive(Clone, Copy)]
 pub enum Bound {
     To(Element),
     Nothing,

@@ -6,7 +6,7 @@ ghost use Rattle.scope.specs.Names.{name_is, row_by, may_read_by, NamedIs, Other
 
 use text::order::same_bytes;
 
-#[derive(Drop)]
+#[derive(Clone, Copy)]
 pub enum Name {
     Id,
     Entity,
@@ -19,7 +19,7 @@ pub enum Name {
     OldFields,
 }
 
-#[derive(Drop)]
+#[derive(Clone, Copy)]
 pub enum Named {
     Is(Name),
     Nothing,
@@ -80,7 +80,7 @@ pub fn one_of(kind: usize, kinds: &[usize]) -> bool
 }
 
 // Which of the nine names may be read.
-#[derive(Drop)]
+#[derive(Clone, Copy)]
 pub struct Row {
     pub id: bool,
     pub entity: bool,

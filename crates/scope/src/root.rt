@@ -5,7 +5,7 @@ use crate::name::Name;
 use schema::index::Holder;
 use schema::read::{Arguments, Schema};
 
-#[derive(Drop)]
+#[derive(Clone, Copy)]
 pub enum Root {
     // The name has no path.
     Nothing,

@@ -15,7 +15,7 @@ pub const MAX_TEXT: u32 = 512;
 // No entry announces more others than this.
 pub const MAX_COUNT: u32 = 2048;
 
-#[derive(Drop)]
+#[derive(Clone, Copy)]
 pub enum MarkRead {
     // The mark, and the place after it.
     Is(bool, usize),
@@ -23,20 +23,20 @@ pub enum MarkRead {
 }
 
 // The length of a text that may be absent.
-#[derive(Drop)]
+#[derive(Clone, Copy)]
 pub enum Length {
     Of(usize),
     Absent,
 }
 
-#[derive(Drop)]
+#[derive(Clone, Copy)]
 pub enum LengthRead {
     // The length, and the place after it.
     Is(Length, usize),
     Bad,
 }
 
-#[derive(Drop)]
+#[derive(Clone, Copy)]
 pub enum OptionalRead {
     // The text, and the place after it.
     Is(OptionalPart, usize),

@@ -27,14 +27,14 @@ const OBJECT: u32 = 7;
 // The furthest place that is handed on four times over: no sheet is as long.
 const FURTHEST: usize = 1000000000;
 
-#[derive(Drop)]
+#[derive(Clone, Copy)]
 pub enum RuleHead {
     // The name and the message.
     Rule(OptionalPart, OptionalPart),
     Template,
 }
 
-#[derive(Drop)]
+#[derive(Clone, Copy)]
 pub enum RuleHeadRead {
     // The head, and the place after it.
     Is(RuleHead, usize),
@@ -42,7 +42,7 @@ pub enum RuleHeadRead {
 }
 
 // A condition's head by what follows it; the first number is the operator's where there are several.
-#[derive(Drop)]
+#[derive(Clone, Copy)]
 pub enum ConditionHead {
     Literal(bool),
     // An operator, and how many conditions follow.
@@ -56,14 +56,14 @@ pub enum ConditionHead {
     Quantifier(usize, Part),
 }
 
-#[derive(Drop)]
+#[derive(Clone, Copy)]
 pub enum ConditionRead {
     // The head, and the place after it.
     Is(ConditionHead, usize),
     Bad,
 }
 
-#[derive(Drop)]
+#[derive(Clone, Copy)]
 pub enum ValueHead {
     // 1 null, 2 false, 3 true.
     Constant(usize),
@@ -75,14 +75,14 @@ pub enum ValueHead {
     Object(usize),
 }
 
-#[derive(Drop)]
+#[derive(Clone, Copy)]
 pub enum ValueRead {
     // The head, and the place after it.
     Is(ValueHead, usize),
     Bad,
 }
 
-#[derive(Drop)]
+#[derive(Clone, Copy)]
 pub enum KeyRead {
     // The key, and the place after its entry.
     Is(Part, usize),
@@ -90,7 +90,7 @@ pub enum KeyRead {
 }
 
 // What follows an operator (docs/FORMAT.md, "The rule sheet").
-#[derive(Drop)]
+#[derive(Clone, Copy)]
 enum Shape {
     Literal,
     Many,
@@ -102,7 +102,7 @@ enum Shape {
 }
 
 // What is in the entry after an operator: a number from `least` to `most`, and if `bound` a bind of so many bytes.
-#[derive(Drop)]
+#[derive(Clone, Copy)]
 struct ConditionRow {
     least: u32,
     most: u32,
@@ -110,7 +110,7 @@ struct ConditionRow {
 }
 
 // What follows a value's type.
-#[derive(Drop)]
+#[derive(Clone, Copy)]
 enum ValueKind {
     Constant,
     Number,
@@ -120,7 +120,7 @@ enum ValueKind {
 }
 
 // What is in the entry after a value's type: a number up to `most`, and if `texted` a text of so many bytes, if `numeric` that of a number.
-#[derive(Drop)]
+#[derive(Clone, Copy)]
 struct ValueRow {
     most: u32,
     texted: bool,

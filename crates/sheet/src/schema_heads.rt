@@ -24,46 +24,46 @@ pub const UNION: usize = 11;
 const KIND_COUNT: u32 = 12;
 
 // The open mark and the field count of the record or of the arguments.
-#[derive(Drop)]
+#[derive(Clone, Copy)]
 pub struct HolderHead {
     pub opened: bool,
     pub count: usize,
 }
 
-#[derive(Drop)]
+#[derive(Clone, Copy)]
 pub enum HolderHeadRead {
     // The head, and the place after it.
     Is(HolderHead, usize),
     Bad,
 }
 
-#[derive(Drop)]
+#[derive(Clone, Copy)]
 pub enum ArgumentsHead {
     Are(HolderHead),
     Absent,
 }
 
-#[derive(Drop)]
+#[derive(Clone, Copy)]
 pub enum ArgumentsHeadRead {
     // The head, and the place after it.
     Is(ArgumentsHead, usize),
     Bad,
 }
 
-#[derive(Drop)]
+#[derive(Clone, Copy)]
 pub struct SchemaHead {
     pub fields: HolderHead,
     pub arguments: ArgumentsHead,
 }
 
-#[derive(Drop)]
+#[derive(Clone, Copy)]
 pub enum SchemaHeadRead {
     // The head, and the place after it.
     Is(SchemaHead, usize),
     Bad,
 }
 
-#[derive(Drop)]
+#[derive(Clone, Copy)]
 pub struct FieldMarks {
     pub kind: usize,
     pub opened: bool,
@@ -73,27 +73,27 @@ pub struct FieldMarks {
     pub count: usize,
 }
 
-#[derive(Drop)]
+#[derive(Clone, Copy)]
 pub enum FieldMarksRead {
     // The marks, and the place after them.
     Are(FieldMarks, usize),
     Bad,
 }
 
-#[derive(Drop)]
+#[derive(Clone, Copy)]
 pub struct FieldTexts {
     pub name: Part,
     pub tag: OptionalPart,
 }
 
-#[derive(Drop)]
+#[derive(Clone, Copy)]
 pub enum FieldTextsRead {
     // The texts, and the place after them.
     Are(FieldTexts, usize),
     Bad,
 }
 
-#[derive(Drop)]
+#[derive(Clone, Copy)]
 pub struct FieldHead {
     pub kind: usize,
     pub opened: bool,
@@ -105,7 +105,7 @@ pub struct FieldHead {
     pub tag: OptionalPart,
 }
 
-#[derive(Drop)]
+#[derive(Clone, Copy)]
 pub enum FieldRead {
     // The head, and the place after it.
     Is(FieldHead, usize),

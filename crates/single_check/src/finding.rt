@@ -8,7 +8,7 @@ ghost use Rattle.single_check.specs.Findings.{FindingIs};
 use value_checks::verdict::{Fault, InstantFault, Over, Side};
 use walk::answer::{CollectionFault, ReferenceFault};
 
-#[derive(Drop)]
+#[derive(Clone, Copy)]
 pub struct Finding {
     pub number: u32,
     // Outside all quantifier bodies.

@@ -4,7 +4,7 @@ ghost use Rattle.validation.specs.Result.{numbers_of};
 ghost use Rattle.validation.specs.Result as Result;
 ghost use Rattle.single_check.specs.Outcomes.{numbers_by};
 
-#[derive(Drop)]
+#[derive(Clone, Copy)]
 pub struct Outcome {
     // 0 accepted, 11 to 22 a defect, else refused.
     pub number: u32,
@@ -17,7 +17,7 @@ pub struct Outcome {
 }
 
 // What a check with a mark list answers: the seven numbers, and how many marks were written.
-#[derive(Drop)]
+#[derive(Clone, Copy)]
 pub struct Report {
     pub outcome: Outcome,
     pub marks: u32,

@@ -50,7 +50,7 @@ pub fn refused_settings(kind: u32, semantics: u32, label: &[u8], path: usize, sc
 }
 
 // What a check is set to: the names that may be read, whether that is a kind of rule, and whether the semantics is service.
-#[derive(Drop)]
+#[derive(Clone, Copy)]
 pub struct Setting {
     pub row: Row,
     pub rule_kind: bool,
@@ -74,7 +74,7 @@ fn setting_of(row: Row, kind: u32, semantics: u32) -> Setting
     }
 }
 
-#[derive(Drop)]
+#[derive(Clone, Copy)]
 pub enum Settled {
     Set(Setting),
     Refused(u32),

@@ -11,7 +11,7 @@ use rule::{RuleRead, read_rule};
 use schema::read::SchemaRead;
 
 // Which rule sheets an entry takes.
-#[derive(Drop)]
+#[derive(Clone, Copy)]
 pub enum Takes {
     Any,
     Rules,

@@ -14,7 +14,7 @@ ghost use Rattle.text.specs.Decimal.{is_digit};
 ghost use Rattle.text.specs.ReadAt.{StartsWith};
 
 // What is at an offset of a text.
-#[derive(Drop)]
+#[derive(Clone, Copy)]
 pub enum Decoded {
     // A code point, and the offset after its bytes.
     CodePoint(u32, usize),

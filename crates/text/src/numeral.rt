@@ -5,7 +5,7 @@ ghost use Rattle.text.specs.ReadAt.{NumeralIs, DigitsAre, DecimalIs};
 
 use crate::is_digit;
 
-#[derive(Drop)]
+#[derive(Clone, Copy)]
 pub enum NumeralRead {
     // The number, and the place after it.
     Is(usize, usize),

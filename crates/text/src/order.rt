@@ -3,7 +3,7 @@ ghost use Rattle.std.specs.Prelude.{◌≡◌, true, ◌+◌, ◌≤◌, min, le
 ghost use Rattle.text.specs.Order.{same_bytes};
 ghost use Rattle.text.specs.Compares.{Compares, SameAt, SameStart};
 
-#[derive(Drop)]
+#[derive(Clone, Copy)]
 pub enum ByteOrder {
     Less,
     Same,

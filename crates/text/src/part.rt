@@ -2,14 +2,14 @@
 ghost use Rattle.std.specs.Prelude.{◌≡◌};
 ghost use Rattle.text.specs.Parts.{part_of};
 
-#[derive(Drop)]
+#[derive(Clone, Copy)]
 pub struct Part {
     pub start: usize,
     pub len: usize,
 }
 
 // A text that may be absent.
-#[derive(Drop)]
+#[derive(Clone, Copy)]
 pub enum OptionalPart {
     Is(Part),
     Absent,

@@ -9,7 +9,7 @@ ghost use Rattle.timestamp.specs.Order.{is_earlier};
 use text::is_digit;
 
 // What an instant says; what its text leaves out is 0.
-#[derive(Drop)]
+#[derive(Clone, Copy)]
 pub struct Fields {
     pub year: u32,
     pub month: u32,
@@ -21,7 +21,7 @@ pub struct Fields {
 }
 
 // What a text was read as.
-#[derive(Drop)]
+#[derive(Clone, Copy)]
 pub enum Parsed {
     Instant(Fields),
     // Not an instant.

@@ -21,7 +21,7 @@ use sheet::operators::{COMPARE, is_affix, is_instant_test};
 use text::part::{Part, bytes_of};
 use timestamp::{Fields, Parsed};
 
-#[derive(Drop)]
+#[derive(Clone, Copy)]
 pub enum Form {
     Text(Part),
     // An array or an object.
@@ -30,7 +30,7 @@ pub enum Form {
 }
 
 // What an operand of `before` or `after` is.
-#[derive(Drop)]
+#[derive(Clone, Copy)]
 pub enum InstantRead {
     Reference,
     Literal(Fields),

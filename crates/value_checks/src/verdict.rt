@@ -5,14 +5,14 @@ ghost use Rattle.value_checks.specs.Verdicts.{going, HasRoom, PassedOn, Failed, 
 use walk::answer::{CollectionFault, ReferenceFault};
 
 // A side of a comparison.
-#[derive(Drop)]
+#[derive(Clone, Copy)]
 pub enum Side {
     Left,
     Right,
 }
 
 // Why an operand of `before` or `after` is not an instant.
-#[derive(Drop)]
+#[derive(Clone, Copy)]
 pub enum InstantFault {
     // Text that begins with `$$`.
     Escaped,
@@ -20,7 +20,7 @@ pub enum InstantFault {
 }
 
 // Why a check fails; docs/FORMAT.md, "Answers", from 11 on, in its order.
-#[derive(Drop)]
+#[derive(Clone, Copy)]
 pub enum Fault {
     Name,
     Message,
@@ -40,21 +40,21 @@ pub enum Fault {
 }
 
 // The innermost quantifier whose body holds a check.
-#[derive(Drop)]
+#[derive(Clone, Copy)]
 pub enum Over {
     Outside,
     // The entry of its `in` value.
     In(usize),
 }
 
-#[derive(Drop)]
+#[derive(Clone, Copy)]
 pub enum Verdict {
     Pass,
     // The fault, the entry that it is found at, and the quantifier around it.
     Defect(Fault, usize, Over),
 }
 
-#[derive(Drop)]
+#[derive(Clone, Copy)]
 pub struct Progress {
     // The checks that passed, up to the first that does not.
     pub passed: usize,

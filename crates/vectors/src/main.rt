@@ -21,35 +21,35 @@ const MAX_CASES: u64 = 65536;
 // Larger numbers are read as this one.
 const TOO_LARGE: usize = 1000000;
 
-#[derive(Drop)]
+#[derive(Clone, Copy)]
 struct Numeral {
     value: usize,
     // The place after the byte that ends it.
     next: usize,
 }
 
-#[derive(Drop)]
+#[derive(Clone, Copy)]
 struct Case {
     file: usize,
     expected: usize,
     end: usize,
 }
 
-#[derive(Drop)]
+#[derive(Clone, Copy)]
 enum Found {
     Whole(Case),
     // Not all of a case is there.
     Broken,
 }
 
-#[derive(Drop)]
+#[derive(Clone, Copy)]
 enum Replayed {
     // Whether it came out as expected, and the place after it.
     Whole(bool, usize),
     Broken,
 }
 
-#[derive(Drop)]
+#[derive(Clone, Copy)]
 enum Step {
     // Whether a case came out as expected, and what is left after it.
     Replayed(bool, Part),

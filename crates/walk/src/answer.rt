@@ -1,7 +1,7 @@
 // What a walk answers.
 
 // Which walk a path is for.
-#[derive(Drop)]
+#[derive(Clone, Copy)]
 pub enum Reader {
     Kernel,
     // A projection reads its keys, and texts have no count there.
@@ -9,7 +9,7 @@ pub enum Reader {
 }
 
 // Why a reference cannot be read; docs/FORMAT.md, "Details", number 18, in its order.
-#[derive(Drop)]
+#[derive(Clone, Copy)]
 pub enum ReferenceFault {
     EmptyPath,
     UnknownRoot,
@@ -27,7 +27,7 @@ pub enum ReferenceFault {
 }
 
 // Why a value names no collection; docs/FORMAT.md, "Details", number 22, in its order.
-#[derive(Drop)]
+#[derive(Clone, Copy)]
 pub enum CollectionFault {
     NotAString,
     UnknownProperty,
@@ -37,7 +37,7 @@ pub enum CollectionFault {
 }
 
 // Where one segment of a reference leads.
-#[derive(Drop)]
+#[derive(Clone, Copy)]
 pub enum WalkStep {
     Refuse(ReferenceFault),
     // Fine as the last segment, else refused.
@@ -49,7 +49,7 @@ pub enum WalkStep {
 }
 
 // Whether a reference can be read.
-#[derive(Drop)]
+#[derive(Clone, Copy)]
 pub enum Readable {
     Yes,
     // The fault, and the entry of the field that refused: 1 for the record, 0 for the arguments or no field.
@@ -57,7 +57,7 @@ pub enum Readable {
 }
 
 // Where one segment of an `in` path leads.
-#[derive(Drop)]
+#[derive(Clone, Copy)]
 pub enum FieldStep {
     Refuse(CollectionFault),
     Free,
@@ -65,7 +65,7 @@ pub enum FieldStep {
 }
 
 // What a path of `in` reaches, or the collection's element.
-#[derive(Drop)]
+#[derive(Clone, Copy)]
 pub enum Collected {
     // The field of that slot.
     Known(usize),

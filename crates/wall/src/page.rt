@@ -16,14 +16,14 @@ use text::part::bytes_of;
 const PER_PAGE: usize = 58;
 
 // Where the next sheet is in the book and the next line in the pages, and 1 for a sheet that was accepted.
-#[derive(Drop)]
+#[derive(Clone, Copy)]
 pub struct Row {
     pub sheet: usize,
     pub line: usize,
     pub accepted: usize,
 }
 
-#[derive(Drop)]
+#[derive(Clone, Copy)]
 pub struct PageEnd {
     pub sheet: usize,
     pub line: usize,

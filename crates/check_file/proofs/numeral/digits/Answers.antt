@@ -1,0 +1,27 @@
+use Prim.Native.Nat.{◌-◌}
+use mathlib.Core.Path.{sym, ◌∙◌}
+use Rattle.text.specs.DecimalLaws.{is_digit-range}
+use Rattle.check_file.proofs.Reading.{passed_none, passed-digit, passed-end, passed-stop}
+use native.Mathlib.Omega.{arith}
+use Rattle.check_file.proofs.numeral.digits.Goals as goal
+
+pub loop-i-init : goal.loop-i-init
+loop-i-init c = passed_none c.args.first c.args.s.now c.args.at c.requires.0 c.requires.1
+
+pub overflow_mul-value : goal.overflow_mul-value
+overflow_mul-value c = omega (arith, c.loop-i.invariant.answered)
+
+pub overflow_sub-wide : goal.overflow_sub-wide
+overflow_sub-wide c = omega (arith, is_digit-range _ (sym c.is_digit.ensures ∙ c.if-is_digit.true))
+
+pub overflow_add-value : goal.overflow_add-value
+overflow_add-value c = omega (arith, c.loop-i.invariant.answered, is_digit-range _ (sym c.is_digit.ensures ∙ c.if-is_digit.true))
+
+pub loop-i-preserved : goal.loop-i-preserved
+loop-i-preserved c = passed-digit c.loop-i.invariant c.loop-i-test.true (sym c.is_digit.ensures ∙ c.if-is_digit.true) (omega (arith, c.capped-value.ensures, c.wide.ensures.0))
+
+pub returns-else-is_digit : goal.returns-else-is_digit
+returns-else-is_digit c = passed-stop c.loop-i.invariant c.loop-i-test.true (sym c.is_digit.ensures ∙ c.if-is_digit.false)
+
+pub returns : goal.returns
+returns c = passed-end c.loop-i.invariant c.loop-i-test.false

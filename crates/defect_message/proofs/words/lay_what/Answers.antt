@@ -1,0 +1,36 @@
+use Rattle.text.specs.Ascii.{ascii}
+use Rattle.message.specs.Words.{what}
+use Rattle.defect_message.proofs.LayingLaws.{what-last}
+use Rattle.defect_message.proofs.words.lay_what.Goals as goal
+
+pub returns-in-1 : goal.returns-in-1
+unfolding what ascii
+returns-in-1 c = rw c.in-1.is c.lay.ensures
+
+pub returns-in-2 : goal.returns-in-2
+unfolding what ascii
+returns-in-2 c = rw c.in-2.is c.lay-in-2.ensures
+
+pub returns-in-3 : goal.returns-in-3
+unfolding what ascii
+returns-in-3 c = rw c.in-3.is c.lay-in-3.ensures
+
+pub returns-in-4 : goal.returns-in-4
+unfolding what ascii
+returns-in-4 c = rw c.in-4.is c.lay-in-4.ensures
+
+pub returns-in-5 : goal.returns-in-5
+unfolding what ascii
+returns-in-5 c = rw c.in-5.is c.lay-in-5.ensures
+
+pub returns-in-6 : goal.returns-in-6
+unfolding what ascii
+returns-in-6 c = rw c.in-6.is c.lay-in-6.ensures
+
+pub returns-in-7 : goal.returns-in-7
+unfolding what ascii
+returns-in-7 c = rw c.in-7.is c.lay-in-7.ensures
+
+pub returns-in_default : goal.returns-in_default
+unfolding what ascii
+returns-in_default c = rw (what-last _ c.in_default.in_default-own.rest.0.0.0.0.0.0.1 c.in_default.in_default-own.rest.0.0.0.0.0.1 c.in_default.in_default-own.rest.0.0.0.0.1 c.in_default.in_default-own.rest.0.0.0.1 c.in_default.in_default-own.rest.0.0.1 c.in_default.in_default-own.rest.0.1 c.in_default.in_default-own.rest.1) c.lay-in_default.ensures

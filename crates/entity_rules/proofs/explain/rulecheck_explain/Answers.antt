@@ -1,0 +1,16 @@
+-- `entity_rules::explain::rulecheck_explain` meets its contract: the answer of `explained_check`, with the lent part of the path buffer back in its place.
+use Rattle.entity_rules.proofs.Entries.{lent-within}
+use Rattle.entity_rules.proofs.ExplainEntries.{explain-answered}
+use Rattle.entity_rules.proofs.explain.rulecheck_explain.Goals as goal
+
+pub slice_bounds-validate_explained-end : goal.slice_bounds-validate_explained-end
+slice_bounds-validate_explained-end c = rw c.path_lent-lent.ensures (lent-within _ _ _)
+
+pub returns : goal.returns
+returns c =
+    let called = c.?before in
+    let a = c.args in
+    let last = called.validate-explained.new.1.1.1.1.1.1.1 in
+    explain-answered a.kind a.semantics a.label.now a.table.now a.schema.now a.rule.now a.path.now a.marks.now a.message.now a.result.now
+    called.validate-explained.result last.0 last.1.0 last.1.1.0 last.1.1.1.0
+    c.setting.ensures c.setting-2.ensures c.path_lent-lent.ensures called.validate-explained.ensures c.write_explained.ensures

@@ -1,0 +1,17 @@
+-- `entity_rules::fewest::rulecheck_openings` meets its contract: the marks, with the lent part of the path buffer back in its place.
+use mathlib.Core.Path.{refl}
+use Rattle.entity_rules.proofs.Entries.{lent-within}
+use Rattle.entity_rules.proofs.OpenEntries.{open-answered}
+use Rattle.entity_rules.proofs.fewest.rulecheck_openings.Goals as goal
+
+pub slice_bounds-fewest_marks-end : goal.slice_bounds-fewest_marks-end
+slice_bounds-fewest_marks-end c = rw c.path_lent-lent.ensures (lent-within _ _ _)
+
+pub returns : goal.returns
+returns c =
+    let called = c.?before in
+    let a = c.args in
+    let last = called.fewest-marks.new.1.1.1.1.1 in
+    open-answered a.kind a.semantics a.table.now a.schema.now a.rule.now a.path.now a.list.now a.result.now
+    called.fewest-marks.result last.0 last.1.0 last.1.1.0
+    c.setting.ensures c.setting-2.ensures c.path_lent-lent.ensures called.fewest-marks.ensures c.write_numbers.ensures refl

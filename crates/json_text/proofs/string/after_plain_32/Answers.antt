@@ -1,0 +1,14 @@
+use Prim.Native.Nat.{◌-◌}
+use native.Mathlib.Omega.{arith}
+use borrow.Author.Rules.{rules}
+use Rattle.json_text.proofs.Scanning.{plain-none, plain-piece}
+use Rattle.json_text.proofs.string.after_plain_32.Goals as goal
+
+pub loop-i-init : goal.loop-i-init
+loop-i-init c = search (plain-none, rules)
+
+pub loop-i-preserved : goal.loop-i-preserved
+loop-i-preserved c =
+    let c3 = c.?before in
+    let a = c3.before.before.args in
+    plain-piece a.s.now a.at c3.loop.i 32 c3.loop.invariant (omega (arith, c3.loop.invariant.within)) (c.is_plain_32.ensures c.if-is_plain_32.true)

@@ -1,0 +1,10 @@
+-- `json_value::lay_comma` meets its contract.
+use native.Mathlib.Omega.{arith}
+use Rattle.json_value.proofs.Laying.{comma-laid, no-comma}
+use Rattle.json_value.proofs.lay_comma.Goals as goal
+
+pub returns-then-i-end : goal.returns-then-i-end
+returns-then-i-end c = comma-laid _ _ (omega arith) c.lay_byte.ensures
+
+pub returns : goal.returns
+returns c = no-comma _ _ _ _ (omega arith) (omega arith)

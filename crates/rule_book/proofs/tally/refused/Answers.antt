@@ -1,0 +1,8 @@
+-- `rule_book::tally::refused` meets its contract: the number, and zeros.
+use mathlib.Core.Path.{refl}
+use Rattle.call.specs.Call.{numbers_with}
+use Rattle.rule_book.proofs.tally.refused.Goals as goal
+
+pub returns : goal.returns
+unfolding numbers_with
+returns c = refl

@@ -1,0 +1,13 @@
+-- `schema_change::answer::refute` meets its contract: a breach that was found before stays.
+use borrow.Author.Rules.{rules}
+use Rattle.schema_change.proofs.Joins.{refute-marks, refute-anything, refuted-stays}
+use Rattle.schema_change.proofs.answer.refute.Goals as goal
+
+pub returns-in-Marks : goal.returns-in-Marks
+returns-in-Marks c = search (refute-marks, rules)
+
+pub returns-in-Anything : goal.returns-in-Anything
+returns-in-Anything c = search (refute-anything, rules)
+
+pub returns-in-Refuted : goal.returns-in-Refuted
+returns-in-Refuted c = search (refuted-stays, rules)

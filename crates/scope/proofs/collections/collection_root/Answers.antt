@@ -1,0 +1,20 @@
+-- `scope::collections::collection_root` meets its contract.
+use Rattle.scope.proofs.CollectionLaws.{root-closed, root-last, root-more, root-open}
+use Rattle.walk.specs.DotLaws.{ends-length}
+use borrow.Author.Rules.{rules}
+use Rattle.scope.proofs.collections.collection_root.Goals as goal
+
+pub slice_bounds-lookup-end : goal.slice_bounds-lookup-end
+slice_bounds-lookup-end c = search (ends-length, rules)
+
+pub returns-then-holder : goal.returns-then-holder
+returns-then-holder c = search (root-open, rules)
+
+pub returns-in_default : goal.returns-in_default
+returns-in_default c = search (root-closed, rules)
+
+pub returns-then-end-path : goal.returns-then-end-path
+returns-then-end-path c = search (root-last, rules)
+
+pub returns : goal.returns
+returns c = search (root-more, rules)

@@ -1,0 +1,43 @@
+use native.Mathlib.Omega.{arith}
+use Prim.Native.Nat.{◌-◌}
+use Rattle.text.proofs.Passes.{blank-again, blank-stopped, blank-refused, blank-passed}
+use Rattle.text.proofs.is_blank.Goals as goal
+
+pub decode_one-requires : goal.decode_one-requires
+decode_one-requires c = tt
+
+pub returns-in_default : goal.returns-in_default
+returns-in_default c =
+    let e = rw c.in_default.is at c.decode_one.ensures in
+    blank-refused c.args.s.now c.loop-at.at
+    c.loop-at.invariant.1 c.loop-at-test.true e
+
+pub is_white_space-requires : goal.is_white_space-requires
+is_white_space-requires c = tt
+
+pub loop-at-smaller : goal.loop-at-smaller
+loop-at-smaller c =
+    let e = rw c.in-CodePoint.is at c.decode_one.ensures in
+    omega arith
+
+pub loop-at-preserved : goal.loop-at-preserved
+loop-at-preserved c =
+    let e = rw c.in-CodePoint.is at c.decode_one.ensures in (
+      e.2,
+      blank-again c.args.s.now
+          c.loop-at.at
+          c.loop-at.invariant.1 c.in-CodePoint.next
+          e.0 c.is_white_space.ensures c.if-is_white_space.true,
+    )
+
+pub returns-else-is_white_space : goal.returns-else-is_white_space
+returns-else-is_white_space c =
+    let e = rw c.in-CodePoint.is at c.decode_one.ensures in
+    blank-stopped c.args.s.now
+    c.loop-at.at
+    c.loop-at.invariant.1 c.in-CodePoint.next
+    e.0 c.is_white_space.ensures c.if-is_white_space.false
+
+pub returns : goal.returns
+returns c =
+    blank-passed c.args.s.now c.loop-at.at c.loop-at.invariant.1 c.loop-at-test.false

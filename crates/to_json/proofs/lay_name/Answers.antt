@@ -1,0 +1,15 @@
+-- `to_json::lay_name` meets its contract.
+use Rattle.to_json.proofs.Laying.{texted-laid}
+use Rattle.text.specs.Ascii.{ascii}
+use Rattle.text.specs.Parts.{optional_of}
+use Rattle.to_json.specs.Parts.{name_text}
+use native.Mathlib.Omega.{arith}
+use Rattle.to_json.proofs.lay_name.Goals as goal
+
+pub returns-in-Is : goal.returns-in-Is
+unfolding optional_of name_text ascii
+returns-in-Is c = rw c.in-Is.is (texted-laid (ascii "{\"name\":") (ascii ",\"assert\":") (omega arith) c.lay-a.ensures c.lay_quoted-b.ensures c.lay.ensures c.bytes_of.ensures)
+
+pub returns-in-Absent : goal.returns-in-Absent
+unfolding optional_of name_text ascii
+returns-in-Absent c = rw c.in-Absent.is c.lay-in-Absent.ensures

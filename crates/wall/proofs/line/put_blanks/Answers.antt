@@ -1,0 +1,18 @@
+use Rattle.wall.proofs.LineSteps.{no-blanks, more-blanks, all-blanks}
+use Rattle.buffer.specs.WroteLaws.{wrote_kept}
+use Prim.Native.Nat.{◌-◌}
+use native.Mathlib.Omega.{arith}
+use borrow.Author.Rules.{rules}
+use Rattle.wall.proofs.line.put_blanks.Goals as goal
+
+pub loop-i-init : goal.loop-i-init
+loop-i-init c = (omega arith, no-blanks _ _)
+
+pub loop-i-preserved : goal.loop-i-preserved
+loop-i-preserved c = (search rules, search (more-blanks, rules))
+
+pub shape_of-out : goal.shape_of-out
+shape_of-out c = wrote_kept c.loop-i.invariant.1
+
+pub returns : goal.returns
+returns c = search (all-blanks, rules)
