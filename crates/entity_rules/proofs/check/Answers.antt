@@ -7,13 +7,8 @@ slice_bounds-validate_under-end-2 c = rw c.path_lent-lent.ensures (lent-within _
 
 pub returns : goal.returns
 returns c =
-    let wrote = c.?before in
-    let called = wrote.before.before.before.before.before in
-    let second = called.before.before.before.before in
-    let first = second.before in
-    let lent = first.before in
-    let a = lent.before.before.before.before.before.before.args in
-    let last = called.validate-under.new.1.1.1.1.1.1.1 in
+    let a = c.args in
+    let last = c.validate_under-outcome.new.1.1.1.1.1.1.1 in
     answered a.takes a.kind a.semantics a.label.now a.schema.now a.rule.now a.path.now a.result.now
-    called.validate-under.result last.0 last.1.0
-    first.setting.ensures second.setting2.ensures lent.path-lent.ensures called.validate-under.ensures wrote.write-result.ensures
+    c.validate_under-outcome.result last.0 last.1.0
+    c.setting.ensures c.setting-2.ensures c.path_lent-lent.ensures c.validate_under-outcome.ensures c.write_result.ensures

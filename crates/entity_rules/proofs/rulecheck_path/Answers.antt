@@ -8,12 +8,7 @@ slice_bounds-scratch-end c = rw c.path_lent-lent.ensures (lent-within _ _ _)
 
 pub returns : goal.returns
 returns c =
-    let wrote = c.?before in
-    let called = wrote.before.before.before in
-    let second = called.before.before in
-    let first = second.before in
-    let lent = first.before in
-    let a = lent.before.before.before.before.args in
+    let a = c.args in
     key-answered a.semantics a.reader a.path.now a.schema.now a.result.now
-    called.validate-path.result _
-    first.setting.ensures second.setting2.ensures lent.path-lent.ensures called.validate-path.ensures wrote.write-result.ensures
+    c.validate_path-key.result _
+    c.setting.ensures c.setting-2.ensures c.path_lent-lent.ensures c.validate_path-key.ensures c.write_result.ensures

@@ -13,10 +13,9 @@ overflow_cast-result c = omega (arith, first_fits _ c.tally-numbers.ensures)
 
 pub returns : goal.returns
 returns c =
-    let called = c.?before in
     let a = c.args in
-    let last = called.tally.new.1.1.1.1.1.1 in
+    let last = c.tally-numbers.new.1.1.1.1.1.1 in
     tally-answered a.kind a.semantics a.label.now a.table.now a.schema.now a.book.now a.path.now a.result.now
-    called.tally.result last.0 last.1.0
-    c.setting.ensures c.setting-2.ensures c.path_lent-lent.ensures called.tally.ensures
+    c.tally-numbers.result last.0 last.1.0
+    c.setting.ensures c.setting-2.ensures c.path_lent-lent.ensures c.tally-numbers.ensures
     (omega (arith, c.type_inv.1.1.1.1.1.0)) c.write_counts.ensures refl

@@ -8,9 +8,8 @@ slice_bounds-validate_explained-end c = rw c.path_lent-lent.ensures (lent-within
 
 pub returns : goal.returns
 returns c =
-    let called = c.?before in
     let a = c.args in
-    let last = called.validate-explained.new.1.1.1.1.1.1.1 in
+    let last = c.validate_explained-explained.new.1.1.1.1.1.1.1 in
     explain-answered a.kind a.semantics a.label.now a.table.now a.schema.now a.rule.now a.path.now a.marks.now a.message.now a.result.now
-    called.validate-explained.result last.0 last.1.0 last.1.1.0 last.1.1.1.0
-    c.setting.ensures c.setting-2.ensures c.path_lent-lent.ensures called.validate-explained.ensures c.write_explained.ensures
+    c.validate_explained-explained.result last.0 last.1.0 last.1.1.0 last.1.1.1.0
+    c.setting.ensures c.setting-2.ensures c.path_lent-lent.ensures c.validate_explained-explained.ensures c.write_explained.ensures

@@ -9,9 +9,8 @@ slice_bounds-fewest_marks-end c = rw c.path_lent-lent.ensures (lent-within _ _ _
 
 pub returns : goal.returns
 returns c =
-    let called = c.?before in
     let a = c.args in
-    let last = called.fewest-marks.new.1.1.1.1.1 in
+    let last = c.fewest_marks-numbers.new.1.1.1.1.1 in
     open-answered a.kind a.semantics a.table.now a.schema.now a.rule.now a.path.now a.list.now a.result.now
-    called.fewest-marks.result last.0 last.1.0 last.1.1.0
-    c.setting.ensures c.setting-2.ensures c.path_lent-lent.ensures called.fewest-marks.ensures c.write_numbers.ensures refl
+    c.fewest_marks-numbers.result last.0 last.1.0 last.1.1.0
+    c.setting.ensures c.setting-2.ensures c.path_lent-lent.ensures c.fewest_marks-numbers.ensures c.write_numbers.ensures refl

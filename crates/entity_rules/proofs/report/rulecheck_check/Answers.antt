@@ -7,10 +7,8 @@ slice_bounds-validate_marked-end c = rw c.path_lent-lent.ensures (lent-within _ 
 
 pub returns : goal.returns
 returns c =
-    let wrote = c.?before in
-    let called = c.?before in
     let a = c.args in
-    let last = called.validate-marked.new.1.1.1.1.1.1.1 in
+    let last = c.validate_marked-report.new.1.1.1.1.1.1.1 in
     check-answered a.kind a.semantics a.label.now a.table.now a.schema.now a.rule.now a.path.now a.marks.now a.result.now
-    called.validate-marked.result last.0 last.1.0 last.1.1.0
-    c.setting.ensures c.setting-2.ensures c.path_lent-lent.ensures called.validate-marked.ensures wrote.write-report.ensures
+    c.validate_marked-report.result last.0 last.1.0 last.1.1.0
+    c.setting.ensures c.setting-2.ensures c.path_lent-lent.ensures c.validate_marked-report.ensures c.write_report.ensures

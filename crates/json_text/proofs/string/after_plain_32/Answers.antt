@@ -9,6 +9,5 @@ loop-i-init c = search (plain-none, rules)
 
 pub loop-i-preserved : goal.loop-i-preserved
 loop-i-preserved c =
-    let c3 = c.?before in
-    let a = c3.before.before.args in
-    plain-piece a.s.now a.at c3.loop.i 32 c3.loop.invariant (omega (arith, c3.loop.invariant.within)) (c.is_plain_32.ensures c.if-is_plain_32.true)
+    let a = c.args in
+    plain-piece a.s.now a.at c.loop-i.i 32 c.loop-i.invariant (omega (arith, c.loop-i.invariant.within)) (c.is_plain_32.ensures c.if-is_plain_32.true)

@@ -9,27 +9,12 @@ returns-then-i-eq0 c = rises-first c.args.sheet.now c.args.i c.args.before (part
 
 pub returns-in-Less : goal.returns-in-Less
 returns-in-Less c =
-    let c2 = c.?before in
-    let c3 = c2.before in
-    let c4 = c3.before in
-    let c5 = c4.before in
-    let c7 = c5.before.before in
-    rises-behind c7.args.sheet.now c7.args.i c7.args.before (part_of c7.args.sheet.now c7.args.name) true c5.if1.false (rw (← c4.bytes_of.ensures, ← c3.bytes-of2.ensures) (rw c.in-Less.is at c2.compare.ensures).before-is)
+    rises-behind c.args.sheet.now c.args.i c.args.before (part_of c.args.sheet.now c.args.name) true c.if-i-eq0.false (rw (← c.bytes_of.ensures, ← c.bytes_of-2.ensures) (rw c.in-Less.is at c.compare.ensures).before-is)
 
 pub returns-in-Same : goal.returns-in-Same
 returns-in-Same c =
-    let c2 = c.?before in
-    let c3 = c2.before in
-    let c4 = c3.before in
-    let c5 = c4.before in
-    let c7 = c5.before.before in
-    rises-behind c7.args.sheet.now c7.args.i c7.args.before (part_of c7.args.sheet.now c7.args.name) false c5.if1.false (rw (← c4.bytes_of.ensures, ← c3.bytes-of2.ensures) (rw c.in-Same.is at c2.compare.ensures).before-is)
+    rises-behind c.args.sheet.now c.args.i c.args.before (part_of c.args.sheet.now c.args.name) false c.if-i-eq0.false (rw (← c.bytes_of.ensures, ← c.bytes_of-2.ensures) (rw c.in-Same.is at c.compare.ensures).before-is)
 
 pub returns-in-Greater : goal.returns-in-Greater
 returns-in-Greater c =
-    let c2 = c.?before in
-    let c3 = c2.before in
-    let c4 = c3.before in
-    let c5 = c4.before in
-    let c7 = c5.before.before in
-    rises-behind c7.args.sheet.now c7.args.i c7.args.before (part_of c7.args.sheet.now c7.args.name) false c5.if1.false (rw (← c4.bytes_of.ensures, ← c3.bytes-of2.ensures) (rw c.in-Greater.is at c2.compare.ensures).before-is)
+    rises-behind c.args.sheet.now c.args.i c.args.before (part_of c.args.sheet.now c.args.name) false c.if-i-eq0.false (rw (← c.bytes_of.ensures, ← c.bytes_of-2.ensures) (rw c.in-Greater.is at c.compare.ensures).before-is)

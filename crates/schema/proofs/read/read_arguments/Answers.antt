@@ -8,22 +8,14 @@ use Rattle.schema.proofs.read.read_arguments.Goals as goal
 pub returns-in_default : goal.returns-in_default
 unfolding arguments_of
 returns-in_default c =
-    let c4 = c.?before in
-    record { kept = kept-all c4.args.words.now; answer = arguments-absent c4.args.sheet.now c4.args.words.now c4.args.from (arguments_of c4.args.head) (ap arguments_of c.in_default.is) c4.requires.at }
+    record { kept = kept-all c.args.words.now; answer = arguments-absent c.args.sheet.now c.args.words.now c.args.from (arguments_of c.args.head) (ap arguments_of c.in_default.is) c.requires.at }
 
 pub returns-in_default-read_holder : goal.returns-in_default-read_holder
 unfolding arguments_of
 returns-in_default-read_holder c =
-    let c4 = c.?before in
-    let c7 = c4.before.before.before in
-    let c11 = c7.before.before.before.before in
-    record { kept = c4.read-holder.ensures.kept; answer = arguments-none c11.args.sheet.now c11.args.from (arguments_of c11.args.head) (holder_of c7.head.given.0.0) (ap arguments_of c7.head.given.1) (rw c.in_default-read_holder.is at c4.read-holder.ensures.answer) }
+    record { kept = c.read_holder.ensures.kept; answer = arguments-none c.args.sheet.now c.args.from (arguments_of c.args.head) (holder_of c.in-Are.h) (ap arguments_of c.in-Are.is) (rw c.in_default-read_holder.is at c.read_holder.ensures.answer) }
 
 pub returns : goal.returns
 unfolding arguments_of
 returns c =
-    let c1 = c.?before in
-    let c5 = c1.before.before.before.before in
-    let c8 = c5.before.before.before in
-    let c12 = c8.before.before.before.before in
-    record { kept = c5.read-holder.ensures.kept; answer = arguments-good c12.args.sheet.now c12.args.from (arguments_of c12.args.head) (holder_of c8.head.given.0.0) (ap arguments_of c8.head.given.1) c12.args.words.now _ _ _ (rw c1.holder.given.1 at c5.read-holder.ensures.answer) }
+    record { kept = c.read_holder.ensures.kept; answer = arguments-good c.args.sheet.now c.args.from (arguments_of c.args.head) (holder_of c.in-Are.h) (ap arguments_of c.in-Are.is) c.args.words.now _ _ _ (rw c.in-Good.is at c.read_holder.ensures.answer) }
