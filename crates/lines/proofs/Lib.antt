@@ -1,4 +1,0 @@
-pub mod Passing
-pub mod Loan
-pub mod Lending
-pub mod Pairing

@@ -36,7 +36,7 @@ unfolding judge_from
 judge-explained setting schema n [] s = tt
 judge-explained setting schema n (c ∷ cs) s =
     decide-explained (outcome setting schema c) n c _ s.0.explained
-    (λ e. judge-explained setting schema _ cs (s.1 e))
+    (λ e. judge-explained setting schema (n + 1) cs (s.1 e))
 
 answer-explained : (setting : Setting) (label : Text) (r : Rule) (v : Verdict) → ExplainedVerdict v → ExplainedAnswer (answer_of setting label r v)
 unfolding answer_of

@@ -238,6 +238,7 @@ module _ (setting : Setting) (schema : Schema) where
       → ((env : Environment) → Explained (collection schema env v))
       → Explains (answer_in setting schema (walkable v) x)
   unfolding answer_in answer
+  value-listed none v r h = elim r [ ]
   value-listed (some env) v r h = explained-verdict (collection schema env v) (h env)
 
   text-listed : (x : Option Environment) (e : ℕ) (t : Text)
@@ -245,6 +246,7 @@ module _ (setting : Setting) (schema : Schema) where
       → ((u : Text) → reference_text t ≡ some u → answer_in setting schema (readable u) x ≡ none)
       → Explains (answer_in setting schema (walkable (string e t)) x)
   unfolding answer_in answer collection
+  text-listed none e t r h = elim r [ ]
   text-listed (some env) e t r h =
       explained-verdict (collection_text schema env t)
       (text-explained setting schema env t

@@ -75,6 +75,7 @@ answer-in-fares : {l : Level} {s s' : Schema} {x x' : Option Environment} (setti
     → IsSome x
     → OutcomeFares l (answer_in setting s q x) (answer_in setting s' q x')
 unfolding answer_in
+answer-in-fares {l = l} {s = s} setting q g unresolved r = elim r [ ]
 answer-in-fares setting q g (resolved e) r = answer-fares setting q g e
 
 outcome-fares : {l : Level} {s s' : Schema} (setting : Setting) (c : Check)

@@ -36,6 +36,7 @@ opened-transitive every (opened m) kept = opened m
 -- a holder that is closed in the second schema is closed in the first
 may-grow-before : {l : Level} {e : ℕ} {o o' : Bool} → Opened l e o o' → MayGrow l o' → MayGrow l o
 may-grow-before kept g = g
+may-grow-before {l = l} {e = e} (opened _) g = elim g [ ]
 
 mutual
   field-transitive : {l : Level} {f f' f'' : Field} → EveryMark l → WiderField l f' f'' → WiderField l f f' → WiderField l f f''

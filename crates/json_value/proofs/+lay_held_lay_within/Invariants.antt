@@ -10,8 +10,8 @@ decreases-lay_held l = 2 * (l.end - l.i) + 1
 abbrev pub decreases-lay_within : goal.decreases-lay_within
 decreases-lay_within l = 2 * (l.end - l.i)
 
-abbrev pub invariant-lay_held--loop-j : goal.invariant-lay_held--loop-j
-invariant-lay_held--loop-j l = Leads (escapes_of l.how) l.rule l.words l.keys l.i l.end l.initial.out l.at l.j l.out l.o
+abbrev pub invariant-lay_held-loop-j : goal.invariant-lay_held-loop-j
+invariant-lay_held-loop-j l = Leads (escapes_of l.how) l.rule l.words l.keys l.i l.end l.initial.out l.at l.j l.out l.o
 
-abbrev pub decreases-lay_held--loop-j : goal.decreases-lay_held--loop-j
-decreases-lay_held--loop-j l = l.end - l.j
+abbrev pub decreases-lay_held-loop-j : goal.decreases-lay_held-loop-j
+decreases-lay_held-loop-j l = l.end - l.j

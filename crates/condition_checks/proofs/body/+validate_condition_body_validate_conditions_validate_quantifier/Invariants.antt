@@ -14,8 +14,8 @@ decreases-validate_conditions l = 3 * l.left + 1
 abbrev pub decreases-validate_quantifier : goal.decreases-validate_quantifier
 decreases-validate_quantifier l = 3 * l.left + 2
 
-abbrev pub invariant-validate_conditions--loop-i : goal.invariant-validate_conditions--loop-i
-invariant-validate_conditions--loop-i l = (l.start ≤ l.i) × (l.i - l.start ≤ l.end - l.start) × BodiesLeft (frame l.schema l.rule l.words l.scope l.over) l.start l.i l.end l.left (going l.initial.so_far) (going l.so_far)
+abbrev pub invariant-validate_conditions-loop-i : goal.invariant-validate_conditions-loop-i
+invariant-validate_conditions-loop-i l = (l.start ≤ l.i) × (l.i - l.start ≤ l.end - l.start) × BodiesLeft (frame l.schema l.rule l.words l.scope l.over) l.start l.i l.end l.left (going l.initial.so_far) (going l.so_far)
 
-abbrev pub decreases-validate_conditions--loop-i : goal.decreases-validate_conditions--loop-i
-decreases-validate_conditions--loop-i l = l.end - l.i
+abbrev pub decreases-validate_conditions-loop-i : goal.decreases-validate_conditions-loop-i
+decreases-validate_conditions-loop-i l = l.end - l.i

@@ -9,8 +9,8 @@ decreases-condition_depth l = 2 * l.left
 abbrev pub decreases-conditions_depth : goal.decreases-conditions_depth
 decreases-conditions_depth l = 2 * l.left + 1
 
-abbrev pub invariant-conditions_depth--loop-i : goal.invariant-conditions_depth--loop-i
-invariant-conditions_depth--loop-i l = (l.most ≤ l.left) × DepthsLeft l.rule l.words l.start l.i l.end l.left l.most
+abbrev pub invariant-conditions_depth-loop-i : goal.invariant-conditions_depth-loop-i
+invariant-conditions_depth-loop-i l = (l.most ≤ l.left) × DepthsLeft l.rule l.words l.start l.i l.end l.left l.most
 
-abbrev pub decreases-conditions_depth--loop-i : goal.decreases-conditions_depth--loop-i
-decreases-conditions_depth--loop-i l = l.end - l.i
+abbrev pub decreases-conditions_depth-loop-i : goal.decreases-conditions_depth-loop-i
+decreases-conditions_depth-loop-i l = l.end - l.i

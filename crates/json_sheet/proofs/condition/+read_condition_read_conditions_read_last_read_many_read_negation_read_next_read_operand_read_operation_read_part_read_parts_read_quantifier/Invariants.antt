@@ -45,8 +45,8 @@ decreases-read_parts l = 8 * l.depth + 4
 abbrev pub decreases-read_quantifier : goal.decreases-read_quantifier
 decreases-read_quantifier l = 8 * l.depth + 5
 
-abbrev pub invariant-read_conditions--loop-next : goal.invariant-read_conditions--loop-next
-invariant-read_conditions--loop-next l = Walking (streamed l.depth) (many_in (streamed l.depth)) (λ (c : Condition) (cs : List Condition). c ∷ cs) [] 0x5D write_condition entries_of_conditions count_of_conditions_from l.s l.at l.initial.out l.out l.o l.i l.e l.n
+abbrev pub invariant-read_conditions-loop-next : goal.invariant-read_conditions-loop-next
+invariant-read_conditions-loop-next l = Walking (streamed l.depth) (many_in (streamed l.depth)) (λ (c : Condition) (cs : List Condition). c ∷ cs) [] 0x5D write_condition entries_of_conditions count_of_conditions_from l.s l.at l.initial.out l.out l.o l.i l.e l.n
 
-abbrev pub decreases-read_conditions--loop-next : goal.decreases-read_conditions--loop-next
-decreases-read_conditions--loop-next l = length l.s - l.i
+abbrev pub decreases-read_conditions-loop-next : goal.decreases-read_conditions-loop-next
+decreases-read_conditions-loop-next l = length l.s - l.i

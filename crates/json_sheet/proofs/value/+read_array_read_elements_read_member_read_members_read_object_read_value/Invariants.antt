@@ -29,14 +29,14 @@ decreases-read_object l = 4 * l.depth + 3
 abbrev pub decreases-read_value : goal.decreases-read_value
 decreases-read_value l = 4 * l.depth
 
-abbrev pub invariant-read_elements--loop-next : goal.invariant-read_elements--loop-next
-invariant-read_elements--loop-next l = Walking (value l.depth) (elements_in (value l.depth)) element no_elements 0x5D (λ (v : Json). write_value (value_of v)) entries_of_elements count_of_elements l.s l.at l.initial.out l.out l.o l.i l.e l.n
+abbrev pub invariant-read_elements-loop-next : goal.invariant-read_elements-loop-next
+invariant-read_elements-loop-next l = Walking (value l.depth) (elements_in (value l.depth)) element no_elements 0x5D (λ (v : Json). write_value (value_of v)) entries_of_elements count_of_elements l.s l.at l.initial.out l.out l.o l.i l.e l.n
 
-abbrev pub decreases-read_elements--loop-next : goal.decreases-read_elements--loop-next
-decreases-read_elements--loop-next l = length l.s - l.i
+abbrev pub decreases-read_elements-loop-next : goal.decreases-read_elements-loop-next
+decreases-read_elements-loop-next l = length l.s - l.i
 
-abbrev pub invariant-read_members--loop-next : goal.invariant-read_members--loop-next
-invariant-read_members--loop-next l = Walking (member_of (value l.depth)) (members_in (value l.depth)) (λ (a : Text × Json) (t : Members). member a.0 a.1 t) no_members 0x7D (λ (a : Text × Json). write_key_head a.0 ++ write_value (value_of a.1)) entries_of_members count_of_members l.s l.at l.initial.out l.out l.o l.i l.e l.n
+abbrev pub invariant-read_members-loop-next : goal.invariant-read_members-loop-next
+invariant-read_members-loop-next l = Walking (member_of (value l.depth)) (members_in (value l.depth)) (λ (a : Text × Json) (t : Members). member a.0 a.1 t) no_members 0x7D (λ (a : Text × Json). write_key_head a.0 ++ write_value (value_of a.1)) entries_of_members count_of_members l.s l.at l.initial.out l.out l.o l.i l.e l.n
 
-abbrev pub decreases-read_members--loop-next : goal.decreases-read_members--loop-next
-decreases-read_members--loop-next l = length l.s - l.i
+abbrev pub decreases-read_members-loop-next : goal.decreases-read_members-loop-next
+decreases-read_members-loop-next l = length l.s - l.i

@@ -14,8 +14,8 @@ decreases-read_headed l = 3 * l.depth
 abbrev pub decreases-read_sibling : goal.decreases-read_sibling
 decreases-read_sibling l = 3 * l.depth + 1
 
-abbrev pub invariant-read_conditions--loop-n : goal.invariant-read_conditions--loop-n
-invariant-read_conditions--loop-n l = Passing (conditions-kind l.s l.depth) l.s l.initial.words l.words tt tt l.count l.count l.n l.n l.initial.here l.here
+abbrev pub invariant-read_conditions-loop-n : goal.invariant-read_conditions-loop-n
+invariant-read_conditions-loop-n l = Passing (conditions-kind l.s l.depth) l.s l.initial.words l.words tt tt l.count l.count l.n l.n l.initial.here l.here
 
-abbrev pub decreases-read_conditions--loop-n : goal.decreases-read_conditions--loop-n
-decreases-read_conditions--loop-n l = l.n
+abbrev pub decreases-read_conditions-loop-n : goal.decreases-read_conditions-loop-n
+decreases-read_conditions-loop-n l = l.n

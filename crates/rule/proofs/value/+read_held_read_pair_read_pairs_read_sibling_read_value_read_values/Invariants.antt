@@ -26,15 +26,15 @@ decreases-read_value l = 5 * l.depth
 abbrev pub decreases-read_values : goal.decreases-read_values
 decreases-read_values l = 5 * l.depth + 2
 
-abbrev pub invariant-read_pairs--loop-n : goal.invariant-read_pairs--loop-n
-invariant-read_pairs--loop-n l =
+abbrev pub invariant-read_pairs-loop-n : goal.invariant-read_pairs-loop-n
+invariant-read_pairs-loop-n l =
     Passing (pairs-kind l.s l.depth) l.s l.initial.words l.words (true, none) (sofar l.s l.rise l.previous) l.count (2 * l.count) l.n (2 * l.n) l.c l.here
 
-abbrev pub decreases-read_pairs--loop-n : goal.decreases-read_pairs--loop-n
-decreases-read_pairs--loop-n l = l.n
+abbrev pub decreases-read_pairs-loop-n : goal.decreases-read_pairs-loop-n
+decreases-read_pairs-loop-n l = l.n
 
-abbrev pub invariant-read_values--loop-n : goal.invariant-read_values--loop-n
-invariant-read_values--loop-n l = Passing (values-kind l.s l.depth) l.s l.initial.words l.words tt tt l.count l.count l.n l.n l.initial.here l.here
+abbrev pub invariant-read_values-loop-n : goal.invariant-read_values-loop-n
+invariant-read_values-loop-n l = Passing (values-kind l.s l.depth) l.s l.initial.words l.words tt tt l.count l.count l.n l.n l.initial.here l.here
 
-abbrev pub decreases-read_values--loop-n : goal.decreases-read_values--loop-n
-decreases-read_values--loop-n l = l.n
+abbrev pub decreases-read_values-loop-n : goal.decreases-read_values-loop-n
+decreases-read_values-loop-n l = l.n

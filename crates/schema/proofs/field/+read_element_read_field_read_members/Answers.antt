@@ -14,58 +14,58 @@ use Rattle.schema.proofs.FieldSteps.{to_count-none, field-too-deep, field-headle
 use Rattle.schema.proofs.MemberSteps.{element-absent, element-none, one_none, one-good, element-named, element-good, sofar-none, sofar-all, sofar-bad, sofar-fallen, sofar-more}
 use Rattle.schema.proofs.field.+read_element_read_field_read_members.Goals as goal
 
-pub read_element--read_members-requires : goal.read_element--read_members-requires
+pub read_element-read_members-requires : goal.read_element-read_members-requires
 unfolding to_count
-read_element--read_members-requires t c =
+read_element-read_members-requires t c =
     (omega arith, rw c.if-has.true at c.requires.1)
 
-pub read_element--returns-in_default : goal.read_element--returns-in_default
-read_element--returns-in_default t c =
+pub read_element-returns-in_default : goal.read_element-returns-in_default
+read_element-returns-in_default t c =
     record { kept = c.read_members.ensures.kept; answer = element-none c.args.sheet.now c.args.depth c.args.has c.if-has.true c.args.from (one_none (field_in c.args.depth) (ahead c.args.sheet.now c.args.from) (rw c.in_default.is at c.read_members.ensures.answer)) }
 
-pub read_element--returns-then-bytes_of-eq0 : goal.read_element--returns-then-bytes_of-eq0
-read_element--returns-then-bytes_of-eq0 t c =
+pub read_element-returns-then-bytes_of-eq0 : goal.read_element-returns-then-bytes_of-eq0
+read_element-returns-then-bytes_of-eq0 t c =
     let s = c.args.sheet.now in
     let good = one-good s c.args.words.now _ c.args.depth c.args.slot c.args.from _ (rw c.in-Good.is at c.read_members.ensures.answer) in
     let name = ap (λ (p : Part). length (part_of s p)) c.name_of_slot-name.ensures in
     record { kept = c.read_members.ensures.kept; answer = element-good s c.args.words.now _ c.args.depth c.args.has c.if-has.true c.args.slot c.args.from _ _ good (sym (ap length c.bytes_of.ensures ∙ name) ∙ c.if-bytes_of-eq0.true) }
 
-pub read_element--returns-then-has : goal.read_element--returns-then-has
-read_element--returns-then-has t c =
+pub read_element-returns-then-has : goal.read_element-returns-then-has
+read_element-returns-then-has t c =
     let s = c.args.sheet.now in
     let good = one-good s c.args.words.now _ c.args.depth c.args.slot c.args.from _ (rw c.in-Good.is at c.read_members.ensures.answer) in
     let name = ap (λ (p : Part). length (part_of s p)) c.name_of_slot-name.ensures in
     record { kept = c.read_members.ensures.kept; answer = element-named s c.args.words.now _ c.args.depth c.args.has c.if-has.true c.args.slot c.args.from _ _ good (λ e. c.if-bytes_of-eq0.false (ap length c.bytes_of.ensures ∙ name ∙ e)) }
 
-pub read_element--returns : goal.read_element--returns
-read_element--returns t c =
+pub read_element-returns : goal.read_element-returns
+read_element-returns t c =
     record { kept = kept-all c.args.words.now; answer = element-absent c.args.sheet.now c.args.words.now c.args.depth c.args.has c.args.slot c.args.from c.if-has.false c.requires.1.at c.requires.1.used }
 
-pub read_field--returns-then-depth-eq0 : goal.read_field--returns-then-depth-eq0
-read_field--returns-then-depth-eq0 t c =
+pub read_field-returns-then-depth-eq0 : goal.read_field-returns-then-depth-eq0
+read_field-returns-then-depth-eq0 t c =
     record { kept = kept-all c.args.words.now; answer = field-too-deep c.args.depth (ahead c.args.sheet.now c.args.from) c.if-depth-eq0.true }
 
-pub read_field--returns-in_default : goal.read_field--returns-in_default
-read_field--returns-in_default t c =
+pub read_field-returns-in_default : goal.read_field-returns-in_default
+read_field-returns-in_default t c =
     record { kept = kept-all c.args.words.now; answer = field-headless c.args.depth (ahead c.args.sheet.now c.args.from) (rw c.in_default.is at c.field_head.ensures) }
 
-pub read_field--overflow_add-announced : goal.read_field--overflow_add-announced
-read_field--overflow_add-announced t c =
+pub read_field-overflow_add-announced : goal.read_field-overflow_add-announced
+read_field-overflow_add-announced t c =
     let e = rw c.in-Is.is at c.field_head.ensures in omega (arith, e, to_count-small c.in-Is.head.items)
 
-pub read_field--returns-then-low-announced : goal.read_field--returns-then-low-announced
+pub read_field-returns-then-low-announced : goal.read_field-returns-then-low-announced
 unfolding field_of
-read_field--returns-then-low-announced t c =
+read_field-returns-then-low-announced t c =
     let e = rw c.in-Is.is at c.field_head.ensures in
     record { kept = kept-all c.args.words.now; answer = field-crowded c.args.sheet.now c.args.from (field_of c.args.sheet.now c.in-Is.head) c.in-Is.end c.to_count-elements.result e.0.reads c.to_count-elements.ensures c.args.depth c.if-low-announced.true }
 
-pub read_field--put_slot-requires : goal.read_field--put_slot-requires
-read_field--put_slot-requires t c =
+pub read_field-put_slot-requires : goal.read_field-put_slot-requires
+read_field-put_slot-requires t c =
     let e = rw c.in-Is.is at c.field_head.ensures in omega (arith, e.3)
 
-pub read_field--returns-then-announced-eq0 : goal.read_field--returns-then-announced-eq0
+pub read_field-returns-then-announced-eq0 : goal.read_field-returns-then-announced-eq0
 unfolding field_of
-read_field--returns-then-announced-eq0 t c =
+read_field-returns-then-announced-eq0 t c =
     let s = c.args.sheet.now in
     let e = rw c.in-Is.is at c.field_head.ensures in
     let deeper : c.args.depth ≡ suc (c.args.depth - 1) = omega (arith, c.if-depth-eq0.false) in
@@ -76,56 +76,56 @@ read_field--returns-then-announced-eq0 t c =
     let many = sofar-all s _ _ (c.args.depth - 1) (c.args.from.used + c.to_count-elements.result) c.in-Is.head.count inner inner _ 0 (sofar-none s _ (c.args.depth - 1) _ _ inner c.in-Is.head.name e.0.within used) (omega (arith, c.if-announced-eq0.true)) in
     record { kept = c.put_slot.ensures.kept; answer = field-good s c.args.from (field_of s c.in-Is.head) c.in-Is.end c.to_count-elements.result e.0.reads c.to_count-elements.ensures c.args.depth (c.args.depth - 1) deeper c.if-low-announced.false c.args.slot c.args.words.now _ _ _ c.requires.1 c.in-Is.head.name refl c.put_slot.ensures _ _ one many }
 
-pub read_field--read_element-requires : goal.read_field--read_element-requires
-read_field--read_element-requires t c =
+pub read_field-read_element-requires : goal.read_field-read_element-requires
+read_field-read_element-requires t c =
     let e = rw c.in-Is.is at c.field_head.ensures in
     (omega arith, inner-ready c.in-Is.head.items c.to_count-elements.result c.in-Is.head.count _ c.requires.1 c.put_slot.ensures.kept e.0.within c.to_count-elements.ensures c.if-low-announced.false)
 
-pub read_field--returns-in_default-read_element : goal.read_field--returns-in_default-read_element
+pub read_field-returns-in_default-read_element : goal.read_field-returns-in_default-read_element
 unfolding field_of
-read_field--returns-in_default-read_element t c =
+read_field-returns-in_default-read_element t c =
     let e = rw c.in-Is.is at c.field_head.ensures in
     let deeper : c.args.depth ≡ suc (c.args.depth - 1) = omega (arith, c.if-depth-eq0.false) in
     record { kept = kept_more c.put_slot.ensures.kept c.read_element.ensures.kept; answer = field-elementless c.args.sheet.now c.args.from (field_of c.args.sheet.now c.in-Is.head) c.in-Is.end c.to_count-elements.result e.0.reads c.to_count-elements.ensures c.args.depth (c.args.depth - 1) deeper c.if-low-announced.false (rw c.in_default-read_element.is at c.read_element.ensures.answer) }
 
-pub read_field--read_members-requires : goal.read_field--read_members-requires
-read_field--read_members-requires t c =
+pub read_field-read_members-requires : goal.read_field-read_members-requires
+read_field-read_members-requires t c =
     let e = rw c.in-Is.is at c.field_head.ensures in
     let one = rw c.in-Good.is at c.read_element.ensures.answer in
     (omega (arith, c.requires.0, c.if-depth-eq0.false), behind-ready c.in-Is.head.items c.to_count-elements.result c.in-Is.head.count c.in-Is.end c.requires.1 c.put_slot.ensures.kept c.read_element.ensures.kept c.to_count-elements.ensures c.if-low-announced.false one)
 
-pub read_field--returns-in_default-read_members : goal.read_field--returns-in_default-read_members
+pub read_field-returns-in_default-read_members : goal.read_field-returns-in_default-read_members
 unfolding field_of
-read_field--returns-in_default-read_members t c =
+read_field-returns-in_default-read_members t c =
     let e = rw c.in-Is.is at c.field_head.ensures in
     let deeper : c.args.depth ≡ suc (c.args.depth - 1) = omega (arith, c.if-depth-eq0.false) in
     let one = rw c.in-Good.is at c.read_element.ensures.answer in
     record { kept = kept_more c.put_slot.ensures.kept (kept_more c.read_element.ensures.kept c.read_members.ensures.kept); answer = field-memberless c.args.sheet.now c.args.from (field_of c.args.sheet.now c.in-Is.head) c.in-Is.end c.to_count-elements.result e.0.reads c.to_count-elements.ensures c.args.depth (c.args.depth - 1) deeper c.if-low-announced.false _ _ one.reads (rw c.in_default-read_members.is at c.read_members.ensures.answer) }
 
-pub read_field--returns : goal.read_field--returns
+pub read_field-returns : goal.read_field-returns
 unfolding field_of
-read_field--returns t c =
+read_field-returns t c =
     let e = rw c.in-Is.is at c.field_head.ensures in
     let deeper : c.args.depth ≡ suc (c.args.depth - 1) = omega (arith, c.if-depth-eq0.false) in
     let one = rw c.in-Good.is at c.read_element.ensures.answer in
     let many = rw c.in-Good-read_members.is at c.read_members.ensures.answer in
     record { kept = kept_more c.put_slot.ensures.kept (kept_more c.read_element.ensures.kept c.read_members.ensures.kept); answer = field-good c.args.sheet.now c.args.from (field_of c.args.sheet.now c.in-Is.head) c.in-Is.end c.to_count-elements.result e.0.reads c.to_count-elements.ensures c.args.depth (c.args.depth - 1) deeper c.if-low-announced.false c.args.slot c.args.words.now _ _ _ c.requires.1 c.in-Is.head.name refl c.put_slot.ensures _ _ one many }
 
-pub read_members--loop-i-init : goal.read_members--loop-i-init
-read_members--loop-i-init t c = sofar-none c.args.sheet.now c.args.words.now c.args.depth c.args.first c.args.count (cursor_of c.args.next c.args.used c.args.at) _ c.requires.1.at c.requires.1.used
+pub read_members-loop-i-init : goal.read_members-loop-i-init
+read_members-loop-i-init t c = sofar-none c.args.sheet.now c.args.words.now c.args.depth c.args.first c.args.count (cursor_of c.args.next c.args.used c.args.at) _ c.requires.1.at c.requires.1.used
 
-pub read_members--returns-in_default : goal.read_members--returns-in_default
-read_members--returns-in_default t c =
+pub read_members-returns-in_default : goal.read_members-returns-in_default
+read_members-returns-in_default t c =
     record { kept = kept_more c.loop-i.invariant.kept c.read_field.ensures.kept; answer = sofar-bad c.args.sheet.now c.args.words.now c.loop-i.words c.args.depth c.args.first c.args.count (cursor_of c.args.next c.args.used c.args.at) c.loop-i.to c.loop-i.before c.loop-i.i c.loop-i.invariant c.loop-i-test.true (rw c.in_default.is at c.read_field.ensures.answer) }
 
-pub read_members--loop-i-preserved : goal.read_members--loop-i-preserved
-read_members--loop-i-preserved t c =
+pub read_members-loop-i-preserved : goal.read_members-loop-i-preserved
+read_members-loop-i-preserved t c =
     sofar-more c.args.sheet.now c.args.words.now c.loop-i.words c.args.depth c.args.first c.args.count (cursor_of c.args.next c.args.used c.args.at) c.loop-i.to c.loop-i.before c.loop-i.i c.loop-i.invariant c.loop-i-test.true _ _ _ (rw c.in-Good.is at c.read_field.ensures.answer) c.requires.1.slots c.read_field.ensures.kept (sym c.rises.ensures ∙ c.if-rises.true)
 
-pub read_members--returns-else-rises : goal.read_members--returns-else-rises
-read_members--returns-else-rises t c =
+pub read_members-returns-else-rises : goal.read_members-returns-else-rises
+read_members-returns-else-rises t c =
     record { kept = kept_more c.loop-i.invariant.kept c.read_field.ensures.kept; answer = sofar-fallen c.args.sheet.now c.args.words.now c.loop-i.words c.args.depth c.args.first c.args.count (cursor_of c.args.next c.args.used c.args.at) c.loop-i.to c.loop-i.before c.loop-i.i c.loop-i.invariant c.loop-i-test.true _ _ _ (rw c.in-Good.is at c.read_field.ensures.answer) (sym c.rises.ensures ∙ c.if-rises.false) }
 
-pub read_members--returns : goal.read_members--returns
-read_members--returns t c =
+pub read_members-returns : goal.read_members-returns
+read_members-returns t c =
     record { kept = c.loop-i.invariant.kept; answer = sofar-all c.args.sheet.now c.args.words.now c.loop-i.words c.args.depth c.args.first c.args.count (cursor_of c.args.next c.args.used c.args.at) c.loop-i.to c.loop-i.before c.loop-i.i c.loop-i.invariant c.loop-i-test.false }

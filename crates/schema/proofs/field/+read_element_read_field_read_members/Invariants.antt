@@ -14,8 +14,8 @@ decreases-read_field l = 3 * l.depth
 abbrev pub decreases-read_members : goal.decreases-read_members
 decreases-read_members l = 3 * l.depth + 1
 
-abbrev pub invariant-read_members--loop-i : goal.invariant-read_members--loop-i
-invariant-read_members--loop-i l = Sofar l.sheet l.initial.words l.words l.depth l.first l.count (cursor_of l.next l.used l.at) l.to l.before l.i
+abbrev pub invariant-read_members-loop-i : goal.invariant-read_members-loop-i
+invariant-read_members-loop-i l = Sofar l.sheet l.initial.words l.words l.depth l.first l.count (cursor_of l.next l.used l.at) l.to l.before l.i
 
-abbrev pub decreases-read_members--loop-i : goal.decreases-read_members--loop-i
-decreases-read_members--loop-i l = l.count - l.i
+abbrev pub decreases-read_members-loop-i : goal.decreases-read_members-loop-i
+decreases-read_members-loop-i l = l.count - l.i
