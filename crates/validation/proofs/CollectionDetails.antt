@@ -1,5 +1,5 @@
 -- The two further sentences of `collection_element` never occur: whenever a call finds that an `in` value is not a collection, the detail is 1 to 5.
-use Prim.Native.Nat.{ℕ}
+use Prim.Native.Nat.{ℕ, ◌+◌}
 use mathlib.Core.List.{List, [], ◌∷◌}
 use mathlib.Core.Option.{Option, none, some}
 use mathlib.Core.Path.{◌≡◌, refl}

@@ -96,8 +96,8 @@ open-keeps (keep w ws) e = omega (arith, open-keeps ws e)
 open-keeps (more g ws) e = absurd (may-grow-closed g e)
 
 -- one field for one field of that name
-only-member : {l : Level} {o : Bool} {name : Text} {f f' : Field}
-    → WiderMembers l o (member name f no_members) (member name f' no_members)
+only-member : {l : Level} {o : Bool} {name name' : Text} {f f' : Field}
+    → WiderMembers l o (member name f no_members) (member name' f' no_members)
     → WiderField l f f'
 unfolding size
 only-member (keep w ws) = w

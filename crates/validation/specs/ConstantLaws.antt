@@ -155,6 +155,7 @@ module _ (e : ℕ) (truth : Bool) where
       kept (quantifier n op bind over body) (inr s) = kept body s
 
       kept-among : (ds : Conditions) → StandsAmong c ds → one_of (mark_of e truth) (marks_of_conditions ds) ≡ true
+      kept-among no_conditions s = elim s [ ]
       kept-among (condition d others) (inl s) = one-of-left (mark_of e truth) (marks_of d) (marks_of_conditions others) (kept d s)
       kept-among (condition d others) (inr s) = one-of-right (mark_of e truth) (marks_of d) (marks_of_conditions others) (kept-among others s)
 

@@ -12,7 +12,7 @@ use Rattle.widening.specs.ReferenceLaws.{GrownSchema, reference-fares, collectio
 use Rattle.validation.specs.Check.{Question, settled, readable, walkable, Check}
 use Rattle.validation.specs.Judge.{Failure, CheckOutcome, verdict, unasked, answer, answer_in, outcome}
 use Rattle.validation.specs.CheckLaws.{Resolved}
-use Rattle.validation.specs.WideningLaws.{Resolves, resolved, environment-fares}
+use Rattle.validation.specs.WideningLaws.{Resolves, resolved, unresolved, environment-fares}
 
 passes-and-fails : {o : CheckOutcome} (why : Failure) → o ≡ some why → o ≡ none → ⊥
 passes-and-fails why e e' = zero-not-one cc
@@ -36,6 +36,9 @@ answer-opens : {may : ℕ → Bool} {s s' : Schema} {x x' : Option Environment} 
     → answer_in setting s' q x' ≡ none
     → may why.at ≡ true
 unfolding answer_in answer
+answer-opens {may = may} {s = s} setting (settled o) why g unresolved r h h' = elim r [ ]
+answer-opens {may = may} {s = s} setting (readable t) why g unresolved r h h' = elim r [ ]
+answer-opens {may = may} {s = s} setting (walkable v) why g unresolved r h h' = elim r [ ]
 answer-opens setting (settled o) why g (resolved e) r h h' = absurd (passes-and-fails {o = unasked o} why h h')
 answer-opens setting (readable t) why g (resolved e) r h h' = reached-opens why (reference-fares setting t g e) h h'
 answer-opens setting (walkable v) why g (resolved e) r h h' = reached-opens why (collection-fares v g e) h h'
