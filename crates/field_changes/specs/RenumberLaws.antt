@@ -16,7 +16,7 @@ use Rattle.validation.specs.Check.{Question, settled, readable, walkable, Check,
 use Rattle.validation.specs.Judge.{CheckOutcome, verdict, answer, answer_in, outcome, Verdict, decide, judge_from, judge}
 use Rattle.validation.specs.Result.{answer_of, checked}
 use Rattle.validation.specs.CheckLaws.{Sure, sure-checks}
-use Rattle.validation.specs.WideningLaws.{Resolves, resolved, environment-fares}
+use Rattle.validation.specs.WideningLaws.{Resolves, resolved, unresolved, environment-fares}
 
 -- no mark may open, so that only entry numbers differ
 abbrev pub numbers_only : Level
@@ -40,6 +40,9 @@ same_answer : {s s' : Schema} {x x' : Option Environment} (setting : Setting) (q
     → IsSome x
     → detail_in (answer_in setting s q x) ≡ detail_in (answer_in setting s' q x')
 unfolding answer_in answer
+same_answer {s = s} setting (settled o) g unresolved r = elim r [ ]
+same_answer {s = s} setting (readable t) g unresolved r = elim r [ ]
+same_answer {s = s} setting (walkable v) g unresolved r = elim r [ ]
 same_answer setting (settled o) g (resolved e) r = refl
 same_answer setting (readable t) g (resolved e) r = same-reached (reference-fares setting t g e)
 same_answer setting (walkable v) g (resolved e) r = same-reached (collection-fares v g e)

@@ -71,6 +71,7 @@ env-of : (kind : ℕ) (setting : Setting) (t : Schema) (r : Rule) (passed : ℕ)
     → IsSome x
     → Failing setting t (BindersStand setting r) c why
     → Explained kind setting t r passed c why
+env-of kind setting t r passed c why none k e is f = elim is [ ]
 env-of kind setting t r passed c why (some env) k e is f =
     record { env = env; around = e; place = f.holds; agrees = message-agrees kind setting t r c why env k e f.fails passed }
 
