@@ -21,7 +21,7 @@ use Rattle.definition.specs.Tree.{Text, Value, string, Condition, Rule, rule, te
 use Rattle.definition.specs.Within.{condition_entries}
 use Rattle.json_text.specs.Escaped.{short}
 use Rattle.json_rule.specs.AsJson.{json_of}
-use Rattle.json_rule.specs.AsJsonLaws.{json-is}
+use Rattle.json_rule.proofs.AsJsonLaws.{json-is}
 use Rattle.json_value.specs.Lays.{LaysValue}
 use Rattle.rule.specs.Index.{start_of, end_of, ValueAt, ConditionAt, RuleAt}
 use Rattle.validation.specs.Check.{entry_of, is_string, depth}
