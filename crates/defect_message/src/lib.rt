@@ -1,4 +1,6 @@
 // What a defect says (docs/FORMAT.md, "Messages"), laid into a lent buffer.
+#![tactic(auto)]
+
 pub mod words; // words.rt: words that messages are made of
 pub mod refusal; // refusal.rt: why a segment of a reference is refused
 pub mod references; // references.rt: what is said of a reference

@@ -1,4 +1,6 @@
 // What a host asks besides its checks: the numbers of a result, the version, the test of a number, and the fields of an instant.
+#![tactic(auto)]
+
 pub mod counts; // counts.rt: numbers of eight bytes
 
 ghost use Rattle.std.specs.Prelude.{◌≡◌};

@@ -18,7 +18,7 @@ use Rattle.buffer.specs.Laid.{Laid, most_place}
 use Rattle.buffer.specs.LaidLaws.{laid-nothing, laid_then}
 use Rattle.json_text.specs.Escaped.{Escapes, short, quoted, written, written_elements, written_members}
 use Rattle.json_rule.specs.AsJson.{constant_of, as_json, as_elements, as_members}
-use Rattle.json_rule.specs.AsJsonLaws.{json-is}
+use Rattle.json_rule.proofs.AsJsonLaws.{json-is}
 use Rattle.rule.specs.Nodes.{IsValue, AreValues, Behind}
 use Rattle.rule.proofs.NodeSteps.{same_head, value-size, others_of, value-stands, others-stand, no-values-left}
 use Rattle.json_value.specs.Lays.{ArePairs, LaysConstant, LaysValueAs, LaysValue, LaysWithin, LaysHeld, LaysKey, comma_before}

@@ -1,4 +1,6 @@
 // A value of a rule's index as compact JSON, laid into a lent buffer.
+#![tactic(auto)]
+
 pub mod operator; // operator.rt: operators by number
 
 ghost use Rattle.std.specs.Prelude.{◌≤◌};

@@ -1,6 +1,8 @@
 // Judges samples, a line each, and writes how many there are of each verdict, with every one that the crate `number` judges otherwise.
 // A line is its verdict, how many digits are compared, in three digits, a comma and the text: f017,1.7976931348623157e308. The verdict
 // is n for not a number, f for a finite one, i for one that is not finite. A line that begins with # says where those after it are from.
+#![tactic(auto)]
+
 ghost use Rattle.std.specs.Prelude.{◌≤◌, length};
 
 use libc::{STDIN_FILENO, STDOUT_FILENO};

@@ -1,5 +1,7 @@
 // Reads sheets, good and damaged, and writes which are accepted: + or - for each, 64 to a line, then how many.
 // Before each sheet come eight bytes: S for a schema sheet or R for a rule sheet, its length in six digits, and 0A.
+#![tactic(auto)]
+
 ghost use Rattle.std.specs.Prelude.{◌+◌, ◌≤◌, length};
 
 use definition::limits::SCRATCH_WORDS;

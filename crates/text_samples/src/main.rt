@@ -1,5 +1,7 @@
 // Runs published samples of UTF-8, blank text and instants, a line each, and writes how many came out as their line says, with every
 // one that did not. Then two counts over every case: the White_Space code points, and the code points of three bytes.
+#![tactic(auto)]
+
 ghost use Rattle.std.specs.Prelude.{◌≤◌, length};
 
 use libc::{STDIN_FILENO, STDOUT_FILENO};

@@ -1,14 +1,14 @@
 -- The two further sentences of `collection_element` never occur: whenever a call finds that an `in` value is not a collection, the detail is 1 to 5.
-use Prim.Native.Nat.{ℕ}
+use Prim.Native.Nat.{ℕ, ◌+◌}
 use mathlib.Core.List.{List, [], ◌∷◌}
 use mathlib.Core.Option.{Option, none, some}
 use mathlib.Core.Path.{◌≡◌, refl}
 use Rattle.definition.specs.Tree.{Text, Schema, Rule}
 use Rattle.definition.specs.Decode.{decode_schema, decode_rule}
 use Rattle.reference.specs.Setting.{Setting}
-use Rattle.reference.specs.CollectionLaws.{Listed}
+use Rattle.reference.proofs.CollectionLaws.{Listed}
 use Rattle.validation.specs.Check.{Check, checks}
-use Rattle.validation.specs.CheckLaws.{Explains, Sure, sure-checks}
+use Rattle.validation.proofs.CheckLaws.{Explains, Sure, sure-checks}
 use Rattle.validation.specs.Judge.{CheckOutcome, outcome, Verdict, all_pass, fails_at, decide, judge_from, judge}
 use Rattle.validation.specs.Result.{Call, Defect, Answer, refused, accepted, defect, answer_of, refusals, first_refusal, setting_for, checked, judged, refused_or, result_of}
 

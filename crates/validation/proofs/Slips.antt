@@ -12,7 +12,7 @@ use Rattle.definition.specs.Decode.{decode_schema}
 use Rattle.widening.specs.Widening.{Level, MayGrow, closed, WiderField, wider, WiderItems, neither, both, WiderMembers, end, keep, more, WiderArguments, without, appear, stay, WiderSchema}
 use Rattle.validation.specs.Result.{Call, Numbers, numbers_of, result_of}
 use Rattle.validation.specs.Growth.{against, Widens}
-use Rattle.validation.specs.Demands.{Demand3}
+use Rattle.validation.proofs.Demands.{Demand3}
 use Rattle.validation.proofs.Calls.{ask, heard, accepts, finds}
 use Rattle.validation.proofs.Runs.{exact_run}
 
@@ -96,8 +96,8 @@ open-keeps (keep w ws) e = omega (arith, open-keeps ws e)
 open-keeps (more g ws) e = absurd (may-grow-closed g e)
 
 -- one field for one field of that name
-only-member : {l : Level} {o : Bool} {name : Text} {f f' : Field}
-    → WiderMembers l o (member name f no_members) (member name f' no_members)
+only-member : {l : Level} {o : Bool} {name name' : Text} {f f' : Field}
+    → WiderMembers l o (member name f no_members) (member name' f' no_members)
     → WiderField l f f'
 unfolding size
 only-member (keep w ws) = w

@@ -1,6 +1,8 @@
 // Replays a list of files and the lines that `rulecheck` prints for them, and writes how many came out as expected, with the number of
 // each that did not. A case is a line with two byte counts separated by a comma, then a file, then what is printed for it. Lines that
 // begin with # may come before the first case.
+#![tactic(auto)]
+
 ghost use Rattle.std.specs.Prelude.{◌≤◌, cond, ◌≡◌, length};
 ghost use Rattle.vectors.specs.Found.{Within, FoundIn, Tells, ReplayedIn, StepIn};
 
