@@ -2,8 +2,10 @@ use native.Mathlib.Omega.{arith}
 use Rattle.json_value.proofs.Laying.{leads-start, leads-more, array-closed, object-closed, empty-lays, unread-lays, constant-lays, number-lays, string-lays, array-lays, object-lays}
 use mathlib.Core.Path.{◌∙◌}
 use Rattle.sheet.specs.Places.{value_of}
-use Prim.Native.Nat.{◌-◌}
 use Rattle.json_value.proofs.+lay_held_lay_within.Goals as goal
+
+pub lay_held-loop-j-init : goal.lay_held-loop-j-init
+lay_held-loop-j-init t c = leads-start
 
 pub lay_held-loop-j-preserved : goal.lay_held-loop-j-preserved
 lay_held-loop-j-preserved t c = leads-more c.lay_key-inner.ensures c.lay_within-outer.ensures c.lay_comma-o.ensures c.behind-next.ensures (omega arith) (omega (arith, c.loop-j.invariant.len)) (c.lay_comma-o.ensures.len ∙ c.lay_within-outer.auto.out ∙ c.lay_key-inner.auto.out ∙ c.loop-j.invariant.len) c.loop-j.invariant
