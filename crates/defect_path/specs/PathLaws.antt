@@ -20,10 +20,12 @@ every-weaker P Q (c ∷ xs) f h = (f c h.0, every-weaker P Q xs f h.1)
 
 through-some : (part : Text) (o : Option Text) → IsSome o → IsSome (through part o)
 unfolding through
+through-some part none h = elim h [ ]
 through-some part (some t) h = tt
 
 first_some : (a b : Option Text) → IsSome a → IsSome (or_else a b)
 unfolding or_else
+first_some none b h = elim h [ ]
 first_some (some t) b h = tt
 
 second-some : (a b : Option Text) → IsSome b → IsSome (or_else a b)
