@@ -1,7 +1,7 @@
 -- What a call learns of the path it wrote: of a defect that has a path, all of it is in a buffer of 32,768 bytes.
 use Rattle.std.specs.Prelude.{ℕ, ◌≤◌, List, [], ◌++◌, ◌≡◌, refl, length}
 use Rattle.std.proofs.Common.{arith}
-use Rattle.std.proofs.Math.Option.{Option, some, IsSome, none, get_or}
+use Rattle.std.proofs.Math.Option.{Option, none, some, IsSome, get_or}
 use Rattle.std.proofs.lemmas.List.Edits.{sets}
 use Rattle.definition.specs.Tree.{Text, Rule}
 use Rattle.definition.specs.Within.{RuleWithin}

@@ -14,7 +14,7 @@ use timestamp::Parsed;
 
 const MAJOR: u32 = 0;
 
-const MINOR: u32 = 4;
+const MINOR: u32 = 3;
 
 const PATCH: u32 = 0;
 

@@ -5,7 +5,9 @@
 
 ghost use Rattle.std.specs.Prelude.{◌≤◌, length};
 
-use libc::{STDIN_FILENO, STDOUT_FILENO};
+use byte_input::read_full;
+use std::io;
+use std::io::Read;
 
 fn verdict(text: &[u8], finite: bool) -> u8 {
     if finite {
@@ -71,20 +73,20 @@ fn holds(line: &[u8]) -> bool {
 }
 
 // Whether the line is not a sample, or judged as it says. Otherwise it is written.
-fn is_as_said(line: &[u8]) -> bool {
+fn is_as_said(rt: &impl Print, line: &[u8]) -> io::Result<bool> {
     if line.len() == 0 {
-        return true;
+        return Ok(true);
     }
     if line[0] == b'#' {
-        return true;
+        return Ok(true);
     }
     if holds(line) {
-        return true;
+        return Ok(true);
     }
-    io::write_all(STDOUT_FILENO, b"differs: ");
-    io::write_all(STDOUT_FILENO, line);
-    io::write_all(STDOUT_FILENO, b"\n");
-    false
+    rt.write_all(b"differs: ")?;
+    rt.write_all(line)?;
+    rt.write_all(b"\n")?;
+    Ok(false)
 }
 
 // How many lines begin with `b`.
@@ -101,31 +103,34 @@ fn count(s: &[u8], b: u8) -> usize {
     n
 }
 
-fn count_differing(s: &[u8]) -> usize {
+fn count_differing(rt: &impl Print, s: &[u8]) -> io::Result<usize> {
     let mut n: usize = 0;
     let mut i: usize = 0;
     while i < s.len() {
         let end = line_end(s, i);
-        if !is_as_said(&s[i..end]) {
+        if !is_as_said(rt, &s[i..end])? {
             n += 1;
         }
         i = end + 1;
     }
-    n
+    Ok(n)
 }
 
-fn report(name: &[u8], n: usize) {
-    io::write_all(STDOUT_FILENO, name);
-    io::print_decimal(STDOUT_FILENO, n as u64);
-    io::write_all(STDOUT_FILENO, b"\n");
+fn report(rt: &impl Print, name: &str, n: usize) -> io::Result<()> {
+    println!(rt; "{name}: {n}")
 }
 
-fn main() {
-    let mut buffer = [0u8; 524288];
-    let n = io::read_full(STDIN_FILENO, &mut buffer);
+// Judges the samples of the standard input, as many as the buffer takes.
+fn judge<R: Read>(rt: &impl Print, reader: &mut R, buffer: &mut [u8]) -> io::Result<()> {
+    let n = read_full(reader, buffer)?;
     let s = &buffer[..n];
-    report(b"no number: ", count(s, b'n'));
-    report(b"finite: ", count(s, b'f'));
-    report(b"not finite: ", count(s, b'i'));
-    report(b"differ: ", count_differing(s));
+    report(rt, "no number", count(s, b'n'))?;
+    report(rt, "finite", count(s, b'f'))?;
+    report(rt, "not finite", count(s, b'i'))?;
+    report(rt, "differ", count_differing(rt, s)?)
+}
+
+fn main(rt: HostRuntime) -> io::Result<()> {
+    let mut buffer = [0u8; 524288];
+    judge(&rt, &mut rt.reader(), &mut buffer)
 }

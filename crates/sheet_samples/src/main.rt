@@ -4,10 +4,11 @@
 
 ghost use Rattle.std.specs.Prelude.{◌+◌, ◌≤◌, length};
 
+use byte_input::read_full;
 use definition::limits::SCRATCH_WORDS;
-use libc::{STDIN_FILENO, STDOUT_FILENO};
 use rule::RuleRead;
 use schema::read::SchemaRead;
+use std::io;
 
 const HEAD_BYTES: usize = 8;
 
@@ -65,18 +66,19 @@ fn accepts(letter: u8, sheet: &[u8]) -> bool {
 }
 
 // One sheet's verdict, and a line's end after every 64th.
-fn write_verdict(accepted: bool, count: u64) {
+fn write_verdict(rt: &impl Print, accepted: bool, count: u64) -> io::Result<()> {
     if accepted {
-        io::write_all(STDOUT_FILENO, b"+");
+        print!(rt; "+")?;
     } else {
-        io::write_all(STDOUT_FILENO, b"-");
+        print!(rt; "-")?;
     }
     if count % 64 == 63 {
-        io::write_all(STDOUT_FILENO, b"\n");
+        println!(rt; "")?;
     }
+    Ok(())
 }
 
-fn run(s: &[u8]) {
+fn run(rt: &impl Print, s: &[u8]) -> io::Result<()> {
     let mut at: usize = 0;
     let mut count: u64 = 0;
     let mut good: u64 = 0;
@@ -84,25 +86,21 @@ fn run(s: &[u8]) {
         let start = at + HEAD_BYTES;
         let end = start + three(s, at + 1) * 1000 + three(s, at + 4);
         if s.len() < end {
-            return;
+            return Ok(());
         }
         let accepted = accepts(s[at], &s[start..end]);
-        write_verdict(accepted, count);
+        write_verdict(rt, accepted, count)?;
         if accepted {
             good += 1;
         }
         count += 1;
         at = end;
     }
-    io::write_all(STDOUT_FILENO, b"\naccepted ");
-    io::print_decimal(STDOUT_FILENO, good);
-    io::write_all(STDOUT_FILENO, b" of ");
-    io::print_decimal(STDOUT_FILENO, count);
-    io::write_all(STDOUT_FILENO, b"\n");
+    println!(rt; "\naccepted {good} of {count}")
 }
 
-fn main() {
+fn main(rt: HostRuntime) -> io::Result<()> {
     let mut buffer = [0u8; 524288];
-    let n = io::read_full(STDIN_FILENO, &mut buffer);
-    run(&buffer[..n]);
+    let n = read_full(&mut rt.reader(), &mut buffer)?;
+    run(&rt, &buffer[..n])
 }

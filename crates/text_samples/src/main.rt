@@ -4,7 +4,11 @@
 
 ghost use Rattle.std.specs.Prelude.{◌≤◌, length};
 
-use libc::{STDIN_FILENO, STDOUT_FILENO};
+use byte_input::read_full;
+use std::io;
+
+// The longest list, in bytes.
+const LIST_BYTES: usize = 65536;
 
 // The longest sample in hexadecimal, in bytes.
 const SAMPLE_BYTES: usize = 128;
@@ -119,17 +123,17 @@ fn is_right(list: u8, said: bool, sample: &[u8]) -> bool {
 }
 
 // Whether a sample comes out as its line says. Otherwise the line is written.
-fn is_as_said(line: &[u8]) -> bool {
+fn is_as_said(rt: &impl Print, line: &[u8]) -> io::Result<bool> {
     if line.len() < 2 {
-        return false;
+        return Ok(false);
     }
     if is_right(line[0], line[1] == b'+', &line[2..]) {
-        return true;
+        return Ok(true);
     }
-    io::write_all(STDOUT_FILENO, b"differs: ");
-    io::write_all(STDOUT_FILENO, line);
-    io::write_all(STDOUT_FILENO, b"\n");
-    false
+    rt.write_all(b"differs: ")?;
+    rt.write_all(line)?;
+    rt.write_all(b"\n")?;
+    Ok(false)
 }
 
 // The end of the line that begins at an offset.
@@ -148,39 +152,37 @@ fn line_end(s: &[u8], at: usize) -> usize
 }
 
 // Whether a line is one of a list's, and, where only is set, comes out as it says.
-fn counts(line: &[u8], list: u8, only: bool) -> bool {
+fn counts(rt: &impl Print, line: &[u8], list: u8, only: bool) -> io::Result<bool> {
     if line.len() == 0 {
-        return false;
+        return Ok(false);
     }
     if line[0] == list {
         if only {
-            return is_as_said(line);
+            return is_as_said(rt, line);
         }
-        return true;
+        return Ok(true);
     }
-    false
+    Ok(false)
 }
 
 // How many lines count.
-fn count(s: &[u8], list: u8, only: bool) -> u64 {
+fn count(rt: &impl Print, s: &[u8], list: u8, only: bool) -> io::Result<u64> {
     let mut n: u64 = 0;
     let mut at = 0;
     while at < s.len() {
         let end = line_end(s, at);
-        if counts(&s[at..end], list, only) {
+        if counts(rt, &s[at..end], list, only)? {
             n += 1;
         }
         at = end + 1;
     }
-    n
+    Ok(n)
 }
 
-fn report(name: &[u8], s: &[u8], list: u8) {
-    io::write_all(STDOUT_FILENO, name);
-    io::print_decimal(STDOUT_FILENO, count(s, list, true));
-    io::write_all(STDOUT_FILENO, b" of ");
-    io::print_decimal(STDOUT_FILENO, count(s, list, false));
-    io::write_all(STDOUT_FILENO, b"\n");
+fn report(rt: &impl Print, name: &str, s: &[u8], list: u8) -> io::Result<()> {
+    let passed = count(rt, s, list, true)?;
+    let all = count(rt, s, list, false)?;
+    println!(rt; "{name}: {passed} of {all}")
 }
 
 // How many code points are White_Space: 25 in Unicode's PropList.txt.
@@ -207,16 +209,15 @@ fn three_byte_count() -> u64 {
     n
 }
 
-fn main() {
-    let mut buffer = io::large_buffer();
-    let n = io::read_full(STDIN_FILENO, &mut buffer);
+fn main(rt: HostRuntime) -> io::Result<()> {
+    let mut buffer = [0u8; LIST_BYTES];
+    let n = read_full(&mut rt.reader(), &mut buffer)?;
     let s = &buffer[..n];
-    report(b"utf8: ", s, b'u');
-    report(b"blank: ", s, b'b');
-    report(b"instants: ", s, b'i');
-    io::write_all(STDOUT_FILENO, b"white space: ");
-    io::print_decimal(STDOUT_FILENO, white_space_count());
-    io::write_all(STDOUT_FILENO, b" code points\nthree bytes: ");
-    io::print_decimal(STDOUT_FILENO, three_byte_count());
-    io::write_all(STDOUT_FILENO, b" code points\n");
+    report(&rt, "utf8", s, b'u')?;
+    report(&rt, "blank", s, b'b')?;
+    report(&rt, "instants", s, b'i')?;
+    let white_space = white_space_count();
+    println!(rt; "white space: {white_space} code points")?;
+    let three_bytes = three_byte_count();
+    println!(rt; "three bytes: {three_bytes} code points")
 }

@@ -3,11 +3,13 @@
 // begin with # may come before the first case.
 #![tactic(auto)]
 
-ghost use Rattle.std.specs.Prelude.{◌≤◌, cond, ◌≡◌, length};
+ghost use Rattle.std.specs.Prelude.{◌<◌, ◌≤◌, ◌≡◌, IfOk, OnErr, cond, false, length};
 ghost use Rattle.vectors.specs.Found.{Within, FoundIn, Tells, ReplayedIn, StepIn};
 
-use libc::{STDIN_FILENO, STDOUT_FILENO};
+use byte_input::read_full;
 use printed_answer::{LINE_BYTES, output};
+use std::io;
+use std::io::Read;
 use text::is_digit;
 use text::part::Part;
 
@@ -167,106 +169,110 @@ fn shift(buffer: &mut [u8], start: usize, end: usize)
 }
 
 // Reads on where less than a case may be left. `w` is what is read and not yet replayed.
-fn refill(buffer: &mut [u8], w: Part) -> Part
+fn refill<R: Read>(reader: &mut R, buffer: &mut [u8], w: Part) -> io::Result<Part>
     requires { Within buffer.old w }
-    ensures { Within buffer.new result }
+    ensures ok { IfOk result (λ p. Within buffer.new p) }
+    ensures err { OnErr result ((w.len < CASE_BYTES) × (length buffer.new ≡ length buffer.old)) }
 {
     let start = w.start;
     let left = w.len;
     if CASE_BYTES <= left {
-        return w;
+        return Ok(w);
     }
     shift(buffer, start, start + left);
-    let more = io::read_full(STDIN_FILENO, &mut buffer[left..]);
-    Part {
+    let more = read_full(reader, &mut buffer[left..])?;
+    Ok(Part {
         start: 0,
         len: left + more,
-    }
+    })
 }
 
-fn say(number: u64, words: &[u8]) {
-    io::print_decimal(STDOUT_FILENO, number);
-    io::write_all(STDOUT_FILENO, words);
+fn say(rt: &impl Print, number: u64, words: &str) -> io::Result<()> {
+    print!(rt; "{number}{words}")
 }
 
-fn say_case(number: u64, words: &[u8]) {
-    io::write_all(STDOUT_FILENO, b"case ");
-    say(number, words);
+fn say_case(rt: &impl Print, number: u64, words: &str) -> io::Result<()> {
+    print!(rt; "case ")?;
+    say(rt, number, words)
 }
 
 // 1 for a case that agrees; another is named.
-fn tallied(agrees: bool, number: u64) -> u64
-    ensures { result ≡ cond agrees 1 0 }
+fn tallied(rt: &impl Print, agrees: bool, number: u64) -> io::Result<u64>
+    ensures ok { IfOk result (λ n. n ≡ cond agrees 1 0) }
+    ensures err { OnErr result (agrees ≡ false) }
 {
     if agrees {
-        return 1;
+        return Ok(1);
     }
-    say_case(number, b" differs\n");
-    0
+    say_case(rt, number, " differs\n")?;
+    Ok(0)
 }
 
-fn report(cases: u64, agreed: u64, all_read: bool)
+fn report(rt: &impl Print, cases: u64, agreed: u64, all_read: bool) -> io::Result<()>
     requires { cases ≤ 65536 }
 {
     if !all_read {
-        say_case(cases + 1, b" cannot be read\n");
+        say_case(rt, cases + 1, " cannot be read\n")?;
     }
-    say(cases, b" cases, ");
-    say(agreed, b" as expected\n");
+    say(rt, cases, " cases, ")?;
+    say(rt, agreed, " as expected\n")
 }
 
-fn advance(buffer: &mut [u8], w: Part) -> Step
+fn advance<R: Read>(reader: &mut R, buffer: &mut [u8], w: Part) -> io::Result<Step>
     requires { Within buffer.old w }
-    ensures { StepIn buffer.new result }
+    ensures ok { IfOk result (λ s. StepIn buffer.new s) }
+    ensures err { OnErr result ((w.len < CASE_BYTES) × (length buffer.new ≡ length buffer.old)) }
 {
-    let f = refill(buffer, w);
+    let f = refill(reader, buffer, w)?;
     let start = f.start;
     let left = f.len;
     let end = start + left;
     let Replayed::Whole(agrees, n) = replay(&buffer[start..end]) else {
-        return Step::Last(left == 0);
+        return Ok(Step::Last(left == 0));
     };
-    Step::Replayed(
+    Ok(Step::Replayed(
         agrees,
         Part {
             start: start + n,
             len: left - n,
         },
-    )
+    ))
 }
 
-fn run(buffer: &mut [u8], from: Part)
+fn run<R: Read>(rt: &impl Print, reader: &mut R, buffer: &mut [u8], from: Part) -> io::Result<()>
     requires { Within buffer.old from }
 {
     let mut w = from;
     let mut cases: u64 = 0;
     let mut agreed: u64 = 0;
     while cases < MAX_CASES {
-        let s = advance(buffer, w);
+        let s = advance(reader, buffer, w)?;
         match s {
             Step::Replayed(agrees, left) => {
                 cases += 1;
-                agreed += tallied(agrees, cases);
+                agreed += tallied(rt, agrees, cases)?;
                 w = left;
             }
             Step::Last(all_read) => {
-                report(cases, agreed, all_read);
-                return;
+                return report(rt, cases, agreed, all_read);
             }
         }
     }
-    report(cases, agreed, false);
+    report(rt, cases, agreed, false)
 }
 
-fn main() {
+fn main(rt: HostRuntime) -> io::Result<()> {
     let mut buffer = [0u8; BUFFER_BYTES];
-    let end = io::read_full(STDIN_FILENO, &mut buffer);
+    let mut reader = rt.reader();
+    let end = read_full(&mut reader, &mut buffer)?;
     let start = head(&buffer[..end]);
     run(
+        &rt,
+        &mut reader,
         &mut buffer,
         Part {
             start,
             len: end - start,
         },
-    );
+    )
 }

@@ -4,7 +4,7 @@ use lib.ListN.{length}
 use Rattle.number_samples.proofs.count_differing.Given as goal
 
 abbrev pub invariant-loop-i : goal.invariant-loop-i
-invariant-loop-i l = (l.n ≤ l.i) × (l.i ≤ length l.s + 1)
+invariant-loop-i g l = (l.n ≤ l.i) × (l.i ≤ length l.s + 1)
 
 abbrev pub decreases-loop-i : goal.decreases-loop-i
-decreases-loop-i l = length l.s + 1 - l.i
+decreases-loop-i g l = length l.s + 1 - l.i
