@@ -82,7 +82,10 @@ fn what_is_packed_is_linked() {
     let commit = run("git", &["rev-parse", "HEAD"], &root).stdout;
     assert_eq!(known.commit.as_bytes(), commit.trim_ascii_end());
     assert_eq!(known.toolchain, "kit logic 0");
-    assert_eq!(known.verdict, "logic=proved functions=26 logic-built=trusted");
+    assert_eq!(
+        known.verdict,
+        "logic=proved functions=26 logic-built=trusted"
+    );
 }
 
 #[test]
