@@ -1,7 +1,7 @@
 //! Finds the static library `libentity_rules.a`, checks a packed one against `IDENTITY`, and links it.
 //!
 //! It is taken from the folder that `ENTITY_RULES_LIB_DIR` names by an absolute path, where `IDENTITY` must have that archive's SHA-256. Without that
-//! variable it is the one below the repository's `target/`, which `rt staticlib entity_rules` proves and writes where it is missing.
+//! variable it is the one in the repository's `crates/entity_rules/out`, where `rt lib` proves and writes it if it is missing.
 
 #[path = "build/identity.rs"]
 mod identity;
@@ -101,22 +101,37 @@ fn of_the_repository() -> PathBuf {
             "this crate is not in its repository, where the library would be. Set {VARIABLE} to the folder of a {ARCHIVE} that `host/pack` has packed."
         ));
     }
-    let folder = root.join("target/staticlib");
+    let library = root.join("crates/entity_rules");
+    let folder = library.join("out");
     match fs::metadata(folder.join(ARCHIVE)).and_then(|archive| archive.modified()) {
-        Err(_) => build(&root, &folder),
+        Err(_) => build(&library, &folder),
         Ok(built) => {
-            let crates = root.join("crates");
-            println!("cargo:rerun-if-changed={}", crates.display());
-            if let Some(file) = newer(&crates, built) {
+            let sources = sources(&root.join("crates"));
+            for folder in &sources {
+                println!("cargo:rerun-if-changed={}", folder.display());
+            }
+            if let Some(file) = sources.iter().find_map(|folder| newer(folder, built)) {
                 println!(
-                    "cargo:warning={ARCHIVE} is older than {}: run `rt staticlib entity_rules` in {}",
+                    "cargo:warning={ARCHIVE} is older than {}: run `rt lib` in {}",
                     file.display(),
-                    root.display()
+                    library.display()
                 );
             }
         }
     }
     folder
+}
+
+/// The folders of the crates' sources; beside them is `out`, which `rt` writes.
+fn sources(crates: &Path) -> Vec<PathBuf> {
+    let entries = fs::read_dir(crates).into_iter().flatten().flatten();
+    let folders = ["src", "specs", "proofs"];
+    let mut paths: Vec<PathBuf> = entries
+        .flat_map(|entry| folders.map(|name| entry.path().join(name)))
+        .filter(|path| path.is_dir())
+        .collect();
+    paths.sort();
+    paths
 }
 
 /// A source of the library that is newer than its archive.
@@ -136,15 +151,15 @@ fn newer(folder: &Path, built: std::time::SystemTime) -> Option<PathBuf> {
     })
 }
 
-fn build(root: &Path, folder: &Path) {
+fn build(library: &Path, folder: &Path) {
     let other_ways = format!(
-        "Set {VARIABLE} to the folder of a {ARCHIVE} that `host/pack` has packed, or run `rt staticlib entity_rules` in {}.",
-        root.display()
+        "Set {VARIABLE} to the folder of a {ARCHIVE} that `host/pack` has packed, or run `rt lib` in {}.",
+        library.display()
     );
     println!("cargo:rerun-if-env-changed=PATH");
     let child = Command::new("rt")
-        .args(["staticlib", "entity_rules"])
-        .current_dir(root)
+        .arg("lib")
+        .current_dir(library)
         .stdout(Stdio::piped())
         .spawn();
     match child.and_then(shown) {
@@ -154,7 +169,7 @@ fn build(root: &Path, folder: &Path) {
         )),
         Ok(status) if !status.success() || !folder.join(ARCHIVE).is_file() => {
             stop(&format!(
-                "`rt staticlib entity_rules` did not write {ARCHIVE} ({status}). {other_ways}"
+                "`rt lib` did not write {ARCHIVE} ({status}). {other_ways}"
             ));
         }
         Ok(_) => {}
@@ -170,9 +185,7 @@ fn shown(mut child: Child) -> std::io::Result<ExitStatus> {
             let _ = writeln!(terminal, "entity-rules: {line}");
         }
     };
-    show(
-        "proving the library by `rt staticlib entity_rules`; from nothing this takes some minutes",
-    );
+    show("proving the library by `rt lib`; from nothing this takes some minutes");
     if let Some(output) = child.stdout.take() {
         for line in BufReader::new(output).lines() {
             show(&line?);

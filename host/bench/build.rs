@@ -4,10 +4,10 @@ use std::path::{Path, PathBuf};
 
 fn main() {
     println!("cargo:rerun-if-env-changed=ENTITY_RULES_LIB_DIR");
-    let built = Path::new(env!("CARGO_MANIFEST_DIR")).join("../../target/staticlib");
+    let built = |name: &str| Path::new(env!("CARGO_MANIFEST_DIR")).join("../../crates").join(name).join("out");
     let given = std::env::var_os("ENTITY_RULES_LIB_DIR").map(PathBuf::from);
-    link("entity_rules", given.as_deref().unwrap_or(&built));
-    link("sheet_acceptance", &built);
+    link("entity_rules", &given.unwrap_or_else(|| built("entity_rules")));
+    link("sheet_acceptance", &built("sheet_acceptance"));
 }
 
 fn link(name: &str, folder: &Path) {

@@ -1,6 +1,6 @@
-/* Checks a good and a bad rule of a mill from C, explains the bad one, and checks a third under the mill's own name table, where one has a constant condition; checks a rule that is written in JSON; tallies a book of two rules; then asks whether a schema has grown. In this folder, after `rt staticlib entity_rules` in the repository's root:
+/* Checks a good and a bad rule of a mill from C, explains the bad one, and checks a third under the mill's own name table, where one has a constant condition; checks a rule that is written in JSON; tallies a book of two rules; then asks whether a schema has grown. In this folder, after `rt lib` in the repository's crates/entity_rules:
  *
- *   cc check.c -I../include -L../../target/staticlib -lentity_rules -o ../../target/check && ../../target/check
+ *   cc check.c -I../include -L../../crates/entity_rules/out -lentity_rules -o /tmp/check && /tmp/check
  *
  * It prints
  *

@@ -15,8 +15,8 @@ use support::tool::folder;
 
 const RT: &str = r#"#!/bin/sh
 case "$1" in
-  staticlib) mkdir -p target/staticlib && echo archive >target/staticlib/libentity_rules.a ;;
-  check) echo "rt: ok, 26 crates proved" ;;
+  lib) mkdir -p out && echo archive >out/libentity_rules.a ;;
+  verdict) echo "logic=proved functions=26 logic-built=trusted" ;;
   version) echo "kit logic 0" ;;
 esac
 "#;
@@ -42,7 +42,7 @@ fn run(program: impl AsRef<OsStr>, arguments: &[&str], folder: &Path) -> Output 
 fn repository(name: &str) -> PathBuf {
     let root = folder(name);
     let host = Path::new(env!("CARGO_MANIFEST_DIR"));
-    for below in ["host/include", "bin", "crates"] {
+    for below in ["host/include", "bin", "crates/entity_rules"] {
         fs::create_dir_all(root.join(below)).expect("a folder");
     }
     for file in ["pack", "Cargo.toml", "include/entity_rules.h"] {
@@ -82,7 +82,10 @@ fn what_is_packed_is_linked() {
     let commit = run("git", &["rev-parse", "HEAD"], &root).stdout;
     assert_eq!(known.commit.as_bytes(), commit.trim_ascii_end());
     assert_eq!(known.toolchain, "kit logic 0");
-    assert_eq!(known.verdict, "rt: ok, 26 crates proved");
+    assert_eq!(
+        known.verdict,
+        "logic=proved functions=26 logic-built=trusted"
+    );
 }
 
 #[test]

@@ -1,7 +1,7 @@
 //! The program `rulecheck`, run on files that are as long as may be, too long, of another form, and missing.
 //!
-//! It is the one below the repository's `target/`, which `rt check rulecheck` proves and writes. What is packed has no tests, so wherever these are, the
-//! repository is, and a program that is missing there is a test that fails.
+//! It is the one in the repository's `crates/rulecheck/out`, which `rt run` there and `rt ci` prove and write. What is packed has no tests, so wherever these
+//! are, the repository is, and a program that is missing there is a test that fails.
 
 mod support;
 
@@ -22,10 +22,10 @@ const REFUSED: &str = "5,0,0,0,0,0,\n";
 
 /// What the program prints in a folder of that name, whose `check.in` has these bytes, or that has none.
 fn printed(name: &str, file: Option<&[u8]>) -> String {
-    let program = Path::new(env!("CARGO_MANIFEST_DIR")).join("../target/bin/rulecheck");
+    let program = Path::new(env!("CARGO_MANIFEST_DIR")).join("../crates/rulecheck/out/rulecheck");
     assert!(
         program.is_file(),
-        "{} is missing: `rt check rulecheck` writes it",
+        "{} is missing: `rt run` in crates/rulecheck writes it",
         program.display()
     );
     let folder = folder(name);

@@ -7,7 +7,9 @@ ghost use Rattle.std.specs.Prelude.{◌≤◌, length};
 
 use byte_input::read_full;
 use std::io;
-use std::io::Read;
+
+// More than all samples have.
+const BUFFER_BYTES: usize = 524288;
 
 fn verdict(text: &[u8], finite: bool) -> u8 {
     if finite {
@@ -120,17 +122,17 @@ fn report(rt: &impl Print, name: &str, n: usize) -> io::Result<()> {
     println!(rt; "{name}: {n}")
 }
 
-// Judges the samples of the standard input, as many as the buffer takes.
-fn judge<R: Read>(rt: &impl Print, reader: &mut R, buffer: &mut [u8]) -> io::Result<()> {
-    let n = read_full(reader, buffer)?;
-    let s = &buffer[..n];
-    report(rt, "no number", count(s, b'n'))?;
-    report(rt, "finite", count(s, b'f'))?;
-    report(rt, "not finite", count(s, b'i'))?;
-    report(rt, "differ", count_differing(rt, s)?)
+// Room for all samples, of zeros.
+fn empty_buffer() -> [u8; BUFFER_BYTES] {
+    [0; BUFFER_BYTES]
 }
 
 fn main(rt: HostRuntime) -> io::Result<()> {
-    let mut buffer = [0u8; 524288];
-    judge(&rt, &mut rt.reader(), &mut buffer)
+    let mut buffer = empty_buffer();
+    let n = read_full(&mut rt.reader(), &mut buffer)?;
+    let s = &buffer[..n];
+    report(&rt, "no number", count(s, b'n'))?;
+    report(&rt, "finite", count(s, b'f'))?;
+    report(&rt, "not finite", count(s, b'i'))?;
+    report(&rt, "differ", count_differing(&rt, s)?)
 }

@@ -12,6 +12,9 @@ use std::io;
 
 const HEAD_BYTES: usize = 8;
 
+// More than all samples have.
+const BUFFER_BYTES: usize = 524288;
+
 // The digit at a place; what is not a digit counts as 0.
 fn digit(s: &[u8], at: usize) -> usize
     ensures { result ≤ 9 }
@@ -99,8 +102,13 @@ fn run(rt: &impl Print, s: &[u8]) -> io::Result<()> {
     println!(rt; "\naccepted {good} of {count}")
 }
 
+// Room for all samples, of zeros.
+fn empty_buffer() -> [u8; BUFFER_BYTES] {
+    [0; BUFFER_BYTES]
+}
+
 fn main(rt: HostRuntime) -> io::Result<()> {
-    let mut buffer = [0u8; 524288];
+    let mut buffer = empty_buffer();
     let n = read_full(&mut rt.reader(), &mut buffer)?;
     run(&rt, &buffer[..n])
 }

@@ -261,8 +261,13 @@ fn run<R: Read>(rt: &impl Print, reader: &mut R, buffer: &mut [u8], from: Part) 
     report(rt, cases, agreed, false)
 }
 
+// Room for a piece of the list, of zeros.
+fn empty_buffer() -> [u8; BUFFER_BYTES] {
+    [0; BUFFER_BYTES]
+}
+
 fn main(rt: HostRuntime) -> io::Result<()> {
-    let mut buffer = [0u8; BUFFER_BYTES];
+    let mut buffer = empty_buffer();
     let mut reader = rt.reader();
     let end = read_full(&mut reader, &mut buffer)?;
     let start = head(&buffer[..end]);
