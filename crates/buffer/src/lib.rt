@@ -1,4 +1,6 @@
 // Bytes written one after another into a lent buffer; what does not fit is left out.
+#![tactic(auto)]
+
 pub mod lay; // lay.rt: the same with the true end
 
 ghost use Rattle.std.specs.Prelude.{[], ◌∷◌, ◌≡◌, ◌+◌, ◌≤◌, length};

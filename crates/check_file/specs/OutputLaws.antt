@@ -4,7 +4,7 @@ use Rattle.std.proofs.Math.Option.{Option, none, some, map}
 use Rattle.std.proofs.Common.{sym, ap, ◌∙◌, arith}
 use Rattle.buffer.specs.WroteLaws.{sets-front}
 use Rattle.validation.specs.Result.{Answer, refused, accepted, defect, result_of, numbers_of, path_after, Run, call_of, Meets}
-use Rattle.validation.specs.RefusalLaws.{capped, capped_same}
+use Rattle.validation.proofs.RefusalLaws.{capped, capped_same}
 use Rattle.check_file.specs.File.{Parts, taken_apart}
 use Rattle.check_file.specs.Line.{line_of}
 use Rattle.check_file.specs.Places.{too_large, parts_at, answerable}

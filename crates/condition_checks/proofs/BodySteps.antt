@@ -14,7 +14,7 @@ use Rattle.text.specs.ReadAt.{ReadsTo}
 use Rattle.text.specs.declared.part.Part.{Part}
 use Rattle.text.specs.CaseLaws.{zero-not-one}
 use Rattle.sheet.specs.Operators.{is_service_operator}
-use Rattle.sheet.specs.OperatorLaws.{service-operator-range}
+use Rattle.sheet.proofs.OperatorLaws.{service-operator-range}
 use Rattle.sheet.specs.Entries.{ConditionHead, literal_head, many_head, negation_head, one_head, two_head, comparison_head, quantifier_head, condition_head}
 use Rattle.definition.specs.Tree.{Text, Schema, Value, string, Condition, literal, many, negation, one, two, comparison, quantifier, Conditions, no_conditions, condition}
 use Rattle.definition.specs.Tree as Tree

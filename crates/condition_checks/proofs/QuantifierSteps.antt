@@ -16,7 +16,7 @@ use Rattle.definition.specs.Tree.{Text, Field, Schema, Value, constant, number, 
 use Rattle.reference.specs.Setting.{Setting}
 use Rattle.reference.specs.Walk.{Reached, refused, unknown, known}
 use Rattle.reference.specs.Reference.{Environment, reference, collection_text, collection, begins_with_dollar}
-use Rattle.reference.specs.CollectionLaws.{Reads, Listed, Explained, text-explained}
+use Rattle.reference.proofs.CollectionLaws.{Reads, Listed, Explained, text-explained}
 use Rattle.definition.specs.Within.{condition_entries, conditions_entries, value_entries}
 use Rattle.rule.specs.Index.{end_of, ValueAt, ConditionAt}
 use Rattle.rule.specs.IndexLaws.{value-next}

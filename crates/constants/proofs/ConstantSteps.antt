@@ -7,7 +7,7 @@ use mathlib.Core.Option.{Option, none, some, none-ne-some}
 use mathlib.Core.Path.{◌≡◌, refl, sym, ◌∙◌}
 use borrow.Author.Tests.{ne_eqb, lt-leb}
 use Rattle.sheet.specs.Operators.{is_instant_test}
-use Rattle.sheet.specs.OperatorLaws.{instant-early, instant-late}
+use Rattle.sheet.proofs.OperatorLaws.{instant-early, instant-late}
 use Rattle.timestamp.specs.Order.{is_earlier}
 use Rattle.timestamp.specs.declared.Fields.{Fields}
 use Rattle.definition.specs.Tree.{Value, constant, number, string, array, object}

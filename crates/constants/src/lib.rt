@@ -1,4 +1,6 @@
 // The mark pass: which conditions of a rule are constant, and whether they hold (docs/FORMAT.md, "Constant marks").
+#![tactic(auto)]
+
 ghost use Rattle.std.specs.Prelude.{◌≡◌, ◌+◌, ◌<◌, ◌≤◌};
 ghost use Rattle.definition.specs.Limits.{word_entries};
 ghost use Rattle.validation.specs.Constant.{truth_of, mark_of};

@@ -12,7 +12,7 @@ use Rattle.definition.specs.Tree.{Rule}
 use Rattle.definition.specs.Decode.{decode_rule}
 use Rattle.definition.specs.Write.{write_rule}
 use Rattle.call.specs.Call.{Refusal, first_refusal, Reply, refused_by, told, refused_or, heard_by, tried, if_told, reply_to, numbers_with, Meets}
-use Rattle.call.specs.CallLaws.{only-tried, refused-untouched}
+use Rattle.call.proofs.CallLaws.{only-tried, refused-untouched}
 use Rattle.json_rule.specs.Conversion.{Conversion, is_missing, of_room, converting, run_of, rule_in, sheet_of, sheet_from, from_json_refusals, from_json, json_in, text_of, text_from, to_json_refusals, to_json}
 use Rattle.conversion.specs.Fares.{FromJson, no-rule, over-limit, short-of-sheet, sheet-made, ToJson, no-sheet, short-of-text, text-made}
 

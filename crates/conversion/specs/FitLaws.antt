@@ -13,14 +13,14 @@ use Rattle.text.specs.Utf8.{is_utf8}
 use Rattle.sheet.specs.Entries.{max_text}
 use Rattle.sheet.specs.Operators.{Operator, Shape, shape_of, InShape, operator_count, operators, first_operator, row}
 use Rattle.sheet.specs.Operators as Operators
-use Rattle.sheet.specs.OperatorLaws.{shape_by_tests, shape-tests}
+use Rattle.sheet.proofs.OperatorLaws.{shape_by_tests, shape-tests}
 use Rattle.sheet.specs.Within.{TextWithin, OptionWithin}
 use Rattle.json_text.specs.Distinct.{keys_of, distinct, distinct_elements, distinct_members}
 use Rattle.json_text.specs.Grammar.{document}
 use Rattle.json_text.specs.Json.{Text, Json, null, truth, number, string, array, object, Elements, no_elements, element, Members, no_members, member}
 use Rattle.json_text.specs.Sound.{Sound, SoundElements, SoundMembers}
 use Rattle.definition.specs.Decode as Decode
-use Rattle.definition.specs.KeyLaws.{none-twice-differ}
+use Rattle.definition.proofs.KeyLaws.{none-twice-differ}
 use Rattle.definition.specs.Limits.{max_condition_nesting, max_value_nesting}
 use Rattle.definition.specs.Tree.{Value, Values, no_values, value, Pairs, no_pairs, pair, Condition, literal, many, negation, one, two, comparison, quantifier, Conditions, no_conditions, condition, Rule, rule, template}
 use Rattle.definition.specs.Tree as Tree

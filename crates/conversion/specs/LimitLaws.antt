@@ -5,13 +5,13 @@ use Rattle.std.proofs.Math.Option.{some, none-ne-some}
 use Rattle.definition.specs.Limits.{max_sheet_bytes, max_rule_entries}
 use Rattle.definition.specs.Tree.{Value, constant, number, string, array, object, Values, no_values, value, Pairs, no_pairs, pair, Condition, literal, many, negation, one, two, comparison, quantifier, Conditions, no_conditions, condition, Rule, rule, template}
 use Rattle.definition.specs.Decode.{decode_rule}
-use Rattle.definition.specs.RoundTrip.{rule-round-trip}
+use Rattle.definition.proofs.RoundTrip.{rule-round-trip}
 use Rattle.definition.specs.Within.{value_entries, values_entries, pairs_entries, condition_entries, conditions_entries, ValueFrom, ValuesFrom, PairsFrom, ConditionFrom, ConditionsFrom, RuleFrom, rule_entries}
 use Rattle.definition.specs.Write.{write_rule}
 use Rattle.call.specs.Call.{Reply, refused_by, reply_to}
-use Rattle.call.specs.CallLaws.{not-told, refused-injective}
+use Rattle.call.proofs.CallLaws.{not-told, refused-injective}
 use Rattle.json_rule.specs.Bare.{bare_value, bare_values, bare_pairs, bare_condition, bare_conditions, bare_rule}
-use Rattle.json_rule.specs.BackLaws.{bare-rule}
+use Rattle.json_rule.proofs.BackLaws.{bare-rule}
 use Rattle.json_rule.specs.Conversion.{Conversion, rule_in, from_json}
 use Rattle.conversion.specs.Numbered.{numbered_value, numbered_values, numbered_pairs, numbered_condition, numbered_conditions, numbered_rule, KeepsLimits}
 use Rattle.conversion.specs.Fares.{FromJson, no-rule, over-limit, short-of-sheet, sheet-made}

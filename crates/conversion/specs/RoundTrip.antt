@@ -14,17 +14,17 @@ use Rattle.json_text.specs.Distinct.{keys_of, distinct, distinct_elements, disti
 use Rattle.definition.specs.Tree.{Text, Value, constant, number, string, array, object, Values, no_values, value, Pairs, no_pairs, pair, Condition, literal, many, negation, one, two, comparison, quantifier, Conditions, no_conditions, condition, Rule, rule, template}
 use Rattle.definition.specs.Decode.{decode_rule}
 use Rattle.definition.specs.Decode as Decode
-use Rattle.definition.specs.KeyLaws.{differ-none-twice}
-use Rattle.definition.specs.RoundTrip.{rule-round-trip}
+use Rattle.definition.proofs.KeyLaws.{differ-none-twice}
+use Rattle.definition.proofs.RoundTrip.{rule-round-trip}
 use Rattle.definition.specs.Within.{ValueFits, ValuesFit, PairsFit, ConditionFits, ConditionsFit, RuleFits}
 use Rattle.definition.specs.Write.{write_rule}
 use Rattle.call.specs.Call.{Reply, told, reply_to}
-use Rattle.call.specs.CallLaws.{not-told, told-injective}
+use Rattle.call.proofs.CallLaws.{not-told, told-injective}
 use Rattle.json_rule.specs.Shape.{RulePart, first_of, as_name, as_assert, as_message, rule_parts, rule_from, rule_of}
 use Rattle.json_rule.specs.AsJson.{constant_of, comparison_name, as_json, as_elements, as_members, operating, condition_as_json, conditions_as_elements, optionally, rule_as_json}
 use Rattle.json_rule.specs.Bare.{bare_rule}
-use Rattle.json_rule.specs.BackLaws.{bare-rule, shape-back}
-use Rattle.json_rule.specs.RoundTrip.{members-of, read_back}
+use Rattle.json_rule.proofs.BackLaws.{bare-rule, shape-back}
+use Rattle.json_rule.proofs.RoundTrip.{members-of, read_back}
 use Rattle.json_rule.specs.Conversion.{Conversion, rule_in, from_json, json_in, to_json}
 use Rattle.conversion.specs.Fares.{FromJson, no-rule, over-limit, short-of-sheet, sheet-made, ToJson, no-sheet, short-of-text, text-made}
 use Rattle.conversion.specs.FareLaws.{from-fares, to-fares, told-sheet}

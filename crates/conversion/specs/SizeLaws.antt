@@ -7,12 +7,12 @@ use Rattle.json_text.specs.Escaped.{plain, written}
 use Rattle.definition.specs.Limits.{max_sheet_bytes}
 use Rattle.definition.specs.Tree.{Rule, rule}
 use Rattle.definition.specs.Decode.{decode_rule}
-use Rattle.definition.specs.RoundTrip.{rule-round-trip}
+use Rattle.definition.proofs.RoundTrip.{rule-round-trip}
 use Rattle.definition.specs.Write.{write_rule}
 use Rattle.call.specs.Call.{Reply, reply_to, numbers_with, result_numbers}
-use Rattle.call.specs.CallLaws.{AllWithin}
+use Rattle.call.proofs.CallLaws.{AllWithin}
 use Rattle.json_rule.specs.AsJson.{rule_as_json}
-use Rattle.json_rule.specs.AsJsonLaws.{rule-most}
+use Rattle.json_rule.proofs.AsJsonLaws.{rule-most}
 use Rattle.json_rule.specs.Conversion.{Conversion, from_json, json_in, to_json}
 use Rattle.conversion.specs.Fares.{FromJson, no-rule, over-limit, short-of-sheet, sheet-made, ToJson, no-sheet, short-of-text, text-made}
 use Rattle.conversion.specs.FareLaws.{from-fares, to-fares}

@@ -21,11 +21,11 @@ use Rattle.text.proofs.Shape.{Shape, one, two, three, four, decoded-shape}
 use Rattle.number.specs.Grammar.{is_number}
 use Rattle.json_text.specs.Json.{Text, Json, null, truth, number, string, array, object, Elements, no_elements, element, Members, no_members, member}
 use Rattle.json_text.specs.Encode.{utf8_of}
-use Rattle.json_text.specs.EncodeLaws.{decoded-is, one_of}
+use Rattle.json_text.proofs.EncodeLaws.{decoded-is, one_of}
 use Rattle.json_text.specs.Strings.{hex_value, hex_digit, hex4, paired, unicode, short_escape, escape, is_unescaped, unescaped, char, char_then, chars_in}
 use Rattle.json_text.specs.Strings as Strings
 use Rattle.json_text.specs.Grammar.{spaces, is_of_number, number_run, number_text, spelled, scalar, comma_or, elements_after, members_after, elements_in, members_in, elements, members, container, value, max_depth, at_end, document}
-use Rattle.json_text.specs.NumberLaws.{all_of_number, number-bytes}
+use Rattle.json_text.proofs.NumberLaws.{all_of_number, number-bytes}
 use Rattle.json_text.specs.Sound.{Sound, SoundElements, SoundMembers}
 
 -- What holds of an answer, if there is one

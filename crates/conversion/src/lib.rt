@@ -1,1 +1,2 @@
 // What holds of the two conversions between sheets and JSON: laws, in specs/. There is no code.
+#![tactic(auto)]

@@ -25,10 +25,10 @@ use Rattle.validation.specs.Judge.{Failure, environment, fails_at, judge}
 use Rattle.rule.specs.Nodes.{IsCondition}
 use Rattle.rule.proofs.NodeSteps.{value-size}
 use Rattle.message.specs.Standing.{standing, standing_at}
-use Rattle.message.specs.StandingLaws.{StandsAt}
-use Rattle.message.specs.DefectLaws.{Explained, defect-explained, defect-holds}
-use Rattle.message.specs.DepthLaws.{deep-passed}
-use Rattle.message.specs.FoundLaws.{Found, checks-found}
+use Rattle.message.proofs.StandingLaws.{StandsAt}
+use Rattle.message.proofs.DefectLaws.{Explained, defect-explained, defect-holds}
+use Rattle.message.proofs.DepthLaws.{deep-passed}
+use Rattle.message.proofs.FoundLaws.{Found, checks-found}
 use Rattle.message.specs.Tell.{tell_reference, tell_collection}
 use Rattle.message.specs.Message.{value_at, head_of, names_value, names_head, depth_in, asked_sentence, sentence_under, message_of, settled_sentence}
 use Rattle.defect_walk.specs.Scoped.{ScopeFound}

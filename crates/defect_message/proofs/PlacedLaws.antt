@@ -19,7 +19,7 @@ use Rattle.reference.specs.Setting.{Setting}
 use Rattle.reference.specs.Reference.{begins_with_dollar}
 use Rattle.rule.specs.Index.{start_of, EntryAt, ValueAt, ValuesAt, PairsAt, ConditionAt, ConditionsAt, RuleAt}
 use Rattle.validation.specs.Check.{Binder, Question, settled, readable, walkable, fails_if, Check, check, reference_text, reference_check, references, references_of_values, references_of_pairs, Literal, literal_check, literals, entry_of, is_string, instant_text, instant_form, instant_operand, affix_operand, compare_side, operand, operator_check, body, bodies, literal_checks, checks}
-use Rattle.validation.specs.CheckLaws.{Every, every_append, every-if}
+use Rattle.validation.proofs.CheckLaws.{Every, every_append, every-if}
 use Rattle.defect_message.specs.Settled.{IsSettled, QuantifierAt}
 
 is-settled : (n : ℕ) → 11 ≤ n → n ≤ 21 → (n ≡ 18 → ⊥) → IsSettled n

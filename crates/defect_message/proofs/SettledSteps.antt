@@ -19,9 +19,7 @@ use Rattle.buffer.specs.LaidLaws.{laid_then}
 use Rattle.definition.specs.Tree as Tree
 use Rattle.definition.specs.Tree.{Text, Value, string, Condition, Rule, rule, template}
 use Rattle.definition.specs.Within.{condition_entries}
-use Rattle.json_text.specs.Escaped.{short}
 use Rattle.json_rule.specs.AsJson.{json_of}
-use Rattle.json_rule.specs.AsJsonLaws.{json-is}
 use Rattle.json_value.specs.Lays.{LaysValue}
 use Rattle.rule.specs.Index.{start_of, end_of, ValueAt, ConditionAt, RuleAt}
 use Rattle.validation.specs.Check.{entry_of, is_string, depth}
@@ -39,10 +37,9 @@ use Rattle.defect_message.proofs.LayingLaws.{laid-three}
 use Rattle.defect_message.proofs.RefusalLaws.{from-whole}
 use Rattle.defect_message.proofs.IndexLaws.{bind_in, HeadPlaced, rule-indexed, head-indexed}
 
-pub value-laid : {rule words : List ℕ} {i : ℕ} {behind : Text} {b c a : List ℕ} {o m n : ℕ} → length b ≤ most_place → LaysValue short rule words i b c o m → Laid c a m behind n
+pub value-laid : {rule words : List ℕ} {i : ℕ} {behind : Text} {b c a : List ℕ} {o m n : ℕ} → length b ≤ most_place → LaysValue rule words i b c o m → Laid c a m behind n
     → ValueLaid rule words i behind b a o n
-value-laid room u v =
-    record { lays = λ x h. rw (json-is x) (laid_then room (u.lays x h) v) }
+value-laid room u v = record { lays = λ x h. laid_then room (u.lays x h) v }
 
 blank : (v : Value) → is_string v ≡ false → unescaped_at (some v) ≡ []
 unfolding unescaped_at is_string

@@ -6,14 +6,13 @@ ghost use Rattle.buffer.specs.Laid.{Laid};
 ghost use Rattle.message.specs.Message.{instant_forms, empty_sentence, names_value};
 ghost use Rattle.defect_message.specs.Settled.{ValueLaid, UnescapedLaid, InstantLaid, ValuedLaid, BindLaid, HeadedLaid, DepthLaid, SettledLaid};
 
+use crate::operator::lay_operator;
 use crate::words::lay_quoted;
 use buffer::lay::{lay, lay_byte, lay_decimal};
 use condition_checks::body::{BindRead, bind_of};
 use condition_checks::depth::condition_depth;
 use definition::limits::{MAX_CONDITION_NESTING, WORD_ENTRIES};
-use json_text::quote::Escapes;
 use json_value::lay_value;
-use json_value::operator::lay_operator;
 use rule::index::{end_of, start_of};
 use rule::kind::operator_at;
 use text::part::bytes_of;
@@ -30,7 +29,7 @@ fn lay_value_and(
 ) -> usize
     ensures { ValueLaid rule.now words.now i behind.now out.old out.new o result }
 {
-    let next = lay_value(rule, words, i, out, o, Escapes::Short);
+    let next = lay_value(rule, words, i, out, o);
     lay(out, next, behind)
 }
 

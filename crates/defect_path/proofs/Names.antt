@@ -4,7 +4,7 @@ use native.Mathlib.Omega.{arith}
 use mathlib.Core.Path.{◌≡◌, refl}
 use Rattle.text.specs.Ascii.{ascii}
 use Rattle.sheet.specs.Operators.{operator_name}
-use Rattle.sheet.specs.OperatorLaws.{over, alike, name-past}
+use Rattle.sheet.proofs.OperatorLaws.{over, alike, name-past}
 
 above : (op k : ℕ) → k ≤ op → (op ≡ k → ⊥) → k + 1 ≤ op
 above op k low other = omega arith

@@ -12,7 +12,7 @@ use Rattle.text.specs.Numeral.{decimal_in, decimal_of}
 use Rattle.text.specs.NumeralLaws.{decimal_of-begins}
 use Rattle.text.specs.CaseLaws.{zero-not-one, by-test}
 use Rattle.sheet.specs.Operators.{operator_name}
-use Rattle.sheet.specs.OperatorLaws.{over, alike, name-past}
+use Rattle.sheet.proofs.OperatorLaws.{over, alike, name-past}
 use Rattle.sheet.specs.Write.{write_end, write_item, write_length, write_last, write_operator, write_type, write_rule_head, write_condition_head, write_value_head, write_key_head}
 use Rattle.sheet.specs.Entries.{ConditionHead, literal_head, many_head, negation_head, one_head, two_head, comparison_head, quantifier_head, ValueHead, constant_head, number_head, string_head, array_head, object_head}
 use Rattle.sheet.specs.Entries as entries

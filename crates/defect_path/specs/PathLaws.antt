@@ -8,7 +8,7 @@ use Rattle.definition.specs.Tree.{Text, Value, constant, number, string, array, 
 use Rattle.definition.specs.Within.{ConditionFrom, RuleFrom}
 use Rattle.reference.specs.Setting.{Setting}
 use Rattle.validation.specs.Check.{Binder, Question, Check, check, reference_text, reference_check, references, references_of_values, references_of_pairs, Literal, numbers, numbers_of_values, numbers_of_pairs, literals, literals_of_conditions, literal_check, entry_of, instant_form, instant_operand, affix_operand, compare_side, operand, operator_check, body, bodies, literal_checks, checks}
-use Rattle.validation.specs.CheckLaws.{Every, every_append, every-if}
+use Rattle.validation.proofs.CheckLaws.{Every, every_append, every-if}
 use Rattle.sheet.specs.Operators.{operator_name, is_instant_test, is_affix, is_observed}
 use Rattle.validation.specs.Location.{dotted, index, through, here_or, here_as, in_value, in_values, in_pairs, in_side, at_quantifier, in_condition, in_conditions, behind_label}
 
@@ -20,10 +20,12 @@ every-weaker P Q (c ∷ xs) f h = (f c h.0, every-weaker P Q xs f h.1)
 
 through-some : (part : Text) (o : Option Text) → IsSome o → IsSome (through part o)
 unfolding through
+through-some part none h = elim h [ ]
 through-some part (some t) h = tt
 
 first_some : (a b : Option Text) → IsSome a → IsSome (or_else a b)
 unfolding or_else
+first_some none b h = elim h [ ]
 first_some (some t) b h = tt
 
 second-some : (a b : Option Text) → IsSome b → IsSome (or_else a b)

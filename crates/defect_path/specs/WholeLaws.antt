@@ -1,7 +1,7 @@
 -- What a call learns of the path it wrote: of a defect that has a path, all of it is in a buffer of 32,768 bytes.
 use Rattle.std.specs.Prelude.{ℕ, ◌≤◌, List, [], ◌++◌, ◌≡◌, refl, length}
 use Rattle.std.proofs.Common.{arith}
-use Rattle.std.proofs.Math.Option.{Option, some, IsSome, get_or}
+use Rattle.std.proofs.Math.Option.{Option, none, some, IsSome, get_or}
 use Rattle.std.proofs.lemmas.List.Edits.{sets}
 use Rattle.definition.specs.Tree.{Text, Rule}
 use Rattle.definition.specs.Within.{RuleWithin}
@@ -31,6 +31,7 @@ path-stands {label} {defect = defect} {place = place} {before = before} {after =
         → IsSome o
         → length (label ++ get_or (behind_label defect place tree) []) ≤ 32768
         → Stands before after (label ++ get_or (behind_label defect place tree) []) written
+    by_way none e h fits = elim h [ ]
     by_way (some p) e h fits =
         let bytes : length (label ++ p) ≤ 32768 = rw e at fits in
         let whole = w.written tree p stands e in

@@ -1,4 +1,6 @@
 // The path of a defect, from the label to its entry: a descent over the index of the rule sheet.
+#![tactic(auto)]
+
 mod defect; // defect.rt: numbers of defects
 mod bracket; // bracket.rt: indexes in brackets
 mod operator; // operator.rt: the operators' names

@@ -36,7 +36,7 @@ use Rattle.condition_checks.specs.Bodies.{bind_by, BindAt, CollectionOf}
 use Rattle.condition_checks.specs.declared.body.BindRead.{BindRead}
 use Rattle.condition_checks.specs.declared.body.BindRead.TheVariants as BindRead
 use Rattle.message.specs.Standing.{standing, standing_in}
-use Rattle.message.specs.StandingLaws.{standing-before, standing-before-all}
+use Rattle.message.proofs.StandingLaws.{standing-before, standing-before-all}
 use Rattle.defect_walk.specs.declared.standing.Child.{Child}
 use Rattle.defect_walk.specs.Scoped.{ChildOf, ChildIs, ScopeFound}
 

@@ -3,13 +3,4 @@ pub mod Limits
 pub mod Decode
 pub mod Write
 pub mod Within
-pub mod RoundTrip
-pub mod KeyLaws
-pub mod RisingLaws
-pub mod TreeLaws
-pub mod SiblingLaws
-pub mod ValueLaws
-pub mod ConditionLaws
-pub mod FieldLaws
-pub mod SheetLaws
 pub mod Computing

@@ -13,11 +13,11 @@ use Rattle.text.proofs.Bools.{and-true-0, and-true-1}
 use Rattle.definition.specs.Limits.{max_sheet_bytes}
 use Rattle.definition.specs.Tree.{Text, Schema}
 use Rattle.definition.specs.Decode.{decode_schema, decode_rule}
-use Rattle.definition.specs.RoundTrip.{schema-round-trip}
+use Rattle.definition.proofs.RoundTrip.{schema-round-trip}
 use Rattle.call.specs.Call.{Refusal, first_refusal, number_in, refused_by, told, refused_or, heard_by, if_told, numbers_with}
 use Rattle.validation.specs.Check.{is_none}
 use Rattle.validation.specs.Result.{accepted, are_wide, path_bytes, scratch_words, early, of_settings, of_table, result_of, KeptFrom}
-use Rattle.validation.specs.RefusalLaws.{NoneDue, every, present, is_set, none-due, first-none, first-append, number-some, number-none, of-first}
+use Rattle.validation.proofs.RefusalLaws.{NoneDue, every, present, is_set, none-due, first-none, first-append, number-some, number-none, of-first}
 use Rattle.single_check.specs.Sheets.{FrontOnly, sheet_answer}
 use Rattle.single_check.specs.SheetLaws.{front-scratch, front-both, sheets-decide}
 use Rattle.validation.specs.Result as Result

@@ -17,8 +17,8 @@ use Rattle.definition.specs.Limits.{max_rule_entries}
 use Rattle.schema.specs.declared.read.SchemaRead.{SchemaRead}
 use Rattle.rule.specs.Read.{Kept}
 use Rattle.validation.specs.Result.{path_bytes, max_label_bytes, KeptFrom}
-use Rattle.validation.specs.RefusalLaws.{is_set}
-use Rattle.validation.specs.KeptLaws.{kept-both}
+use Rattle.validation.proofs.RefusalLaws.{is_set}
+use Rattle.validation.proofs.KeptLaws.{kept-both}
 use Rattle.single_check.specs.SheetLaws.{still_read}
 use Rattle.drafts.specs.Lent.{LentRule, rules_lent, is_any}
 use Rattle.drafts.specs.DraftCalls.{record_bytes, is_mislabelled, seven_of}

@@ -26,8 +26,8 @@ use Rattle.rule.specs.Rule.{RuleIndexed}
 use Rattle.rule.specs.declared.RuleSheet.{RuleSheet}
 use Rattle.validation.specs.Check.{is_none}
 use Rattle.validation.specs.Result.{any, of_table, first_refusal, Numbers, numbers_of, path_bytes, max_label_bytes, KeptFrom}
-use Rattle.validation.specs.RefusalLaws.{is_set}
-use Rattle.validation.specs.KeptLaws.{kept-both}
+use Rattle.validation.proofs.RefusalLaws.{is_set}
+use Rattle.validation.proofs.KeptLaws.{kept-both}
 use Rattle.single_check.specs.Outcomes.{numbers_by}
 use Rattle.single_check.specs.Settings.{setting_by, SettledIs}
 use Rattle.single_check.specs.Sheets.{takes_of, sheet_answer, SheetChecked}
@@ -36,7 +36,7 @@ use Rattle.single_check.specs.declared.outcome.Outcome.{Outcome}
 use Rattle.single_check.specs.declared.settings.Setting.{Setting}
 use Rattle.single_check.specs.declared.settings.Settled.TheVariants.{Set, Refused}
 use Rattle.single_check.specs.declared.sheets.Takes.TheVariants.{Any}
-use Rattle.rule_book.specs.AnswerLaws.{sheet-path}
+use Rattle.rule_book.proofs.AnswerLaws.{sheet-path}
 use Rattle.drafts.specs.Lent.{LentRule, rules_lent, is_any}
 use Rattle.drafts.specs.DraftCalls.{record_bytes, is_malformed, is_mislabelled, seven_of, mentions_in}
 use Rattle.drafts.specs.Mentions.{RuleNamed}

@@ -13,7 +13,7 @@ use Rattle.text.specs.Parts.{part_of}
 use Rattle.text.specs.declared.part.Part.{Part}
 use Rattle.sheet.specs.Operators.{truthy_operator}
 use Rattle.sheet.specs.Entries.{ValueHead, constant_head, number_head, string_head, array_head, object_head, value_head, key_head}
-use Rattle.sheet.specs.RuleHeadLaws.{value_head-exact}
+use Rattle.sheet.proofs.RuleHeadLaws.{value_head-exact}
 use Rattle.definition.specs.Tree.{Text, Value, constant, number, string, array, object, Values, no_values, value, Pairs, no_pairs, pair, Condition, literal, many, negation, one, two, comparison, quantifier, Conditions, no_conditions, condition, Rule, rule, template}
 use Rattle.definition.specs.Within.{value_entries, condition_entries, conditions_entries, rule_entries}
 use Rattle.reference.specs.Path.{Segments, split}

@@ -15,7 +15,7 @@ use Rattle.schema.specs.declared.read.SchemaRead.{SchemaRead}
 use Rattle.schema.specs.declared.read.SchemaRead.TheVariants as SchemaRead
 use Rattle.call.specs.Call.{first_refusal, number_in}
 use Rattle.validation.specs.Check.{is_none}
-use Rattle.validation.specs.RefusalLaws.{is_set}
+use Rattle.validation.proofs.RefusalLaws.{is_set}
 use Rattle.single_check.specs.SheetLaws.{front-schema, front-rule, front-both}
 use Rattle.drafts.specs.Lent.{LentRule, is_any}
 use Rattle.drafts.specs.DraftCalls.{is_malformed}

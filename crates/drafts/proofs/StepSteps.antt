@@ -13,15 +13,15 @@ use Rattle.definition.specs.Limits.{max_sheet_bytes}
 use Rattle.definition.specs.Tree.{Text, Schema}
 use Rattle.definition.specs.Decode.{decode_schema}
 use Rattle.definition.specs.Write.{write_schema}
-use Rattle.definition.specs.RoundTrip.{schema-round-trip}
+use Rattle.definition.proofs.RoundTrip.{schema-round-trip}
 use Rattle.call.specs.Call.{first_refusal, refused_by, told, refused_or, heard_by, if_told, numbers_with}
 use Rattle.validation.specs.Check.{is_none}
 use Rattle.validation.specs.Result.{path_bytes, scratch_words, of_table, KeptFrom}
-use Rattle.validation.specs.RefusalLaws.{first-none, number-some}
-use Rattle.validation.specs.KeptLaws.{kept-both, sets-kept}
+use Rattle.validation.proofs.RefusalLaws.{first-none, number-some}
+use Rattle.validation.proofs.KeptLaws.{kept-both, sets-kept}
 use Rattle.single_check.specs.SheetLaws.{front-both}
 use Rattle.field_changes.specs.Change.{is_there, removed}
-use Rattle.field_changes.specs.SmallerLaws.{removed-small}
+use Rattle.field_changes.proofs.SmallerLaws.{removed-small}
 use Rattle.field_changes.specs.Draft.{Change, removing, name_of, changed}
 use Rattle.schema_edits.specs.Place.{PlaceOf, GoesFrom}
 use Rattle.schema_edits.specs.Edit.{Puts, Removes}

@@ -15,9 +15,9 @@ use Rattle.reference.specs.Setting.{one_of}
 use Rattle.validation.specs.Check.{is_none}
 use Rattle.validation.specs.Result.{Call, Refusal, Answer, are_wide, of_table, of_settings, early, of_sheets, refusals, first_refusal, is_taken, checked, judged, setting_for, result_of, max_label_bytes}
 use Rattle.validation.specs.Result as Result
-use Rattle.validation.specs.RefusalLaws.{present, is_set, none-due, first-none}
+use Rattle.validation.proofs.RefusalLaws.{present, is_set, none-due, first-none}
 use Rattle.call.specs.Call.{Reply, refused_by, told, heard_by, tried, if_told, Run, Leaves}
-use Rattle.call.specs.CallLaws.{heard-told, only-tried, heard-at, numbers-size}
+use Rattle.call.proofs.CallLaws.{heard-told, only-tried, heard-at, numbers-size}
 use Rattle.drafts.specs.Lent.{LentRule, is_any, change_of}
 use Rattle.drafts.specs.DraftCalls.{DraftCall, StepCall, sheet_in, schema_in, max_rules, is_unset, is_mislabelled, is_malformed, has_room, early_refusals, of_rules, start_refusals, start_refusal_numbers, is_twice, is_missing, outgrows, of_both, change_refusals, step_refusals, step_refusal_numbers, Drafted, start_tells, step_tells, start_shape, step_shape, start_answer, step_answer, MeetsStart, MeetsStep}
 

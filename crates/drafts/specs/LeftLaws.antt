@@ -18,22 +18,22 @@ use Rattle.definition.specs.Tree.{Text, Field, Members, no_members, member, Sche
 use Rattle.definition.specs.Decode.{decode_schema, decode_rule}
 use Rattle.definition.specs.Write.{write_schema}
 use Rattle.definition.specs.Within.{SchemaWithin}
-use Rattle.definition.specs.RoundTrip.{schema-round-trip}
-use Rattle.definition.specs.RisingLaws.{NoneNamed}
-use Rattle.widening.specs.DistinctLaws.{schema-distinct}
+use Rattle.definition.proofs.RoundTrip.{schema-round-trip}
+use Rattle.definition.proofs.RisingLaws.{NoneNamed}
+use Rattle.widening.proofs.DistinctLaws.{schema-distinct}
 use Rattle.validation.specs.Check.{is_none}
 use Rattle.validation.specs.Result.{Answer, of_table, of_settings, are_wide, early, of_sheets, refusals, first_refusal, is_taken, checked, judged, setting_for, result_of, numbers_of}
 use Rattle.validation.specs.Result as Result
-use Rattle.validation.specs.RefusalLaws.{NoneDue, present, is_set, none-due, first-none}
+use Rattle.validation.proofs.RefusalLaws.{NoneDue, present, is_set, none-due, first-none}
 use Rattle.call.specs.Call.{told}
-use Rattle.call.specs.CallLaws.{heard-told}
+use Rattle.call.proofs.CallLaws.{heard-told}
 use Rattle.field_changes.specs.Mention.{mentions}
 use Rattle.field_changes.specs.Change.{is_there, is_too_large}
-use Rattle.field_changes.specs.ChangeLaws.{added-decodes, removed-decodes}
+use Rattle.field_changes.proofs.ChangeLaws.{added-decodes, removed-decodes}
 use Rattle.field_changes.specs.Draft.{OpenRule, Change, adding, removing, name_of, changed, answer_to}
-use Rattle.field_changes.specs.DraftLaws.{same-without}
+use Rattle.field_changes.proofs.DraftLaws.{same-without}
 use Rattle.field_changes.specs.FieldText.{decode_field, FieldWithin}
-use Rattle.field_changes.specs.FieldTextLaws.{field-within}
+use Rattle.field_changes.proofs.FieldTextLaws.{field-within}
 use Rattle.drafts.specs.Lent.{LentRule, is_any, Given, coming, going, max_field_bytes, field_lent, adding_of, change_of}
 use Rattle.drafts.specs.DraftCalls.{DraftCall, StepCall, sheet_in, schema_in, record_bytes, is_unset, is_mislabelled, is_malformed, has_room, early_refusals, start_refusals, is_twice, is_missing, outgrows, of_both, change_refusals, step_refusals, single, seven_of, record_of, record_for, all_records, mentions_in, stepped_records, Drafted, start_tells, step_in, step_tells, start_answer, step_answer, AllLeft}
 

@@ -11,23 +11,23 @@ use Rattle.sheet.specs.Entries.{HolderHead, SchemaHead, schema_head, max_count}
 use Rattle.text.specs.Ascii.{ascii}
 use Rattle.text.specs.Numeral.{decimal_of, decimal_in}
 use Rattle.sheet.specs.Write.{write_schema_head, write_holder_head, write_mark, write_item, mark_of, write_arguments_head, write_end}
-use Rattle.sheet.specs.ItemLaws.{anything}
-use Rattle.sheet.specs.HeadLaws.{schema_head-exact}
-use Rattle.sheet.specs.HeadLaws as HeadLaws
+use Rattle.sheet.proofs.ItemLaws.{anything}
+use Rattle.sheet.proofs.HeadLaws.{schema_head-exact}
+use Rattle.sheet.proofs.HeadLaws as HeadLaws
 use Rattle.definition.specs.Tree.{Text, Field, Members, no_members, member, Holder, Schema}
 use Rattle.definition.specs.Decode.{decode_schema}
 use Rattle.definition.specs.Write.{count_of_members, write_field, write_members, head_of, head_of_arguments, write_arguments, write_schema}
 use Rattle.definition.specs.Limits.{max_sheet_bytes, max_schema_entries, max_field_nesting}
 use Rattle.definition.specs.Within.{field_entries, members_entries, arguments_entries, schema_entries, field_nesting, members_nesting, arguments_nesting, schema_nesting, MembersFit, MembersRise, SchemaWithin}
-use Rattle.definition.specs.RisingLaws.{NoneNamed}
-use Rattle.definition.specs.FieldLaws.{members-take, field-law}
-use Rattle.definition.specs.SheetLaws.{whole-sound, whole-complete}
-use Rattle.definition.specs.RoundTrip.{schema-round-trip}
+use Rattle.definition.proofs.RisingLaws.{NoneNamed}
+use Rattle.definition.proofs.FieldLaws.{members-take, field-law}
+use Rattle.definition.proofs.SheetLaws.{whole-sound, whole-complete}
+use Rattle.definition.proofs.RoundTrip.{schema-round-trip}
 use Rattle.field_changes.specs.FieldText.{decode_field, FieldWithin}
-use Rattle.field_changes.specs.NumberedLaws.{numbered-written, numbered-entries, entries-of-field, nesting-of-field, field-written, rises-of-field, fits-of-field, from_field}
-use Rattle.field_changes.specs.FieldTextLaws.{field-within}
+use Rattle.field_changes.proofs.NumberedLaws.{numbered-written, numbered-entries, entries-of-field, nesting-of-field, field-written, rises-of-field, fits-of-field, from_field}
+use Rattle.field_changes.proofs.FieldTextLaws.{field-within}
 use Rattle.field_changes.specs.Change.{numbered_field, inserted, with_fields, added, is_too_large}
-use Rattle.field_changes.specs.ChangeLaws.{added-decodes}
+use Rattle.field_changes.proofs.ChangeLaws.{added-decodes}
 use Rattle.drafts.specs.Lent.{max_field_bytes, field_lent}
 
 -- the head of a closed record with one field, and of no arguments

@@ -12,9 +12,9 @@ use Rattle.definition.specs.Decode.{decode_rule}
 use Rattle.definition.specs.Write.{write_schema}
 use Rattle.validation.specs.Check.{is_none}
 use Rattle.validation.specs.Result.{Refusal, Widths, are_wide, path_bytes, scratch_words, early, of_settings, of_sheets, refusals, result_of}
-use Rattle.validation.specs.RefusalLaws.{are-wide}
+use Rattle.validation.proofs.RefusalLaws.{are-wide}
 use Rattle.call.specs.Call.{refused_by, told, heard_by, if_told, is_written}
-use Rattle.call.specs.CallLaws.{numbers-size, if-told-written, same_answer}
+use Rattle.call.proofs.CallLaws.{numbers-size, if-told-written, same_answer}
 use Rattle.single_check.specs.Settings.{widths_by}
 use Rattle.field_changes.specs.Draft.{Change, name_of, changed}
 use Rattle.drafts.specs.Lent.{LentRule, Given, change_of}

@@ -1,4 +1,6 @@
 // Rules that are open beside a schema while fields of its record come and go (document 02, T-14).
+#![tactic(auto)]
+
 mod lent; // lent.rt: the rules that are lent
 mod refusals; // refusals.rt: what is refused before a sheet is read
 mod mention; // mention.rt: whether a rule mentions a field

@@ -7,7 +7,7 @@ use lib.ListN.{length, take, drop, get_or, length-take, replicate, length-replic
 use Rattle.validation.specs.Result.{path_bytes, scratch_words}
 use Rattle.call.specs.Call.{Reply, refused_by, Run}
 use Rattle.rule_book.specs.Tally.{BookCall, Tally, tally_shape, book_answer, MeetsBook}
-use Rattle.rule_book.specs.TallyLaws.{no-room-refused, capped_book, capped-book, tally-first, tally-within}
+use Rattle.rule_book.proofs.TallyLaws.{no-room-refused, capped_book, capped-book, tally-first, tally-within}
 use Rattle.rule_book.specs.Tallying.{book_run_of}
 use Rattle.host_numbers.specs.Counts.{counts_after}
 use Rattle.entity_rules.specs.Entry.{path_lent}

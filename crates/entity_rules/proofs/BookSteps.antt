@@ -9,7 +9,7 @@ use lib.Seq.{take-length, drop-length}
 use borrow.Author.Tests.{leb-true, leb-false}
 use Rattle.text.specs.CaseLaws.{by-test}
 use Rattle.call.specs.Call.{Reply, refused_by, told, Buffer, Left, Leaves, AllLeft, if_told, free_if_told, Shape, reply_to, result_numbers, Run, Meets}
-use Rattle.call.specs.CallLaws.{not-told, first-number, AllWithin}
+use Rattle.call.proofs.CallLaws.{not-told, first-number, AllWithin}
 use Rattle.host_numbers.specs.Counts.{InEightBytes, no_more, one_more}
 use Rattle.entity_rules.specs.Entry.{path_lent, Handed}
 use Rattle.entity_rules.proofs.Entries.{lent-all}

@@ -11,7 +11,7 @@ use Rattle.text.specs.CaseLaws.{by-test}
 use Rattle.definition.specs.Decode.{decode_rule}
 use Rattle.buffer.specs.Bytes.{bytes_of}
 use Rattle.validation.specs.Result.{Answer, Numbers, result_of, numbers_of, path_after, call_of, Meets, scratch_words, mark_bytes}
-use Rattle.validation.specs.RefusalLaws.{capped, capped_same}
+use Rattle.validation.proofs.RefusalLaws.{capped, capped_same}
 use Rattle.validation.specs.Constant.{marks_heard}
 use Rattle.validation.specs.Marking.{marks_by, MeetsMarked}
 use Rattle.single_check.specs.Runs.{lent_run_of, run_of, marked_run_of}

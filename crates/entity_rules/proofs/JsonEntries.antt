@@ -6,7 +6,7 @@ use mathlib.Core.Path.{◌≡◌, refl}
 use lib.ListN.{get_or}
 use Rattle.buffer.specs.Bytes.{InFourBytes, no_more, one_more}
 use Rattle.call.specs.Call.{Shape, result_numbers, Meets}
-use Rattle.call.specs.CallLaws.{AllWithin}
+use Rattle.call.proofs.CallLaws.{AllWithin}
 use Rattle.json_rule.specs.Conversion.{Conversion, run_of}
 use Rattle.conversion.specs.SizeLaws.{max_json_bytes}
 use Rattle.entity_rules.specs.Entry.{numbers_after}

@@ -7,7 +7,7 @@ use lib.ListN.{length, take, length-take, replicate, length-replicate}
 use Rattle.reference.specs.Setting.{Reader}
 use Rattle.validation.specs.Result.{Answer, Numbers, numbers_of, path_after, scratch_words}
 use Rattle.validation.specs.KeyPath.{KeyHeard, refusal, acceptance, finding, key_defect, key_result_of, key_call_of, MeetsKey}
-use Rattle.validation.specs.KeyLaws.{key-heard, key_capped, key-capped-same}
+use Rattle.validation.proofs.KeyLaws.{key-heard, key_capped, key-capped-same}
 use Rattle.single_check.specs.Outcomes.{numbers_by}
 use Rattle.single_check.specs.declared.outcome.Outcome.{Outcome}
 use Rattle.key_path.specs.Keys.{key_run_of}

@@ -8,11 +8,11 @@ use lib.ListN.{length, take, drop, get_or, length-take, replicate, length-replic
 use Rattle.validation.specs.Result.{path_bytes, scratch_words}
 use Rattle.call.specs.Call.{Reply, refused_by}
 use Rattle.openings.specs.Call.{open_shape, open_answer, MeetsOpen}
-use Rattle.openings.specs.CallLaws.{no-room-refused, capped_open, capped-open, answer-low}
+use Rattle.openings.proofs.CallLaws.{no-room-refused, capped_open, capped-open, answer-low}
 use Rattle.openings.specs.Runs.{open_run_of}
 use Rattle.entity_rules.specs.Entry.{numbers_after, path_lent}
 use Rattle.entity_rules.specs.OpenEntry.{open_bytes, open_call_for, open_entry_answer, OpenAnswered}
-use Rattle.openings.specs.ListLaws.{small-marks}
+use Rattle.openings.proofs.ListLaws.{small-marks}
 use Rattle.entity_rules.proofs.Entries.{lent-nothing, lent-within}
 use Rattle.entity_rules.proofs.BookSteps.{path-home, handed}
 

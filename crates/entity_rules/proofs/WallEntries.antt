@@ -6,7 +6,7 @@ use mathlib.Core.Path.{◌≡◌}
 use lib.ListN.{length, take, drop, get_or, length-take, replicate, length-replicate}
 use Rattle.validation.specs.Result.{Answer, path_bytes, scratch_words}
 use Rattle.call.specs.Call.{Reply, refused_by, Run}
-use Rattle.rule_book.specs.TallyLaws.{capped_book}
+use Rattle.rule_book.proofs.TallyLaws.{capped_book}
 use Rattle.wall.specs.Wall.{WallCall, wall_shape, wall_answer, MeetsWall}
 use Rattle.wall.specs.WallLaws.{no-room-refused, capped-wall, wall-first, wall-within}
 use Rattle.wall.specs.Printing.{wall_run_of}

@@ -9,12 +9,12 @@ use Rattle.reference.specs.Setting.{one_of}
 use Rattle.reference.specs.Table.{table_in}
 use Rattle.widening.specs.Widening.{Level}
 use Rattle.validation.specs.Result.{path_bytes, of_settings, early}
-use Rattle.validation.specs.RefusalLaws.{is_set, none-due}
+use Rattle.validation.proofs.RefusalLaws.{is_set, none-due}
 use Rattle.validation.specs.Growth.{Widens}
 use Rattle.call.specs.Call.{Reply, refused_by, told, number_of, if_told, numbers_with}
 use Rattle.rule_book.specs.Tally.{BookCall, asked_of, single, book_refusal_numbers, defect_numbers, Tally, tally_of, tally_figures, book_answer, tally_numbers, IsTallied}
-use Rattle.rule_book.specs.TallyLaws.{is-tallied, book-refusal-listed, lending, lending-same, tally-size}
-use Rattle.rule_book.specs.BookGrowthLaws.{book-demand-3}
+use Rattle.rule_book.proofs.TallyLaws.{is-tallied, book-refusal-listed, lending, lending-same, tally-size}
+use Rattle.rule_book.proofs.BookGrowthLaws.{book-demand-3}
 use Rattle.host_numbers.specs.Counts.{count_at}
 use Rattle.host_numbers.specs.CountLaws.{count-of-written}
 use Rattle.entity_rules.specs.Entry.{HasRoom}

@@ -15,13 +15,13 @@ use Rattle.reference.specs.Table.{table_in}
 use Rattle.widening.specs.Widening.{Level}
 use Rattle.validation.specs.Check.{IsDefect}
 use Rattle.validation.specs.Result.{Takes, AlsoTakes, any, Lent, Call, refused, refusal_numbers, IsRefusal, is_taken, max_label_bytes, path_bytes, mark_bytes, of_buffers, of_settings, early, first_refusal, Unrefused, Numbers, result_of, numbers_of, path_after, lent_of, call_of, Meets}
-use Rattle.validation.specs.RefusalLaws.{refusal-no-defect, is_set, none-due, none-of-either}
+use Rattle.validation.proofs.RefusalLaws.{refusal-no-defect, is_set, none-due, none-of-either}
 use Rattle.validation.specs.Service.{literals_in, AllFinite, SameButSemantics}
-use Rattle.validation.specs.ServiceCallLaws.{accepted-unrefused}
-use Rattle.validation.specs.KernelToService.{kernel-to-service, accepted-taken}
+use Rattle.validation.proofs.ServiceCallLaws.{accepted-unrefused}
+use Rattle.validation.proofs.KernelToService.{kernel-to-service, accepted-taken}
 use Rattle.validation.specs.Growth.{Widens}
-use Rattle.validation.specs.DemandLaws.{heard, number-accepted}
-use Rattle.validation.specs.Demands.{keeps-path, Demand2, demand-2, SameButSchema, Demand3, demand-3}
+use Rattle.validation.proofs.DemandLaws.{heard, number-accepted}
+use Rattle.validation.proofs.Demands.{keeps-path, Demand2, demand-2, SameButSchema, Demand3, demand-3}
 use Rattle.entity_rules.specs.Entry.{result_bytes, result_after, path_lent, entry_call, entry_answer, EntryAnswered, numbers_in, entry_run}
 use Rattle.entity_rules.specs.EntryLaws.{numbers-of-answer, entry-call, short-result-refused}
 use Rattle.entity_rules.specs.CheckEntry.{report_bytes, report_after, check_call, CheckAnswered}

@@ -12,7 +12,7 @@ use Rattle.text.specs.Utf8.{between, is_utf8}
 use Rattle.buffer.specs.Bytes.{bytes_of, InFourBytes, field_at}
 use Rattle.buffer.specs.BytesLaws.{field-written}
 use Rattle.validation.specs.Result.{Takes, Call, Answer, refused, Numbers, numbers_of, max_label_bytes, scratch_words, mark_bytes, result_of, of_settings, early, refusals, first_refusal, refused_or, path_after, call_of, Meets}
-use Rattle.validation.specs.RefusalLaws.{kind-refused, semantics-refused}
+use Rattle.validation.proofs.RefusalLaws.{kind-refused, semantics-refused}
 use Rattle.entity_rules.specs.Entry.{result_bytes, fields_of, result_after, path_lent, entry_call, entry_answer, EntryAnswered, numbers_in, entry_run}
 
 -- the field at index i of a written result is the i-th of its seven numbers

@@ -4,7 +4,7 @@ use Rattle.std.proofs.Common.{arith, ◌∙◌, le-leb}
 use Rattle.std.proofs.Math.Path.{ap, sym}
 use Rattle.reference.specs.Setting.{one_of}
 use Rattle.validation.specs.Result.{are_wide, path_bytes, scratch_words}
-use Rattle.validation.specs.RefusalLaws.{are-wide}
+use Rattle.validation.proofs.RefusalLaws.{are-wide}
 use Rattle.call.specs.Call.{Reply, refused_by, told, number_of, Buffer, Left}
 use Rattle.entity_rules.specs.Entry.{path_lent, HasRoom, Handed}
 

@@ -11,7 +11,7 @@ use Rattle.buffer.specs.Bytes.{field_at}
 use Rattle.buffer.specs.BytesLaws.{field-written}
 use Rattle.reference.specs.Setting.{one_of}
 use Rattle.call.specs.Call.{Shape, Reply, Refusal, refused_by, told, if_told, numbers_with, result_numbers, number_of}
-use Rattle.call.specs.CallLaws.{numbers-size}
+use Rattle.call.proofs.CallLaws.{numbers-size}
 use Rattle.json_rule.specs.Conversion.{Conversion, converting, from_json, to_json}
 use Rattle.conversion.specs.FareLaws.{from-among, to-among}
 use Rattle.conversion.specs.RoundTrip.{round_trip}

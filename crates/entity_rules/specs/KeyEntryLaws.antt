@@ -7,7 +7,7 @@ use Rattle.std.proofs.lemmas.Bool.{lt-leb}
 use Rattle.text.specs.Utf8.{between, is_utf8}
 use Rattle.validation.specs.Result.{Numbers, refused, scratch_words, first_refusal, numbers_of}
 use Rattle.validation.specs.KeyPath.{KeyCall, max_key_bytes, key_early, key_refusals, key_result_of, key_call_of, MeetsKey}
-use Rattle.validation.specs.KeyLaws.{key-semantics-refused, key-reader-refused}
+use Rattle.validation.proofs.KeyLaws.{key-semantics-refused, key-reader-refused}
 use Rattle.entity_rules.specs.Entry.{result_bytes, path_lent, EntryAnswered}
 use Rattle.entity_rules.specs.EntryLaws.{numbers-of-answer, refused-first}
 use Rattle.entity_rules.specs.KeyEntry.{key_entry_call, key_entry_answer, key_entry_run}

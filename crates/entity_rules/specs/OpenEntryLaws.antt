@@ -10,10 +10,10 @@ use Rattle.buffer.specs.BytesLaws.{field-written, past-written}
 use Rattle.reference.specs.Setting.{one_of}
 use Rattle.validation.specs.Result.{path_bytes}
 use Rattle.call.specs.Call.{Reply, refused_by, if_told, is_written}
-use Rattle.call.specs.CallLaws.{if-told-written, left-alike}
-use Rattle.openings.specs.CallLaws.{lending, lending-same, three-numbers, set-fits}
+use Rattle.call.proofs.CallLaws.{if-told-written, left-alike}
+use Rattle.openings.proofs.CallLaws.{lending, lending-same, three-numbers, set-fits}
 use Rattle.openings.specs.Call.{open_heard_numbers, opens, nothing_helps, or_no_marks, list_left, open_numbers}
-use Rattle.openings.specs.ListLaws.{open-refusal-heard, small-marks}
+use Rattle.openings.proofs.ListLaws.{open-refusal-heard, small-marks}
 use Rattle.entity_rules.specs.Entry.{HasRoom, numbers_after}
 use Rattle.entity_rules.specs.HandedLaws.{returned-refused, returned-among, returned-alike, room-wide}
 use Rattle.entity_rules.specs.OpenEntry.{open_bytes, open_call_for, open_entry_answer, OpenAnswered}

@@ -11,8 +11,8 @@ use Rattle.widening.specs.Widening.{Level}
 use Rattle.validation.specs.Growth.{Widens}
 use Rattle.validation.specs.Result.{Answer, path_bytes}
 use Rattle.call.specs.Call.{Reply, refused_by, told, number_of, if_told, is_written}
-use Rattle.call.specs.CallLaws.{if-told-written, left-alike}
-use Rattle.rule_book.specs.TallyLaws.{lending}
+use Rattle.call.proofs.CallLaws.{if-told-written, left-alike}
+use Rattle.rule_book.proofs.TallyLaws.{lending}
 use Rattle.wall.specs.Wall.{WallCall, wall_refusal_numbers, pages_left, wall_answer, wall_numbers}
 use Rattle.wall.specs.WallGrowthLaws.{wall-demand-3}
 use Rattle.wall.specs.WallLaws.{wall-refusal-listed, lending_wall, lending-wall, wall-size}

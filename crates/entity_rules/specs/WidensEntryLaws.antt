@@ -8,11 +8,11 @@ use Rattle.definition.specs.Tree.{Schema}
 use Rattle.definition.specs.Decode.{decode_schema}
 use Rattle.widening.specs.Widening.{Level, only, anything, marks}
 use Rattle.widening.specs.Decision.{widening, refuted}
-use Rattle.widening.specs.DecisionLaws.{widens-level}
+use Rattle.widening.proofs.DecisionLaws.{widens-level}
 use Rattle.widening.specs.SheetDecision.{DecisionAnswer, malformed, decision, answer_for, widens_sheets, decision_numbers}
 use Rattle.validation.specs.Result.{AlsoTakes, early, first_refusal, Unrefused, Run, call_of, Meets}
-use Rattle.validation.specs.Demands.{SameButSchema, Demand3}
-use Rattle.validation.specs.Upgrade.{upgrade}
+use Rattle.validation.proofs.Demands.{SameButSchema, Demand3}
+use Rattle.validation.proofs.Upgrade.{upgrade}
 use Rattle.buffer.specs.Bytes.{field_at}
 use Rattle.entity_rules.specs.Entry.{result_bytes, fields_of}
 use Rattle.entity_rules.specs.EntryLaws.{field-of-result}

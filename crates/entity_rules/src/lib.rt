@@ -1,4 +1,6 @@
 // The checker as C functions for a host. Each call brings a scratch of its own.
+#![tactic(auto)]
+
 mod result; // result.rt: the seven numbers as bytes
 mod report; // report.rt: a check with a name table and a mark list
 mod explain; // explain.rt: a check with a message buffer

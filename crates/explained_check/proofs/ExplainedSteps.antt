@@ -12,7 +12,7 @@ use Rattle.definition.specs.Limits.{max_condition_nesting}
 use Rattle.definition.specs.Tree.{Text, Condition, literal, many, negation, one, two, comparison, quantifier, Conditions, no_conditions, condition, Rule, rule, template}
 use Rattle.definition.specs.Within.{condition_nesting, conditions_nesting, RuleFits, SchemaWithin}
 use Rattle.definition.specs.Decode.{decode_schema, decode_rule}
-use Rattle.definition.specs.RoundTrip.{schema-round-trip, rule-round-trip}
+use Rattle.definition.proofs.RoundTrip.{schema-round-trip, rule-round-trip}
 use Rattle.reference.specs.Setting as Reference
 use Rattle.reference.specs.Setting.{kernel}
 use Rattle.reference.specs.Table.{table_in, setting_under, or_stock}
@@ -30,16 +30,16 @@ use Rattle.validation.specs.Check.{is_none, IsDefect, depth, depth_of_conditions
 use Rattle.validation.specs.Judge.{Verdict, all_pass, fails_at, judge}
 use Rattle.validation.specs.Result as Result
 use Rattle.validation.specs.Result.{Call, Heard, refusal, acceptance, finding, is_taken, mark_bytes, Numbers, of_settings, of_sheets, refusals, first_refusal, setting_for, answer_of, checked, judged, numbers_of, path_after, result_of, call_of}
-use Rattle.validation.specs.RefusalLaws.{early-refused, settings-refused, settings-none, marks-refused, table-decides, sheets-first}
-use Rattle.validation.specs.DemandLaws.{heard}
+use Rattle.validation.proofs.RefusalLaws.{early-refused, settings-refused, settings-none, marks-refused, table-decides, sheets-first}
+use Rattle.validation.proofs.DemandLaws.{heard}
 use Rattle.validation.specs.Constant.{marks_heard}
 use Rattle.validation.specs.Marking.{marks_by}
-use Rattle.validation.specs.MarkingLaws.{count-few}
+use Rattle.validation.proofs.MarkingLaws.{count-few}
 use Rattle.constants.specs.Marks.{RuleMarked}
 use Rattle.message.specs.Message.{depth_in, message_of}
 use Rattle.message.specs.Explaining.{message_in, unless_refused, message_by, fits, MessageIs, MeetsExplained}
-use Rattle.message.specs.ExplainingLaws.{accepted-unsaid, refused-unsaid}
-use Rattle.message.specs.ShortLaws.{message-short}
+use Rattle.message.proofs.ExplainingLaws.{accepted-unsaid, refused-unsaid}
+use Rattle.message.proofs.ShortLaws.{message-short}
 use Rattle.single_check.specs.Outcomes.{numbers_by}
 use Rattle.single_check.specs.Settings.{setting_by, call_by, EarlyIs, SettledIs}
 use Rattle.single_check.specs.Sheets.{takes_of, taken_of, sheet_answer, SheetChecked}

@@ -6,18 +6,18 @@ use Rattle.std.proofs.Common.{◌∙◌}
 use Rattle.text.specs.CaseLaws.{zero-not-one}
 use Rattle.definition.specs.Tree.{Schema, Rule}
 use Rattle.definition.specs.Decode.{decode_schema, decode_rule}
-use Rattle.definition.specs.RoundTrip.{rule-round-trip}
+use Rattle.definition.proofs.RoundTrip.{rule-round-trip}
 use Rattle.reference.specs.Setting.{kernel}
 use Rattle.reference.specs.Table.{table_in, setting_under, or_stock}
 use Rattle.validation.specs.Check.{IsDefect, Check, checks}
 use Rattle.validation.specs.Judge.{Failure, Verdict, all_pass, fails_at, judge}
 use Rattle.validation.specs.Result.{Call, Answer, defect, Heard, refusal, acceptance, finding, Defect, Numbers, setting_for, refusals, first_refusal, refused_or, answer_of, checked, judged, numbers_of, result_of, call_of}
-use Rattle.validation.specs.DemandLaws.{heard, number-defect}
+use Rattle.validation.proofs.DemandLaws.{heard, number-defect}
 use Rattle.message.specs.Message.{message_of}
-use Rattle.message.specs.MessageLaws.{Agrees}
-use Rattle.message.specs.DefectLaws.{defect-explained}
+use Rattle.message.proofs.MessageLaws.{Agrees}
+use Rattle.message.proofs.DefectLaws.{defect-explained}
 use Rattle.message.specs.Explaining.{message_in, unless_refused, message_by, ExplainedRun, MeetsExplained}
-use Rattle.message.specs.ExplainingLaws.{accepted-unsaid, refused-unsaid}
+use Rattle.message.proofs.ExplainingLaws.{accepted-unsaid, refused-unsaid}
 
 unrefused : (o : Option ℕ) (a : Answer) {d : Defect} → refused_or o a ≡ defect d → o ≡ none
 unfolding refused_or

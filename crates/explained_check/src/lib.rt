@@ -1,4 +1,6 @@
 // The whole call with a message buffer: a single check that hands over what a defect says.
+#![tactic(auto)]
+
 ghost use Rattle.std.specs.Prelude.{◌≡◌};
 ghost use Rattle.single_check.specs.Answers.{Narrow};
 ghost use Rattle.message.specs.Explaining.{MeetsExplained};

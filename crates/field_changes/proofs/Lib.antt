@@ -1,1 +1,12 @@
+pub mod MentionLaws
+pub mod RenumberLaws
+pub mod BesideLaws
+pub mod NumberedLaws
+pub mod ChangeLaws
+pub mod DraftLaws
+pub mod FieldTextLaws
+pub mod EditLaws
+pub mod ThereLaws
+pub mod SumLaws
+pub mod SmallerLaws
 pub mod Edges

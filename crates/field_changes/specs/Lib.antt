@@ -1,16 +1,5 @@
 pub mod Mention
 pub mod Change
 pub mod Place
-pub mod MentionLaws
-pub mod RenumberLaws
-pub mod BesideLaws
-pub mod NumberedLaws
-pub mod ChangeLaws
 pub mod Draft
-pub mod DraftLaws
 pub mod FieldText
-pub mod FieldTextLaws
-pub mod EditLaws
-pub mod ThereLaws
-pub mod SumLaws
-pub mod SmallerLaws

@@ -14,14 +14,14 @@ use Rattle.definition.specs.Limits.{max_sheet_bytes}
 use Rattle.definition.specs.Tree.{Rule}
 use Rattle.definition.specs.Decode.{decode_rule}
 use Rattle.definition.specs.Write.{write_rule}
-use Rattle.definition.specs.RoundTrip.{rule-round-trip}
+use Rattle.definition.proofs.RoundTrip.{rule-round-trip}
 use Rattle.call.specs.Call.{first_refusal, refused_or, heard_by, Reply, refused_by, told, reply_to, numbers_with, result_numbers, if_told, AllLeft, Meets}
 use Rattle.json_text.specs.Json.{Json}
 use Rattle.json_text.specs.Grammar.{document}
 use Rattle.json_text.specs.Distinct.{distinct}
 use Rattle.json_keys.specs.Repeats.{KeysDiffer}
 use Rattle.json_rule.specs.Shape.{rule_of}
-use Rattle.json_rule.specs.DistinctLaws.{decodes-distinct}
+use Rattle.json_rule.proofs.DistinctLaws.{decodes-distinct}
 use Rattle.json_rule.specs.Conversion.{Conversion, is_missing, of_room, run_of, rule_in, sheet_of, sheet_from, from_json_refusals, from_json}
 use Rattle.json_sheet.specs.RuleAt.{front_room}
 use Rattle.from_json.specs.Making.{out_bytes, IsFormed, RefusedBy, OverIs, SheetMade}

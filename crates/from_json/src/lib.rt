@@ -1,4 +1,6 @@
 // The sheet of a rule that is written as JSON.
+#![tactic(auto)]
+
 mod formed; // formed.rt: well-formed sheets
 mod making; // making.rt: a rule's sheet
 

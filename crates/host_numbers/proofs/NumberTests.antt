@@ -5,7 +5,7 @@ use mathlib.Core.List.{List}
 use mathlib.Core.Path.{◌≡◌}
 use Rattle.number.specs.Finite.{is_finite}
 use Rattle.number.specs.FirstDigit.{compared}
-use Rattle.number.specs.ComparedLaws.{compared-within}
+use Rattle.number.proofs.ComparedLaws.{compared-within}
 use Rattle.number.specs.declared.magnitude.Tested.{Tested}
 use Rattle.host_numbers.specs.NumberTest.{packed, finite_number}
 

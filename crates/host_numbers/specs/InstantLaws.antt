@@ -5,7 +5,7 @@ use Rattle.std.proofs.Math.Option.{Option, none, some}
 use Rattle.std.proofs.Math.Seq.{sets}
 use Rattle.timestamp.specs.Instant.{instant, SmallFields}
 use Rattle.timestamp.specs.Order.{list_of}
-use Rattle.timestamp.specs.FieldLaws.{instant-low}
+use Rattle.timestamp.proofs.FieldLaws.{instant-low}
 use Rattle.timestamp.specs.declared.Fields.{Fields}
 use Rattle.buffer.specs.Bytes.{bytes_of, InFourBytes, no_more, one_more, field_at}
 use Rattle.buffer.specs.BytesLaws.{field-written}

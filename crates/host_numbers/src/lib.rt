@@ -1,4 +1,6 @@
 // What a host asks besides its checks: the numbers of a result, the version, the test of a number, and the fields of an instant.
+#![tactic(auto)]
+
 pub mod counts; // counts.rt: numbers of eight bytes
 
 ghost use Rattle.std.specs.Prelude.{◌≡◌};
@@ -12,7 +14,7 @@ use timestamp::Parsed;
 
 const MAJOR: u32 = 0;
 
-const MINOR: u32 = 4;
+const MINOR: u32 = 3;
 
 const PATCH: u32 = 0;
 

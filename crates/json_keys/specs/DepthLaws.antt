@@ -12,7 +12,7 @@ use Rattle.text.specs.ByteReaderLaws.{byte-sound}
 use Rattle.json_text.specs.Json.{Json, array, object, Elements, no_elements, element, Members, no_members, member}
 use Rattle.json_text.specs.Strings as Strings
 use Rattle.json_text.specs.Grammar.{spaces, comma_or, scalar, elements_after, members_after, elements_in, members_in, elements, members, container, value}
-use Rattle.json_text.specs.GrammarLaws.{scalar-value}
+use Rattle.json_text.proofs.GrammarLaws.{scalar-value}
 
 -- whatever p reads, q reads too
 abbrev pub Within : {A : Type 0} → (p q : Reader (List ℕ) A) → Type 0

@@ -1,16 +1,7 @@
 pub mod Apart
-pub mod ApartLaws
 pub mod AsJson
-pub mod AsJsonLaws
-pub mod BackLaws
 pub mod Bare
 pub mod Conversion
-pub mod DistinctLaws
-pub mod RoundTrip
 pub mod RuleStreamed
-pub mod RuleStreamedLaws
 pub mod Shape
-pub mod ShapedLaws
 pub mod Streamed
-pub mod StreamedLaws
-pub mod WritingLaws

@@ -7,7 +7,7 @@ use Rattle.text.specs.Order.{same_bytes, none_twice}
 use Rattle.text.specs.Reader.{Reader, ◌>>=◌, ◌>>◌, pure, refuse}
 use Rattle.json_text.specs.Json.{Text}
 use Rattle.json_text.specs.Grammar.{spaces, value, at_end}
-use Rattle.json_text.specs.ShapedMembers.{members_as}
+use Rattle.json_text.proofs.ShapedMembers.{members_as}
 use Rattle.definition.specs.Tree.{Rule}
 use Rattle.json_rule.specs.Shape.{RulePart, asserts, names, says, optional_of, rule_from}
 use Rattle.json_rule.specs.Streamed.{asked, streamed}

@@ -9,7 +9,7 @@ use Rattle.text.specs.Order.{same_bytes}
 use Rattle.text.specs.Reader.{Reader, ◌>>=◌, ◌>>◌, pure, refuse, either}
 use Rattle.json_text.specs.Json.{Text, Json}
 use Rattle.json_text.specs.Grammar.{scalar, value}
-use Rattle.json_text.specs.ShapedMembers.{elements_as, members_as}
+use Rattle.json_text.proofs.ShapedMembers.{elements_as, members_as}
 use Rattle.definition.specs.Tree.{Value, Condition, many, negation, one}
 use Rattle.json_rule.specs.Shape.{value_of, operator_of, Part, over, body, bound_of, comparison_part, comparison_from, quantifier_from, two_from, conditions_from, the_only, condition_of}
 

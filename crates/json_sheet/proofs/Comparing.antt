@@ -31,7 +31,7 @@ use Rattle.json_text.specs.Unescaped.{LaysText}
 use Rattle.json_text.specs.Grammar.{unspaced, comma_or, value}
 use Rattle.json_text.specs.TokenAt.{SpacesTo}
 use Rattle.json_text.specs.BetweenAt.{key_of, MoreAt, EndAt}
-use Rattle.json_text.specs.ShapedMembers.{parts_in}
+use Rattle.json_text.proofs.ShapedMembers.{parts_in}
 use Rattle.json_text.proofs.Separating.{spaces-full}
 use Rattle.json_rule.specs.Shape.{value_of, place_in, comparison_names, comparison_of, Part, left, which, right, as_left, as_which, as_right, first_of, comparison_from, which_of, comparison_part}
 use Rattle.json_rule.specs.Streamed.{asked, flat, deep}

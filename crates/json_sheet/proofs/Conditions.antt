@@ -14,7 +14,7 @@ use Rattle.text.specs.ReadAt.{ReadsTo, Refuses}
 use Rattle.text.specs.ReadAtLaws.{bind-refused, bind-refuses, bind-reads}
 use Rattle.sheet.specs.Operators.{Shape, shape_of}
 use Rattle.sheet.specs.Operators as Operators
-use Rattle.sheet.specs.OperatorLaws.{shape_by_tests, shape-tests}
+use Rattle.sheet.proofs.OperatorLaws.{shape_by_tests, shape-tests}
 use Rattle.sheet.specs.Write.{write_operator, write_condition_head}
 use Rattle.definition.specs.Tree.{Condition, many, Conditions, condition}
 use Rattle.definition.specs.Write.{write_condition, write_conditions, count_of_conditions}
@@ -25,7 +25,7 @@ use Rattle.json_text.specs.Grammar.{unspaced, spaces, comma_or}
 use Rattle.json_text.specs.TokenAt.{SpacesTo}
 use Rattle.json_text.specs.BetweenAt.{key_of, MoreAt, EndAt}
 use Rattle.json_text.specs.Shaped.{many_in}
-use Rattle.json_text.specs.ShapedMembers.{parts_in, elements_as}
+use Rattle.json_text.proofs.ShapedMembers.{parts_in, elements_as}
 use Rattle.json_text.proofs.Separating.{spaces-full}
 use Rattle.json_rule.specs.Shape.{operator_of, the_only, conditions_from}
 use Rattle.json_rule.specs.Streamed.{asked, literals, flat, deep, streamed, operand}

@@ -25,10 +25,10 @@ use Rattle.buffer.specs.LaidLaws.{laid_then}
 use Rattle.json_text.specs.Json.{Text, Json, array, object, Elements, no_elements, element, Members, no_members, member}
 use Rattle.json_text.specs.Strings as Strings
 use Rattle.json_text.specs.Grammar.{unspaced, spaces, is_of_number, number_run, number_text, scalar, comma_or, elements_after, members_after, elements_in, members_in, elements, members, container, value}
-use Rattle.json_text.specs.GrammarLaws.{bracket-value, no_number}
+use Rattle.json_text.proofs.GrammarLaws.{bracket-value, no_number}
 use Rattle.json_text.specs.TokenAt.{SpacesTo}
 use Rattle.json_text.specs.BetweenAt.{key_of, KeyAt}
-use Rattle.json_text.specs.ShapedMembers.{after-key, members-turn}
+use Rattle.json_text.proofs.ShapedMembers.{after-key, members-turn}
 use Rattle.json_text.proofs.Separating.{spaces-full}
 use Rattle.json_rule.specs.Shape.{value_of, values_of, pairs_of}
 use Rattle.json_sheet.specs.Places.{elements_rest, members_rest, member_of, headed, LaysHeaded, Given, ValueIs, MemberIs, Holding, entries_of_elements, count_of_elements, entries_of_members, count_of_members}

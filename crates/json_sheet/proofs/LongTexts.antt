@@ -17,7 +17,7 @@ use Rattle.text.specs.NumeralLaws.{begins_without_digit, decimal-complete, comma
 use Rattle.text.specs.Reader.{Reader, ◌>>=◌, ◌>>◌, and_then, pure, ensure, either, or_else}
 use Rattle.sheet.specs.Entries.{max_text, item, text_length, rule_head}
 use Rattle.sheet.specs.Entries as Entries
-use Rattle.sheet.specs.ItemLaws.{dash-none, item-complete, length-begins}
+use Rattle.sheet.proofs.ItemLaws.{dash-none, item-complete, length-begins}
 use Rattle.sheet.specs.Write.{write_end, write_item, write_length, write_text, write_rule_head}
 use Rattle.definition.specs.Tree.{Text, Condition, rule}
 use Rattle.definition.specs.Decode.{entered, entry, announce, whole, any_rule, decode_rule}

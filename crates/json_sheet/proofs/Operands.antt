@@ -31,7 +31,7 @@ use Rattle.json_text.specs.Grammar.{unspaced, is_of_number, number_text, spelled
 use Rattle.json_text.specs.TokenAt.{SpacesTo}
 use Rattle.json_text.specs.BetweenAt.{MoreAt, EndAt}
 use Rattle.json_text.specs.Shaped.{many_in}
-use Rattle.json_text.specs.ShapedMembers.{elements_as}
+use Rattle.json_text.proofs.ShapedMembers.{elements_as}
 use Rattle.json_text.proofs.Separating.{spaces-full}
 use Rattle.json_rule.specs.Shape.{value_of, two_from, conditions_from, condition_of}
 use Rattle.json_rule.specs.Streamed.{asked, literals, flat, deep, streamed}

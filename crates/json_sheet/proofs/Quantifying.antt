@@ -27,7 +27,7 @@ use Rattle.json_text.specs.StringAt.{StringAt}
 use Rattle.json_text.specs.Grammar.{unspaced, comma_or, value}
 use Rattle.json_text.specs.TokenAt.{SpacesTo}
 use Rattle.json_text.specs.BetweenAt.{key_of, MoreAt, EndAt}
-use Rattle.json_text.specs.ShapedMembers.{parts_in}
+use Rattle.json_text.proofs.ShapedMembers.{parts_in}
 use Rattle.json_text.proofs.Separating.{spaces-full}
 use Rattle.json_rule.specs.Shape.{value_of, place_in, Part, over, bound, body, bound_of, as_over, as_bound, as_body, first_of, quantifier_from}
 use Rattle.json_rule.specs.Streamed.{asked, flat, deep, streamed, quantifier_member}

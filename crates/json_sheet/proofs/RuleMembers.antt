@@ -22,7 +22,7 @@ use Rattle.json_text.specs.Json.{Text}
 use Rattle.json_text.specs.Grammar.{unspaced, comma_or}
 use Rattle.json_text.specs.TokenAt.{SpacesTo}
 use Rattle.json_text.specs.BetweenAt.{MoreAt, EndAt}
-use Rattle.json_text.specs.ShapedMembers.{parts_in}
+use Rattle.json_text.proofs.ShapedMembers.{parts_in}
 use Rattle.json_text.proofs.Separating.{spaces-full}
 use Rattle.json_rule.specs.Shape.{RulePart, asserts, names, says, as_assert, as_name, as_message, first_of, rule_from}
 use Rattle.json_rule.specs.Streamed.{asked}

@@ -36,7 +36,7 @@ use Rattle.json_text.specs.BetweenAt.{key_of}
 use Rattle.json_rule.specs.Shape.{place_in, RulePart, asserts, names, says, optional_of, rule_of}
 use Rattle.json_rule.specs.Streamed.{asked, streamed}
 use Rattle.json_rule.specs.RuleStreamed.{NamedPart, rule_member, held_depth, rule_rest, rule_text}
-use Rattle.json_rule.specs.RuleStreamedLaws.{rule-streamed}
+use Rattle.json_rule.proofs.RuleStreamedLaws.{rule-streamed}
 use Rattle.json_sheet.specs.Places.{Chosen, part_of, GivenCondition}
 use Rattle.json_sheet.specs.RuleAt.{front_room, TextAt, GivenText, LaysLength, LaysOptional, LaysHead, FrontLaid, RuleSeen, is_name, is-assert, is-message, GivenRuleMember, GivenParts, RuleGiven, RuleLong}
 use Rattle.json_sheet.proofs.Asking.{OnOthers, string-asked, null-asked, other-asked}

@@ -15,7 +15,7 @@ use Rattle.json_text.specs.Grammar.{unspaced, spaces, comma_or}
 use Rattle.json_text.specs.TokenAt.{SpacesTo}
 use Rattle.json_text.specs.BetweenAt.{key_of, MoreAt, EndAt}
 use Rattle.json_text.specs.Shaped.{many_after, many_in}
-use Rattle.json_text.specs.ShapedMembers.{parts_in, elements_as, members_as}
+use Rattle.json_text.proofs.ShapedMembers.{parts_in, elements_as, members_as}
 use Rattle.json_text.proofs.Separating.{spaces-full}
 use Rattle.json_rule.specs.Streamed.{asked}
 use Rattle.json_sheet.specs.Places.{part_of}

@@ -9,7 +9,7 @@ use Rattle.buffer.specs.Laid.{Laid}
 use Rattle.json_text.specs.Json.{Text}
 use Rattle.json_text.specs.Grammar.{unspaced, comma_or, value}
 use Rattle.json_text.specs.BetweenAt.{MoreAt, EndAt}
-use Rattle.json_text.specs.ShapedMembers.{members_as}
+use Rattle.json_text.proofs.ShapedMembers.{members_as}
 use Rattle.json_rule.specs.Shape.{Part, left, which, right, which_of, comparison_part, comparison_from}
 use Rattle.json_rule.specs.Streamed.{asked}
 use Rattle.json_sheet.specs.Places.{part_of}

@@ -15,7 +15,7 @@ use Rattle.json_text.specs.Strings as Strings
 use Rattle.json_text.specs.Grammar.{number_text, spelled, elements_in, members_in, elements, members, value}
 use Rattle.json_text.specs.BetweenAt.{key_of}
 use Rattle.json_text.specs.Shaped.{many_in}
-use Rattle.json_text.specs.ShapedMembers.{elements_as, members_as}
+use Rattle.json_text.proofs.ShapedMembers.{elements_as, members_as}
 use Rattle.json_rule.specs.Shape.{value_of, values_of, pairs_of, operator_of, two_from, the_only, conditions_from}
 use Rattle.json_rule.specs.Streamed.{asked, flat, deep, streamed}
 use Rattle.json_text.specs.declared.between.KeyRead.{KeyRead}

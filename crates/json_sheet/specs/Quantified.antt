@@ -10,7 +10,7 @@ use Rattle.buffer.specs.Laid.{Laid}
 use Rattle.json_text.specs.Json.{Text}
 use Rattle.json_text.specs.Grammar.{unspaced, comma_or, value}
 use Rattle.json_text.specs.BetweenAt.{MoreAt, EndAt}
-use Rattle.json_text.specs.ShapedMembers.{members_as}
+use Rattle.json_text.proofs.ShapedMembers.{members_as}
 use Rattle.json_rule.specs.Shape.{Part, over, bound, body, bound_of, quantifier_from}
 use Rattle.json_rule.specs.Streamed.{asked, streamed, quantifier_member}
 use Rattle.json_sheet.specs.Places.{part_of}

@@ -1,4 +1,6 @@
 // The sheet of a rule, laid while its JSON is read, and whether a key of the text occurs twice.
+#![tactic(auto)]
+
 mod comparison; // comparison.rt: the operand of compare
 mod condition; // condition.rt: conditions
 mod key; // key.rt: names of members

@@ -19,7 +19,7 @@ use Rattle.text.specs.ByteReaders.{byte}
 use Rattle.text.specs.Reader.{Reader, ◌>>=◌, ◌>>◌, and_then, pure, ensure, refuse}
 use Rattle.text.specs.ReadAt.{ReadsTo, Refuses}
 use Rattle.json_text.specs.Encode.{utf8_of}
-use Rattle.json_text.specs.EncodeLaws.{decoded-is, decoded-below, size-1, size-4, size-of-3}
+use Rattle.json_text.proofs.EncodeLaws.{decoded-is, decoded-below, size-1, size-4, size-of-3}
 use Rattle.json_text.specs.Strings.{hex4, paired, unicode, short_escape, escape, is_unescaped, unescaped, char}
 use Rattle.json_text.specs.Places.{ShortIs, PointRead}
 

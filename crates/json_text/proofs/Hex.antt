@@ -15,7 +15,7 @@ use Rattle.text.specs.Reader.{◌>>=◌, and_then, pure}
 use Rattle.text.specs.ReadAt.{ReadsTo, Refuses}
 use Rattle.json_text.specs.Strings.{hex_value, hex_digit, hex4}
 use Rattle.json_text.specs.Places.{HexIs, DigitIs, PointRead}
-use Rattle.json_text.specs.EncodeLaws.{size-3}
+use Rattle.json_text.proofs.EncodeLaws.{size-3}
 
 is-hex : {b r : ℕ} → hex_value b ≡ some r → r < 16 → HexIs b r
 is-hex e h = record { read = λ k. e; other = λ k. absurd (omega arith) }

@@ -15,7 +15,7 @@ use Rattle.text.specs.ReadAt.{ReadsTo, Refuses}
 use Rattle.buffer.specs.Laid.{Laid, most_place}
 use Rattle.buffer.specs.LaidLaws.{laid-nothing, laid_then}
 use Rattle.json_text.specs.Encode.{utf8_of}
-use Rattle.json_text.specs.EncodeLaws.{one_of}
+use Rattle.json_text.proofs.EncodeLaws.{one_of}
 use Rattle.json_text.specs.StringAt.{PlainByte, PlainTo}
 use Rattle.json_text.specs.Strings.{char, chars_in, string}
 use Rattle.json_text.specs.Places.{PointRead}

@@ -1,3 +1,8 @@
+pub mod EncodeLaws
+pub mod EscapedLaws
+pub mod GrammarLaws
+pub mod NumberLaws
+pub mod ShapedMembers
 pub mod Hex
 pub mod Chars
 pub mod Scanning

@@ -11,7 +11,7 @@ use Rattle.text.specs.Ascii.{ascii}
 use Rattle.buffer.specs.Laid.{Laid, most_place}
 use Rattle.buffer.specs.LaidLaws.{laid-nothing, laid_then}
 use Rattle.json_text.specs.Escaped.{Escapes, plain, short_letter, letter_of, hex_of, control_of, escaped_byte, escaped, quoted}
-use Rattle.json_text.specs.EscapedLaws.{escaped-plain}
+use Rattle.json_text.proofs.EscapedLaws.{escaped-plain}
 use Rattle.json_text.specs.Quoted.{escapes_of}
 use Rattle.json_text.specs.declared.quote.Escapes as Code
 use Rattle.json_text.specs.declared.quote.Escapes.TheVariants.{Plain, Short}

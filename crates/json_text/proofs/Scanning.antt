@@ -16,9 +16,9 @@ use Rattle.text.specs.Reader.{Reader, ◌>>=◌, and_then, pure}
 use Rattle.text.specs.CaseLaws.{by-test}
 use Rattle.text.specs.ReadAt.{ReadsTo, Refuses}
 use Rattle.json_text.specs.Encode.{utf8_of}
-use Rattle.json_text.specs.EncodeLaws.{size-1}
+use Rattle.json_text.proofs.EncodeLaws.{size-1}
 use Rattle.json_text.specs.Strings.{char, char_then, chars_in, string}
-use Rattle.json_text.specs.EscapedLaws.{char-plain, is-unescaped}
+use Rattle.json_text.proofs.EscapedLaws.{char-plain, is-unescaped}
 use Rattle.json_text.specs.Places.{PointRead}
 use Rattle.json_text.specs.StringAt.{PlainByte, PlainAt, PlainTo, StringAt}
 

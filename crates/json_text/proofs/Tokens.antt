@@ -17,7 +17,7 @@ use Rattle.text.specs.Reader.{◌>>=◌, ◌>>◌, and_then, pure}
 use Rattle.text.specs.ReadAt.{ReadsTo, Refuses}
 use Rattle.number.specs.Grammar.{is_number}
 use Rattle.json_text.specs.Grammar.{is_space, unspaced, is_of_number, number_run, number_text, spelled}
-use Rattle.json_text.specs.NumberLaws.{number-begins}
+use Rattle.json_text.proofs.NumberLaws.{number-begins}
 use Rattle.json_text.specs.TokenAt.{SpacesTo, RunTo, NumberTo, SpelledAt}
 
 -- A byte is white space

@@ -10,10 +10,5 @@ pub mod Unescaped
 pub mod Grammar
 pub mod Escaped
 pub mod Quoted
-pub mod EncodeLaws
-pub mod EscapedLaws
 pub mod Sound
-pub mod GrammarLaws
-pub mod NumberLaws
 pub mod Shaped
-pub mod ShapedMembers

@@ -16,11 +16,12 @@ use Rattle.rule.specs.Index.{start_of, end_of, EntryAt}
 use Rattle.rule.specs.IndexLaws.{value-next}
 use Rattle.buffer.specs.Laid.{Laid, most_place}
 use Rattle.buffer.specs.LaidLaws.{laid-nothing, laid_then}
-use Rattle.json_text.specs.Escaped.{Escapes, quoted, written, written_elements, written_members}
+use Rattle.json_text.specs.Escaped.{Escapes, short, quoted, written, written_elements, written_members}
 use Rattle.json_rule.specs.AsJson.{constant_of, as_json, as_elements, as_members}
+use Rattle.json_rule.proofs.AsJsonLaws.{json-is}
 use Rattle.rule.specs.Nodes.{IsValue, AreValues, Behind}
 use Rattle.rule.proofs.NodeSteps.{same_head, value-size, others_of, value-stands, others-stand, no-values-left}
-use Rattle.json_value.specs.Lays.{ArePairs, LaysConstant, LaysValue, LaysWithin, LaysHeld, LaysKey, comma_before}
+use Rattle.json_value.specs.Lays.{ArePairs, LaysConstant, LaysValueAs, LaysValue, LaysWithin, LaysHeld, LaysKey, comma_before}
 
 -- Constants
 
@@ -274,5 +275,9 @@ module _ {how : Escapes} {rule words : List ℕ} {keys j end : ℕ} {now after :
 
 pub value-lays : {how : Escapes} {rule words : List ℕ} {i end : ℕ} {before after : List ℕ} {at next : ℕ} → end ≡ end_of words i
     → LaysWithin how rule words i end before after at next
-    → LaysValue how rule words i before after at next
+    → LaysValueAs how rule words i before after at next
 value-lays {rule = rule} {words = words} {i = i} ends l = record { lays = λ v a. l.lays v (record { stands = a; ends = ends ∙ value-next rule words i v a }) }
+
+pub short-lays : {rule words : List ℕ} {i : ℕ} {before after : List ℕ} {at next : ℕ} → LaysValueAs short rule words i before after at next
+    → LaysValue rule words i before after at next
+short-lays l = record { lays = λ v a. rw (json-is v) (l.lays v a) }

@@ -5,7 +5,7 @@ use mathlib.Core.List.{List}
 use mathlib.Core.Path.{◌≡◌, refl}
 use Rattle.text.specs.Ascii.{ascii}
 use Rattle.sheet.specs.Operators.{operator_name}
-use Rattle.sheet.specs.OperatorLaws.{over, alike, name-past}
+use Rattle.sheet.proofs.OperatorLaws.{over, alike, name-past}
 use Rattle.buffer.specs.Laid.{Laid}
 
 name-low : (op : ℕ) → op ≤ 1 → operator_name op ≡ ascii "literal"

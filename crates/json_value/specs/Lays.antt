@@ -7,7 +7,7 @@ use Rattle.definition.specs.Within.{pairs_entries}
 use Rattle.rule.specs.Index.{start_of, ValueAt, PairsAt}
 use Rattle.buffer.specs.Laid.{Laid}
 use Rattle.json_text.specs.Escaped.{Escapes, quoted, written, written_elements, written_members}
-use Rattle.json_rule.specs.AsJson.{constant_of, as_json, as_elements, as_members}
+use Rattle.json_rule.specs.AsJson.{constant_of, as_json, as_elements, as_members, json_of}
 use Rattle.rule.specs.Nodes.{IsValue, AreValues}
 
 pub record ArePairs (rule words : List ℕ) (i end : ℕ) (ps : Pairs) : Type 0 where
@@ -19,8 +19,12 @@ pub record LaysConstant (kind : ℕ) (before after : List ℕ) (at next : ℕ) :
   pub lays : (how : Escapes) → Laid before after at (written how (constant_of kind)) next
 
 -- the value at word `i`
-pub record LaysValue (how : Escapes) (rule words : List ℕ) (i : ℕ) (before after : List ℕ) (at next : ℕ) : Type 0 where
+pub record LaysValueAs (how : Escapes) (rule words : List ℕ) (i : ℕ) (before after : List ℕ) (at next : ℕ) : Type 0 where
   pub lays : (v : Value) → ValueAt rule words i v → Laid before after at (written how (as_json v)) next
+
+-- the same, as a message has it
+pub record LaysValue (rule words : List ℕ) (i : ℕ) (before after : List ℕ) (at next : ℕ) : Type 0 where
+  pub lays : (v : Value) → ValueAt rule words i v → Laid before after at (json_of v) next
 
 -- the same, if it ends before word `end`
 pub record LaysWithin (how : Escapes) (rule words : List ℕ) (i end : ℕ) (before after : List ℕ) (at next : ℕ) : Type 0 where

@@ -1,10 +1,12 @@
 // A value of a rule's index as compact JSON, laid into a lent buffer.
+#![tactic(auto)]
+
 pub mod operator; // operator.rt: operators by number
 
 ghost use Rattle.std.specs.Prelude.{◌≤◌};
 ghost use Rattle.buffer.specs.Laid.{Laid};
 ghost use Rattle.json_text.specs.Quoted.{escapes_of};
-ghost use Rattle.json_value.specs.Lays.{comma_before, LaysConstant, LaysKey, LaysHeld, LaysWithin, LaysValue};
+ghost use Rattle.json_value.specs.Lays.{comma_before, LaysConstant, LaysKey, LaysHeld, LaysWithin, LaysValueAs, LaysValue};
 
 use buffer::lay::{lay, lay_byte};
 use json_text::quote::{Escapes, lay_quoted};
@@ -123,7 +125,7 @@ fn lay_within(
 }
 
 // The value at word `i`.
-pub fn lay_value(
+pub fn lay_value_as(
     rule: &[u8],
     words: &[u32],
     i: usize,
@@ -131,7 +133,14 @@ pub fn lay_value(
     at: usize,
     how: Escapes,
 ) -> usize
-    ensures { LaysValue (escapes_of how) rule.now words.now i out.old out.new at result }
+    ensures { LaysValueAs (escapes_of how) rule.now words.now i out.old out.new at result }
 {
     lay_within(rule, words, i, end_of(words, i), out, at, how)
+}
+
+// The value at word `i`, with the short escapes.
+pub fn lay_value(rule: &[u8], words: &[u32], i: usize, out: &mut [u8], at: usize) -> usize
+    ensures { LaysValue rule.now words.now i out.old out.new at result }
+{
+    lay_value_as(rule, words, i, out, at, Escapes::Short)
 }

@@ -34,7 +34,7 @@ use Rattle.scope.specs.declared.binder.Scope.{Scope}
 use Rattle.validation.specs.Check.{is_none}
 use Rattle.validation.specs.Result as Result
 use Rattle.validation.specs.Result.{Answer, accepted, defect, is_of_sheets, scratch_words, first_refusal, number_in, refused_or, numbers_of, kept_scratch, ScratchAfter}
-use Rattle.validation.specs.RefusalLaws.{every, first-append, none-due, number-due, number-later, none_left, number-some, number-none, of-first}
+use Rattle.validation.proofs.RefusalLaws.{every, first-append, none-due, number-due, number-later, none_left, number-some, number-none, of-first}
 use Rattle.validation.specs.KeyPath.{KeyCall, reader_of, max_key_bytes, key_early, key_refusals, key_defect, key_answer, key_checked, key_judged, key_result_of, key_call_of, MeetsKey}
 use Rattle.single_check.specs.Outcomes.{numbers_by}
 use Rattle.single_check.specs.Sheets.{FrontOnly}

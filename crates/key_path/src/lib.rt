@@ -1,4 +1,6 @@
 // One path of `$fields`, given without `$fields.`: whether the kernel can read it, or a projection as its key (docs/FORMAT.md, "Keys").
+#![tactic(auto)]
+
 ghost use Rattle.std.specs.Prelude.{◌&&◌, ◌≡◌, leb, length};
 ghost use Rattle.text.specs.Utf8.{between, is_utf8};
 ghost use Rattle.walk.specs.Answers.{reader_is, reference_detail};

@@ -1,5 +1,7 @@
 // A line reader (docs/FORMAT.md, "Sheets"): it borrows one sheet and keeps the place where the next entry starts. Few functions touch it; each
 // takes it apart and leaves the work to one on plain bytes and a place.
+#![tactic(auto)]
+
 ghost use Rattle.std.specs.Prelude.{◌≡◌};
 ghost use Rattle.lines.specs.Ends.{EndIs};
 

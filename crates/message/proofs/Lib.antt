@@ -1,1 +1,9 @@
+pub mod TellLaws
+pub mod MessageLaws
+pub mod StandingLaws
+pub mod DefectLaws
+pub mod DepthLaws
+pub mod FoundLaws
+pub mod ShortLaws
+pub mod ExplainingLaws
 pub mod Sentences

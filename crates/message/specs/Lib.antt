@@ -1,13 +1,5 @@
 pub mod Words
 pub mod Tell
 pub mod Message
-pub mod TellLaws
-pub mod MessageLaws
 pub mod Standing
-pub mod StandingLaws
-pub mod DefectLaws
-pub mod DepthLaws
-pub mod FoundLaws
-pub mod ShortLaws
 pub mod Explaining
-pub mod ExplainingLaws

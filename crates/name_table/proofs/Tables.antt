@@ -15,7 +15,7 @@ use Rattle.text.specs.ReadAt.{ReadsTo, Refuses}
 use Rattle.reference.specs.Table as Table
 use Rattle.reference.specs.Table.{table_entry, rows, alone, decode_table, is_sound, are_sound, stock_row, stock_table, table_in, table_bytes, row_of, is_sound_table}
 use Rattle.reference.specs.Setting.{one_of, stock}
-use Rattle.reference.specs.TableLaws.{table-in, stock-row}
+use Rattle.reference.proofs.TableLaws.{table-in, stock-row}
 use Rattle.scope.specs.Names.{row_by}
 use Rattle.scope.specs.declared.name.Row.{Row}
 use Rattle.buffer.specs.Wrote.{Wrote}

@@ -1,3 +1,4 @@
+pub mod ComparedLaws
 pub mod ComparedPlace
 pub mod Counts
 pub mod Decides

@@ -1,6 +1,5 @@
 pub mod Bound
 pub mod Compared
-pub mod ComparedLaws
 pub mod Finite
 pub mod FirstDigit
 pub mod Grammar

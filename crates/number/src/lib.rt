@@ -1,4 +1,6 @@
 // Number text (RFC 8259, section 6), and which of it is finite. Every public function takes any bytes.
+#![tactic(auto)]
+
 mod bound;
 mod grammar;
 mod magnitude;

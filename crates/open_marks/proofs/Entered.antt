@@ -11,12 +11,12 @@ use Rattle.text.proofs.Points.{utf8-empty}
 use Rattle.sheet.specs.Entries.{max_count, FieldHead, field_head}
 use Rattle.sheet.specs.Write.{write_field_head}
 use Rattle.sheet.specs.Within.{TextWithin}
-use Rattle.sheet.specs.ItemLaws.{anything}
-use Rattle.sheet.specs.HeadLaws.{field_head-exact}
+use Rattle.sheet.proofs.ItemLaws.{anything}
+use Rattle.sheet.proofs.HeadLaws.{field_head-exact}
 use Rattle.definition.specs.Tree.{Text, Field, field, Items, absent, element, Members, no_members, member, Holder, Schema}
 use Rattle.definition.specs.Write.{has_items, count_of_members, write_field, write_items, write_members, write_arguments}
 use Rattle.definition.specs.Within.{field_entries, items_entries, members_entries, arguments_entries, schema_entries, FieldFits, ItemsFit, MembersFit, ArgumentsFit, FieldFrom, ItemsFrom, MembersFrom, ArgumentsFrom, SchemaWithin}
-use Rattle.definition.specs.FieldLaws.{members-take}
+use Rattle.definition.proofs.FieldLaws.{members-take}
 use Rattle.widening.specs.Opening.{opened_field, opened_items, opened_members, opened_holder, opened_arguments}
 use Rattle.open_marks.specs.Places.{opened_head, Opens, ended, entered}
 use Rattle.open_marks.proofs.Kept.{items_kept, members_kept}

@@ -13,7 +13,7 @@ use Rattle.text.specs.Ascii.{ascii}
 use Rattle.text.specs.NumeralLaws.{decimal_of-one, decimal_of-last}
 use Rattle.sheet.specs.Entries.{FieldHead, field_head}
 use Rattle.sheet.specs.Write.{mark_of, write_item, write_mark, write_length, write_text, write_end, write_field_head}
-use Rattle.sheet.specs.HeadLaws.{field_head-exact}
+use Rattle.sheet.proofs.HeadLaws.{field_head-exact}
 use Rattle.sheet.specs.Places.{field_of, KnownTo, Unread, KnownFieldIs}
 use Rattle.sheet.specs.declared.schema_heads.FieldHead.{FieldHead as CodeHead}
 use Rattle.sheet.specs.declared.schema_heads.FieldRead.{FieldRead}

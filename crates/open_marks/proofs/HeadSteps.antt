@@ -17,8 +17,8 @@ use Rattle.text.specs.declared.numeral.NumeralRead.TheVariants.{Is, Bad}
 use Rattle.sheet.specs.Entries.{max_count, item, HolderHead, SchemaHead, schema_head}
 use Rattle.sheet.specs.Pieces.{dashed}
 use Rattle.sheet.specs.Write.{mark_of, write_item, write_mark, write_end, write_holder_head, write_arguments_head, write_schema_head}
-use Rattle.sheet.specs.ItemLaws.{anything, item-complete}
-use Rattle.sheet.specs.HeadLaws.{SchemaHeadFits, schema_head-exact}
+use Rattle.sheet.proofs.ItemLaws.{anything, item-complete}
+use Rattle.sheet.proofs.HeadLaws.{SchemaHeadFits, schema_head-exact}
 use Rattle.sheet.specs.Places.{IsDashed, SchemaIs}
 use Rattle.sheet.specs.declared.schema_heads.SchemaHead.{SchemaHead as CodeHead}
 use Rattle.sheet.specs.declared.schema_heads.SchemaHeadRead.{SchemaHeadRead}

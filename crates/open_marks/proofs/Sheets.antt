@@ -9,16 +9,16 @@ use lib.Dec.{eqb}
 use lib.ListN.{length, set}
 use Rattle.sheet.specs.Entries.{max_count, HolderHead, SchemaHead}
 use Rattle.sheet.specs.Write.{write_schema_head}
-use Rattle.sheet.specs.HeadLaws.{SchemaHeadFits}
-use Rattle.sheet.specs.HeadLaws as HeadLaws
+use Rattle.sheet.proofs.HeadLaws.{SchemaHeadFits}
+use Rattle.sheet.proofs.HeadLaws as HeadLaws
 use Rattle.buffer.specs.Wrote.{Wrote}
 use Rattle.buffer.specs.WroteLaws.{wrote_kept}
 use Rattle.definition.specs.Tree.{Holder, Schema}
 use Rattle.definition.specs.Limits.{max_sheet_bytes}
 use Rattle.definition.specs.Write.{head_of, head_of_arguments, write_schema}
 use Rattle.definition.specs.Within.{arguments_entries, schema_entries, SchemaWithin}
-use Rattle.definition.specs.FieldLaws.{members-take}
-use Rattle.definition.specs.RoundTrip.{schema-round-trip}
+use Rattle.definition.proofs.FieldLaws.{members-take}
+use Rattle.definition.proofs.RoundTrip.{schema-round-trip}
 use Rattle.widening.specs.Opening.{opened_holder, opened_arguments, opened}
 use Rattle.open_marks.specs.Marks.{MarkOpened}
 use Rattle.open_marks.specs.Places.{Opens, MarkAt}

@@ -1,4 +1,6 @@
 // Opening a mark in a schema sheet (docs/FORMAT.md, "The fewest marks to open"): marks are one byte each, so that no other byte moves.
+#![tactic(auto)]
+
 ghost use Rattle.std.specs.Prelude.{◌≤◌};
 ghost use Rattle.open_marks.specs.Marks.{MarkOpened};
 ghost use Rattle.open_marks.specs.Places.{MarkAt, FieldMarkAt};

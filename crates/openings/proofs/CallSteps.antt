@@ -11,13 +11,13 @@ use Rattle.definition.specs.Decode.{decode_schema, decode_rule}
 use Rattle.reference.specs.Setting.{Setting}
 use Rattle.call.specs.Call.{refused_by, free, if_told}
 use Rattle.validation.specs.Result.{any, Asked, Widths, accepted, scratch_words, is_of_sheets, of_settings, of_table, first_refusal, kept_scratch}
-use Rattle.validation.specs.RefusalLaws.{number-some, every, of-first, settings-none}
+use Rattle.validation.proofs.RefusalLaws.{number-some, every, of-first, settings-none}
 use Rattle.single_check.specs.Settings.{setting_by, asked_by, widths_by, EarlyIs, SettledIs}
 use Rattle.single_check.specs.SheetLaws.{Roomy, roomy, front-scratch}
 use Rattle.single_check.specs.declared.settings.Setting.{Setting as CodeSetting}
 use Rattle.single_check.specs.declared.settings.Settled.TheVariants.{Set, Refused}
 use Rattle.openings.specs.Call.{OpenCall, check_of, list_bytes, scratch_left, open_answer, open_numbers, MeetsOpen}
-use Rattle.openings.specs.CallLaws.{setting_refusal, settings-first, list-refused, table-refused, sheets-decide}
+use Rattle.openings.proofs.CallLaws.{setting_refusal, settings-first, list-refused, table-refused, sheets-decide}
 use Rattle.openings.specs.Runs.{searched, SheetsOpened, open_run_of}
 
 -- the scratch is free wherever the sheets were looked at

@@ -8,7 +8,7 @@ use Rattle.call.specs.Call.{free, unchanged, free_if_told, EachDue, all_shown, b
 use Rattle.openings.specs.Call.{OpenCall, open_answer, open_numbers, list_left, scratch_left, open_refusals, open_heard_numbers}
 use Rattle.reference.proofs.Tables.{stock_text}
 use Rattle.validation.proofs.TableEdges.{changed, old_alone}
-use Rattle.call.specs.CallLaws.{least}
+use Rattle.call.proofs.CallLaws.{least}
 use Rattle.openings.specs.Computing.{computing}
 
 -- a closed object `o` in a closed record, beside closed arguments

@@ -8,9 +8,9 @@ use lib.ListN.{replicate, length-replicate}
 use Rattle.text.specs.Ascii.{ascii}
 use Rattle.validation.specs.Result.{path_bytes}
 use Rattle.call.specs.Call.{Reply, free_if_told, Run}
-use Rattle.call.specs.CallLaws.{least, least-left}
+use Rattle.call.proofs.CallLaws.{least, least-left}
 use Rattle.openings.specs.Call.{OpenCall, list_left, scratch_left, open_answer, open_numbers, MeetsOpen}
-use Rattle.openings.specs.CallLaws.{any-buffers, lean-buffers}
+use Rattle.openings.proofs.CallLaws.{any-buffers, lean-buffers}
 use Rattle.openings.specs.Runs.{open_run_of}
 
 -- a closed record, and a template that reads a field which it does not have

@@ -1,3 +1,7 @@
+pub mod CallLaws
+pub mod OpenedLaws
+pub mod FewestCallLaws
+pub mod ListLaws
 mod Edges
 pub mod RoundSteps
 pub mod ListSteps

@@ -9,7 +9,7 @@ use Rattle.buffer.specs.BytesLaws.{bytes-append, bytes-of-one}
 use Rattle.buffer.specs.Wrote.{Wrote}
 use Rattle.buffer.specs.WroteLaws.{wrote_nothing, wrote_then}
 use Rattle.validation.specs.Openings.{max_marks, rising_to}
-use Rattle.validation.specs.RisingLaws.{rising-takes, rising-skips}
+use Rattle.validation.proofs.RisingLaws.{rising-takes, rising-skips}
 use Rattle.openings.specs.Rounds.{is_marked, ListedIn}
 use Rattle.openings.proofs.RoundSteps.{has-mark, no-mark}
 

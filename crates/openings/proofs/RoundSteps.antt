@@ -27,11 +27,11 @@ use Rattle.scope.specs.Scopes.{Unbound}
 use Rattle.scope.specs.ScopeLaws.{scope-unbound}
 use Rattle.scope.specs.declared.binder.Scope.{Scope}
 use Rattle.widening.specs.Opening.{is_in, opened}
-use Rattle.widening.specs.OpeningLaws.{opened-once}
+use Rattle.widening.proofs.OpeningLaws.{opened-once}
 use Rattle.validation.specs.Check.{Check, checks}
 use Rattle.validation.specs.Judge.{Failure, Verdict, all_pass, fails_at, judge}
 use Rattle.validation.specs.Openings.{judged_open, rounds, max_marks}
-use Rattle.validation.specs.RoundLaws.{round-passes, round-opens, round-ends, round-ends-past}
+use Rattle.validation.proofs.RoundLaws.{round-passes, round-opens, round-ends, round-ends-past}
 use Rattle.value_checks.specs.Shown.{passes, fails, shown_of}
 use Rattle.value_checks.specs.Verdicts.{refused_at, failure_of, shown_with, shown_by}
 use Rattle.value_checks.specs.declared.verdict.Fault.{Fault}

@@ -13,7 +13,7 @@ use Rattle.buffer.specs.WroteLaws.{wrote-front}
 use Rattle.definition.specs.Limits.{max_sheet_bytes}
 use Rattle.definition.specs.Tree.{Schema}
 use Rattle.definition.specs.Decode.{decode_schema}
-use Rattle.definition.specs.RoundTrip.{schema-round-trip, rule-round-trip}
+use Rattle.definition.proofs.RoundTrip.{schema-round-trip, rule-round-trip}
 use Rattle.reference.specs.Setting.{Setting}
 use Rattle.schema.specs.Read.{SchemaAnswer}
 use Rattle.schema.specs.declared.read.Schema as Code
@@ -24,12 +24,12 @@ use Rattle.rule.specs.declared.RuleSheet.{RuleSheet}
 use Rattle.rule.specs.declared.RuleRead.{RuleRead}
 use Rattle.rule.specs.declared.RuleRead.TheVariants as RuleRead
 use Rattle.widening.specs.Opening.{is_in}
-use Rattle.widening.specs.OpeningLaws.{opened-none}
+use Rattle.widening.proofs.OpeningLaws.{opened-none}
 use Rattle.validation.specs.Openings.{max_marks, rising_to}
-use Rattle.validation.specs.RisingLaws.{rising-agree}
-use Rattle.validation.specs.RoundLaws.{fewest-found, fewest-missing}
+use Rattle.validation.proofs.RisingLaws.{rising-agree}
+use Rattle.validation.proofs.RoundLaws.{fewest-found, fewest-missing}
 use Rattle.validation.specs.Result.{path_bytes, KeptFrom}
-use Rattle.validation.specs.KeptLaws.{sets-kept}
+use Rattle.validation.proofs.KeptLaws.{sets-kept}
 use Rattle.single_check.specs.SheetLaws.{still_read, front-schema, front-rule, front-both}
 use Rattle.call.specs.Call.{refused_by, if_told, numbers_with}
 use Rattle.openings.specs.Call.{open_numbers, open_figures, or_no_marks}

@@ -7,7 +7,7 @@ use Rattle.definition.specs.Decode.{decode_schema, decode_rule}
 use Rattle.reference.specs.Setting.{Setting}
 use Rattle.validation.specs.Result.{any, Widths, Call, Refusal, path_bytes, scratch_words, mark_bytes, setting_for, of_settings, of_table, of_sheets, is_of_sheets}
 use Rattle.call.specs.Call.{Reply, refused_by, told, Left, free, holding, unchanged, if_told, free_if_told, Shape, reply_to, result_numbers, Run, Meets}
-use Rattle.call.specs.CallLaws.{AllWithin}
+use Rattle.call.proofs.CallLaws.{AllWithin}
 use Rattle.validation.specs.Openings.{max_marks, fewest_marks}
 
 pub record OpenCall : Type 0 where

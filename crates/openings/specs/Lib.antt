@@ -1,9 +1,5 @@
 pub mod Call
 pub mod Rounds
 pub mod Runs
-pub mod CallLaws
-pub mod OpenedLaws
 pub mod FewestCalls
-pub mod FewestCallLaws
 pub mod Computing
-pub mod ListLaws

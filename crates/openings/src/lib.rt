@@ -1,4 +1,6 @@
 // The fewest marks to open for acceptance (docs/FORMAT.md, "The fewest marks to open").
+#![tactic(auto)]
+
 mod rounds; // rounds.rt: one mark more in each round
 mod list; // list.rt: the marks as a list of numbers
 mod search; // search.rt: two sheets that are well formed

@@ -7,7 +7,7 @@ use Rattle.text.specs.CaseLaws.{by-test}
 use Rattle.definition.specs.Tree.{Text, Schema, Rule}
 use Rattle.definition.specs.Decode.{decode_schema, decode_rule}
 use Rattle.definition.specs.Within.{RuleWithin}
-use Rattle.definition.specs.RoundTrip.{rule-round-trip}
+use Rattle.definition.proofs.RoundTrip.{rule-round-trip}
 use Rattle.reference.specs.Setting.{Setting}
 use Rattle.validation.specs.Check.{checks}
 use Rattle.validation.specs.Judge.{Verdict, all_pass, fails_at, judge}

@@ -1,4 +1,6 @@
 // What the program `rulecheck` prints for a file's bytes (docs/FORMAT.md, "The program `rulecheck`").
+#![tactic(auto)]
+
 ghost use Rattle.validation.specs.Result.{result_of};
 ghost use Rattle.check_file.specs.Output.{call_for, answered, output_of};
 ghost use Rattle.printed_answer.specs.Printed.{Printed};

@@ -1,10 +1,6 @@
 pub mod Setting
 pub mod Table
-pub mod TableLaws
 pub mod Path
 pub mod Walk
 pub mod Reference
-pub mod DetailLaws
-pub mod KeyLaws
-pub mod CollectionLaws
 pub mod Computing

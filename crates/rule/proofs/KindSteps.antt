@@ -16,10 +16,10 @@ use Rattle.text.specs.Parts.{part_of}
 use Rattle.text.specs.ReadAt.{ReadsTo}
 use Rattle.text.specs.declared.part.Part.{Part}
 use Rattle.text.specs.CaseLaws.{by-test}
-use Rattle.sheet.specs.ItemLaws.{item-complete}
+use Rattle.sheet.proofs.ItemLaws.{item-complete}
 use Rattle.sheet.specs.Entries.{max_text, item, ConditionHead, literal_head, many_head, negation_head, one_head, two_head, comparison_head, quantifier_head, condition_head, ValueHead, constant_head, number_head, string_head, array_head, object_head, value_head, key_head}
 use Rattle.sheet.specs.Write.{write_item, write_end, write_last, write_operator, write_condition_head, write_type, write_value_head, write_key_head}
-use Rattle.sheet.specs.RuleHeadLaws.{ConditionHeadFits, condition_head-exact, ValueHeadFits, value_head-exact, key_head-exact}
+use Rattle.sheet.proofs.RuleHeadLaws.{ConditionHeadFits, condition_head-exact, ValueHeadFits, value_head-exact, key_head-exact}
 use Rattle.rule.specs.Kinds.{operator_in, type_in, OperatorAt, TypeAt, HasType, TextAt}
 
 -- The entry as it is written.

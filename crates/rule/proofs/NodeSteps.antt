@@ -9,7 +9,7 @@ use lib.ListN.{drop}
 use Rattle.text.specs.Reader.{Reader}
 use Rattle.text.specs.ReadAt.{ReadsTo}
 use Rattle.sheet.specs.Entries.{ConditionHead, condition_head}
-use Rattle.sheet.specs.RuleHeadLaws.{ConditionHeadFits, condition_head-exact}
+use Rattle.sheet.proofs.RuleHeadLaws.{ConditionHeadFits, condition_head-exact}
 use Rattle.definition.specs.Tree.{Value, constant, number, string, array, object, Values, no_values, value, Condition, literal, many, negation, one, two, comparison, quantifier, Conditions, no_conditions, condition}
 use Rattle.definition.specs.Within.{condition_entries, conditions_entries, value_entries, values_entries}
 use Rattle.rule.specs.Index.{start_of, end_of, EntryAt, ConditionAt}

@@ -14,8 +14,8 @@ use Rattle.text.specs.ReadAt.{ReadsTo}
 use Rattle.text.specs.Parts.{part_of}
 use Rattle.text.specs.declared.part.Part.{Part}
 use Rattle.sheet.specs.Entries.{key_head}
-use Rattle.sheet.specs.ItemLaws.{anything}
-use Rattle.sheet.specs.RuleHeadLaws.{key_head-exact}
+use Rattle.sheet.proofs.ItemLaws.{anything}
+use Rattle.sheet.proofs.RuleHeadLaws.{key_head-exact}
 use Rattle.sheet.specs.Write.{write_key_head}
 use Rattle.definition.specs.Tree.{Text, Value, Pairs, no_pairs, pair}
 use Rattle.definition.specs.Decode.{keys_of}

@@ -12,11 +12,11 @@ use Rattle.text.specs.declared.part.Part.{Part}
 use Rattle.text.specs.declared.part.OptionalPart.{OptionalPart}
 use Rattle.text.specs.declared.part.OptionalPart.TheVariants.{Is}
 use Rattle.definition.specs.Limits.{max_rule_entries}
-use Rattle.definition.specs.Tree.{Text, Value, Values, value, Pairs, no_pairs, pair, Condition, Conditions}
+use Rattle.definition.specs.Tree.{Text, Value, Values, Pairs, no_pairs, pair, Condition, Conditions}
 use Rattle.definition.specs.Decode.{Ahead, value_in, pairs_of, keys_of, condition_in}
 use Rattle.definition.specs.Within.{pairs_entries}
 use Rattle.definition.specs.Write.{count_of_pairs}
-use Rattle.definition.specs.SiblingLaws.{Siblings, values-of, conditions-of}
+use Rattle.definition.proofs.SiblingLaws.{Siblings, values-of, conditions-of}
 use Rattle.rule.specs.declared.cursor.Cursor.{Cursor}
 use Rattle.rule.specs.declared.cursor.TreeRead.TheVariants as tree
 use Rattle.rule.specs.Index.{ValueAt, ValuesAt, PairsAt, ConditionAt, ConditionsAt}

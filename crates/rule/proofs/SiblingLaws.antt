@@ -7,7 +7,7 @@ use native.Mathlib.Omega.{arith}
 use Rattle.text.specs.Reader.{pure, and_then, ◌>>=◌}
 use Rattle.definition.specs.Limits.{max_rule_entries}
 use Rattle.definition.specs.Decode.{Ahead}
-use Rattle.definition.specs.SiblingLaws.{Siblings}
+use Rattle.definition.proofs.SiblingLaws.{Siblings}
 use Rattle.rule.specs.declared.cursor.Cursor.{Cursor}
 use Rattle.rule.specs.IndexLaws.{Agree, agree-within, agree_then, agree_same}
 use Rattle.rule.specs.Read.{ahead_of, Kept, Ready, Indexed}

@@ -1,4 +1,6 @@
 // A rule sheet, read once: whether it is well formed, and an index of its entries in the lent scratch, with the way through it.
+#![tactic(auto)]
+
 pub mod index; // index.rt: the words of the index
 mod cursor; // cursor.rt: where reading is
 mod keys; // keys.rt: the keys of an object

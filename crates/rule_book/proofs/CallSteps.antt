@@ -9,7 +9,7 @@ use lib.ListN.{length}
 use Rattle.schema.specs.Read.{SchemaAnswer}
 use Rattle.schema.specs.declared.read.SchemaRead.{SchemaRead}
 use Rattle.validation.specs.Result.{any, Answer, accepted, of_settings, first_refusal, kept_scratch, result_of}
-use Rattle.validation.specs.RefusalLaws.{number-some, settings-none, table-decides}
+use Rattle.validation.proofs.RefusalLaws.{number-some, settings-none, table-decides}
 use Rattle.single_check.specs.Settings.{setting_by, asked_by, widths_by, EarlyIs, SettledIs}
 use Rattle.single_check.specs.Sheets.{sheet_answer}
 use Rattle.single_check.specs.SheetLaws.{roomy, front-schema, front-both, front-scratch, sheets-decide}
@@ -19,7 +19,7 @@ use Rattle.call.specs.Call.{refused_by, told, if_told}
 use Rattle.rule_book.specs.Book.{sheets_of}
 use Rattle.rule_book.specs.Places.{sheet_count}
 use Rattle.rule_book.specs.Tally.{BookCall, asked_of, single, answers_of, tally_of, book_answer, tally_numbers, MeetsBook, setting_refusal}
-use Rattle.rule_book.specs.TallyLaws.{settings-first, form-refused, table-refused, book-tallied}
+use Rattle.rule_book.proofs.TallyLaws.{settings-first, form-refused, table-refused, book-tallied}
 use Rattle.rule_book.specs.Tallying.{answers_in, Ready, SheetsTallied, book_run_of}
 
 pub counted-some : (o : Option (List (List ℕ))) (n : ℕ) → Option.map length o ≡ some n → (sheets : List (List ℕ)) × (o ≡ some sheets)

@@ -9,7 +9,7 @@ use Rattle.validation.proofs.Bounds.{met}
 use Rattle.rule_book.specs.Book.{write_book}
 use Rattle.rule_book.specs.Tally.{BookCall, Tally}
 use Rattle.rule_book.specs.BookGrowth.{BookFares}
-use Rattle.rule_book.specs.BookGrowthLaws.{book-demand-3}
+use Rattle.rule_book.proofs.BookGrowthLaws.{book-demand-3}
 use Rattle.rule_book.proofs.Edges.{hollow, under, heard}
 
 -- an object `o`, closed and open

@@ -8,9 +8,9 @@ use Rattle.text.specs.Ascii.{ascii}
 use Rattle.validation.specs.Result.{path_bytes, scratch_words}
 use Rattle.validation.proofs.Edges.{empty}
 use Rattle.call.specs.Call.{Reply, free_if_told, Run}
-use Rattle.call.specs.CallLaws.{least, least-left}
+use Rattle.call.proofs.CallLaws.{least, least-left}
 use Rattle.rule_book.specs.Tally.{BookCall, Tally, book_answer, tally_numbers, MeetsBook}
-use Rattle.rule_book.specs.TallyLaws.{any-buffers, lean-buffers}
+use Rattle.rule_book.proofs.TallyLaws.{any-buffers, lean-buffers}
 use Rattle.rule_book.specs.Tallying.{book_run_of}
 
 module _ (path words value : ℕ) where

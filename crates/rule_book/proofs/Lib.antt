@@ -1,3 +1,8 @@
+pub mod BookLaws
+pub mod ByteLaws
+pub mod TallyLaws
+pub mod BookGrowthLaws
+pub mod AnswerLaws
 pub mod Edges
 pub mod SheetSteps
 pub mod TallySteps

@@ -14,7 +14,7 @@ use Rattle.text.specs.Parts.{part_of}
 use Rattle.text.specs.ReadAt.{ReadsTo, Refuses, DecimalIs}
 use Rattle.text.specs.declared.numeral.NumeralRead.TheVariants.{Bad}
 use Rattle.rule_book.specs.Book.{sheet_in, sheets_of}
-use Rattle.rule_book.specs.BookLaws.{sheet-bytes, sheet-length, sheets-end, sheets-more, sheets-none}
+use Rattle.rule_book.proofs.BookLaws.{sheet-bytes, sheet-length, sheets-end, sheets-more, sheets-none}
 use Rattle.rule_book.specs.Places.{sheet_count}
 
 -- One sheet.

@@ -16,18 +16,18 @@ use Rattle.reference.specs.Setting.{Setting}
 use Rattle.schema.specs.Read.{SchemaIs}
 use Rattle.schema.specs.declared.read.SchemaRead.{SchemaRead}
 use Rattle.validation.specs.Result.{any, Answer, max_label_bytes, path_bytes, Numbers, numbers_of, KeptFrom}
-use Rattle.validation.specs.KeptLaws.{kept-both}
+use Rattle.validation.proofs.KeptLaws.{kept-both}
 use Rattle.single_check.specs.Answers.{Tells}
 use Rattle.single_check.specs.Sheets.{takes_of, sheet_answer, FrontOnly, SheetChecked}
 use Rattle.single_check.specs.SheetLaws.{still_read, front-rule, front-both}
 use Rattle.single_check.specs.declared.sheets.Takes.TheVariants.{Any}
 use Rattle.single_check.specs.declared.outcome.Outcome.{Outcome}
 use Rattle.rule_book.specs.Book.{sheet_in, sheets_of}
-use Rattle.rule_book.specs.BookLaws.{sheets-end, sheets-more, sheets-none, book-round-trip}
+use Rattle.rule_book.proofs.BookLaws.{sheets-end, sheets-more, sheets-none, book-round-trip}
 use Rattle.call.specs.Call.{told, numbers_with}
 use Rattle.rule_book.specs.Tally.{count_of, passed_in, sum, tally_of, tally_numbers, tally_figures, defect_numbers}
-use Rattle.rule_book.specs.TallyLaws.{counts-within, tally-bytes}
-use Rattle.rule_book.specs.AnswerLaws.{sheet-number, sheet-passed, sheet-path}
+use Rattle.rule_book.proofs.TallyLaws.{counts-within, tally-bytes}
+use Rattle.rule_book.proofs.AnswerLaws.{sheet-number, sheet-passed, sheet-path}
 use Rattle.rule_book.specs.Tallying.{answers_in, numbers_in, Ready, SheetsTallied}
 
 -- The numbers. The sheets before place `at` are counted.

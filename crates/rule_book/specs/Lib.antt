@@ -1,11 +1,6 @@
 pub mod Book
 pub mod Tally
 pub mod Places
-pub mod BookLaws
-pub mod ByteLaws
-pub mod TallyLaws
 pub mod BookGrowth
-pub mod BookGrowthLaws
 pub mod Tallying
-pub mod AnswerLaws
 pub mod Computing

@@ -16,7 +16,7 @@ use Rattle.text.specs.OrderLaws.{same_bytes-equal, same_bytes-refl, same_bytes-s
 use Rattle.definition.specs.Tree as Tree
 use Rattle.definition.specs.Tree.{Text, Field, Members, no_members, member}
 use Rattle.definition.specs.Within.{FieldRises, MembersRise}
-use Rattle.definition.specs.RisingLaws.{AllBehind, rising-behind}
+use Rattle.definition.proofs.RisingLaws.{AllBehind, rising-behind}
 use Rattle.definition.specs.Write.{count_of_members}
 use Rattle.reference.specs.Walk.{lookup}
 use Rattle.schema.specs.Index.{max_slots, slot_name, below, below_members, FieldAt, MembersAt}

@@ -11,7 +11,7 @@ use Rattle.sheet.specs.Entries.{HolderHead, SchemaHead, schema_head}
 use Rattle.definition.specs.Tree as Tree
 use Rattle.definition.specs.Limits.{max_sheet_bytes, max_field_nesting}
 use Rattle.definition.specs.Within.{MembersRise, ArgumentsRise}
-use Rattle.definition.specs.RoundTrip.{schema-rises}
+use Rattle.definition.proofs.RoundTrip.{schema-rises}
 use Rattle.definition.specs.Decode.{entry, entered, announce, at_end, whole, members_of, field_in, holder_of, arguments_of, schema, decode_schema}
 use Rattle.schema.specs.Index.{index_end, max_slots}
 use Rattle.schema.specs.IndexLaws.{MembersAt-kept}

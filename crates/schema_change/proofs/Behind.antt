@@ -15,7 +15,7 @@ use Rattle.sheet.specs.Places.{field_of, KnownTo, Unread}
 use Rattle.sheet.specs.declared.schema_heads.FieldHead as Head
 use Rattle.definition.specs.Tree.{Text, Field, Items, absent, element, Members, no_members, member}
 use Rattle.definition.specs.Decode.{Ahead, entered, entry, element_of, members_of, field_in}
-use Rattle.definition.specs.TreeLaws.{announcing}
+use Rattle.definition.proofs.TreeLaws.{announcing}
 use Rattle.schema_change.specs.declared.place.Place.{Place}
 use Rattle.schema_change.specs.declared.place.FieldEntry.{FieldEntry}
 use Rattle.schema_change.specs.Places.{Arrived, Enters, behind_head, Reads}

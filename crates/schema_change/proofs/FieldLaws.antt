@@ -10,7 +10,7 @@ use Rattle.text.specs.Parts.{optional_of}
 use Rattle.sheet.specs.Places.{field_of}
 use Rattle.definition.specs.Tree.{Field, field, Items, absent, element, Members}
 use Rattle.definition.specs.Decode.{Ahead, element_of, members_of, field_in}
-use Rattle.definition.specs.FieldLaws.{items-law, field-law}
+use Rattle.definition.proofs.FieldLaws.{items-law, field-law}
 use Rattle.definition.specs.Write.{has_items}
 use Rattle.widening.specs.Decision.{field_differences, items_differences, members_differences}
 use Rattle.reference.specs.Walk.{entry_of}

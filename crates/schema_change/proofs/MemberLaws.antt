@@ -116,7 +116,7 @@ module _ (first second : List ℕ) (o : Bool) where
   differs-added Bad (Is h) (member name f others) name' f' others' q n n' = absurd n
   differs-added (Is g) (Is h) no_members name' f' others' q n n' = absurd n
   differs-added (Is g) (Is h) (member name f others) name' f' others' q n n' =
-      rw (n, n', (tests-added g h (before g h) (same g h) q).1) refl
+      let first_of : precedes name' name ≡ true = rw (n, n') (tests-added g h (before g h) (same g h) q).1 in rw first_of
 
   differs-both : (g h : FieldEntry) {x y : FieldEntry} (name : Text) (f : Field) (others : Members) (name' : Text) (f' : Field) (others' : Members) → Both x y ≡ pairing_of first (Is g) second (Is h)
       → name ≡ part_of first g.head.name

@@ -22,8 +22,8 @@ use Rattle.sheet.specs.declared.schema_heads.SchemaHeadRead.TheVariants as Head
 use Rattle.definition.specs.Tree.{Holder, Schema}
 use Rattle.definition.specs.Limits.{max_sheet_bytes, max_field_nesting}
 use Rattle.definition.specs.Decode.{Ahead, entered, entry, whole, members_of, field_in, holder_of, arguments_of, schema, decode_schema}
-use Rattle.definition.specs.TreeLaws.{announcing}
-use Rattle.definition.specs.RoundTrip.{schema-round-trip}
+use Rattle.definition.proofs.TreeLaws.{announcing}
+use Rattle.definition.proofs.RoundTrip.{schema-round-trip}
 use Rattle.widening.specs.Decision.{mark_closes, arguments_go, growth, breach, breach_if, closes, arguments_marks, arguments_differences, members_differences, differences, widens}
 use Rattle.widening.specs.SheetDecision.{malformed, decision, answer_for, widens_sheets}
 use Rattle.schema.specs.Read.{SchemaGood, SchemaAnswer}

@@ -12,7 +12,7 @@ use Rattle.sheet.specs.Entries.{max_count, FieldHead, field_head}
 use Rattle.sheet.specs.Places.{field_of, Unread}
 use Rattle.definition.specs.Tree.{Text, Field, Items, Members}
 use Rattle.definition.specs.Decode.{Ahead, to_count, element_of, members_of, field_in}
-use Rattle.definition.specs.TreeLaws.{announcing}
+use Rattle.definition.proofs.TreeLaws.{announcing}
 use Rattle.schema_change.specs.declared.place.Place.{Place}
 use Rattle.schema_change.specs.declared.place.FieldEntry.{FieldEntry}
 use Rattle.schema_change.specs.declared.place.Entered.{Entered}

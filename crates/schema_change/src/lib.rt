@@ -1,5 +1,7 @@
 // Whether the second of two schema sheets is a widening of the first (docs/FORMAT.md, "Is it a widening?"). Each sheet is read once, which
 // says whether it is well formed; then both are gone through side by side, entry by entry.
+#![tactic(auto)]
+
 pub mod answer; // answer.rt: what is answered, and what was found so far
 mod place; // place.rt: where reading is in a sheet
 mod entry; // entry.rt: what the entries of two fields say

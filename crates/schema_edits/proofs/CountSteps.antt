@@ -10,7 +10,7 @@ use Rattle.text.specs.Numeral.{decimal_of}
 use Rattle.text.specs.NumeralLaws.{decimal_of-one, decimal_of-last}
 use Rattle.sheet.specs.Entries.{FieldHead, field_head}
 use Rattle.sheet.specs.Write.{write_field_head}
-use Rattle.sheet.specs.HeadLaws.{field_head-exact}
+use Rattle.sheet.proofs.HeadLaws.{field_head-exact}
 use Rattle.sheet.specs.Places.{KnownTo, Unread, KnownFieldIs}
 use Rattle.sheet.specs.declared.schema_heads.FieldHead.{FieldHead as CodeHead}
 use Rattle.sheet.specs.declared.schema_heads.FieldRead.{FieldRead}

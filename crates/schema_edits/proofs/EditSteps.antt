@@ -15,14 +15,14 @@ use Rattle.sheet.specs.declared.schema_heads.SchemaHeadRead.TheVariants as schem
 use Rattle.definition.specs.Tree.{Text, Field, Members, no_members, member, Schema}
 use Rattle.definition.specs.Decode.{decode_schema}
 use Rattle.definition.specs.Write.{count_of_members, write_members, head_of_arguments, write_arguments, write_schema}
-use Rattle.definition.specs.RisingLaws.{NoneNamed}
+use Rattle.definition.proofs.RisingLaws.{NoneNamed}
 use Rattle.buffer.specs.Laid.{most_place, Laid}
 use Rattle.buffer.specs.LaidLaws.{laid_then}
 use Rattle.field_changes.specs.Change.{added, removed}
 use Rattle.field_changes.specs.FieldText.{decode_field}
-use Rattle.field_changes.specs.FieldTextLaws.{field-within}
+use Rattle.field_changes.proofs.FieldTextLaws.{field-within}
 use Rattle.field_changes.specs.Place.{joined, Before}
-use Rattle.field_changes.specs.EditLaws.{sheet_of, sheet-parts, added-written, removed-written, count-joined}
+use Rattle.field_changes.proofs.EditLaws.{sheet_of, sheet-parts, added-written, removed-written, count-joined}
 use Rattle.schema_edits.specs.Place.{AllBefore, ComesAt, GoesFrom}
 use Rattle.schema_edits.specs.Edit.{edited, Puts, Adds, Removes}
 use Rattle.schema_edits.proofs.SheetSteps.{written_of, headed, head-count}

@@ -12,8 +12,8 @@ use Rattle.text.specs.OrderLaws.{same_bytes-equal}
 use Rattle.text.specs.Compares.{Compares}
 use Rattle.sheet.specs.Write.{write_field_head}
 use Rattle.sheet.specs.Within.{TextWithin}
-use Rattle.sheet.specs.ItemLaws.{anything}
-use Rattle.sheet.specs.HeadLaws.{field_head-exact}
+use Rattle.sheet.proofs.ItemLaws.{anything}
+use Rattle.sheet.proofs.HeadLaws.{field_head-exact}
 use Rattle.text.specs.Parts.{part_of}
 use Rattle.sheet.specs.Places.{field_of, KnownTo, Unread, KnownFieldIs}
 use Rattle.text.specs.declared.order.ByteOrder.{ByteOrder}
@@ -24,9 +24,9 @@ use Rattle.sheet.specs.declared.schema_heads.FieldRead.TheVariants.{Is, Bad}
 use Rattle.definition.specs.Tree.{Text, Field, field, Members, no_members, member}
 use Rattle.definition.specs.Write.{has_items, count_of_members, write_field, write_items, write_members}
 use Rattle.definition.specs.Within.{field_entries, members_entries, FieldFits, MembersFit}
-use Rattle.definition.specs.FieldLaws.{members-take}
+use Rattle.definition.proofs.FieldLaws.{members-take}
 use Rattle.field_changes.specs.FieldText.{decode_field}
-use Rattle.field_changes.specs.FieldTextLaws.{field-within, field-limits}
+use Rattle.field_changes.proofs.FieldTextLaws.{field-within, field-limits}
 use Rattle.field_changes.specs.Place.{joined}
 use Rattle.schema_edits.specs.Forest.{passed, SkippedTo}
 use Rattle.schema_edits.specs.ForestLaws.{field_row}

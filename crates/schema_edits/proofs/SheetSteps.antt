@@ -7,8 +7,8 @@ use mathlib.Core.Option.{Option, none, some, none-ne-some, some-injective}
 use mathlib.Core.Path.{◌≡◌, refl, sym, ap, subst, ◌∙◌}
 use lib.ListN.{length, drop}
 use Rattle.sheet.specs.Entries.{max_count, SchemaHead, schema_head}
-use Rattle.sheet.specs.ItemLaws.{anything}
-use Rattle.sheet.specs.HeadLaws.{SchemaHeadFits, ArgumentsFit, schema_head-exact}
+use Rattle.sheet.proofs.ItemLaws.{anything}
+use Rattle.sheet.proofs.HeadLaws.{SchemaHeadFits, ArgumentsFit, schema_head-exact}
 use Rattle.sheet.specs.Places.{holder_of, schema_of, SchemaIs}
 use Rattle.sheet.specs.declared.schema_heads.SchemaHead.{SchemaHead as CodeHead}
 use Rattle.sheet.specs.declared.schema_heads.SchemaHeadRead.{SchemaHeadRead}
@@ -18,12 +18,12 @@ use Rattle.definition.specs.Limits.{max_sheet_bytes}
 use Rattle.definition.specs.Decode.{decode_schema}
 use Rattle.definition.specs.Write.{count_of_members, write_members, head_of, head_of_arguments, write_arguments, write_schema}
 use Rattle.definition.specs.Within.{arguments_entries, schema_entries, MembersRise, SchemaWithin}
-use Rattle.definition.specs.FieldLaws.{members-take}
-use Rattle.definition.specs.RoundTrip.{schema-round-trip}
-use Rattle.definition.specs.RisingLaws.{NoneNamed, rising-once, rising-alone}
+use Rattle.definition.proofs.FieldLaws.{members-take}
+use Rattle.definition.proofs.RoundTrip.{schema-round-trip}
+use Rattle.definition.proofs.RisingLaws.{NoneNamed, rising-once, rising-alone}
 use Rattle.field_changes.specs.Change.{is_there}
 use Rattle.field_changes.specs.Place.{joined, Starts}
-use Rattle.field_changes.specs.ThereLaws.{none-there, there-joined}
+use Rattle.field_changes.proofs.ThereLaws.{none-there, there-joined}
 use Rattle.schema_edits.specs.Place.{Holds, AllBefore, PlaceIs, ComesAt, GoesFrom, PlaceOf}
 use Rattle.schema_edits.specs.declared.place.Place.{Place}
 use Rattle.schema_edits.specs.declared.place.Place.TheVariants.{Found, Missing}

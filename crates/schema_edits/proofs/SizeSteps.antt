@@ -22,9 +22,9 @@ use Rattle.definition.specs.Write.{count_of_members, write_field, write_members,
 use Rattle.definition.specs.Within.{field_entries, members_entries, arguments_entries, schema_entries, ArgumentsFit}
 use Rattle.field_changes.specs.Change.{inserted, with_fields, added, is_too_large}
 use Rattle.field_changes.specs.FieldText.{decode_field}
-use Rattle.field_changes.specs.FieldTextLaws.{field-within, field-limits}
-use Rattle.field_changes.specs.NumberedLaws.{numbered-written, numbered-entries}
-use Rattle.field_changes.specs.SumLaws.{inserted-sum, counts-sum, entries-sum, bytes-sum}
+use Rattle.field_changes.proofs.FieldTextLaws.{field-within, field-limits}
+use Rattle.field_changes.proofs.NumberedLaws.{numbered-written, numbered-entries}
+use Rattle.field_changes.proofs.SumLaws.{inserted-sum, counts-sum, entries-sum, bytes-sum}
 use Rattle.schema_edits.specs.Forest.{Fields, passed, EntriesAre}
 use Rattle.schema_edits.specs.ForestLaws.{field_row, members-row}
 use Rattle.schema_edits.specs.Size.{SizeIs}

@@ -6,14 +6,14 @@ use Rattle.definition.specs.Tree.{Text, Field, Schema}
 use Rattle.definition.specs.Limits.{max_sheet_bytes}
 use Rattle.definition.specs.Decode.{decode_schema}
 use Rattle.definition.specs.Write.{write_schema}
-use Rattle.definition.specs.RoundTrip.{schema-round-trip}
+use Rattle.definition.proofs.RoundTrip.{schema-round-trip}
 use Rattle.buffer.specs.WroteLaws.{sets-front}
 use Rattle.field_changes.specs.Change.{is_there, added, removed, is_too_large}
-use Rattle.field_changes.specs.ChangeLaws.{added-decodes, removed-decodes}
+use Rattle.field_changes.proofs.ChangeLaws.{added-decodes, removed-decodes}
 use Rattle.field_changes.specs.FieldText.{decode_field}
-use Rattle.field_changes.specs.FieldTextLaws.{field-within}
-use Rattle.field_changes.specs.SmallerLaws.{removed-small}
-use Rattle.field_changes.specs.ThereLaws.{none_named}
+use Rattle.field_changes.proofs.FieldTextLaws.{field-within}
+use Rattle.field_changes.proofs.SmallerLaws.{removed-small}
+use Rattle.field_changes.proofs.ThereLaws.{none_named}
 use Rattle.schema_edits.specs.Edit.{Puts}
 
 module _ {before after : List ℕ} {t : Schema} {next : ℕ} (p : Puts before after t next) (fits : length (write_schema t) ≤ length before) where

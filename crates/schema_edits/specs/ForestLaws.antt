@@ -5,13 +5,13 @@ use Rattle.text.proofs.Points.{utf8-empty}
 use Rattle.sheet.specs.Entries.{max_count, FieldHead, field_head}
 use Rattle.sheet.specs.Write.{write_field_head}
 use Rattle.sheet.specs.Within.{TextWithin}
-use Rattle.sheet.specs.ItemLaws.{anything}
-use Rattle.sheet.specs.HeadLaws.{field_head-exact}
+use Rattle.sheet.proofs.ItemLaws.{anything}
+use Rattle.sheet.proofs.HeadLaws.{field_head-exact}
 use Rattle.definition.specs.Tree.{Text, Field, field, Items, absent, element, Members, no_members, member}
 use Rattle.definition.specs.Decode.{to_count}
 use Rattle.definition.specs.Write.{has_items, count_of_members, write_field, write_items, write_members}
 use Rattle.definition.specs.Within.{field_entries, items_entries, members_entries, FieldFits, ItemsFit, MembersFit}
-use Rattle.definition.specs.FieldLaws.{members-take}
+use Rattle.definition.proofs.FieldLaws.{members-take}
 use Rattle.schema_edits.specs.Forest.{Fields, entered}
 
 fields-are : {p p' n n' : ℕ} {bytes rest : List ℕ} → p ≡ p' → n ≡ n' → Fields p n bytes rest → Fields p' n' bytes rest

@@ -15,7 +15,7 @@ use Rattle.text.specs.ReadAt.{ReadsTo, Refuses}
 use Rattle.text.specs.declared.part.OptionalPart.{OptionalPart}
 use Rattle.sheet.specs.Entries as entries
 use Rattle.sheet.specs.Entries.{max_text, max_count, item, text_length, text, optional_text, field_head}
-use Rattle.sheet.specs.ItemLaws.{text-sound}
+use Rattle.sheet.proofs.ItemLaws.{text-sound}
 use Rattle.sheet.specs.Pieces.{field_marks, field_texts}
 use Rattle.sheet.specs.Places.{length_of, field_of, tag_at, tag_bytes, KnownTo, Unread}
 use Rattle.sheet.specs.declared.entry.Length.{Length}

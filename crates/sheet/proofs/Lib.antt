@@ -1,3 +1,7 @@
+pub mod ItemLaws
+pub mod HeadLaws
+pub mod OperatorLaws
+pub mod RuleHeadLaws
 pub mod Chains
 pub mod Heads
 pub mod Leaves

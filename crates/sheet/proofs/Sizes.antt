@@ -19,7 +19,7 @@ use Rattle.text.specs.ReadAt.{ReadsTo}
 use Rattle.text.specs.declared.part.Part.{Part}
 use Rattle.sheet.specs.Entries.{max_text, max_count, item, mark, text_length}
 use Rattle.sheet.specs.Write.{write_item}
-use Rattle.sheet.specs.ItemLaws.{item-exact}
+use Rattle.sheet.proofs.ItemLaws.{item-exact}
 use Rattle.sheet.specs.Pieces.{first, field_marks}
 use Rattle.sheet.specs.Places.{NamePlaced, max_prefix}
 use Rattle.sheet.specs.declared.schema_heads.FieldMarks.{FieldMarks}

@@ -5,8 +5,4 @@ pub mod Pieces
 pub mod Places
 pub mod Write
 pub mod Within
-pub mod ItemLaws
-pub mod HeadLaws
-pub mod OperatorLaws
-pub mod RuleHeadLaws
 pub mod Computing

@@ -1,4 +1,6 @@
 // Whether a sheet is well formed, as C functions for a host. They bring a scratch of their own.
+#![tactic(auto)]
+
 ghost use Rattle.std.specs.Prelude.{◌≡◌};
 ghost use Rattle.definition.specs.Decode.{decode_schema, decode_rule};
 ghost use Rattle.sheet_acceptance.specs.Accepted.{accepted};

@@ -22,8 +22,8 @@ use Rattle.scope.specs.declared.binder.Scope.{Scope}
 use Rattle.validation.specs.Check.{Binder, checks}
 use Rattle.validation.specs.Judge as Judge
 use Rattle.validation.specs.Judge.{all_pass, fails_at, judge}
-use Rattle.validation.specs.WideningLaws.{passed_of}
-use Rattle.validation.specs.CountLaws.{VerdictIs, every-judged, passes-at-most, checks-at-most, HeldSmall, Small, checks-small}
+use Rattle.validation.proofs.WideningLaws.{passed_of}
+use Rattle.validation.proofs.CountLaws.{VerdictIs, every-judged, passes-at-most, checks-at-most, HeldSmall, Small, checks-small}
 use Rattle.validation.specs.Location.{behind_label}
 use Rattle.validation.specs.Result as Result
 use Rattle.validation.specs.Result.{checked, own_family, numbers_of, path_after, over_of, family_in, over_place_in}

@@ -15,7 +15,7 @@ use Rattle.scope.specs.Names.{may_read_by}
 use Rattle.scope.specs.declared.name.Row.{Row}
 use Rattle.validation.specs.Check.{is_none}
 use Rattle.validation.specs.Result.{max_label_bytes, path_bytes, scratch_words, of_table, of_settings, first_refusal}
-use Rattle.validation.specs.RefusalLaws.{number-due, number-later, none_left}
+use Rattle.validation.proofs.RefusalLaws.{number-due, number-later, none_left}
 use Rattle.name_table.specs.Tables.{HasRow}
 use Rattle.single_check.specs.Settings.{EarlyIs, setting_by, setting_in}
 

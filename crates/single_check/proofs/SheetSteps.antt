@@ -6,7 +6,7 @@ use mathlib.Core.Option.{Option, none, some, some-injective, none-ne-some}
 use mathlib.Core.Path.{◌≡◌, refl, sym, ◌∙◌}
 use Rattle.definition.specs.Tree.{Rule, rule, template}
 use Rattle.definition.specs.Decode.{decode_schema}
-use Rattle.definition.specs.RoundTrip.{rule-round-trip}
+use Rattle.definition.proofs.RoundTrip.{rule-round-trip}
 use Rattle.reference.specs.Setting.{Setting}
 use Rattle.schema.specs.declared.read.Schema.{Schema}
 use Rattle.schema.specs.declared.read.SchemaRead.{SchemaRead}

@@ -15,10 +15,10 @@ use Rattle.schema.specs.declared.read.SchemaRead.TheVariants as SchemaRead
 use Rattle.rule.specs.Index.{RuleAt}
 use Rattle.validation.specs.Result as Result
 use Rattle.validation.specs.Result.{Call, Heard, refusal, scratch_words, mark_bytes, Numbers, of_table, of_settings, early, first_refusal, judged, numbers_of, path_after, result_of, call_of}
-use Rattle.validation.specs.RefusalLaws.{refusal-some, early-refused, settings-refused, settings-none, marks-refused, table-decides}
-use Rattle.validation.specs.DemandLaws.{heard, number-accepted}
+use Rattle.validation.proofs.RefusalLaws.{refusal-some, early-refused, settings-refused, settings-none, marks-refused, table-decides}
+use Rattle.validation.proofs.DemandLaws.{heard, number-accepted}
 use Rattle.validation.specs.Marking.{MeetsMarked}
-use Rattle.validation.specs.MarkingLaws.{accepted-rule, accepted-marks, unaccepted-marks}
+use Rattle.validation.proofs.MarkingLaws.{accepted-rule, accepted-marks, unaccepted-marks}
 use Rattle.buffer.specs.Bytes.{bytes_of}
 use Rattle.constants.specs.Marks.{RuleMarked}
 use Rattle.single_check.specs.Outcomes.{numbers_by}

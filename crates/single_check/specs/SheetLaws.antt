@@ -19,7 +19,7 @@ use Rattle.validation.specs.Check.{is_none, checks}
 use Rattle.validation.specs.Judge.{Verdict, all_pass, fails_at, judge}
 use Rattle.validation.specs.Result as Result
 use Rattle.validation.specs.Result.{Asked, Widths, Call, Answer, max_label_bytes, path_bytes, scratch_words, is_taken, setting_for, is_of_sheets, of_settings, early, of_sheets, first_refusal, answer_of, checked, judged, refused_or, result_of, kept_scratch, ScratchAfter}
-use Rattle.validation.specs.RefusalLaws.{is_set, none-due, no-setting-due, sheets-first}
+use Rattle.validation.proofs.RefusalLaws.{is_set, none-due, no-setting-due, sheets-first}
 use Rattle.single_check.specs.Answers.{Tells}
 use Rattle.single_check.specs.Sheets.{takes_of, taken_of, sheet_answer, FrontOnly, SheetChecked}
 use Rattle.single_check.specs.declared.sheets.Takes.{Takes}

@@ -1,4 +1,6 @@
 // The whole call: one rule or template of a record against the record's schema.
+#![tactic(auto)]
+
 pub mod outcome; // outcome.rt: the seven numbers of a result, and the count of marks beside them
 pub mod settings; // settings.rt: settings, label, widths and the name table
 pub mod sheets; // sheets.rt: one rule sheet under a schema that has been read

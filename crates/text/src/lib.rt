@@ -1,4 +1,6 @@
 // Text as bytes: UTF-8, digits, White_Space, blank text, text trimmed at both ends; numerals, parts and the order of texts. Every function takes any bytes.
+#![tactic(auto)]
+
 pub mod numeral; // numeral.rt: numerals
 pub mod part; // part.rt: texts as places in others
 pub mod order; // order.rt: the order of texts by their bytes

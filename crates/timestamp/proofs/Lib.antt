@@ -1,2 +1,4 @@
+pub mod OrderLaws
+pub mod FieldLaws
 pub mod Laws
 pub mod Samples

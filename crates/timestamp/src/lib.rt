@@ -1,4 +1,6 @@
 // Instants as text: a date, alone or with a time of day (docs/FORMAT.md, "Instants").
+#![tactic(auto)]
+
 ghost use Rattle.std.specs.Prelude.{◌≡◌, ◌<◌, ◌≤◌, get_or};
 ghost use Rattle.text.specs.Utf8.{between};
 ghost use Rattle.timestamp.specs.Instant.{digit_value, is_two, two, three, is_marked_two, fields_of};

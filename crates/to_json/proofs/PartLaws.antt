@@ -11,7 +11,7 @@ use borrow.Author.Tests.{leb-true, leb-false, le-leb, lt-leb, lt-ltb, le-ltb}
 use Rattle.text.specs.Ascii.{ascii}
 use Rattle.text.specs.CaseLaws.{by-test}
 use Rattle.sheet.specs.Operators.{operator_name, not_operator, compare_operator}
-use Rattle.sheet.specs.OperatorLaws.{over, alike, name-past}
+use Rattle.sheet.proofs.OperatorLaws.{over, alike, name-past}
 use Rattle.json_text.specs.Json.{Json, no_elements, element, no_members, member}
 use Rattle.json_text.specs.Json as Json
 use Rattle.json_text.specs.Escaped.{plain, letter_of, control_of, escaped_byte, escaped, quoted, written, written_elements, written_members}

@@ -1,4 +1,6 @@
 // A sheet that begins with `R` as JSON (docs/FORMAT.md, "Rules as JSON").
+#![tactic(auto)]
+
 mod front; // front.rt: a condition up to those that it holds
 mod condition; // condition.rt: conditions
 

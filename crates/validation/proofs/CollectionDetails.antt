@@ -6,9 +6,9 @@ use mathlib.Core.Path.{◌≡◌, refl}
 use Rattle.definition.specs.Tree.{Text, Schema, Rule}
 use Rattle.definition.specs.Decode.{decode_schema, decode_rule}
 use Rattle.reference.specs.Setting.{Setting}
-use Rattle.reference.specs.CollectionLaws.{Listed}
+use Rattle.reference.proofs.CollectionLaws.{Listed}
 use Rattle.validation.specs.Check.{Check, checks}
-use Rattle.validation.specs.CheckLaws.{Explains, Sure, sure-checks}
+use Rattle.validation.proofs.CheckLaws.{Explains, Sure, sure-checks}
 use Rattle.validation.specs.Judge.{CheckOutcome, outcome, Verdict, all_pass, fails_at, decide, judge_from, judge}
 use Rattle.validation.specs.Result.{Call, Defect, Answer, refused, accepted, defect, answer_of, refusals, first_refusal, setting_for, checked, judged, refused_or, result_of}
 

@@ -10,10 +10,10 @@ use Rattle.definition.specs.Tree.{number, rule, two}
 use Rattle.widening.specs.Widening.{marks, listed, kept, opened, wider, neither, end, keep, without}
 use Rattle.validation.specs.Result.{Takes, any, rules, takes_any, Call}
 use Rattle.validation.specs.Growth.{Widens, against}
-use Rattle.validation.specs.Demands.{Demand3, demand-3}
-use Rattle.validation.specs.Upgrade.{upgrade, marks-decided}
+use Rattle.validation.proofs.Demands.{Demand3, demand-3}
+use Rattle.validation.proofs.Upgrade.{upgrade, marks-decided}
 use Rattle.validation.specs.Service.{literals_in}
-use Rattle.validation.specs.KernelToService.{kernel-to-service, accepted-taken}
+use Rattle.validation.proofs.KernelToService.{kernel-to-service, accepted-taken}
 use Rattle.validation.proofs.Calls.{ask, heard}
 use Rattle.validation.proofs.Runs.{exact_run, run-meets, run-unrefused}
 use Rattle.validation.proofs.Edges.{empty}

@@ -9,7 +9,7 @@ use Rattle.text.specs.Ascii.{ascii}
 use Rattle.definition.specs.Tree.{number, rule, two}
 use Rattle.validation.specs.Result.{Call}
 use Rattle.validation.specs.Service.{literals_in}
-use Rattle.validation.specs.KernelToService.{kernel-to-service}
+use Rattle.validation.proofs.KernelToService.{kernel-to-service}
 use Rattle.validation.proofs.Calls.{ask, heard, accepts, finds}
 use Rattle.validation.proofs.Runs.{exact_run, run-meets}
 use Rattle.validation.proofs.Edges.{empty, bars}

@@ -8,9 +8,9 @@ use lib.ListN.{replicate, length-replicate}
 use Rattle.text.specs.Ascii.{ascii}
 use Rattle.widening.specs.Widening.{kept}
 use Rattle.validation.specs.Result.{Call, numbers_of, result_of, path_after, Run, call_of, Meets}
-use Rattle.validation.specs.Demands.{Demand1Scratch, demand-1-scratch, lean-scratch}
+use Rattle.validation.proofs.Demands.{Demand1Scratch, demand-1-scratch, lean-scratch}
 use Rattle.validation.specs.KeyPath.{key_result_of, KeyRun, key_call_of, MeetsKey}
-use Rattle.validation.specs.KeyDemands.{key-demand-1-scratch}
+use Rattle.validation.proofs.KeyDemands.{key-demand-1-scratch}
 use Rattle.validation.proofs.Calls.{lending}
 use Rattle.validation.proofs.Edges.{empty}
 use Rattle.validation.proofs.Bounds.{met}

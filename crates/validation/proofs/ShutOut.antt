@@ -16,9 +16,9 @@ use Rattle.reference.specs.Setting.{Setting}
 use Rattle.validation.specs.Check.{is_none}
 use Rattle.validation.specs.Judge.{Verdict, all_pass, fails_at}
 use Rattle.validation.specs.Result.{Takes, any, rules, templates, Call, Answer, refused, is_of_sheets, Heard, refusal, acceptance, finding, answer_of, is_taken, Refusal, of_sheets, refusals, first_refusal, checked, judged, refused_or, setting_for, result_of, Numbers, numbers_of, Run, call_of, Meets}
-use Rattle.validation.specs.RefusalLaws.{asking, sheet-refused}
+use Rattle.validation.proofs.RefusalLaws.{asking, sheet-refused}
 use Rattle.validation.specs.Growth.{against}
-use Rattle.validation.specs.DemandLaws.{heard}
+use Rattle.validation.proofs.DemandLaws.{heard}
 use Rattle.validation.specs.Computing.{computing}
 use Rattle.validation.proofs.Calls.{ask}
 use Rattle.validation.proofs.Runs.{run_with, call-of-run}

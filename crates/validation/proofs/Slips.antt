@@ -12,7 +12,7 @@ use Rattle.definition.specs.Decode.{decode_schema}
 use Rattle.widening.specs.Widening.{Level, MayGrow, closed, WiderField, wider, WiderItems, neither, both, WiderMembers, end, keep, more, WiderArguments, without, appear, stay, WiderSchema}
 use Rattle.validation.specs.Result.{Call, Numbers, numbers_of, result_of}
 use Rattle.validation.specs.Growth.{against, Widens}
-use Rattle.validation.specs.Demands.{Demand3}
+use Rattle.validation.proofs.Demands.{Demand3}
 use Rattle.validation.proofs.Calls.{ask, heard, accepts, finds}
 use Rattle.validation.proofs.Runs.{exact_run}
 

@@ -9,7 +9,7 @@ use Rattle.definition.specs.Decode.{decode_schema}
 use Rattle.widening.specs.Widening.{Level, marks, anything, listed, any_mark, kept, opened, closed, wider, neither, both, end, keep, more, without, appear, stay, WiderSchema}
 use Rattle.validation.specs.Result.{Lent, Call, Unrefused, Numbers}
 use Rattle.validation.specs.Growth.{against, Widens}
-use Rattle.validation.specs.Demands.{Demand3, demand-3}
+use Rattle.validation.proofs.Demands.{Demand3, demand-3}
 use Rattle.validation.proofs.Calls.{ask, heard, accepts, finds}
 use Rattle.validation.proofs.Runs.{exact_run, run-meets, run-unrefused}
 

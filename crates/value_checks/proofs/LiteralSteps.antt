@@ -11,7 +11,7 @@ use Rattle.text.specs.Parts.{part_of}
 use Rattle.text.specs.declared.part.Part.{Part}
 use Rattle.number.specs.Finite.{is_finite}
 use Rattle.sheet.specs.Entries.{ValueHead, constant_head, number_head, string_head, array_head, object_head, value_head, key_head}
-use Rattle.sheet.specs.RuleHeadLaws.{value_head-exact}
+use Rattle.sheet.proofs.RuleHeadLaws.{value_head-exact}
 use Rattle.definition.specs.Tree.{Text, Schema}
 use Rattle.reference.specs.Setting.{Setting}
 use Rattle.reference.specs.Reference.{Environment}

@@ -7,7 +7,7 @@ use mathlib.Core.Logic.{⊎_elim}
 use mathlib.Core.Path.{◌≡◌, refl, sym, ap, ap₂, ◌∙◌}
 use borrow.Author.Tests.{lt-leb}
 use Rattle.sheet.specs.Operators.{is_observed}
-use Rattle.sheet.specs.OperatorLaws.{observed-early, observed-late}
+use Rattle.sheet.proofs.OperatorLaws.{observed-early, observed-late}
 use Rattle.definition.specs.Tree.{Schema, Value, constant, number, string, array, object, Values, no_values, value, Pairs, no_pairs, pair, Condition, literal, many, negation, one, two, comparison, quantifier, Conditions, no_conditions, condition}
 use Rattle.reference.specs.Setting.{Setting}
 use Rattle.definition.specs.Within.{condition_entries, value_entries}

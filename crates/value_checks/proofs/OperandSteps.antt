@@ -15,7 +15,7 @@ use Rattle.timestamp.specs.Instant.{instant}
 use Rattle.timestamp.specs.declared.Fields.{Fields}
 use Rattle.sheet.specs.Operators.{is_instant_test, is_affix}
 use Rattle.sheet.specs.Entries.{ValueHead, value_head}
-use Rattle.sheet.specs.RuleHeadLaws.{ValueHeadFits, value_head-exact}
+use Rattle.sheet.proofs.RuleHeadLaws.{ValueHeadFits, value_head-exact}
 use Rattle.definition.specs.Tree.{Text, Schema, Value, constant, number, string, array, object, Values, no_values, value}
 use Rattle.reference.specs.Setting.{Setting}
 use Rattle.reference.specs.Reference.{Environment, begins_with_dollar}

@@ -10,7 +10,7 @@ use lib.Seq.{take_all}
 use Rattle.text.specs.Parts.{part_of}
 use Rattle.text.specs.declared.part.Part.{Part}
 use Rattle.sheet.specs.Entries.{ValueHead, constant_head, number_head, string_head, array_head, object_head, value_head}
-use Rattle.sheet.specs.RuleHeadLaws.{value_head-exact}
+use Rattle.sheet.proofs.RuleHeadLaws.{value_head-exact}
 use Rattle.definition.specs.Tree.{Text, Schema, Value, constant, number, string, array, object, Values, no_values, value, Pairs, no_pairs, pair}
 use Rattle.reference.specs.Setting.{Setting}
 use Rattle.reference.specs.Walk.{Reached, refused, unknown, known}

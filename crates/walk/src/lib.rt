@@ -1,4 +1,6 @@
 // Walks through a schema by its index: `walk_field_path`, `field_at`, `element_of` (docs/FORMAT.md, "References" and "Collections").
+#![tactic(auto)]
+
 pub mod answer; // answer.rt: what a walk answers
 pub mod path; // path.rt: paths and their segments
 pub mod step; // step.rt: one segment of a reference

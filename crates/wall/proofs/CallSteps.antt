@@ -7,16 +7,16 @@ use mathlib.Core.Path.{◌≡◌, refl, sym, ap, ◌∙◌}
 use lib.ListN.{length, length-map}
 use lib.Seq.{sets}
 use Rattle.validation.specs.Result.{any, Answer, accepted, numbers_of, kept_scratch}
-use Rattle.validation.specs.RefusalLaws.{number-some}
+use Rattle.validation.proofs.RefusalLaws.{number-some}
 use Rattle.single_check.specs.Settings.{setting_by, EarlyIs, SettledIs}
 use Rattle.single_check.specs.SheetLaws.{roomy, front-scratch}
 use Rattle.single_check.specs.declared.settings.Setting.{Setting as CodeSetting}
 use Rattle.single_check.specs.declared.settings.Settled.TheVariants.{Set, Refused}
 use Rattle.rule_book.specs.Book.{sheets_of}
-use Rattle.rule_book.specs.BookLaws.{book-round-trip}
+use Rattle.rule_book.proofs.BookLaws.{book-round-trip}
 use Rattle.rule_book.specs.Places.{sheet_count}
 use Rattle.rule_book.specs.Tally.{asked_of, setting_refusal}
-use Rattle.rule_book.specs.TallyLaws.{tally-bytes}
+use Rattle.rule_book.proofs.TallyLaws.{tally-bytes}
 use Rattle.rule_book.specs.Tallying.{answers_in}
 use Rattle.rule_book.proofs.CallSteps as Book
 use Rattle.wall.specs.Pages.{per_page, page_bytes, page_count, pages_from, lines_of, pages_of}

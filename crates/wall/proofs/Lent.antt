@@ -8,7 +8,7 @@ use Rattle.text.specs.Ascii.{ascii}
 use Rattle.validation.specs.Result.{Answer, path_bytes, scratch_words}
 use Rattle.validation.proofs.Edges.{empty}
 use Rattle.call.specs.Call.{Reply, free_if_told, Run}
-use Rattle.call.specs.CallLaws.{least, least-left}
+use Rattle.call.proofs.CallLaws.{least, least-left}
 use Rattle.wall.specs.Wall.{WallCall, pages_left, wall_answer, wall_numbers, MeetsWall}
 use Rattle.wall.specs.WallLaws.{any-buffers, lean-buffers}
 use Rattle.wall.specs.Printing.{wall_run_of}

@@ -16,17 +16,17 @@ use Rattle.reference.specs.Setting.{Setting}
 use Rattle.schema.specs.Read.{SchemaAnswer}
 use Rattle.schema.specs.declared.read.SchemaRead.{SchemaRead}
 use Rattle.validation.specs.Result.{any, Answer, refused, accepted, defect, path_bytes, Numbers, numbers_of, path_after, KeptFrom}
-use Rattle.validation.specs.KeptLaws.{kept-both}
+use Rattle.validation.proofs.KeptLaws.{kept-both}
 use Rattle.single_check.specs.Answers.{Tells}
 use Rattle.single_check.specs.Sheets.{takes_of, sheet_answer, SheetChecked}
 use Rattle.single_check.specs.SheetLaws.{still_read, front-schema, front-rule, front-both}
 use Rattle.single_check.specs.declared.sheets.Takes.TheVariants.{Any}
 use Rattle.single_check.specs.declared.outcome.Outcome.{Outcome}
 use Rattle.rule_book.specs.Book.{sheet_in, sheets_of}
-use Rattle.rule_book.specs.BookLaws.{sheets-end, sheets-more, sheets-none}
+use Rattle.rule_book.proofs.BookLaws.{sheets-end, sheets-more, sheets-none}
 use Rattle.rule_book.specs.Tally.{count_of}
-use Rattle.rule_book.specs.TallyLaws.{counts-within}
-use Rattle.rule_book.specs.AnswerLaws.{sheet-short, sheet-path}
+use Rattle.rule_book.proofs.TallyLaws.{counts-within}
+use Rattle.rule_book.proofs.AnswerLaws.{sheet-short, sheet-path}
 use Rattle.rule_book.proofs.TallySteps.{first_of}
 use Rattle.rule_book.specs.Tallying.{answers_in, Ready}
 use Rattle.wall.specs.Pages.{per_page, line, result_line, results, blank_line, heading, foot, page, pages_from}

@@ -10,7 +10,7 @@ use Rattle.call.specs.Call.{told}
 use Rattle.rule_book.specs.Book.{sheets_of}
 use Rattle.rule_book.specs.Tally.{BookCall, single, answers_of, tally_of}
 use Rattle.rule_book.specs.BookGrowth.{SameButBookSchema}
-use Rattle.rule_book.specs.BookGrowthLaws.{book-demand-3}
+use Rattle.rule_book.proofs.BookGrowthLaws.{book-demand-3}
 use Rattle.wall.specs.Wall.{WallCall, wall_answer, IsPrinted}
 use Rattle.wall.specs.WallLaws.{is-printed}
 use Rattle.wall.specs.WallGrowth.{WallFares}

@@ -10,13 +10,13 @@ use Rattle.std.proofs.lemmas.Bool.{lt-leb, not-true}
 use Rattle.reference.specs.Setting.{one_of}
 use Rattle.validation.specs.Check.{is_none}
 use Rattle.validation.specs.Result.{Widths, are_wide, Answer, Refusal, of_table, of_settings, early, of_sheets, refusals, first_refusal, result_of, path_bytes, scratch_words}
-use Rattle.validation.specs.RefusalLaws.{every, present, absent, are-wide, is_set, none-due, first-none}
+use Rattle.validation.proofs.RefusalLaws.{every, present, absent, are-wide, is_set, none-due, first-none}
 use Rattle.call.specs.Call.{refused_by, told, heard_by, tried, if_told, Run, Untouched, is_written}
-use Rattle.call.specs.CallLaws.{told-injective, heard-refused, heard-told, nothing-due, front-due, front-passes, first-due, first_passes, only-tried, of-heard, heard-at, numbers-size, first-low, AllWithin, numbers-within, refused-untouched, if-told-written, same_answer}
+use Rattle.call.proofs.CallLaws.{told-injective, heard-refused, heard-told, nothing-due, front-due, front-passes, first-due, first_passes, only-tried, of-heard, heard-at, numbers-size, first-low, AllWithin, numbers-within, refused-untouched, if-told-written, same_answer}
 use Rattle.single_check.specs.Settings.{widths_by}
 use Rattle.rule_book.specs.Book.{sheets_of}
 use Rattle.rule_book.specs.Tally.{BookCall, asked_of, single, of_form, answers_of, sum, Tally, tally_of, or_no_sheets, book_answer, setting_refusal}
-use Rattle.rule_book.specs.TallyLaws.{no-room-due, book-tallied, capped_book, capped_same, read-bound, lending}
+use Rattle.rule_book.proofs.TallyLaws.{no-room-due, book-tallied, capped_book, capped_same, read-bound, lending}
 use Rattle.wall.specs.Pages.{page_bytes, result_line, page_count, pages_of, own_counts}
 use Rattle.wall.specs.PageLaws.{pages-size, line_at, result-line, feet-add-up}
 use Rattle.wall.specs.Wall.{WallCall, wall_answers, of_pages, wall_refusals, wall_refusal_numbers, wall_figures, wall_shape, wall_answer, wall_numbers, MeetsWall, IsPrinted}

@@ -1,4 +1,6 @@
 // The defect sheet for the wall: a rule book's run on pages of 80 columns and 60 lines (docs/FORMAT.md, "The wall sheet").
+#![tactic(auto)]
+
 mod line; // line.rt: one line
 mod page; // page.rt: the pages, sheet by sheet
 

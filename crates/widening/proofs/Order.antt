@@ -4,7 +4,7 @@ use mathlib.Core.Bool.{Bool}
 use mathlib.Core.Option.{Option, none, some}
 use Rattle.definition.specs.Tree.{Field, field, Items, absent, element, Members, no_members, member, Holder, Schema}
 use Rattle.widening.specs.Widening.{Level, Opened, kept, opened, MayGrow, closed, WiderField, wider, WiderItems, neither, both, WiderMembers, end, keep, more, WiderHolder, WiderArguments, without, appear, stay, WiderSchema}
-use Rattle.widening.specs.DecisionLaws.{EveryMark}
+use Rattle.widening.proofs.DecisionLaws.{EveryMark}
 
 mutual
   field-reflexive : (l : Level) (f : Field) → WiderField l f f

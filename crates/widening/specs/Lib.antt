@@ -1,12 +1,6 @@
 pub mod Widening
 pub mod Distinct
-pub mod WalkLaws
-pub mod ReferenceLaws
-pub mod DistinctLaws
 pub mod Decision
 pub mod Differences
-pub mod DecisionLaws
-pub mod DecisionOrderLaws
 pub mod SheetDecision
 pub mod Opening
-pub mod OpeningLaws

@@ -25,7 +25,7 @@ loop-i-smaller c = omega (arith, c.behind_plain-i-in-loop-i.ensures.forth, c.chi
 pub loop-i-preserved : goal.loop-i-preserved
 loop-i-preserved c = (
   omega (arith, c.loop-i.invariant.0, c.mark-count.ensures.most, c.children_from-next.ensures.past, c.behind_plain-i-in-loop-i.ensures.forth),
-  c.mark-count.auto.1.1.1.0 ∙ c.loop-i.invariant.1,
+  c.mark-count.auto.marks ∙ c.loop-i.invariant.1,
   left-unmarked
       (left-next c.loop-i-test.true c.start_of.ensures c.operator_at-op.ensures c.constant_at.ensures
       c.behind.ensures c.children_from-next.ensures c.loop-i.invariant.2 c.mark-count.ensures)

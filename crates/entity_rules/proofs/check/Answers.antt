@@ -8,7 +8,7 @@ slice_bounds-validate_under-end-2 c = rw c.path_lent-lent.ensures (lent-within _
 pub returns : goal.returns
 returns c =
     let a = c.args in
-    let last = c.validate_under-outcome.new.1.1.1.1.1.1.1 in
+    let last = c.validate_under-outcome.new in
     answered a.takes a.kind a.semantics a.label.now a.schema.now a.rule.now a.path.now a.result.now
-    c.validate_under-outcome.result last.0 last.1.0
+    c.validate_under-outcome.result last.path last.scratch
     c.setting.ensures c.setting-2.ensures c.path_lent-lent.ensures c.validate_under-outcome.ensures c.write_result.ensures

@@ -49,7 +49,7 @@ returns-in-Refused c =
 
 pub shape_of-path : goal.shape_of-path
 shape_of-path c =
-    c.check_sheet-o.auto.1.1.1.1.1.1.0
+    c.check_sheet-o.auto.path
 
 pub shape_of-scratch : goal.shape_of-scratch
 shape_of-scratch c =

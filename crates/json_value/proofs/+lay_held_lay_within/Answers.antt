@@ -2,23 +2,13 @@ use native.Mathlib.Omega.{arith}
 use Rattle.json_value.proofs.Laying.{leads-start, leads-more, array-closed, object-closed, empty-lays, unread-lays, constant-lays, number-lays, string-lays, array-lays, object-lays}
 use mathlib.Core.Path.{◌∙◌}
 use Rattle.sheet.specs.Places.{value_of}
-use Prim.Native.Nat.{◌-◌}
 use Rattle.json_value.proofs.+lay_held_lay_within.Goals as goal
 
 pub lay_held-loop-j-init : goal.lay_held-loop-j-init
 lay_held-loop-j-init t c = leads-start
 
-pub lay_held-overflow_add-j : goal.lay_held-overflow_add-j
-lay_held-overflow_add-j t c = omega (arith, c.requires.1)
-
-pub lay_held-lay_within-outer-requires : goal.lay_held-lay_within-outer-requires
-lay_held-lay_within-outer-requires t c = (omega (arith, c.requires.0, c.behind-next.ensures.most, c.loop-j.invariant.forward), tt)
-
-pub lay_held-loop-j-smaller : goal.lay_held-loop-j-smaller
-lay_held-loop-j-smaller t c = omega (arith, c.behind-next.ensures.most, c.behind-next.ensures.past c.loop-j-test.true)
-
 pub lay_held-loop-j-preserved : goal.lay_held-loop-j-preserved
-lay_held-loop-j-preserved t c = leads-more c.lay_key-inner.ensures c.lay_within-outer.ensures c.lay_comma-o.ensures c.behind-next.ensures (omega arith) (omega (arith, c.loop-j.invariant.len)) (c.lay_comma-o.ensures.len ∙ c.lay_within-outer.auto.1.1.1.1.0 ∙ c.lay_key-inner.auto.1.1.1.1.0 ∙ c.loop-j.invariant.len) c.loop-j.invariant
+lay_held-loop-j-preserved t c = leads-more c.lay_key-inner.ensures c.lay_within-outer.ensures c.lay_comma-o.ensures c.behind-next.ensures (omega arith) (omega (arith, c.loop-j.invariant.len)) (c.lay_comma-o.ensures.len ∙ c.lay_within-outer.auto.out ∙ c.lay_key-inner.auto.out ∙ c.loop-j.invariant.len) c.loop-j.invariant
 
 pub lay_held-shape_of-out-then-keys-eq0 : goal.lay_held-shape_of-out-then-keys-eq0
 lay_held-shape_of-out-then-keys-eq0 t c = c.lay_byte.ensures.len ∙ c.loop-j.invariant.len
@@ -37,12 +27,6 @@ lay_within-returns-then-end-i t c = empty-lays (omega arith)
 
 pub lay_within-returns-in_default : goal.lay_within-returns-in_default
 lay_within-returns-in_default t c = unread-lays c.start_of.ensures (rw c.in_default.is at c.value_head.ensures)
-
-pub lay_within-lay_held-requires : goal.lay_within-lay_held-requires
-lay_within-lay_held-requires t c = (omega (arith, c.requires.0), omega arith)
-
-pub lay_within-lay_held-requires-in-Object : goal.lay_within-lay_held-requires-in-Object
-lay_within-lay_held-requires-in-Object t c = (omega (arith, c.requires.0), omega arith)
 
 pub lay_within-returns-in-Constant : goal.lay_within-returns-in-Constant
 unfolding value_of

@@ -14,7 +14,7 @@ pub read_tree-requires : goal.read_tree-requires
 read_tree-requires c = let heads = rw c.in-Is.is at c.opening-heads.ensures in (rule-ready c.if-s-gt-MAX_SHEET_BYTES.false c.requires heads.0.within, heads.1)
 
 pub shape_of-scratch-in_default-read_tree : goal.shape_of-scratch-in_default-read_tree
-shape_of-scratch-in_default-read_tree c = c.read_tree.auto.1.0
+shape_of-scratch-in_default-read_tree c = c.read_tree.auto.words
 
 pub returns-in_default-read_tree : goal.returns-in_default-read_tree
 returns-in_default-read_tree c =
@@ -28,20 +28,20 @@ word_of-requires c =
     (omega arith, tree-limit c.args.s.now c.args.scratch.now c.read_tree.new.words c.in-Is.behind c.if-s-gt-MAX_SHEET_BYTES.false c.is_template-template.result c.in-Good.next answer)
 
 pub bounds-scratch-0 : goal.bounds-scratch-0
-bounds-scratch-0 c = omega (arith, c.read_tree.auto.1.0, c.requires)
+bounds-scratch-0 c = omega (arith, c.read_tree.auto.words, c.requires)
 
 pub shape_of-scratch-then-ends_at : goal.shape_of-scratch-then-ends_at
-shape_of-scratch-then-ends_at c = simp length-set c.read_tree.auto.1.0
+shape_of-scratch-then-ends_at c = simp length-set c.read_tree.auto.words
 
 pub returns-then-ends_at : goal.returns-then-ends_at
 returns-then-ends_at c =
     let head = rw c.in-Is.is at c.opening-heads.ensures.0 in
     let answer = rw c.is_template-template.ensures at (rw c.in-Good.is at c.read_tree.ensures) in
     rw c.is_template-template.ensures
-    (rule-answer c.args.s.now c.args.scratch.now c.read_tree.new.words c.in-Is.behind c.if-s-gt-MAX_SHEET_BYTES.false c.in-Is.head c.in-Good.next head.reads (omega (arith, c.read_tree.auto.1.0, c.requires)) answer (omega (arith, rw c.if-ends_at.true at c.ends_at.ensures)) c.word_of.ensures)
+    (rule-answer c.args.s.now c.args.scratch.now c.read_tree.new.words c.in-Is.behind c.if-s-gt-MAX_SHEET_BYTES.false c.in-Is.head c.in-Good.next head.reads (omega (arith, c.read_tree.auto.words, c.requires)) answer (omega (arith, rw c.if-ends_at.true at c.ends_at.ensures)) c.word_of.ensures)
 
 pub shape_of-scratch : goal.shape_of-scratch
-shape_of-scratch c = c.read_tree.auto.1.0
+shape_of-scratch c = c.read_tree.auto.words
 
 pub returns : goal.returns
 returns c =

@@ -1,6 +1,6 @@
 -- `single_check::validate_marked` meets its contract: no marks, or those of the rule that was accepted.
 use native.Mathlib.Omega.{arith}
-use Rattle.validation.specs.MarkingLaws.{count-few}
+use Rattle.validation.proofs.MarkingLaws.{count-few}
 use Rattle.single_check.proofs.WholeSteps.{unmarked, marked}
 use Rattle.single_check.proofs.validate_marked.Goals as goal
 

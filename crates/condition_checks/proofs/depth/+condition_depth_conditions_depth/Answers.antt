@@ -7,13 +7,13 @@ pub condition_depth-returns-then-left-eq0 : goal.condition_depth-returns-then-le
 condition_depth-returns-then-left-eq0 t c = depth-zero c.if-left-eq0.true
 
 pub condition_depth-children_from-start-requires : goal.condition_depth-children_from-start-requires
-condition_depth-children_from-start-requires t c = c.requires.1
+condition_depth-children_from-start-requires t c = c.requires
 
 pub condition_depth-overflow_sub-left : goal.condition_depth-overflow_sub-left
 condition_depth-overflow_sub-left t c = omega (arith, c.if-left-eq0.false)
 
 pub condition_depth-conditions_depth-requires : goal.condition_depth-conditions_depth-requires
-condition_depth-conditions_depth-requires t c = (omega (arith, c.requires.0, c.if-left-eq0.false), c.requires.1.1)
+condition_depth-conditions_depth-requires t c = (omega (arith, c.if-left-eq0.false), c.requires.1)
 
 pub condition_depth-overflow_add-result : goal.condition_depth-overflow_add-result
 condition_depth-overflow_add-result t c = omega (arith, c.conditions_depth.ensures.most)
@@ -25,7 +25,7 @@ pub conditions_depth-loop-i-init : goal.conditions_depth-loop-i-init
 conditions_depth-loop-i-init t c = (omega arith, depths-begin)
 
 pub conditions_depth-condition_depth-depth-requires : goal.conditions_depth-condition_depth-depth-requires
-conditions_depth-condition_depth-depth-requires t c = (omega (arith, c.requires.0), (c.behind-next.ensures.past c.loop-i-test.true, omega (arith, c.behind-next.ensures.most, c.requires.1)))
+conditions_depth-condition_depth-depth-requires t c = (omega arith, (c.behind-next.ensures.past c.loop-i-test.true, omega (arith, c.behind-next.ensures.most, c.requires)))
 
 pub conditions_depth-loop-i-smaller : goal.conditions_depth-loop-i-smaller
 conditions_depth-loop-i-smaller t c = omega (arith, c.behind-next.ensures.past c.loop-i-test.true)

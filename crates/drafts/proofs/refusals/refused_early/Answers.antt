@@ -1,6 +1,6 @@
 -- `drafts::refusals::refused_early` meets its contract.
 use borrow.Author.Tests.{not-true}
-use Rattle.validation.specs.RefusalLaws.{is_set}
+use Rattle.validation.proofs.RefusalLaws.{is_set}
 use Rattle.drafts.proofs.LentSteps.{rules-first, room-refused, count-refused, then-table}
 use Rattle.drafts.proofs.refusals.refused_early.Goals as goal
 

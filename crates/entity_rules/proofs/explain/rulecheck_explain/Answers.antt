@@ -9,7 +9,7 @@ slice_bounds-validate_explained-end c = rw c.path_lent-lent.ensures (lent-within
 pub returns : goal.returns
 returns c =
     let a = c.args in
-    let last = c.validate_explained-explained.new.1.1.1.1.1.1.1 in
+    let last = c.validate_explained-explained.new in
     explain-answered a.kind a.semantics a.label.now a.table.now a.schema.now a.rule.now a.path.now a.marks.now a.message.now a.result.now
-    c.validate_explained-explained.result last.0 last.1.0 last.1.1.0 last.1.1.1.0
+    c.validate_explained-explained.result last.path last.marks last.message last.scratch
     c.setting.ensures c.setting-2.ensures c.path_lent-lent.ensures c.validate_explained-explained.ensures c.write_explained.ensures

@@ -14,8 +14,8 @@ overflow_cast-result c = omega (arith, first_fits _ c.wall-numbers.ensures)
 pub returns : goal.returns
 returns c =
     let a = c.args in
-    let last = c.wall-numbers.new.1.1.1.1.1.1 in
+    let last = c.wall-numbers.new in
     wall-answered a.kind a.semantics a.label.now a.table.now a.schema.now a.book.now a.path.now a.pages.now a.result.now
-    c.wall-numbers.result last.0 last.1.0 last.1.1.0
+    c.wall-numbers.result last.path last.pages last.scratch
     c.setting.ensures c.setting-2.ensures c.path_lent-lent.ensures c.wall-numbers.ensures
-    (omega (arith, c.type_inv.1.1.1.1.1.0)) c.write_counts.ensures refl
+    (omega arith) c.write_counts.ensures refl

@@ -8,7 +8,7 @@ slice_bounds-validate_marked-end c = rw c.path_lent-lent.ensures (lent-within _ 
 pub returns : goal.returns
 returns c =
     let a = c.args in
-    let last = c.validate_marked-report.new.1.1.1.1.1.1.1 in
+    let last = c.validate_marked-report.new in
     check-answered a.kind a.semantics a.label.now a.table.now a.schema.now a.rule.now a.path.now a.marks.now a.result.now
-    c.validate_marked-report.result last.0 last.1.0 last.1.1.0
+    c.validate_marked-report.result last.path last.marks last.scratch
     c.setting.ensures c.setting-2.ensures c.path_lent-lent.ensures c.validate_marked-report.ensures c.write_report.ensures

@@ -1,6 +1,6 @@
 -- `json_text::escape::size_of` meets its contract.
 use borrow.Author.Rules.{rules}
-use Rattle.json_text.specs.EncodeLaws.{size-1, size-2, size-of-3, size-of-4}
+use Rattle.json_text.proofs.EncodeLaws.{size-1, size-2, size-of-3, size-of-4}
 use Rattle.json_text.proofs.escape.size_of.Goals as goal
 
 pub returns-then-c-le127 : goal.returns-then-c-le127

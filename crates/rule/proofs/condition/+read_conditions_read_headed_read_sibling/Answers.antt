@@ -10,13 +10,13 @@ use Rattle.rule.proofs.PlainLaws.{plain-unpaid-answer, plain-valueless-answer, p
 use Rattle.rule.proofs.condition.+read_conditions_read_headed_read_sibling.Goals as goal
 
 pub read_conditions-loop-n-init : goal.read_conditions-loop-n-init
-read_conditions-loop-n-init t c = siblings-begin (conditions-kind c.args.s.now c.args.depth) tt c.args.count c.requires.1
+read_conditions-loop-n-init t c = siblings-begin (conditions-kind c.args.s.now c.args.depth) tt c.args.count c.requires
 
 pub read_conditions-read_sibling-requires : goal.read_conditions-read_sibling-requires
-read_conditions-read_sibling-requires t c = (omega (arith, c.requires.0), ready-fewer c.loop-n.invariant.ready (omega (arith, c.loop-n-test.true)))
+read_conditions-read_sibling-requires t c = (omega arith, ready-fewer c.loop-n.invariant.ready (omega (arith, c.loop-n-test.true)))
 
 pub read_conditions-shape_of-words-in_default : goal.read_conditions-shape_of-words-in_default
-read_conditions-shape_of-words-in_default t c = c.read_sibling.auto.1.0 ∙ c.loop-n.invariant.kept.len
+read_conditions-shape_of-words-in_default t c = c.read_sibling.auto.words ∙ c.loop-n.invariant.kept.len
 
 pub read_conditions-returns-in_default : goal.read_conditions-returns-in_default
 read_conditions-returns-in_default t c = siblings-bad c.loop-n.invariant c.loop-n-test.true (rw c.in_default.is at c.read_sibling.ensures)
@@ -34,75 +34,75 @@ pub read_headed-returns-then-depth-eq0 : goal.read_headed-returns-then-depth-eq0
 read_headed-returns-then-depth-eq0 t c = condition-deep-answer c.args.s.now c.args.words.now c.args.depth c.args.c c.if-depth-eq0.true
 
 pub read_headed-returns-in_default : goal.read_headed-returns-in_default
-read_headed-returns-in_default t c = condition-headless-answer c.args.s.now c.args.words.now c.args.depth c.args.c c.if-depth-eq0.false (rw c.in_default.is at c.requires.1.1)
+read_headed-returns-in_default t c = condition-headless-answer c.args.s.now c.args.words.now c.args.depth c.args.c c.if-depth-eq0.false (rw c.in_default.is at c.requires.1)
 
 pub read_headed-overflow_add-cost : goal.read_headed-overflow_add-cost
-read_headed-overflow_add-cost t c = let head = rw c.in-Is.is at c.requires.1.1 in let few = operands-few c.in-Is.head head.1 in omega (arith, few.0, few.1, ap (λ o. o.values) c.operands_of-operands.ensures, ap (λ o. o.conditions) c.operands_of-operands.ensures)
+read_headed-overflow_add-cost t c = let head = rw c.in-Is.is at c.requires.1 in let few = operands-few c.in-Is.head head.1 in omega (arith, few.0, few.1, ap (λ o. o.values) c.operands_of-operands.ensures, ap (λ o. o.conditions) c.operands_of-operands.ensures)
 
 pub read_headed-returns-then-left-cost : goal.read_headed-returns-then-left-cost
 read_headed-returns-then-left-cost t c =
-    let head = rw c.in-Is.is at c.requires.1.1 in
+    let head = rw c.in-Is.is at c.requires.1 in
     let operands = c.operands_of-operands.result in
     operands-unpaid-answer c.args.s.now c.args.words.now c.args.depth c.in-Is.behind operands.values operands.conditions c.args.c c.in-Is.head c.if-depth-eq0.false head.0 (ap (λ o. o.values) c.operands_of-operands.ensures) (ap (λ o. o.conditions) c.operands_of-operands.ensures) c.if-left-cost.true
 
 pub read_headed-overflow_add-inner : goal.read_headed-overflow_add-inner
-read_headed-overflow_add-inner t c = omega (arith, c.requires.1.0.budget)
+read_headed-overflow_add-inner t c = omega (arith, c.requires.0.budget)
 
 pub read_headed-read_values-requires : goal.read_headed-read_values-requires
-read_headed-read_values-requires t c = let head = rw c.in-Is.is at c.requires.1.1 in ready-inside c.requires.1.0 head.0.within (omega (arith, c.if-left-cost.false))
+read_headed-read_values-requires t c = let head = rw c.in-Is.is at c.requires.1 in ready-inside c.requires.0 head.0.within (omega (arith, c.if-left-cost.false))
 
 pub read_headed-shape_of-words-in_default-read_values : goal.read_headed-shape_of-words-in_default-read_values
-read_headed-shape_of-words-in_default-read_values t c = c.read_values.auto.1.0
+read_headed-shape_of-words-in_default-read_values t c = c.read_values.auto.words
 
 pub read_headed-returns-in_default-read_values : goal.read_headed-returns-in_default-read_values
 read_headed-returns-in_default-read_values t c =
-    let head = rw c.in-Is.is at c.requires.1.1 in
+    let head = rw c.in-Is.is at c.requires.1 in
     let operands = c.operands_of-operands.result in
     operands-valueless-answer c.args.s.now c.args.words.now c.args.depth c.in-Is.behind operands.values operands.conditions c.args.c c.in-Is.head c.if-depth-eq0.false head.0 (ap (λ o. o.values) c.operands_of-operands.ensures) (ap (λ o. o.conditions) c.operands_of-operands.ensures) c.if-left-cost.false (rw c.in_default-read_values.is at c.read_values.ensures)
 
 pub read_headed-read_conditions-requires : goal.read_headed-read_conditions-requires
 read_headed-read_conditions-requires t c = (
-  omega (arith, c.requires.0, c.if-depth-eq0.false),
-  let head = rw c.in-Is.is at c.requires.1.1 in
+  omega (arith, c.if-depth-eq0.false),
+  let head = rw c.in-Is.is at c.requires.1 in
       let operands = c.operands_of-operands.result in
-      operands-ready c.args.s.now c.args.words.now c.args.depth c.in-Is.behind operands.values operands.conditions c.args.c c.in-Is.head c.if-depth-eq0.false head.0 (ap (λ o. o.values) c.operands_of-operands.ensures) (ap (λ o. o.conditions) c.operands_of-operands.ensures) c.if-left-cost.false c.requires.1.0 (rw c.in-Good.is at c.read_values.ensures),
+      operands-ready c.args.s.now c.args.words.now c.args.depth c.in-Is.behind operands.values operands.conditions c.args.c c.in-Is.head c.if-depth-eq0.false head.0 (ap (λ o. o.values) c.operands_of-operands.ensures) (ap (λ o. o.conditions) c.operands_of-operands.ensures) c.if-left-cost.false c.requires.0 (rw c.in-Good.is at c.read_values.ensures),
 )
 
 pub read_headed-shape_of-words-in_default-read_conditions : goal.read_headed-shape_of-words-in_default-read_conditions
-read_headed-shape_of-words-in_default-read_conditions t c = c.read_conditions.auto.1.0 ∙ c.read_values.auto.1.0
+read_headed-shape_of-words-in_default-read_conditions t c = c.read_conditions.auto.words ∙ c.read_values.auto.words
 
 pub read_headed-returns-in_default-read_conditions : goal.read_headed-returns-in_default-read_conditions
 read_headed-returns-in_default-read_conditions t c =
-    let head = rw c.in-Is.is at c.requires.1.1 in
+    let head = rw c.in-Is.is at c.requires.1 in
     let operands = c.operands_of-operands.result in
-    operands-conditionless-answer c.args.s.now c.args.words.now c.args.depth c.in-Is.behind operands.values operands.conditions c.args.c c.in-Is.head c.if-depth-eq0.false head.0 (ap (λ o. o.values) c.operands_of-operands.ensures) (ap (λ o. o.conditions) c.operands_of-operands.ensures) c.if-left-cost.false c.requires.1.0 (rw c.in-Good.is at c.read_values.ensures) (rw c.in_default-read_conditions.is at c.read_conditions.ensures)
+    operands-conditionless-answer c.args.s.now c.args.words.now c.args.depth c.in-Is.behind operands.values operands.conditions c.args.c c.in-Is.head c.if-depth-eq0.false head.0 (ap (λ o. o.values) c.operands_of-operands.ensures) (ap (λ o. o.conditions) c.operands_of-operands.ensures) c.if-left-cost.false c.requires.0 (rw c.in-Good.is at c.read_values.ensures) (rw c.in_default-read_conditions.is at c.read_conditions.ensures)
 
 pub read_headed-word_of-requires : goal.read_headed-word_of-requires
-read_headed-word_of-requires t c = let values = rw c.in-Good.is at c.read_values.ensures in let conditions = rw c.in-Good-read_conditions.is at c.read_conditions.ensures in (omega (arith, c.requires.1.0.inside, c.requires.1.0.small), omega (arith, values.budget, conditions.budget, c.requires.1.0.budget, c.if-left-cost.false))
+read_headed-word_of-requires t c = let values = rw c.in-Good.is at c.read_values.ensures in let conditions = rw c.in-Good-read_conditions.is at c.read_conditions.ensures in (omega (arith, c.requires.0.inside, c.requires.0.small), omega (arith, values.budget, conditions.budget, c.requires.0.budget, c.if-left-cost.false))
 
 pub read_headed-offset_bounds-words-word : goal.read_headed-offset_bounds-words-word
-read_headed-offset_bounds-words-word t c = omega (arith, c.requires.1.0.budget)
+read_headed-offset_bounds-words-word t c = omega (arith, c.requires.0.budget)
 
 pub read_headed-bounds-words-word : goal.read_headed-bounds-words-word
-read_headed-bounds-words-word t c = omega (arith, c.read_conditions.auto.1.0, c.read_values.auto.1.0, c.requires.1.0.room, c.requires.1.0.budget)
+read_headed-bounds-words-word t c = omega (arith, c.read_conditions.auto.words, c.read_values.auto.words, c.requires.0.room, c.requires.0.budget)
 
 pub read_headed-shape_of-words : goal.read_headed-shape_of-words
-read_headed-shape_of-words t c = length-set c.read_conditions.new.words c.args.c.word c.word_of.result ∙ c.read_conditions.auto.1.0 ∙ c.read_values.auto.1.0
+read_headed-shape_of-words t c = length-set c.read_conditions.new.words c.args.c.word c.word_of.result ∙ c.read_conditions.auto.words ∙ c.read_values.auto.words
 
 pub read_headed-returns : goal.read_headed-returns
 read_headed-returns t c =
-    let head = rw c.in-Is.is at c.requires.1.1 in
+    let head = rw c.in-Is.is at c.requires.1 in
     let operands = c.operands_of-operands.result in
-    operands-answer c.args.s.now c.args.words.now c.args.depth c.in-Is.behind operands.values operands.conditions c.args.c c.in-Is.head c.if-depth-eq0.false head.0 (ap (λ o. o.values) c.operands_of-operands.ensures) (ap (λ o. o.conditions) c.operands_of-operands.ensures) c.if-left-cost.false c.requires.1.0 (rw c.in-Good.is at c.read_values.ensures) c.word_of.ensures (rw c.in-Good-read_conditions.is at c.read_conditions.ensures)
+    operands-answer c.args.s.now c.args.words.now c.args.depth c.in-Is.behind operands.values operands.conditions c.args.c c.in-Is.head c.if-depth-eq0.false head.0 (ap (λ o. o.values) c.operands_of-operands.ensures) (ap (λ o. o.conditions) c.operands_of-operands.ensures) c.if-left-cost.false c.requires.0 (rw c.in-Good.is at c.read_values.ensures) c.word_of.ensures (rw c.in-Good-read_conditions.is at c.read_conditions.ensures)
 
 pub read_sibling-returns-then-depth-eq0 : goal.read_sibling-returns-then-depth-eq0
 read_sibling-returns-then-depth-eq0 t c = condition-deep-answer c.args.s.now c.args.words.now c.args.depth c.args.c c.if-depth-eq0.true
 
 pub read_sibling-read_headed-requires : goal.read_sibling-read_headed-requires
-read_sibling-read_headed-requires t c = (omega (arith, c.requires.0), (c.requires.1, c.condition_head-head.ensures))
+read_sibling-read_headed-requires t c = (omega arith, (c.requires, c.condition_head-head.ensures))
 
 pub read_sibling-shape_of-words-then-plain-eq0 : goal.read_sibling-shape_of-words-then-plain-eq0
-read_sibling-shape_of-words-then-plain-eq0 t c = c.read_headed.auto.1.0
+read_sibling-shape_of-words-then-plain-eq0 t c = c.read_headed.auto.words
 
 pub read_sibling-returns-then-plain-eq0 : goal.read_sibling-returns-then-plain-eq0
 read_sibling-returns-then-plain-eq0 t c = c.read_headed.ensures
@@ -111,22 +111,22 @@ pub read_sibling-returns-then-left-values : goal.read_sibling-returns-then-left-
 read_sibling-returns-then-left-values t c = plain-unpaid-answer c.args.s.now c.args.words.now c.args.depth (c.plain_condition-plain.result / 4) (c.plain_condition-plain.result % 4) c.args.c c.if-depth-eq0.false (c.plain_condition-plain.ensures (omega (arith, c.if-plain-eq0.false))) c.if-left-values.true
 
 pub read_sibling-read_values-requires : goal.read_sibling-read_values-requires
-read_sibling-read_values-requires t c = let plain = c.plain_condition-plain.ensures (omega (arith, c.if-plain-eq0.false)) in ready-inside c.requires.1 plain.reads.within (omega (arith, c.if-left-values.false))
+read_sibling-read_values-requires t c = let plain = c.plain_condition-plain.ensures (omega (arith, c.if-plain-eq0.false)) in ready-inside c.requires plain.reads.within (omega (arith, c.if-left-values.false))
 
 pub read_sibling-shape_of-words-in_default : goal.read_sibling-shape_of-words-in_default
-read_sibling-shape_of-words-in_default t c = c.read_values.auto.1.0
+read_sibling-shape_of-words-in_default t c = c.read_values.auto.words
 
 pub read_sibling-returns-in_default : goal.read_sibling-returns-in_default
 read_sibling-returns-in_default t c = plain-valueless-answer c.args.s.now c.args.words.now c.args.depth (c.plain_condition-plain.result / 4) (c.plain_condition-plain.result % 4) c.args.c c.if-depth-eq0.false (c.plain_condition-plain.ensures (omega (arith, c.if-plain-eq0.false))) c.if-left-values.false (rw c.in_default.is at c.read_values.ensures)
 
 pub read_sibling-word_of-requires : goal.read_sibling-word_of-requires
-read_sibling-word_of-requires t c = let values = rw c.in-Good.is at c.read_values.ensures in (omega (arith, c.requires.1.inside, c.requires.1.small), omega (arith, values.budget, c.requires.1.budget, c.if-left-values.false))
+read_sibling-word_of-requires t c = let values = rw c.in-Good.is at c.read_values.ensures in (omega (arith, c.requires.inside, c.requires.small), omega (arith, values.budget, c.requires.budget, c.if-left-values.false))
 
 pub read_sibling-bounds-words-word : goal.read_sibling-bounds-words-word
-read_sibling-bounds-words-word t c = omega (arith, c.read_values.auto.1.0, c.requires.1.room, c.requires.1.budget)
+read_sibling-bounds-words-word t c = omega (arith, c.read_values.auto.words, c.requires.room, c.requires.budget)
 
 pub read_sibling-shape_of-words : goal.read_sibling-shape_of-words
-read_sibling-shape_of-words t c = length-set c.read_values.new.words c.args.c.word c.word_of.result ∙ c.read_values.auto.1.0
+read_sibling-shape_of-words t c = length-set c.read_values.new.words c.args.c.word c.word_of.result ∙ c.read_values.auto.words
 
 pub read_sibling-returns : goal.read_sibling-returns
-read_sibling-returns t c = plain-answer c.args.s.now c.args.words.now c.args.depth (c.plain_condition-plain.result / 4) (c.plain_condition-plain.result % 4) c.args.c c.if-depth-eq0.false (c.plain_condition-plain.ensures (omega (arith, c.if-plain-eq0.false))) c.if-left-values.false c.requires.1 (rw c.in-Good.is at c.read_values.ensures) c.word_of.ensures
+read_sibling-returns t c = plain-answer c.args.s.now c.args.words.now c.args.depth (c.plain_condition-plain.result / 4) (c.plain_condition-plain.result % 4) c.args.c c.if-depth-eq0.false (c.plain_condition-plain.ensures (omega (arith, c.if-plain-eq0.false))) c.if-left-values.false c.requires (rw c.in-Good.is at c.read_values.ensures) c.word_of.ensures

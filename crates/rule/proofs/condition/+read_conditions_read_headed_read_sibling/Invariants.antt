@@ -1,6 +1,6 @@
 -- The readers of a condition whose head is read, of a condition among others and of conditions side by side, which call each other: the nesting that is left falls.
 -- The loop's invariant: what has been read is right for the whole if what is left is.
-use Prim.Native.Nat.{◌+◌, ◌*◌, ◌-◌}
+use Prim.Native.Nat.{◌+◌, ◌*◌}
 use Rattle.rule.proofs.SiblingLaws.{Passing}
 use Rattle.rule.proofs.SiblingKinds.{conditions-kind}
 use Rattle.rule.proofs.condition.+read_conditions_read_headed_read_sibling.Given as goal

@@ -1,12 +1,8 @@
 -- `rule::index::start_of` meets its contract: past the last word the definition reads 0 too.
-use native.Mathlib.Omega.{arith}
 use Prim.Native.Nat.{ℕ, ◌/◌}
 use mathlib.Core.Path.{sym, ap}
 use Rattle.rule.proofs.KeptLaws.{get_d-behind}
 use Rattle.rule.proofs.index.start_of.Goals as goal
-
-pub overflow_cast-result : goal.overflow_cast-result
-overflow_cast-result c = omega (arith, c.shared_slice_known-1.given c.args.i)
 
 pub returns : goal.returns
 returns c = ap (λ (w : ℕ). w / 4096) (sym (get_d-behind c.args.words.now c.args.i c.if-i-words.false))

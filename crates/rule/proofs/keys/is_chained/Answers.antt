@@ -14,9 +14,6 @@ returns-then-stands_at c = let a = c.args in c.loop-x.invariant.1 true (chain-fo
 pub bounds-links-x : goal.bounds-links-x
 bounds-links-x c = omega (arith, c.loop-x-test.true, c.loop-x.invariant.0.room)
 
-pub overflow_cast-x : goal.overflow_cast-x
-overflow_cast-x c = omega (arith, c.shared_slice_known-in-loop-x-1.given ((c.loop-x.x - 1) / 2))
-
 pub loop-x-smaller : goal.loop-x-smaller
 loop-x-smaller c = omega (arith, c.loop-x-test.true, c.loop-x.invariant.0.falls ((c.loop-x.x - 1) / 2))
 

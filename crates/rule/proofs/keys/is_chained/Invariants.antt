@@ -1,5 +1,4 @@
 -- `rule::keys::is_chained` meets its contract: the loop's invariant is that what is right for the chain left is right for all of it.
-use Prim.Native.Nat.{◌-◌}
 use mathlib.Core.Bool.{Bool}
 use Rattle.rule.specs.Table.{Falls, IsChained}
 use Rattle.rule.proofs.keys.is_chained.Given as goal

@@ -1,5 +1,5 @@
 use native.Mathlib.Omega.{arith}
-use Prim.Native.Nat.{ℕ, ◌-◌, ◌/◌}
+use Prim.Native.Nat.{ℕ, ◌/◌}
 use mathlib.Core.Path.{◌≡◌, refl, sym, ap, ◌∙◌}
 use Rattle.rule.specs.Table.{stirred, slot_of}
 use Rattle.rule.proofs.TableLaws.{stirred-next, stirred-end}
@@ -7,15 +7,6 @@ use Rattle.rule.proofs.keys.slot_of.Goals as goal
 
 pub loop-i-init : goal.loop-i-init
 loop-i-init c = (refl, omega arith)
-
-pub overflow_cast-mixed : goal.overflow_cast-mixed
-overflow_cast-mixed c = omega (arith, c.shared_slice_known-1.given c.loop-i.i)
-
-pub overflow_add-mixed : goal.overflow_add-mixed
-overflow_add-mixed c = omega (arith, c.shared_slice_known-1.given c.loop-i.i, c.loop-i.invariant.1)
-
-pub overflow_mul-mixed : goal.overflow_mul-mixed
-overflow_mul-mixed c = omega (arith, c.shared_slice_known-1.given c.loop-i.i, c.loop-i.invariant.1)
 
 pub loop-i-preserved : goal.loop-i-preserved
 loop-i-preserved c = (c.loop-i.invariant.0 ∙ stirred-next c.args.key.now c.loop-i.mixed c.loop-i.i c.loop-i-test.true refl refl, omega arith)

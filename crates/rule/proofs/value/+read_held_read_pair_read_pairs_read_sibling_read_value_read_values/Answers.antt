@@ -17,19 +17,19 @@ use Rattle.rule.proofs.SiblingKinds.{values-kind, pairs-kind, pairs_next, object
 use Rattle.rule.proofs.value.+read_held_read_pair_read_pairs_read_sibling_read_value_read_values.Goals as goal
 
 pub read_held-read_values-requires : goal.read_held-read_values-requires
-read_held-read_values-requires t c = (omega (arith, c.requires.0), rw c.in-Values.is at c.requires.1)
+read_held-read_values-requires t c = (omega arith, rw c.in-Values.is at c.requires)
 
 pub read_held-read_pairs-requires : goal.read_held-read_pairs-requires
-read_held-read_pairs-requires t c = (omega (arith, c.requires.0), rw c.in-Pairs.is at c.requires.1)
+read_held-read_pairs-requires t c = (omega arith, rw c.in-Pairs.is at c.requires)
 
 pub read_held-shape_of-words-in-Values : goal.read_held-shape_of-words-in-Values
-read_held-shape_of-words-in-Values t c = c.read_values.auto.1.0
+read_held-shape_of-words-in-Values t c = c.read_values.auto.words
 
 pub read_held-returns-in-Values : goal.read_held-returns-in-Values
 read_held-returns-in-Values t c = rw c.in-Values.is c.read_values.ensures
 
 pub read_held-shape_of-words-in-Pairs : goal.read_held-shape_of-words-in-Pairs
-read_held-shape_of-words-in-Pairs t c = c.read_pairs.auto.1.0
+read_held-shape_of-words-in-Pairs t c = c.read_pairs.auto.words
 
 pub read_held-returns-in-Pairs : goal.read_held-returns-in-Pairs
 read_held-returns-in-Pairs t c = rw c.in-Pairs.is c.read_pairs.ensures
@@ -38,7 +38,7 @@ pub read_pair-returns-in_default : goal.read_pair-returns-in_default
 read_pair-returns-in_default t c = (pair-keyless (value_in c.args.depth) (ahead_of c.args.s.now c.args.c) (rw c.in_default.is at c.key_head.ensures), kept-all)
 
 pub read_pair-read_sibling-requires : goal.read_pair-read_sibling-requires
-read_pair-read_sibling-requires t c = let key = rw c.in-Is.is at c.key_head.ensures in (omega (arith, c.requires.0), ready-inside c.requires.1 key.within (omega arith))
+read_pair-read_sibling-requires t c = let key = rw c.in-Is.is at c.key_head.ensures in (omega arith, ready-inside c.requires key.within (omega arith))
 
 pub read_pair-returns-in_default-read_sibling : goal.read_pair-returns-in_default-read_sibling
 read_pair-returns-in_default-read_sibling t c =
@@ -48,24 +48,24 @@ read_pair-returns-in_default-read_sibling t c =
     (pair-valueless (value_in c.args.depth) (ahead_of s c.args.c) (part_of s c.in-Is.key) (drop c.in-Is.behind s) key.reads bad.0, kept-wider bad.1 (omega arith) (omega arith))
 
 pub read_pair-word_of-requires : goal.read_pair-word_of-requires
-read_pair-word_of-requires t c = let inner = rw c.in-Good.is at c.read_sibling.ensures in (omega (arith, c.requires.1.inside, c.requires.1.small), omega (arith, inner.budget, c.requires.1.budget))
+read_pair-word_of-requires t c = let inner = rw c.in-Good.is at c.read_sibling.ensures in (omega (arith, c.requires.inside, c.requires.small), omega (arith, inner.budget, c.requires.budget))
 
 pub read_pair-returns : goal.read_pair-returns
 read_pair-returns t c =
     let s = c.args.s.now in
     let key = rw c.in-Is.is at c.key_head.ensures in
     let inner = rw c.in-Good.is at c.read_sibling.ensures in
-    pair-closed s c.args.words.now c.read_sibling.new.words c.args.c c.in-Good.next c.args.depth c.in-Is.behind c.word_of.result (part_of s c.in-Is.key) c.requires.1 key.reads c.word_of.ensures inner
+    pair-closed s c.args.words.now c.read_sibling.new.words c.args.c c.in-Good.next c.args.depth c.in-Is.behind c.word_of.result (part_of s c.in-Is.key) c.requires key.reads c.word_of.ensures inner
 
 pub read_pairs-loop-n-init : goal.read_pairs-loop-n-init
 unfolding optional_of
-read_pairs-loop-n-init t c = siblings-begin (pairs-kind c.args.s.now c.args.depth) (true, none) c.args.count c.requires.1
+read_pairs-loop-n-init t c = siblings-begin (pairs-kind c.args.s.now c.args.depth) (true, none) c.args.count c.requires
 
 pub read_pairs-read_pair-requires : goal.read_pairs-read_pair-requires
-read_pairs-read_pair-requires t c = (omega (arith, c.requires.0), ready-fewer c.loop-n.invariant.ready (omega (arith, c.loop-n-test.true)))
+read_pairs-read_pair-requires t c = (omega arith, ready-fewer c.loop-n.invariant.ready (omega (arith, c.loop-n-test.true)))
 
 pub read_pairs-shape_of-words-in_default : goal.read_pairs-shape_of-words-in_default
-read_pairs-shape_of-words-in_default t c = c.read_pair.auto.1.0 ∙ c.loop-n.invariant.kept.len
+read_pairs-shape_of-words-in_default t c = c.read_pair.auto.words ∙ c.loop-n.invariant.kept.len
 
 pub read_pairs-returns-in_default : goal.read_pairs-returns-in_default
 read_pairs-returns-in_default t c = object-bad c.args.depth c.loop-n.invariant c.loop-n-test.true (rw c.in_default.is at c.read_pair.ensures)
@@ -80,7 +80,7 @@ pub read_pairs-returns-then-rise : goal.read_pairs-returns-then-rise
 read_pairs-returns-then-rise t c = object-rises c.args.depth c.loop-n.previous c.loop-n.invariant (omega (arith, c.loop-n-test.false)) c.if-rise.true
 
 pub read_pairs-none_twice-requires : goal.read_pairs-none_twice-requires
-read_pairs-none_twice-requires t c = omega (arith, c.requires.1.budget)
+read_pairs-none_twice-requires t c = omega (arith, c.requires.budget)
 
 pub read_pairs-shape_of-words-then-none_twice : goal.read_pairs-shape_of-words-then-none_twice
 read_pairs-shape_of-words-then-none_twice t c = c.loop-n.invariant.kept.len
@@ -98,22 +98,22 @@ pub read_sibling-returns-then-depth-eq0 : goal.read_sibling-returns-then-depth-e
 read_sibling-returns-then-depth-eq0 t c = value-deep-answer c.args.s.now c.args.words.now c.args.depth c.args.c c.if-depth-eq0.true
 
 pub read_sibling-read_value-requires : goal.read_sibling-read_value-requires
-read_sibling-read_value-requires t c = (omega (arith, c.requires.0), c.requires.1)
+read_sibling-read_value-requires t c = (omega arith, c.requires)
 
 pub read_sibling-shape_of-words-then-end-eq0 : goal.read_sibling-shape_of-words-then-end-eq0
-read_sibling-shape_of-words-then-end-eq0 t c = c.read_value.auto.1.0
+read_sibling-shape_of-words-then-end-eq0 t c = c.read_value.auto.words
 
 pub read_sibling-returns-then-end-eq0 : goal.read_sibling-returns-then-end-eq0
 read_sibling-returns-then-end-eq0 t c = c.read_value.ensures
 
 pub read_sibling-word_of-requires : goal.read_sibling-word_of-requires
-read_sibling-word_of-requires t c = let ready = c.requires.1 in omega (arith, ready.inside, ready.small, ready.budget)
+read_sibling-word_of-requires t c = let ready = c.requires in omega (arith, ready.inside, ready.small, ready.budget)
 
 pub read_sibling-bounds-words-word : goal.read_sibling-bounds-words-word
-read_sibling-bounds-words-word t c = let ready = c.requires.1 in omega (arith, ready.room, ready.budget)
+read_sibling-bounds-words-word t c = let ready = c.requires in omega (arith, ready.room, ready.budget)
 
 pub read_sibling-returns : goal.read_sibling-returns
-read_sibling-returns t c = leaf-answer c.args.s.now c.args.words.now c.args.depth c.args.c c.if-depth-eq0.false (c.leaf_end-end.ensures (omega (arith, c.if-end-eq0.false))) c.requires.1 c.word_of.ensures
+read_sibling-returns t c = leaf-answer c.args.s.now c.args.words.now c.args.depth c.args.c c.if-depth-eq0.false (c.leaf_end-end.ensures (omega (arith, c.if-end-eq0.false))) c.requires c.word_of.ensures
 
 pub read_value-returns-then-depth-eq0 : goal.read_value-returns-then-depth-eq0
 read_value-returns-then-depth-eq0 t c = value-deep-answer c.args.s.now c.args.words.now c.args.depth c.args.c c.if-depth-eq0.true
@@ -130,7 +130,7 @@ read_value-returns-then-left-cost t c =
     held-unpaid-answer c.args.s.now c.args.words.now c.args.depth c.in-Is.behind c.args.c c.in-Is.head c.if-depth-eq0.false head.0 c.cost_of-cost.result c.held_by-held.result c.held_by-held.ensures c.cost_of-cost.ensures c.if-left-cost.true
 
 pub read_value-read_held-requires : goal.read_value-read_held-requires
-read_value-read_held-requires t c = let head = rw c.in-Is.is at c.value_head.ensures in (omega (arith, c.requires.0, c.if-depth-eq0.false), rw (← c.cost_of-cost.ensures) (ready-inside c.requires.1 head.0.within (omega (arith, c.if-left-cost.false))))
+read_value-read_held-requires t c = let head = rw c.in-Is.is at c.value_head.ensures in (omega (arith, c.if-depth-eq0.false), rw (← c.cost_of-cost.ensures) (ready-inside c.requires head.0.within (omega (arith, c.if-left-cost.false))))
 
 pub read_value-returns-in_default-read_held : goal.read_value-returns-in_default-read_held
 read_value-returns-in_default-read_held t c =
@@ -139,24 +139,24 @@ read_value-returns-in_default-read_held t c =
 
 pub read_value-word_of-requires : goal.read_value-word_of-requires
 read_value-word_of-requires t c = (
-  omega (arith, c.requires.1.inside, c.requires.1.small),
+  omega (arith, c.requires.inside, c.requires.small),
   let head = rw c.in-Is.is at c.value_head.ensures in
-      held-limit c.args.s.now c.args.words.now c.args.depth c.in-Is.behind c.args.c c.in-Is.head c.if-depth-eq0.false head.0 c.read_held.new.words c.cost_of-cost.result c.if-left-cost.false c.in-Good.next c.held_by-held.result c.requires.1 c.cost_of-cost.ensures (rw c.in-Good.is at c.read_held.ensures),
+      held-limit c.args.s.now c.args.words.now c.args.depth c.in-Is.behind c.args.c c.in-Is.head c.if-depth-eq0.false head.0 c.read_held.new.words c.cost_of-cost.result c.if-left-cost.false c.in-Good.next c.held_by-held.result c.requires c.cost_of-cost.ensures (rw c.in-Good.is at c.read_held.ensures),
 )
 
 pub read_value-returns : goal.read_value-returns
 read_value-returns t c =
     let head = rw c.in-Is.is at c.value_head.ensures in
-    held-answer c.args.s.now c.args.words.now c.args.depth c.in-Is.behind c.args.c c.in-Is.head c.if-depth-eq0.false head.0 c.read_held.new.words c.cost_of-cost.result c.if-left-cost.false c.in-Good.next c.held_by-held.result c.held_by-held.ensures c.cost_of-cost.ensures c.requires.1 c.word_of.ensures (rw c.in-Good.is at c.read_held.ensures)
+    held-answer c.args.s.now c.args.words.now c.args.depth c.in-Is.behind c.args.c c.in-Is.head c.if-depth-eq0.false head.0 c.read_held.new.words c.cost_of-cost.result c.if-left-cost.false c.in-Good.next c.held_by-held.result c.held_by-held.ensures c.cost_of-cost.ensures c.requires c.word_of.ensures (rw c.in-Good.is at c.read_held.ensures)
 
 pub read_values-loop-n-init : goal.read_values-loop-n-init
-read_values-loop-n-init t c = siblings-begin (values-kind c.args.s.now c.args.depth) tt c.args.count c.requires.1
+read_values-loop-n-init t c = siblings-begin (values-kind c.args.s.now c.args.depth) tt c.args.count c.requires
 
 pub read_values-read_sibling-requires : goal.read_values-read_sibling-requires
-read_values-read_sibling-requires t c = (omega (arith, c.requires.0), ready-fewer c.loop-n.invariant.ready (omega (arith, c.loop-n-test.true)))
+read_values-read_sibling-requires t c = (omega arith, ready-fewer c.loop-n.invariant.ready (omega (arith, c.loop-n-test.true)))
 
 pub read_values-shape_of-words-in_default : goal.read_values-shape_of-words-in_default
-read_values-shape_of-words-in_default t c = c.read_sibling.auto.1.0 ∙ c.loop-n.invariant.kept.len
+read_values-shape_of-words-in_default t c = c.read_sibling.auto.words ∙ c.loop-n.invariant.kept.len
 
 pub read_values-returns-in_default : goal.read_values-returns-in_default
 read_values-returns-in_default t c = siblings-bad c.loop-n.invariant c.loop-n-test.true (rw c.in_default.is at c.read_sibling.ensures)

@@ -1,7 +1,7 @@
 -- The readers of a value, of one among others, of what a value holds, of values side by side, of a key with its value and of an object's keys, which call each other.
 -- Each measure is five times the nesting that is left, and a little more for those that call another at the same nesting.
 -- The loops' invariant: what has been read is right for the whole if what is left is.
-use Prim.Native.Nat.{◌+◌, ◌*◌, ◌-◌}
+use Prim.Native.Nat.{◌+◌, ◌*◌}
 use mathlib.Core.Bool.{true}
 use mathlib.Core.Option.{none}
 use Rattle.rule.proofs.SiblingLaws.{Passing}

@@ -17,7 +17,7 @@ use Rattle.schema.proofs.field.+read_element_read_field_read_members.Goals as go
 pub read_element-read_members-requires : goal.read_element-read_members-requires
 unfolding to_count
 read_element-read_members-requires t c =
-    (omega arith, rw c.if-has.true at c.requires.1)
+    (omega arith, rw c.if-has.true at c.requires)
 
 pub read_element-returns-in_default : goal.read_element-returns-in_default
 read_element-returns-in_default t c =
@@ -39,7 +39,7 @@ read_element-returns-then-has t c =
 
 pub read_element-returns : goal.read_element-returns
 read_element-returns t c =
-    record { kept = kept-all c.args.words.now; answer = element-absent c.args.sheet.now c.args.words.now c.args.depth c.args.has c.args.slot c.args.from c.if-has.false c.requires.1.at c.requires.1.used }
+    record { kept = kept-all c.args.words.now; answer = element-absent c.args.sheet.now c.args.words.now c.args.depth c.args.has c.args.slot c.args.from c.if-has.false c.requires.at c.requires.used }
 
 pub read_field-returns-then-depth-eq0 : goal.read_field-returns-then-depth-eq0
 read_field-returns-then-depth-eq0 t c =
@@ -71,15 +71,15 @@ read_field-returns-then-announced-eq0 t c =
     let deeper : c.args.depth ≡ suc (c.args.depth - 1) = omega (arith, c.if-depth-eq0.false) in
     let none_here : c.to_count-elements.result ≡ 0 = omega (arith, c.if-announced-eq0.true) in
     let inner : Cursor = record { next = c.args.from.next + 1; used = c.args.from.used + (c.to_count-elements.result + c.in-Is.head.count); at = c.in-Is.end } in
-    let used : inner.used ≤ max_slots = omega (arith, c.if-low-announced.false, c.requires.1.used) in
+    let used : inner.used ≤ max_slots = omega (arith, c.if-low-announced.false, c.requires.used) in
     let one = element-absent s _ (c.args.depth - 1) c.in-Is.head.items c.args.from.used inner (to_count-none _ (sym c.to_count-elements.ensures ∙ none_here)) e.0.within used in
     let many = sofar-all s _ _ (c.args.depth - 1) (c.args.from.used + c.to_count-elements.result) c.in-Is.head.count inner inner _ 0 (sofar-none s _ (c.args.depth - 1) _ _ inner c.in-Is.head.name e.0.within used) (omega (arith, c.if-announced-eq0.true)) in
-    record { kept = c.put_slot.ensures.kept; answer = field-good s c.args.from (field_of s c.in-Is.head) c.in-Is.end c.to_count-elements.result e.0.reads c.to_count-elements.ensures c.args.depth (c.args.depth - 1) deeper c.if-low-announced.false c.args.slot c.args.words.now _ _ _ c.requires.1 c.in-Is.head.name refl c.put_slot.ensures _ _ one many }
+    record { kept = c.put_slot.ensures.kept; answer = field-good s c.args.from (field_of s c.in-Is.head) c.in-Is.end c.to_count-elements.result e.0.reads c.to_count-elements.ensures c.args.depth (c.args.depth - 1) deeper c.if-low-announced.false c.args.slot c.args.words.now _ _ _ c.requires c.in-Is.head.name refl c.put_slot.ensures _ _ one many }
 
 pub read_field-read_element-requires : goal.read_field-read_element-requires
 read_field-read_element-requires t c =
     let e = rw c.in-Is.is at c.field_head.ensures in
-    (omega arith, inner-ready c.in-Is.head.items c.to_count-elements.result c.in-Is.head.count _ c.requires.1 c.put_slot.ensures.kept e.0.within c.to_count-elements.ensures c.if-low-announced.false)
+    (omega arith, inner-ready c.in-Is.head.items c.to_count-elements.result c.in-Is.head.count _ c.requires c.put_slot.ensures.kept e.0.within c.to_count-elements.ensures c.if-low-announced.false)
 
 pub read_field-returns-in_default-read_element : goal.read_field-returns-in_default-read_element
 unfolding field_of
@@ -92,7 +92,7 @@ pub read_field-read_members-requires : goal.read_field-read_members-requires
 read_field-read_members-requires t c =
     let e = rw c.in-Is.is at c.field_head.ensures in
     let one = rw c.in-Good.is at c.read_element.ensures.answer in
-    (omega (arith, c.requires.0, c.if-depth-eq0.false), behind-ready c.in-Is.head.items c.to_count-elements.result c.in-Is.head.count c.in-Is.end c.requires.1 c.put_slot.ensures.kept c.read_element.ensures.kept c.to_count-elements.ensures c.if-low-announced.false one)
+    (omega (arith, c.if-depth-eq0.false), behind-ready c.in-Is.head.items c.to_count-elements.result c.in-Is.head.count c.in-Is.end c.requires c.put_slot.ensures.kept c.read_element.ensures.kept c.to_count-elements.ensures c.if-low-announced.false one)
 
 pub read_field-returns-in_default-read_members : goal.read_field-returns-in_default-read_members
 unfolding field_of
@@ -109,10 +109,10 @@ read_field-returns t c =
     let deeper : c.args.depth ≡ suc (c.args.depth - 1) = omega (arith, c.if-depth-eq0.false) in
     let one = rw c.in-Good.is at c.read_element.ensures.answer in
     let many = rw c.in-Good-read_members.is at c.read_members.ensures.answer in
-    record { kept = kept_more c.put_slot.ensures.kept (kept_more c.read_element.ensures.kept c.read_members.ensures.kept); answer = field-good c.args.sheet.now c.args.from (field_of c.args.sheet.now c.in-Is.head) c.in-Is.end c.to_count-elements.result e.0.reads c.to_count-elements.ensures c.args.depth (c.args.depth - 1) deeper c.if-low-announced.false c.args.slot c.args.words.now _ _ _ c.requires.1 c.in-Is.head.name refl c.put_slot.ensures _ _ one many }
+    record { kept = kept_more c.put_slot.ensures.kept (kept_more c.read_element.ensures.kept c.read_members.ensures.kept); answer = field-good c.args.sheet.now c.args.from (field_of c.args.sheet.now c.in-Is.head) c.in-Is.end c.to_count-elements.result e.0.reads c.to_count-elements.ensures c.args.depth (c.args.depth - 1) deeper c.if-low-announced.false c.args.slot c.args.words.now _ _ _ c.requires c.in-Is.head.name refl c.put_slot.ensures _ _ one many }
 
 pub read_members-loop-i-init : goal.read_members-loop-i-init
-read_members-loop-i-init t c = sofar-none c.args.sheet.now c.args.words.now c.args.depth c.args.first c.args.count (cursor_of c.args.next c.args.used c.args.at) _ c.requires.1.at c.requires.1.used
+read_members-loop-i-init t c = sofar-none c.args.sheet.now c.args.words.now c.args.depth c.args.first c.args.count (cursor_of c.args.next c.args.used c.args.at) _ c.requires.at c.requires.used
 
 pub read_members-returns-in_default : goal.read_members-returns-in_default
 read_members-returns-in_default t c =
@@ -120,7 +120,7 @@ read_members-returns-in_default t c =
 
 pub read_members-loop-i-preserved : goal.read_members-loop-i-preserved
 read_members-loop-i-preserved t c =
-    sofar-more c.args.sheet.now c.args.words.now c.loop-i.words c.args.depth c.args.first c.args.count (cursor_of c.args.next c.args.used c.args.at) c.loop-i.to c.loop-i.before c.loop-i.i c.loop-i.invariant c.loop-i-test.true _ _ _ (rw c.in-Good.is at c.read_field.ensures.answer) c.requires.1.slots c.read_field.ensures.kept (sym c.rises.ensures ∙ c.if-rises.true)
+    sofar-more c.args.sheet.now c.args.words.now c.loop-i.words c.args.depth c.args.first c.args.count (cursor_of c.args.next c.args.used c.args.at) c.loop-i.to c.loop-i.before c.loop-i.i c.loop-i.invariant c.loop-i-test.true _ _ _ (rw c.in-Good.is at c.read_field.ensures.answer) c.requires.slots c.read_field.ensures.kept (sym c.rises.ensures ∙ c.if-rises.true)
 
 pub read_members-returns-else-rises : goal.read_members-returns-else-rises
 read_members-returns-else-rises t c =

@@ -16,7 +16,7 @@ compare_elements-compare_fields-requires t c = search (enters-within, rules)
 
 pub compare_elements-returns-then-has : goal.compare_elements-returns-then-has
 compare_elements-returns-then-has t c =
-    let pre = c.requires.1 in
+    let pre = c.requires in
     elements-both pre.0 pre.1 c.if-has.true c.enter.ensures c.in-Is.is c.enter-then-has.ensures c.in-Is-enter.is c.compare_fields.ensures
 
 pub compare_elements-returns : goal.compare_elements-returns
@@ -27,7 +27,7 @@ compare_fields-returns-then-depth-eq0 t c = search (fields-deep, rules)
 
 pub compare_fields-returns-then-is_open_yet : goal.compare_fields-returns-then-is_open_yet
 compare_fields-returns-then-is_open_yet t c =
-    let pre = c.requires.1 in
+    let pre = c.requires in
     fields_go pre.0 pre.1 c.if-depth-eq0.false c.compare_entries-own.ensures c.is_open_yet.ensures c.if-is_open_yet.true c.compare_elements-below.ensures c.compare_members.ensures
 
 pub compare_fields-returns : goal.compare_fields-returns
@@ -59,7 +59,7 @@ compare_members-compare_fields-both-requires t c =
     let inv = c.loop-x.invariant in
     let paired = c.pair.ensures in
     let both = c.in-Both.is in
-    (omega (arith, c.requires.0), (both_first inv paired both, both-second inv paired both))
+    (omega arith, (both_first inv paired both, both-second inv paired both))
 
 pub compare_members-overflow_sub-xs : goal.compare_members-overflow_sub-xs
 compare_members-overflow_sub-xs t c = search (both_left, rules)

@@ -1,5 +1,4 @@
 -- `scope::binder::bind` meets its contract.
-use lib.ListN.{length-map}
 use Rattle.scope.proofs.BinderLaws.{bind-more}
 use Rattle.scope.proofs.BinderLaws.{bind-crowded}
 use native.Mathlib.Omega.{arith}
@@ -10,4 +9,4 @@ pub returns-then-count-ge-MAX_BINDERS : goal.returns-then-count-ge-MAX_BINDERS
 returns-then-count-ge-MAX_BINDERS c = search (bind-crowded, rules)
 
 pub returns : goal.returns
-returns c = bind-more _ _ _ _ c.binder_number.ensures (omega arith) (simp length-map at c.type_inv.0.1.1.1.1.1.1.0.1.0.1)
+returns c = bind-more _ _ _ _ c.binder_number.ensures (omega arith) (omega arith)

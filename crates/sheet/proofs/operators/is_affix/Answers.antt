@@ -1,5 +1,5 @@
 -- `sheet::operators::is_affix` meets its contract.
-use Rattle.sheet.specs.OperatorLaws.{affix-early, affix-late}
+use Rattle.sheet.proofs.OperatorLaws.{affix-early, affix-late}
 use Rattle.sheet.proofs.operators.is_affix.Goals as goal
 
 pub returns-then-op-lt-STARTS_WITH : goal.returns-then-op-lt-STARTS_WITH

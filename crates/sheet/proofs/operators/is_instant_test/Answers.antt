@@ -1,5 +1,5 @@
 -- `sheet::operators::is_instant_test` meets its contract.
-use Rattle.sheet.specs.OperatorLaws.{instant-early, instant-late}
+use Rattle.sheet.proofs.OperatorLaws.{instant-early, instant-late}
 use Rattle.sheet.proofs.operators.is_instant_test.Goals as goal
 
 pub returns-then-op-lt-BEFORE : goal.returns-then-op-lt-BEFORE

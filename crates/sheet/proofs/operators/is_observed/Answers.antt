@@ -1,5 +1,5 @@
 -- `sheet::operators::is_observed` meets its contract.
-use Rattle.sheet.specs.OperatorLaws.{observed-early, observed-middle, observed-late}
+use Rattle.sheet.proofs.OperatorLaws.{observed-early, observed-middle, observed-late}
 use Rattle.sheet.proofs.operators.is_observed.Goals as goal
 
 pub returns-then-op-ge-COMPARE : goal.returns-then-op-ge-COMPARE

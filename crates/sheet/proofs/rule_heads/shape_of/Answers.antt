@@ -1,6 +1,6 @@
 -- `sheet::rule_heads::shape_of` meets its contract: test by test.
 use borrow.Author.Tests.{le-leb, lt-leb}
-use Rattle.sheet.specs.OperatorLaws.{shape_by_tests, shape-tests}
+use Rattle.sheet.proofs.OperatorLaws.{shape_by_tests, shape-tests}
 use Rattle.sheet.specs.Pieces.{shape_for}
 use Rattle.sheet.proofs.rule_heads.shape_of.Goals as goal
 

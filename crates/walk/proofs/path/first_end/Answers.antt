@@ -1,7 +1,11 @@
 -- `walk::path::first_end` meets its contract.
-use mathlib.Core.Logic.{⊎_elim}
 use Rattle.walk.proofs.Dots.{dotless-none}
 use Rattle.walk.proofs.path.first_end.Goals as goal
+use Rattle.walk.proofs.path.first_end.Goals.{then-path-ge32, else-path-ge32}
 
 pub end_after-requires : goal.end_after-requires
-end_after-requires c = ⊎_elim (λ w. rw w.2 w.1.ensures) (λ w. rw w.1 (dotless-none _)) c.if-path-ge32.branch
+end_after-requires c =
+    elim c.if-path-ge32.branch [
+      | then-path-ge32 w ↦ rw w.known-is w.dotless_start_32-known.ensures
+      | else-path-ge32 w ↦ rw w.known-is (dotless-none _)
+    ]
