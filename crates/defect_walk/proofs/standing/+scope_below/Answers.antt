@@ -4,37 +4,37 @@ use Rattle.defect_walk.proofs.ScopeSteps.{found-own, found-child, found-bad, fou
 use Rattle.defect_walk.proofs.standing.+scope_below.Goals as goal
 
 pub children_from-start-requires : goal.children_from-start-requires
-children_from-start-requires t c = (c.requires.1.0, c.requires.1.1)
+children_from-start-requires t c = (c.requires.0, c.requires.1)
 
 pub returns-then-target-start : goal.returns-then-target-start
-returns-then-target-start t c = found-own c.start_of.ensures c.operator_at-op.ensures c.children_from-start.ensures c.requires.1.2 (omega arith)
+returns-then-target-start t c = found-own c.start_of.ensures c.operator_at-op.ensures c.children_from-start.ensures c.requires.2 (omega arith)
 
 pub child_at-child-requires : goal.child_at-child-requires
-child_at-child-requires t c = (omega (arith, c.requires.1.2), c.requires.1.2)
+child_at-child-requires t c = (omega (arith, c.requires.2), c.requires.2)
 
 pub scope_below-requires : goal.scope_below-requires
-scope_below-requires t c = (omega (arith, c.requires.0, c.requires.1.0, c.child_at-child.ensures.least, c.child_at-child.ensures.most, c.child_at-child.ensures.inside, c.children_from-start.ensures.past), (c.child_at-child.ensures.inside, omega (arith, c.child_at-child.ensures.most, c.requires.1.1), c.child_at-child.ensures.holds))
+scope_below-requires t c = (omega (arith, c.requires.0, c.requires.0, c.child_at-child.ensures.least, c.child_at-child.ensures.most, c.child_at-child.ensures.inside, c.children_from-start.ensures.past), (c.child_at-child.ensures.inside, omega (arith, c.child_at-child.ensures.most, c.requires.1), c.child_at-child.ensures.holds))
 
 pub returns-then-op-le-NOT : goal.returns-then-op-le-NOT
-returns-then-op-le-NOT t c = found-child c.start_of.ensures c.operator_at-op.ensures c.children_from-start.ensures c.requires.1.2 (omega arith) c.child_at-child.ensures (omega arith) c.scope_below.ensures
+returns-then-op-le-NOT t c = found-child c.start_of.ensures c.operator_at-op.ensures c.children_from-start.ensures c.requires.2 (omega arith) c.child_at-child.ensures (omega arith) c.scope_below.ensures
 
 pub returns-in_default : goal.returns-in_default
-returns-in_default t c = found-bad c.start_of.ensures c.operator_at-op.ensures c.children_from-start.ensures c.requires.1.2 (omega arith) c.child_at-child.ensures (omega arith) c.bind_of.ensures c.in_default.is
+returns-in_default t c = found-bad c.start_of.ensures c.operator_at-op.ensures c.children_from-start.ensures c.requires.2 (omega arith) c.child_at-child.ensures (omega arith) c.bind_of.ensures c.in_default.is
 
 pub overflow_add-i : goal.overflow_add-i
-overflow_add-i t c = omega (arith, c.requires.1.0, c.requires.1.1)
+overflow_add-i t c = omega (arith, c.requires.0, c.requires.1)
 
 pub scope_below-requires-in-Known : goal.scope_below-requires-in-Known
-scope_below-requires-in-Known t c = (omega (arith, c.requires.0, c.requires.1.0, c.child_at-child.ensures.least, c.child_at-child.ensures.most, c.child_at-child.ensures.inside, c.children_from-start.ensures.past), (c.child_at-child.ensures.inside, omega (arith, c.child_at-child.ensures.most, c.requires.1.1), c.child_at-child.ensures.holds))
+scope_below-requires-in-Known t c = (omega (arith, c.requires.0, c.requires.0, c.child_at-child.ensures.least, c.child_at-child.ensures.most, c.child_at-child.ensures.inside, c.children_from-start.ensures.past), (c.child_at-child.ensures.inside, omega (arith, c.child_at-child.ensures.most, c.requires.1), c.child_at-child.ensures.holds))
 
 pub scope_below-requires-in-Unknown : goal.scope_below-requires-in-Unknown
-scope_below-requires-in-Unknown t c = (omega (arith, c.requires.0, c.requires.1.0, c.child_at-child.ensures.least, c.child_at-child.ensures.most, c.child_at-child.ensures.inside, c.children_from-start.ensures.past), (c.child_at-child.ensures.inside, omega (arith, c.child_at-child.ensures.most, c.requires.1.1), c.child_at-child.ensures.holds))
+scope_below-requires-in-Unknown t c = (omega (arith, c.requires.0, c.requires.0, c.child_at-child.ensures.least, c.child_at-child.ensures.most, c.child_at-child.ensures.inside, c.children_from-start.ensures.past), (c.child_at-child.ensures.inside, omega (arith, c.child_at-child.ensures.most, c.requires.1), c.child_at-child.ensures.holds))
 
 pub returns-in-Known : goal.returns-in-Known
-returns-in-Known t c = found-known c.start_of.ensures c.operator_at-op.ensures c.children_from-start.ensures c.requires.1.2 (omega (arith, c.if-target-start.false)) c.child_at-child.ensures (omega (arith, c.if-op-le-NOT.false)) c.bind_of.ensures c.in-Is.is c.collection_of.ensures c.in-Known.is c.bind-inner.ensures c.scope_below-in-Known.ensures
+returns-in-Known t c = found-known c.start_of.ensures c.operator_at-op.ensures c.children_from-start.ensures c.requires.2 (omega (arith, c.if-target-start.false)) c.child_at-child.ensures (omega (arith, c.if-op-le-NOT.false)) c.bind_of.ensures c.in-Is.is c.collection_of.ensures c.in-Known.is c.bind-inner.ensures c.scope_below-in-Known.ensures
 
 pub returns-in-Unknown : goal.returns-in-Unknown
-returns-in-Unknown t c = found-unknown c.start_of.ensures c.operator_at-op.ensures c.children_from-start.ensures c.requires.1.2 (omega (arith, c.if-target-start.false)) c.child_at-child.ensures (omega (arith, c.if-op-le-NOT.false)) c.bind_of.ensures c.in-Is.is c.collection_of.ensures c.in-Unknown.is c.bind-inner-in-Unknown.ensures c.scope_below-in-Unknown.ensures
+returns-in-Unknown t c = found-unknown c.start_of.ensures c.operator_at-op.ensures c.children_from-start.ensures c.requires.2 (omega (arith, c.if-target-start.false)) c.child_at-child.ensures (omega (arith, c.if-op-le-NOT.false)) c.bind_of.ensures c.in-Is.is c.collection_of.ensures c.in-Unknown.is c.bind-inner-in-Unknown.ensures c.scope_below-in-Unknown.ensures
 
 pub returns-in-No : goal.returns-in-No
-returns-in-No t c = found_none c.start_of.ensures c.operator_at-op.ensures c.children_from-start.ensures c.requires.1.2 (omega arith) c.child_at-child.ensures (omega arith) c.bind_of.ensures c.in-Is.is c.collection_of.ensures c.in-No.is
+returns-in-No t c = found_none c.start_of.ensures c.operator_at-op.ensures c.children_from-start.ensures c.requires.2 (omega arith) c.child_at-child.ensures (omega arith) c.bind_of.ensures c.in-Is.is c.collection_of.ensures c.in-No.is

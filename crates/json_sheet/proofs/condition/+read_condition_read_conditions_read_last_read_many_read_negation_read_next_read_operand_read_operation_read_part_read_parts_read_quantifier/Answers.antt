@@ -32,7 +32,7 @@ pub read_condition-returns : goal.read_condition-returns
 read_condition-returns t c = is-literal c.args.s.now c.args.at c.args.depth c.if-s-at.false c.read_literal.result _ _ _ c.if-s-at-eq123.false c.read_literal.ensures
 
 pub read_conditions-loop-next-init : goal.read_conditions-loop-next-init
-read_conditions-loop-next-init t c = walking_start _ _ _ _ _ _ _ _ c.args.s.now c.args.at c.args.out.now c.args.o (omega arith) c.requires.1.0 c.requires.1.1
+read_conditions-loop-next-init t c = walking_start _ _ _ _ _ _ _ _ c.args.s.now c.args.at c.args.out.now c.args.o (omega arith) c.requires.0 c.requires.1
 
 pub read_conditions-read_condition-requires : goal.read_conditions-read_condition-requires
 read_conditions-read_condition-requires t c = (omega (arith, c.requires.0), tt)

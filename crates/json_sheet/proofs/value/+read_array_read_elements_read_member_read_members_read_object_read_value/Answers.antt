@@ -21,7 +21,7 @@ pub read_array-returns : goal.read_array-returns
 read_array-returns t c = array-given (value c.args.depth) c.args.s.now c.args.at c.behind_spaces-i.result c.behind_spaces-i.ensures (omega (arith, c.type_inv)) c.lay-count.ensures c.lay-start.ensures (rw c.if-starts_with.false at c.starts_with.ensures) (rw c.in-Good.is at c.read_elements.ensures) c.recount.ensures
 
 pub read_elements-loop-next-init : goal.read_elements-loop-next-init
-read_elements-loop-next-init t c = walking_start _ _ _ _ _ _ _ _ c.args.s.now c.args.at c.args.out.now c.args.o (omega arith) c.requires.1.0 c.requires.1.1
+read_elements-loop-next-init t c = walking_start _ _ _ _ _ _ _ _ c.args.s.now c.args.at c.args.out.now c.args.o (omega arith) c.requires.0 c.requires.1
 
 pub read_elements-read_value-requires : goal.read_elements-read_value-requires
 read_elements-read_value-requires t c = (omega (arith, c.requires.0), tt)
@@ -72,7 +72,7 @@ pub read_member-returns : goal.read_member-returns
 read_member-returns t c = member_is (value c.args.depth) c.args.s.now c.args.at _ _ c.args.out.now _ _ _ _ (omega arith) (rw c.in-Is.is at c.read_key.ensures) c.lay_headed-e.ensures c.read_value.result c.read_value.ensures
 
 pub read_members-loop-next-init : goal.read_members-loop-next-init
-read_members-loop-next-init t c = walking_start _ _ _ _ _ _ _ _ c.args.s.now c.args.at c.args.out.now c.args.o (omega arith) c.requires.1.0 c.requires.1.1
+read_members-loop-next-init t c = walking_start _ _ _ _ _ _ _ _ c.args.s.now c.args.at c.args.out.now c.args.o (omega arith) c.requires.0 c.requires.1
 
 pub read_members-read_member-requires : goal.read_members-read_member-requires
 read_members-read_member-requires t c = (omega (arith, c.requires.0), tt)

@@ -8,13 +8,13 @@ pub loop-j-init : goal.loop-j-init
 loop-j-init t c = leads-start (omega arith)
 
 pub children_from-inner-requires : goal.children_from-inner-requires
-children_from-inner-requires t c = (c.behind-next.ensures.past c.loop-j-test.true, omega (arith, c.behind-next.ensures.most, c.requires.1))
+children_from-inner-requires t c = (c.behind-next.ensures.past c.loop-j-test.true, omega (arith, c.behind-next.ensures.most, c.requires))
 
 pub lay_front-a-requires : goal.lay_front-a-requires
-lay_front-a-requires t c = omega (arith, c.loop-j-test.true, c.requires.1)
+lay_front-a-requires t c = omega (arith, c.loop-j-test.true, c.requires)
 
 pub lay_conditions-b-requires : goal.lay_conditions-b-requires
-lay_conditions-b-requires t c = (omega (arith, c.requires.0, c.behind-next.ensures.most, c.children_from-inner.ensures.past, c.loop-j.invariant.forward, c.loop-j-test.true), omega (arith, c.behind-next.ensures.most, c.requires.1))
+lay_conditions-b-requires t c = (omega (arith, c.requires.0, c.behind-next.ensures.most, c.children_from-inner.ensures.past, c.loop-j.invariant.forward, c.loop-j-test.true), omega (arith, c.behind-next.ensures.most, c.requires))
 
 pub loop-j-smaller : goal.loop-j-smaller
 loop-j-smaller t c = omega (arith, c.behind-next.ensures.most, c.behind-next.ensures.past c.loop-j-test.true)
