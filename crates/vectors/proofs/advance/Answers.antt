@@ -5,19 +5,19 @@ use mathlib.Core.Path.{refl}
 use Rattle.vectors.proofs.advance.Goals as goal
 
 pub overflow_add-result : goal.overflow_add-result
-overflow_add-result c =
+overflow_add-result g c =
     let r = rw c.in-Whole.is at c.replay.ensures in
-    omega (arith, r.lies.within, r.ends)
+    omega (arith, r.lies.within, r.ends, c.in_ok-f.ensures.ok.within)
 
 pub overflow_sub-result : goal.overflow_sub-result
-overflow_sub-result c =
+overflow_sub-result g c =
     let r = rw c.in-Whole.is at c.replay.ensures in
-    omega (arith, r.lies.within, r.ends)
+    omega (arith, r.lies.within, r.ends, c.in_ok-f.ensures.ok.within)
 
-pub returns : goal.returns
-returns c =
+pub returns-clause-ok : goal.returns-clause-ok
+returns-clause-ok g c =
     let r = rw c.in-Whole.is at c.replay.ensures in
-    let f = c.refill-f.result in
+    let f = c.in_ok-f.f in
     record {
       start = f.start;
       end = f.start + f.len;
@@ -25,5 +25,5 @@ returns c =
       replays = r;
       left = refl;
       ends = omega (arith, r.lies.within, r.ends);
-      within = record { within = omega (arith, r.lies.within, r.ends, c.refill-f.ensures.within) };
+      within = record { within = omega (arith, r.lies.within, r.ends, c.in_ok-f.ensures.ok.within) };
     }

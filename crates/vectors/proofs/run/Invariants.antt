@@ -6,7 +6,7 @@ use Rattle.vectors.specs.Found.{Within}
 use Rattle.vectors.proofs.run.Given as goal
 
 abbrev pub invariant-loop-cases : goal.invariant-loop-cases
-invariant-loop-cases l = Within l.buffer l.w × (l.agreed ≤ l.cases) × (l.cases ≤ 65536) × (length l.buffer ≡ length l.initial.buffer)
+invariant-loop-cases g l = Within l.buffer l.w × (l.agreed ≤ l.cases) × (l.cases ≤ 65536) × (length l.buffer ≡ length l.initial.buffer)
 
 abbrev pub decreases-loop-cases : goal.decreases-loop-cases
-decreases-loop-cases l = 65536 - l.cases
+decreases-loop-cases g l = 65536 - l.cases
