@@ -111,16 +111,20 @@ no-mark marks e h = rw h
 
 module _ (setting : Setting) (t : Tree.Schema) (cs : List Check) (k : ℕ) (found : List ℕ) where
   rounds-pass : (v : Verdict) → RoundIs Passed v → judged_open setting t cs found ≡ v → rounds setting t cs (suc k) found ≡ some found
+  rounds-pass (fails_at passed c why) r e = elim r [ ]
   rounds-pass (all_pass n) r e = round-passes setting t cs k found n e
 
   rounds-far : (at : ℕ) (v : Verdict) → RoundIs (Refused at) v → judged_open setting t cs found ≡ v → max_schema_entries < at → rounds setting t cs (suc k) found ≡ none
+  rounds-far at (all_pass passed) r e h = elim r [ ]
   rounds-far at (fails_at n c why) r e h = round-ends-past setting t cs k found n c why e (rw r h)
 
   rounds-vain : (at : ℕ) (v : Verdict) → RoundIs (Refused at) v → judged_open setting t cs found ≡ v → is_in found at ≡ true → rounds setting t cs (suc k) found ≡ none
+  rounds-vain at (all_pass passed) r e h = elim r [ ]
   rounds-vain at (fails_at n c why) r e h = round-ends setting t cs k found n c why e (rw r h)
 
   rounds-more : (at : ℕ) (v : Verdict) → RoundIs (Refused at) v → judged_open setting t cs found ≡ v → at ≤ max_schema_entries → is_in found at ≡ false
       → rounds setting t cs (suc k) found ≡ rounds setting t cs k (at ∷ found)
+  rounds-more at (all_pass passed) r e low new = elim r [ ]
   rounds-more at (fails_at n c why) r e low new =
       round-opens setting t cs k found n c why e (rw r low) (rw r new) ∙ ap (λ (y : ℕ). rounds setting t cs k (y ∷ found)) r
 

@@ -1,3 +1,4 @@
+use native.Mathlib.Omega.{arith}
 use Rattle.text.specs.Ascii.{ascii}
 use Rattle.defect_path.proofs.Names.{name-first}
 use Rattle.sheet.specs.Operators.{operator_name}
@@ -29,4 +30,4 @@ returns-in-7 c = rw c.in-7.is c.put-in-7.ensures
 
 pub returns-in_default : goal.returns-in_default
 unfolding operator_name ascii
-returns-in_default c = rw (name-first _ c.requires c.in_default.in_default-own.rest.0.0.0.0.0.1 c.in_default.in_default-own.rest.0.0.0.0.1 c.in_default.in_default-own.rest.0.0.0.1 c.in_default.in_default-own.rest.0.0.1 c.in_default.in_default-own.rest.0.1 c.in_default.in_default-own.rest.1) c.put-in_default.ensures
+returns-in_default c = rw (name-first _ c.requires (omega arith) (omega arith) (omega arith) (omega arith) (omega arith) (omega arith)) c.put-in_default.ensures

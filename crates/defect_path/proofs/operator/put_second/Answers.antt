@@ -1,3 +1,4 @@
+use native.Mathlib.Omega.{arith}
 use Rattle.text.specs.Ascii.{ascii}
 use Rattle.defect_path.proofs.Names.{op-in}
 use Rattle.sheet.specs.Operators.{operator_name}
@@ -29,4 +30,4 @@ returns-in-13 c = rw c.in-13.is c.put-in-13.ensures
 
 pub returns-in_default : goal.returns-in_default
 unfolding operator_name ascii
-returns-in_default c = rw (op-in _ c.requires.0 c.requires.1 c.in_default.in_default-own.rest.0.0.0.0.0.1 c.in_default.in_default-own.rest.0.0.0.0.1 c.in_default.in_default-own.rest.0.0.0.1 c.in_default.in_default-own.rest.0.0.1 c.in_default.in_default-own.rest.0.1 c.in_default.in_default-own.rest.1) c.put-in_default.ensures
+returns-in_default c = rw (op-in _ c.requires.0 c.requires.1 (omega arith) (omega arith) (omega arith) (omega arith) (omega arith) (omega arith)) c.put-in_default.ensures

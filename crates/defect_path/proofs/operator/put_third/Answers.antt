@@ -1,3 +1,4 @@
+use native.Mathlib.Omega.{arith}
 use Rattle.text.specs.Ascii.{ascii}
 use Rattle.sheet.specs.Operators.{operator_name}
 use Rattle.defect_path.proofs.Names.{name-last}
@@ -29,4 +30,4 @@ returns-in-20 c = rw c.in-20.is c.put-in-20.ensures
 
 pub returns-in_default : goal.returns-in_default
 unfolding operator_name ascii
-returns-in_default c = rw (name-last _ c.requires c.in_default.in_default-own.rest.0.0.0.0.0.1 c.in_default.in_default-own.rest.0.0.0.0.1 c.in_default.in_default-own.rest.0.0.0.1 c.in_default.in_default-own.rest.0.0.1 c.in_default.in_default-own.rest.0.1 c.in_default.in_default-own.rest.1) c.put-in_default.ensures
+returns-in_default c = rw (name-last _ c.requires (omega arith) (omega arith) (omega arith) (omega arith) (omega arith) (omega arith)) c.put-in_default.ensures

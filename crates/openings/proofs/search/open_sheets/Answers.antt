@@ -10,4 +10,4 @@ pub returns-in_default-read_rule : goal.returns-in_default-read_rule
 returns-in_default-read_rule c = no-rule c.read_schema.ensures c.in-Good.is c.read_rule.ensures c.in_default-read_rule.is c.refused-in_default-read_rule.ensures
 
 pub returns : goal.returns
-returns c = sheets-listed c.read_schema.ensures c.in-Good.is c.read_rule.ensures c.in-Good-read_rule.is c.list_marks.new.sheet c.requires.0 c.put-end.ensures refl refl c.list_marks.auto.1.1.1.0 c.list_marks.ensures
+returns c = sheets-listed c.read_schema.ensures c.in-Good.is c.read_rule.ensures c.in-Good-read_rule.is c.list_marks.new.sheet c.requires.0 c.put-end.ensures refl refl c.list_marks.auto.sheet c.list_marks.ensures

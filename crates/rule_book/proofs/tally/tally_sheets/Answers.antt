@@ -37,7 +37,7 @@ pub overflow_add-counts : goal.overflow_add-counts
 overflow_add-counts c =
     let sheet = rw c.in-Is.is at c.next_sheet.ensures in
     let ready = c.requires in
-    omega (arith, c.type_inv.1.1.1.1.0, step_counts c.loop-at.invariant ready.small ready.room sheet c.bytes_of-sheet.ensures c.check_sheet-o.ensures)
+    omega (arith, c.type_inv.book, step_counts c.loop-at.invariant ready.small ready.room sheet c.bytes_of-sheet.ensures c.check_sheet-o.ensures)
 
 pub bounds-counts-number-in-loop-at : goal.bounds-counts-number-in-loop-at
 bounds-counts-number-in-loop-at c =
@@ -49,13 +49,13 @@ pub overflow_add-passed : goal.overflow_add-passed
 overflow_add-passed c =
     let sheet = rw c.in-Is.is at c.next_sheet.ensures in
     let ready = c.requires in
-    omega (arith, c.type_inv.1.1.1.1.0, step-passes c.loop-at.invariant ready.small ready.room sheet c.bytes_of-sheet.ensures c.check_sheet-o.ensures)
+    omega (arith, c.type_inv.book, step-passes c.loop-at.invariant ready.small ready.room sheet c.bytes_of-sheet.ensures c.check_sheet-o.ensures)
 
 pub overflow_add-sheets : goal.overflow_add-sheets
 overflow_add-sheets c =
     let sheet = rw c.in-Is.is at c.next_sheet.ensures in
     let ready = c.requires in
-    omega (arith, c.type_inv.1.1.1.1.0, step-reads c.loop-at.invariant ready.small ready.room sheet c.bytes_of-sheet.ensures c.check_sheet-o.ensures)
+    omega (arith, c.type_inv.book, step-reads c.loop-at.invariant ready.small ready.room sheet c.bytes_of-sheet.ensures c.check_sheet-o.ensures)
 
 pub loop-at-smaller : goal.loop-at-smaller
 loop-at-smaller c =
