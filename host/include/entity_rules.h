@@ -12,10 +12,10 @@
 #define ENTITY_RULES_H
 
 /* The version of this header and of the crate. */
-#define ENTITY_RULES_VERSION "0.4.0"
+#define ENTITY_RULES_VERSION "0.3.0"
 
 /* The same as the library's rulecheck_version() answers it. */
-#define ENTITY_RULES_VERSION_NUMBER 0x000400u
+#define ENTITY_RULES_VERSION_NUMBER 0x000300u
 
 #include <stddef.h>
 #include <stdint.h>

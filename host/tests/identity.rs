@@ -75,7 +75,7 @@ fn the_linked_archive_is_named() {
         .expect("the tool runs");
     let text = String::from_utf8(output.stdout).expect("UTF-8");
     assert!(
-        text.starts_with("entity-rules 0.4.0\n  functions 0.4.0\n"),
+        text.starts_with("entity-rules 0.3.0\n  functions 0.3.0\n"),
         "{text}"
     );
     assert!(
