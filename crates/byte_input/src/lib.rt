@@ -25,3 +25,58 @@ pub fn read_full<R: Read>(reader: &mut R, buffer: &mut [u8]) -> io::Result<usize
     }
     Ok(done)
 }
+
+#[cfg(test)]
+mod tests {
+    use super::*;
+    use std::io::{Error, ErrorKind};
+    use std::test::Fail;
+
+    // Gives a byte at each read, and fails at the one after the third.
+    #[derive(Drop)]
+    struct Dripping(u8);
+
+    impl Read for Dripping {
+        fn read(&mut self, buf: &mut [u8]) -> io::Result<usize> {
+            if self.0 >= 3 {
+                return Err(Error::from(ErrorKind::BrokenPipe));
+            }
+            if buf.is_empty() {
+                return Ok(0);
+            }
+            self.0 += 1;
+            buf[0] = self.0;
+            Ok(1)
+        }
+    }
+
+    #[test]
+    fn reads_to_the_end(rt: HostRuntime) -> Result<(), Fail> {
+        let mut bytes = "abc".as_bytes();
+        let mut buffer = [0u8; 4];
+        assert_eq!(rt; read_full(&mut bytes, &mut buffer)?, 3);
+        assert_eq!(rt; buffer, [97, 98, 99, 0]);
+        Ok(())
+    }
+
+    #[test]
+    fn reads_no_more_than_has_room(rt: HostRuntime) -> Result<(), Fail> {
+        let mut bytes = "abcde".as_bytes();
+        let mut buffer = [0u8; 4];
+        assert_eq!(rt; read_full(&mut bytes, &mut buffer)?, 4);
+        assert_eq!(rt; bytes.len(), 1);
+        Ok(())
+    }
+
+    #[test]
+    fn stops_at_an_error(rt: HostRuntime) -> Result<(), Fail> {
+        let mut few = [0u8; 3];
+        assert_eq!(rt; read_full(&mut Dripping(0), &mut few)?, 3);
+        assert_eq!(rt; few, [1, 2, 3]);
+        let mut more = [0u8; 4];
+        let failed = read_full(&mut Dripping(0), &mut more).is_err();
+        assert!(rt; failed);
+        assert_eq!(rt; more, [1, 2, 3, 0]);
+        Ok(())
+    }
+}

@@ -31,7 +31,7 @@ put_pages-requires c =
       given a.kind a.semantics a.label.now a.table.now a.schema.now a.book.now a.path.now a.pages.now a.scratch.now
           c.refused_settings-number.ensures c.if-number-ne0.false counted c.page_count-count.ensures,
       few a.kind a.semantics a.label.now a.table.now a.schema.now a.book.now a.path.now a.pages.now a.scratch.now
-          c.refused_settings-number.ensures c.if-number-ne0.false counted c.page_count-count.ensures (omega (arith, c.type_inv.1.1.1.1.1.0)),
+          c.refused_settings-number.ensures c.if-number-ne0.false counted c.page_count-count.ensures (omega (arith, c.type_inv.book)),
     )
 
 pub returns-in-Refused : goal.returns-in-Refused
