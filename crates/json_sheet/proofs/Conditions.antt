@@ -205,7 +205,9 @@ module _ (d : ℕ) {s : List ℕ} {at i : ℕ} (k : SpacesTo s at i) where
 module _ (op d : ℕ) (s : List ℕ) (at : ℕ) where
   pub no_operand : op ≤ 1 → Refuses (operand_in (shape_of op) op d) s at
   unfolding shape_by_tests operand_in flat deep refuse
-  no_operand h = subst (λ (sh : Shape). Refuses (operand_in sh op d) s at) (sym (rw (shape-tests op, le-leb op 1 h))) (go d)
+  no_operand h =
+      let e : shape_of op ≡ Operators.literal = rw (shape-tests op, le-leb op 1 h) in
+      subst (λ (sh : Shape). Refuses (operand_in sh op d) s at) (sym e) (go d)
     where
       go : (d : ℕ) → Refuses (operand_in Operators.literal op d) s at
       go zero = refl

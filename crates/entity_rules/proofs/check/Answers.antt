@@ -9,6 +9,6 @@ pub returns : goal.returns
 returns c =
     let a = c.args in
     let last = c.validate_under-outcome.new in
-    answered a.takes a.kind a.semantics a.label.now a.schema.now a.rule.now a.path.now a.result.now
+    answered a.takes a.kind a.semantics a.label.now a.schema.now a.rule.now a.path.now a.res.now
     c.validate_under-outcome.result last.path last.scratch
     c.setting.ensures c.setting-2.ensures c.path_lent-lent.ensures c.validate_under-outcome.ensures c.write_result.ensures

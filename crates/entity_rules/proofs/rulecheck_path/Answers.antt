@@ -9,6 +9,6 @@ slice_bounds-scratch-end c = rw c.path_lent-lent.ensures (lent-within _ _ _)
 pub returns : goal.returns
 returns c =
     let a = c.args in
-    key-answered a.semantics a.reader a.path.now a.schema.now a.result.now
+    key-answered a.semantics a.reader a.path.now a.schema.now a.res.now
     c.validate_path-key.result _
     c.setting.ensures c.setting-2.ensures c.path_lent-lent.ensures c.validate_path-key.ensures c.write_result.ensures

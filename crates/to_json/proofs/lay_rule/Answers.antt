@@ -9,7 +9,7 @@ pub returns-in_default : goal.returns-in_default
 returns-in_default c = rule-unread c.start_of.ensures (rw c.in_default.is at c.rule_head.ensures)
 
 pub shape_of-out : goal.shape_of-out
-shape_of-out c = c.lay_message.ensures.len ∙ c.lay_conditions-b.auto.1.1.1.1.0 ∙ c.lay_name-a.ensures.len
+shape_of-out c = c.lay_message.ensures.len ∙ c.lay_conditions-b.auto.out ∙ c.lay_name-a.ensures.len
 
 pub returns-in-Rule : goal.returns-in-Rule
 unfolding rule_of

@@ -19,7 +19,7 @@ pub lay_rule-requires : goal.lay_rule-requires
 lay_rule-requires c = omega (arith, (rw c.in-Good.is at c.read_rule.ensures).within)
 
 pub shape_of-json : goal.shape_of-json
-shape_of-json c = c.lay_rule.auto.1.1.1.0
+shape_of-json c = c.lay_rule.auto.out
 
 pub returns : goal.returns
 returns c = answered-told (rw c.in-Good.is at c.read_rule.ensures) c.if-read.false c.lay_rule-size.ensures c.if-json-size.false c.lay_rule.ensures c.narrow.ensures

@@ -15,7 +15,7 @@ pub returns : goal.returns
 returns c =
     let a = c.args in
     let last = c.tally-numbers.new in
-    tally-answered a.kind a.semantics a.label.now a.table.now a.schema.now a.book.now a.path.now a.result.now
+    tally-answered a.kind a.semantics a.label.now a.table.now a.schema.now a.book.now a.path.now a.res.now
     c.tally-numbers.result last.path last.scratch
     c.setting.ensures c.setting-2.ensures c.path_lent-lent.ensures c.tally-numbers.ensures
     (omega arith) c.write_counts.ensures refl

@@ -10,6 +10,6 @@ pub returns : goal.returns
 returns c =
     let a = c.args in
     let last = c.validate_explained-explained.new in
-    explain-answered a.kind a.semantics a.label.now a.table.now a.schema.now a.rule.now a.path.now a.marks.now a.message.now a.result.now
+    explain-answered a.kind a.semantics a.label.now a.table.now a.schema.now a.rule.now a.path.now a.marks.now a.message.now a.res.now
     c.validate_explained-explained.result last.path last.marks last.message last.scratch
     c.setting.ensures c.setting-2.ensures c.path_lent-lent.ensures c.validate_explained-explained.ensures c.write_explained.ensures

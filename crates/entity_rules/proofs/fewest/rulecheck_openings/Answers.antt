@@ -11,6 +11,6 @@ pub returns : goal.returns
 returns c =
     let a = c.args in
     let last = c.fewest_marks-numbers.new in
-    open-answered a.kind a.semantics a.table.now a.schema.now a.rule.now a.path.now a.list.now a.result.now
+    open-answered a.kind a.semantics a.table.now a.schema.now a.rule.now a.path.now a.list.now a.res.now
     c.fewest_marks-numbers.result last.path last.list last.scratch
     c.setting.ensures c.setting-2.ensures c.path_lent-lent.ensures c.fewest_marks-numbers.ensures c.write_numbers.ensures refl

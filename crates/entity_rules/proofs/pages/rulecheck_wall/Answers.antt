@@ -15,7 +15,7 @@ pub returns : goal.returns
 returns c =
     let a = c.args in
     let last = c.wall-numbers.new in
-    wall-answered a.kind a.semantics a.label.now a.table.now a.schema.now a.book.now a.path.now a.pages.now a.result.now
+    wall-answered a.kind a.semantics a.label.now a.table.now a.schema.now a.book.now a.path.now a.pages.now a.res.now
     c.wall-numbers.result last.path last.pages last.scratch
     c.setting.ensures c.setting-2.ensures c.path_lent-lent.ensures c.wall-numbers.ensures
     (omega arith) c.write_counts.ensures refl

@@ -9,6 +9,6 @@ pub returns : goal.returns
 returns c =
     let a = c.args in
     let last = c.validate_marked-report.new in
-    check-answered a.kind a.semantics a.label.now a.table.now a.schema.now a.rule.now a.path.now a.marks.now a.result.now
+    check-answered a.kind a.semantics a.label.now a.table.now a.schema.now a.rule.now a.path.now a.marks.now a.res.now
     c.validate_marked-report.result last.path last.marks last.scratch
     c.setting.ensures c.setting-2.ensures c.path_lent-lent.ensures c.validate_marked-report.ensures c.write_report.ensures

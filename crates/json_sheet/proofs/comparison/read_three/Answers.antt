@@ -5,19 +5,19 @@ use Rattle.json_sheet.proofs.Comparing.{three-unread, three-second, three_third,
 use Rattle.json_sheet.proofs.comparison.read_three.Goals as goal
 
 pub shape_of-out-in_default : goal.shape_of-out-in_default
-shape_of-out-in_default c = c.read_next.auto.1.1.1.0
+shape_of-out-in_default c = c.read_next.auto.out
 
 pub returns-in_default : goal.returns-in_default
 returns-in_default c = three-unread c.args.depth c.behind_spaces-i.ensures (rw c.in_default.is at c.read_next.ensures)
 
 pub shape_of-out-in_default-read_next : goal.shape_of-out-in_default-read_next
-shape_of-out-in_default-read_next c = c.read_next-2.auto.1.1.1.0 ∙ c.read_next.auto.1.1.1.0
+shape_of-out-in_default-read_next c = c.read_next-2.auto.out ∙ c.read_next.auto.out
 
 pub returns-in_default-read_next : goal.returns-in_default-read_next
 returns-in_default-read_next c = three-second c.args.depth c.behind_spaces-i.ensures (rw c.in-Good.is at c.read_next.ensures) (rw c.in_default-read_next.is at c.read_next-2.ensures)
 
 pub shape_of-out-in_default-read_last : goal.shape_of-out-in_default-read_last
-shape_of-out-in_default-read_last c = c.read_last.auto.1.1.1.0 ∙ c.read_next-2.auto.1.1.1.0 ∙ c.read_next.auto.1.1.1.0
+shape_of-out-in_default-read_last c = c.read_last.auto.out ∙ c.read_next-2.auto.out ∙ c.read_next.auto.out
 
 pub returns-in_default-read_last : goal.returns-in_default-read_last
 returns-in_default-read_last c = three_third c.args.depth c.behind_spaces-i.ensures (rw c.in-Good.is at c.read_next.ensures) (rw c.in-Good-read_next.is at c.read_next-2.ensures) (rw c.in_default-read_last.is at c.read_last.ensures)
@@ -35,13 +35,13 @@ pub overflow_add-result-then-a-b-eq-ALL : goal.overflow_add-result-then-a-b-eq-A
 overflow_add-result-then-a-b-eq-ALL c = let few = three-few c.args.depth c.behind_spaces-i.ensures (rw c.in-Good.is at c.read_next.ensures) (rw c.in-Good-read_next.is at c.read_next-2.ensures) (rw c.in-Good-read_last.is at c.read_last.ensures) in omega (arith, few.3, few.4, few.5)
 
 pub shape_of-out-then-a-b-eq-ALL : goal.shape_of-out-then-a-b-eq-ALL
-shape_of-out-then-a-b-eq-ALL c = c.read_last.auto.1.1.1.0 ∙ c.read_next-2.auto.1.1.1.0 ∙ c.read_next.auto.1.1.1.0
+shape_of-out-then-a-b-eq-ALL c = c.read_last.auto.out ∙ c.read_next-2.auto.out ∙ c.read_next.auto.out
 
 pub returns-then-a-b-eq-ALL : goal.returns-then-a-b-eq-ALL
 returns-then-a-b-eq-ALL c = three-given c.args.depth c.behind_spaces-i.ensures (rw c.in-Good.is at c.read_next.ensures) (rw c.in-Good-read_next.is at c.read_next-2.ensures) (rw c.in-Good-read_last.is at c.read_last.ensures) (omega (arith, c.type_inv)) (omega (arith, c.if-a-b-eq-ALL.true)) c.middle_of.ensures
 
 pub shape_of-out : goal.shape_of-out
-shape_of-out c = c.read_last.auto.1.1.1.0 ∙ c.read_next-2.auto.1.1.1.0 ∙ c.read_next.auto.1.1.1.0
+shape_of-out c = c.read_last.auto.out ∙ c.read_next-2.auto.out ∙ c.read_next.auto.out
 
 pub returns : goal.returns
 returns c = three-other c.args.depth c.behind_spaces-i.ensures (rw c.in-Good.is at c.read_next.ensures) (rw c.in-Good-read_next.is at c.read_next-2.ensures) (rw c.in-Good-read_last.is at c.read_last.ensures) (omega (arith, c.type_inv)) c.if-a-b-eq-ALL.false

@@ -23,7 +23,7 @@ pub read_condition-returns-then-depth-eq0 : goal.read_condition-returns-then-dep
 read_condition-returns-then-depth-eq0 t c = condition-flat c.args.s.now c.args.at c.args.depth c.if-s-at.false c.if-s-at-eq123.true c.if-depth-eq0.true
 
 pub read_condition-read_operation-requires : goal.read_condition-read_operation-requires
-read_condition-read_operation-requires t c = (omega (arith, c.requires.0, c.if-depth-eq0.false), omega arith)
+read_condition-read_operation-requires t c = omega arith
 
 pub read_condition-returns-then-s-at-eq123 : goal.read_condition-returns-then-s-at-eq123
 read_condition-returns-then-s-at-eq123 t c = is-operation c.args.s.now c.args.at c.args.depth c.if-s-at.false c.read_operation.result _ _ _ c.if-s-at-eq123.true c.if-depth-eq0.false c.read_operation.ensures
@@ -34,11 +34,8 @@ read_condition-returns t c = is-literal c.args.s.now c.args.at c.args.depth c.if
 pub read_conditions-loop-next-init : goal.read_conditions-loop-next-init
 read_conditions-loop-next-init t c = walking_start _ _ _ _ _ _ _ _ c.args.s.now c.args.at c.args.out.now c.args.o (omega arith) c.requires.0 c.requires.1
 
-pub read_conditions-read_condition-requires : goal.read_conditions-read_condition-requires
-read_conditions-read_condition-requires t c = (omega (arith, c.requires.0), tt)
-
 pub read_conditions-shape_of-out-in_default : goal.read_conditions-shape_of-out-in_default
-read_conditions-shape_of-out-in_default t c = c.read_condition.auto.1.1.1.0 ∙ c.loop-next.invariant.len
+read_conditions-shape_of-out-in_default t c = c.read_condition.auto.out ∙ c.loop-next.invariant.len
 
 pub read_conditions-returns-in_default : goal.read_conditions-returns-in_default
 read_conditions-returns-in_default t c = walking-unread _ _ _ _ _ _ _ _ (conditions-kind (streamed c.args.depth)) c.args.s.now c.args.at c.args.out.now c.loop-next.out c.args.o c.loop-next.i c.loop-next.e c.loop-next.n c.loop-next.invariant (rw c.in_default.is at c.read_condition.ensures)
@@ -56,19 +53,16 @@ pub read_conditions-loop-next-preserved : goal.read_conditions-loop-next-preserv
 read_conditions-loop-next-preserved t c = let g = rw c.in-Good.is at c.read_condition.ensures in walking-more _ _ _ _ _ _ _ _ (conditions-kind (streamed c.args.depth)) c.args.s.now c.args.at c.args.out.now c.loop-next.out c.args.o c.loop-next.i c.loop-next.e c.loop-next.n c.loop-next.invariant g.tree (omega arith) g.read g.lies (rw c.in-More.is at c.read_separator.ensures)
 
 pub read_conditions-shape_of-out-in-End : goal.read_conditions-shape_of-out-in-End
-read_conditions-shape_of-out-in-End t c = c.read_condition.auto.1.1.1.0 ∙ c.loop-next.invariant.len
+read_conditions-shape_of-out-in-End t c = c.read_condition.auto.out ∙ c.loop-next.invariant.len
 
 pub read_conditions-returns-in-End : goal.read_conditions-returns-in-End
 read_conditions-returns-in-End t c = let g = rw c.in-Good.is at c.read_condition.ensures in walking-end _ _ _ _ _ _ _ _ (conditions-kind (streamed c.args.depth)) c.args.s.now c.args.at c.args.out.now c.loop-next.out c.args.o c.loop-next.i c.loop-next.e c.loop-next.n c.loop-next.invariant g.tree (omega arith) g.read g.lies (rw c.in-End.is at c.read_separator.ensures)
 
 pub read_conditions-shape_of-out-in-Bad : goal.read_conditions-shape_of-out-in-Bad
-read_conditions-shape_of-out-in-Bad t c = c.read_condition.auto.1.1.1.0 ∙ c.loop-next.invariant.len
+read_conditions-shape_of-out-in-Bad t c = c.read_condition.auto.out ∙ c.loop-next.invariant.len
 
 pub read_conditions-returns-in-Bad : goal.read_conditions-returns-in-Bad
 read_conditions-returns-in-Bad t c = let g = rw c.in-Good.is at c.read_condition.ensures in walking-alone _ _ _ _ _ _ _ _ (conditions-kind (streamed c.args.depth)) c.args.s.now c.args.at c.args.out.now c.loop-next.out c.args.o c.loop-next.i c.loop-next.e c.loop-next.n c.loop-next.invariant g.tree (omega arith) g.read g.lies (rw c.in-Bad.is at c.read_separator.ensures)
-
-pub read_last-read_part-requires : goal.read_last-read_part-requires
-read_last-read_part-requires t c = (omega (arith, c.requires.0), tt)
 
 pub read_last-returns-in_default : goal.read_last-returns-in_default
 read_last-returns-in_default t c = unread (rw c.in_default.is at c.read_part.ensures)
@@ -98,7 +92,7 @@ pub read_many-returns-then-starts_with-2 : goal.read_many-returns-then-starts_wi
 read_many-returns-then-starts_with-2 t c = bracket-opened (operand_in Operators.many c.args.op c.args.depth) (many_rest c.args.op (c.args.depth - 1)) c.args.depth 0x5B (many-flat c.args.op c.args.depth) (many-deep c.args.op c.args.depth) c.args.s.now c.args.at (got.Good _ _) _ _ _ c.if-depth-eq0.false (rw c.if-starts_with.true at c.starts_with.ensures) (many-empty c.args.op (c.args.depth - 1) c.args.s.now (c.args.at + 1) c.behind_spaces-i.result c.behind_spaces-i.ensures (omega (arith, c.type_inv)) c.lay_operator-count.ensures c.lay-start.ensures (rw c.if-starts_with-2.true at c.starts_with-then-starts_with.ensures))
 
 pub read_many-read_conditions-requires : goal.read_many-read_conditions-requires
-read_many-read_conditions-requires t c = (omega (arith, c.requires.0, c.if-depth-eq0.false), (c.behind_spaces-i.ensures.within, spaces-full (drop (c.args.at + 1) c.args.s.now) c.behind_spaces-i.ensures.skips))
+read_many-read_conditions-requires t c = (omega arith, (c.behind_spaces-i.ensures.within, spaces-full (drop (c.args.at + 1) c.args.s.now) c.behind_spaces-i.ensures.skips))
 
 pub read_many-returns-in_default : goal.read_many-returns-in_default
 read_many-returns-in_default t c = bracket-opened (operand_in Operators.many c.args.op c.args.depth) (many_rest c.args.op (c.args.depth - 1)) c.args.depth 0x5B (many-flat c.args.op c.args.depth) (many-deep c.args.op c.args.depth) c.args.s.now c.args.at got.Bad [] [] 0 c.if-depth-eq0.false (rw c.if-starts_with.true at c.starts_with.ensures) (many-bad c.args.op (c.args.depth - 1) c.args.s.now (c.args.at + 1) c.behind_spaces-i.result c.behind_spaces-i.ensures (rw c.if-starts_with-2.false at c.starts_with-then-starts_with.ensures) (rw c.in_default.is at c.read_conditions.ensures))
@@ -109,14 +103,8 @@ read_many-returns-then-starts_with t c = bracket-opened (operand_in Operators.ma
 pub read_many-returns : goal.read_many-returns
 read_many-returns t c = bracket-unopened (operand_in Operators.many c.args.op c.args.depth) (many_rest c.args.op (c.args.depth - 1)) c.args.depth 0x5B (many-flat c.args.op c.args.depth) (many-deep c.args.op c.args.depth) c.args.s.now c.args.at (rw c.if-starts_with.false at c.starts_with.ensures)
 
-pub read_negation-read_condition-requires : goal.read_negation-read_condition-requires
-read_negation-read_condition-requires t c = (omega (arith, c.requires.0), tt)
-
 pub read_negation-returns : goal.read_negation-returns
 read_negation-returns t c = is-negation c.args.depth c.args.s.now c.args.at c.read_condition.result _ _ _ _ _ (omega arith) c.lay_plain-e.ensures c.read_condition.ensures
-
-pub read_next-read_part-requires : goal.read_next-read_part-requires
-read_next-read_part-requires t c = (omega (arith, c.requires.0), tt)
 
 pub read_next-returns-in_default : goal.read_next-returns-in_default
 read_next-returns-in_default t c = unread (rw c.in_default.is at c.read_part.ensures)
@@ -136,14 +124,8 @@ read_next-returns-in-Bad t c = not-followed (rw c.in-Good.is at c.read_part.ensu
 pub read_operand-returns-then-op-le1 : goal.read_operand-returns-then-op-le1
 read_operand-returns-then-op-le1 t c = no_operand c.args.op c.args.depth c.args.s.now c.args.at c.if-op-le1.true
 
-pub read_operand-read_many-requires : goal.read_operand-read_many-requires
-read_operand-read_many-requires t c = (omega (arith, c.requires.0), tt)
-
 pub read_operand-returns-then-op-le3 : goal.read_operand-returns-then-op-le3
 read_operand-returns-then-op-le3 t c = as_many c.args.op c.args.depth c.args.s.now c.args.at c.read_many.result _ _ _ c.if-op-le1.false c.if-op-le3.true c.read_many.ensures
-
-pub read_operand-read_negation-requires : goal.read_operand-read_negation-requires
-read_operand-read_negation-requires t c = (omega (arith, c.requires.0), tt)
 
 pub read_operand-returns-then-op-le4 : goal.read_operand-returns-then-op-le4
 read_operand-returns-then-op-le4 t c = as-negation c.args.op c.args.depth c.args.s.now c.args.at c.read_negation.result _ _ _ c.if-op-le3.false c.if-op-le4.true c.read_negation.ensures
@@ -160,17 +142,11 @@ read_operand-returns-then-op-le18 t c = as-comparison c.args.op c.args.depth c.a
 pub read_operand-returns-then-op-le19 : goal.read_operand-returns-then-op-le19
 read_operand-returns-then-op-le19 t c = as-truthy c.args.op c.args.depth c.args.s.now c.args.at c.read_one-then-op-le19.result _ _ _ c.if-op-le18.false c.if-op-le19.true c.read_one-then-op-le19.ensures
 
-pub read_operand-read_quantifier-requires : goal.read_operand-read_quantifier-requires
-read_operand-read_quantifier-requires t c = (omega (arith, c.requires.0), tt)
-
 pub read_operand-returns : goal.read_operand-returns
 read_operand-returns t c = as-quantifier c.args.op c.args.depth c.args.s.now c.args.at c.read_quantifier.result _ _ _ c.if-op-le19.false c.read_quantifier.ensures
 
 pub read_operation-returns-in_default : goal.read_operation-returns-in_default
 read_operation-returns-in_default t c = operation-unnamed c.args.depth c.behind_spaces-i.ensures (rw c.in_default.is at c.read_operator.ensures)
-
-pub read_operation-read_operand-requires : goal.read_operation-read_operand-requires
-read_operation-read_operand-requires t c = (omega (arith, c.requires.0), tt)
 
 pub read_operation-returns-in_default-read_operand : goal.read_operation-returns-in_default-read_operand
 read_operation-returns-in_default-read_operand t c = operation-unread c.args.depth c.behind_spaces-i.ensures (rw c.in-Is.is at c.read_operator.ensures) (rw c.in_default-read_operand.is at c.read_operand.ensures)
@@ -202,9 +178,6 @@ read_part-returns-in_default-read_bound t c = bind-unread c.args.op c.args.depth
 pub read_part-returns-then-place-eq2 : goal.read_part-returns-then-place-eq2
 read_part-returns-then-place-eq2 t c = part-bound c.args.op c.args.depth (rw c.in-Is.is at c.read_place.ensures) c.if-place-eq2.true (rw c.in-Good-read_bound.is at c.read_bound.ensures)
 
-pub read_part-read_condition-requires : goal.read_part-read_condition-requires
-read_part-read_condition-requires t c = (omega (arith, c.requires.0), tt)
-
 pub read_part-returns-in_default-read_condition : goal.read_part-returns-in_default-read_condition
 read_part-returns-in_default-read_condition t c = body-unread c.args.op c.args.depth (rw c.in-Is.is at c.read_place.ensures) c.if-place-eq3.true (rw c.in_default-read_condition.is at c.read_condition.ensures)
 
@@ -214,29 +187,20 @@ read_part-returns-then-place-eq3 t c = part_body c.args.op c.args.depth (rw c.in
 pub read_part-returns : goal.read_part-returns
 read_part-returns t c = part-other c.args.op c.args.depth (rw c.in-Is.is at c.read_place.ensures) c.if-place-eq1.false c.if-place-eq2.false c.if-place-eq3.false
 
-pub read_parts-read_next-requires : goal.read_parts-read_next-requires
-read_parts-read_next-requires t c = (omega (arith, c.requires.0), tt)
-
 pub read_parts-shape_of-out-in_default : goal.read_parts-shape_of-out-in_default
-read_parts-shape_of-out-in_default t c = c.read_next.auto.1.1.1.1.0
+read_parts-shape_of-out-in_default t c = c.read_next.auto.out
 
 pub read_parts-returns-in_default : goal.read_parts-returns-in_default
 read_parts-returns-in_default t c = three-unread c.args.op c.args.depth c.behind_spaces-i.ensures (rw c.in_default.is at c.read_next.ensures)
 
-pub read_parts-read_next-requires-2 : goal.read_parts-read_next-requires-2
-read_parts-read_next-requires-2 t c = (omega (arith, c.requires.0), tt)
-
 pub read_parts-shape_of-out-in_default-read_next : goal.read_parts-shape_of-out-in_default-read_next
-read_parts-shape_of-out-in_default-read_next t c = c.read_next-2.auto.1.1.1.1.0 ∙ c.read_next.auto.1.1.1.1.0
+read_parts-shape_of-out-in_default-read_next t c = c.read_next-2.auto.out ∙ c.read_next.auto.out
 
 pub read_parts-returns-in_default-read_next : goal.read_parts-returns-in_default-read_next
 read_parts-returns-in_default-read_next t c = three-second c.args.op c.args.depth c.behind_spaces-i.ensures (rw c.in-Good.is at c.read_next.ensures) (rw c.in_default-read_next.is at c.read_next-2.ensures)
 
-pub read_parts-read_last-requires : goal.read_parts-read_last-requires
-read_parts-read_last-requires t c = (omega (arith, c.requires.0), tt)
-
 pub read_parts-shape_of-out-in_default-read_last : goal.read_parts-shape_of-out-in_default-read_last
-read_parts-shape_of-out-in_default-read_last t c = c.read_last.auto.1.1.1.1.0 ∙ c.swap.ensures.len ∙ c.read_next-2.auto.1.1.1.1.0 ∙ c.read_next.auto.1.1.1.1.0
+read_parts-shape_of-out-in_default-read_last t c = c.read_last.auto.out ∙ c.swap.ensures.len ∙ c.read_next-2.auto.out ∙ c.read_next.auto.out
 
 pub read_parts-returns-in_default-read_last : goal.read_parts-returns-in_default-read_last
 read_parts-returns-in_default-read_last t c = three_third c.args.op c.args.depth c.behind_spaces-i.ensures (rw c.in-Good.is at c.read_next.ensures) (rw c.in-Good-read_next.is at c.read_next-2.ensures) (rw c.in_default-read_last.is at c.read_last.ensures)
@@ -248,13 +212,13 @@ pub read_parts-overflow_add-a-2 : goal.read_parts-overflow_add-a-2
 read_parts-overflow_add-a-2 t c = let few = three-few c.args.op c.args.depth c.behind_spaces-i.ensures (rw c.in-Good.is at c.read_next.ensures) (rw c.in-Good-read_next.is at c.read_next-2.ensures) (rw c.in-Good-read_last.is at c.read_last.ensures) in omega (arith, few.0, few.1, few.2)
 
 pub read_parts-shape_of-out-then-a-b-eq-ALL : goal.read_parts-shape_of-out-then-a-b-eq-ALL
-read_parts-shape_of-out-then-a-b-eq-ALL t c = c.arrange.ensures.len ∙ c.read_last.auto.1.1.1.1.0 ∙ c.swap.ensures.len ∙ c.read_next-2.auto.1.1.1.1.0 ∙ c.read_next.auto.1.1.1.1.0
+read_parts-shape_of-out-then-a-b-eq-ALL t c = c.arrange.ensures.len ∙ c.read_last.auto.out ∙ c.swap.ensures.len ∙ c.read_next-2.auto.out ∙ c.read_next.auto.out
 
 pub read_parts-returns-then-a-b-eq-ALL : goal.read_parts-returns-then-a-b-eq-ALL
 read_parts-returns-then-a-b-eq-ALL t c = three-given c.args.op c.args.depth c.behind_spaces-i.ensures (rw c.in-Good.is at c.read_next.ensures) (rw c.in-Good-read_next.is at c.read_next-2.ensures) (rw c.in-Good-read_last.is at c.read_last.ensures) (omega (arith, c.type_inv)) c.if-a-b-eq-ALL.true c.middle_of.ensures c.swap.ensures c.arrange.ensures
 
 pub read_parts-shape_of-out : goal.read_parts-shape_of-out
-read_parts-shape_of-out t c = c.read_last.auto.1.1.1.1.0 ∙ c.swap.ensures.len ∙ c.read_next-2.auto.1.1.1.1.0 ∙ c.read_next.auto.1.1.1.1.0
+read_parts-shape_of-out t c = c.read_last.auto.out ∙ c.swap.ensures.len ∙ c.read_next-2.auto.out ∙ c.read_next.auto.out
 
 pub read_parts-returns : goal.read_parts-returns
 read_parts-returns t c = three-other c.args.op c.args.depth c.behind_spaces-i.ensures (rw c.in-Good.is at c.read_next.ensures) (rw c.in-Good-read_next.is at c.read_next-2.ensures) (rw c.in-Good-read_last.is at c.read_last.ensures) c.if-a-b-eq-ALL.false
@@ -266,7 +230,7 @@ pub read_quantifier-overflow_add-at : goal.read_quantifier-overflow_add-at
 read_quantifier-overflow_add-at t c = let b = (rw c.if-starts_with.true at c.starts_with.ensures) in omega (arith, b.within)
 
 pub read_quantifier-read_parts-requires : goal.read_quantifier-read_parts-requires
-read_quantifier-read_parts-requires t c = (omega (arith, c.requires.0, c.if-depth-eq0.false), let b = (rw c.if-starts_with.true at c.starts_with.ensures) in b.within)
+read_quantifier-read_parts-requires t c = (omega arith, let b = (rw c.if-starts_with.true at c.starts_with.ensures) in b.within)
 
 pub read_quantifier-returns-then-starts_with : goal.read_quantifier-returns-then-starts_with
 read_quantifier-returns-then-starts_with t c = bracket-opened (operand_in Operators.quantifier c.args.op c.args.depth) (quantified c.args.op (c.args.depth - 1)) c.args.depth 0x7B (quantifier-flat c.args.op c.args.depth) (quantifier-deep c.args.op c.args.depth) c.args.s.now c.args.at c.read_parts.result _ _ _ c.if-depth-eq0.false (rw c.if-starts_with.true at c.starts_with.ensures) c.read_parts.ensures

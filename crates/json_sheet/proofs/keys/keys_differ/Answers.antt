@@ -34,7 +34,7 @@ pub loop-i-smaller-then-object_differs : goal.loop-i-smaller-then-object_differs
 loop-i-smaller-then-object_differs c = omega (arith, c.loop-i-test.true)
 
 pub loop-i-preserved-then-object_differs : goal.loop-i-preserved-then-object_differs
-loop-i-preserved-then-object_differs c = (omega (arith, c.loop-i-test.true), c.object_differs.auto.1.1.0 ∙ c.loop-i.invariant.1, c.object_differs.auto.1.1.1.0 ∙ c.loop-i.invariant.2, λ x k. c.loop-i.invariant.3 x (scan-open c.args.text.now c.loop-i.i c.loop-i-test.true c.if-b-eq123.true (rw c.if-object_differs.true at c.object_differs.ensures) k))
+loop-i-preserved-then-object_differs c = (omega (arith, c.loop-i-test.true), c.object_differs.auto.links ∙ c.loop-i.invariant.1, c.object_differs.auto.places ∙ c.loop-i.invariant.2, λ x k. c.loop-i.invariant.3 x (scan-open c.args.text.now c.loop-i.i c.loop-i-test.true c.if-b-eq123.true (rw c.if-object_differs.true at c.object_differs.ensures) k))
 
 pub returns-else-object_differs : goal.returns-else-object_differs
 returns-else-object_differs c = c.loop-i.invariant.3 false (scan-repeated c.args.text.now c.loop-i.i c.loop-i-test.true c.if-b-eq123.true (rw c.if-object_differs.false at c.object_differs.ensures))

@@ -22,19 +22,19 @@ pub batch_differs-requires : goal.batch_differs-requires
 batch_differs-requires c = (c.loop-next.invariant.2, c.loop-next.invariant.0, c.loop-next.invariant.1)
 
 pub shape_of-links-in_default : goal.shape_of-links-in_default
-shape_of-links-in_default c = c.batch_differs.auto.1.1.0 ∙ c.loop-next.invariant.0 ∙ sym c.requires.1
+shape_of-links-in_default c = c.batch_differs.auto.links ∙ c.loop-next.invariant.0 ∙ sym c.requires.1
 
 pub shape_of-places-in_default : goal.shape_of-places-in_default
-shape_of-places-in_default c = c.batch_differs.auto.1.1.1.0 ∙ c.loop-next.invariant.1 ∙ sym c.requires.2
+shape_of-places-in_default c = c.batch_differs.auto.places ∙ c.loop-next.invariant.1 ∙ sym c.requires.2
 
 pub returns-in_default : goal.returns-in_default
 returns-in_default c = c.loop-next.invariant.3 false (rw c.in_default.is at c.batch_differs.ensures)
 
 pub shape_of-links-then-next-eq0 : goal.shape_of-links-then-next-eq0
-shape_of-links-then-next-eq0 c = c.batch_differs.auto.1.1.0 ∙ c.loop-next.invariant.0 ∙ sym c.requires.1
+shape_of-links-then-next-eq0 c = c.batch_differs.auto.links ∙ c.loop-next.invariant.0 ∙ sym c.requires.1
 
 pub shape_of-places-then-next-eq0 : goal.shape_of-places-then-next-eq0
-shape_of-places-then-next-eq0 c = c.batch_differs.auto.1.1.1.0 ∙ c.loop-next.invariant.1 ∙ sym c.requires.2
+shape_of-places-then-next-eq0 c = c.batch_differs.auto.places ∙ c.loop-next.invariant.1 ∙ sym c.requires.2
 
 pub returns-then-next-eq0 : goal.returns-then-next-eq0
 returns-then-next-eq0 c = let o = rw c.in-Differ.is at c.batch_differs.ensures in c.loop-next.invariant.3 true (o.ended c.if-next-eq0.true)
@@ -45,4 +45,4 @@ loop-next-smaller c = let o = rw c.in-Differ.is at c.batch_differs.ensures in om
 pub loop-next-preserved : goal.loop-next-preserved
 loop-next-preserved c =
     let o = rw c.in-Differ.is at c.batch_differs.ensures in
-    (c.batch_differs.auto.1.1.0 ∙ c.loop-next.invariant.0, c.batch_differs.auto.1.1.1.0 ∙ c.loop-next.invariant.1, o.within, λ r k. c.loop-next.invariant.3 r (o.more c.if-next-eq0.false r k))
+    (c.batch_differs.auto.links ∙ c.loop-next.invariant.0, c.batch_differs.auto.places ∙ c.loop-next.invariant.1, o.within, λ r k. c.loop-next.invariant.3 r (o.more c.if-next-eq0.false r k))

@@ -11,7 +11,7 @@ pub read_rule_members-requires : goal.read_rule_members-requires
 read_rule_members-requires c = (rw c.if-starts_with.true at c.starts_with.ensures).within
 
 pub shape_of-out-in_default : goal.shape_of-out-in_default
-shape_of-out-in_default c = c.read_rule_members.auto.1.1.0
+shape_of-out-in_default c = c.read_rule_members.auto.out
 
 pub returns-in_default : goal.returns-in_default
 returns-in_default c = text-no-members c.behind_spaces-i.ensures (rw c.if-starts_with.true at c.starts_with.ensures) (rw c.in_default.is at c.read_rule_members.ensures)
@@ -20,25 +20,25 @@ pub behind_spaces-requires : goal.behind_spaces-requires
 behind_spaces-requires c = (rw c.in-Good.is at c.read_rule_members.ensures).read.within
 
 pub shape_of-out-then-behind_spaces-s : goal.shape_of-out-then-behind_spaces-s
-shape_of-out-then-behind_spaces-s c = c.read_rule_members.auto.1.1.0
+shape_of-out-then-behind_spaces-s c = c.read_rule_members.auto.out
 
 pub returns-then-behind_spaces-s : goal.returns-then-behind_spaces-s
 returns-then-behind_spaces-s c = text-not-ended c.behind_spaces-i.ensures (rw c.if-starts_with.true at c.starts_with.ensures) (rw c.in-Good.is at c.read_rule_members.ensures) c.behind_spaces.ensures (omega (arith, c.if-behind_spaces-s.true))
 
 pub shape_of-out-then-n-gt-MAX_TEXT : goal.shape_of-out-then-n-gt-MAX_TEXT
-shape_of-out-then-n-gt-MAX_TEXT c = c.read_rule_members.auto.1.1.0
+shape_of-out-then-n-gt-MAX_TEXT c = c.read_rule_members.auto.out
 
 pub returns-then-n-gt-MAX_TEXT : goal.returns-then-n-gt-MAX_TEXT
 returns-then-n-gt-MAX_TEXT c = name-long c.behind_spaces-i.ensures (rw c.if-starts_with.true at c.starts_with.ensures) (rw c.in-Good.is at c.read_rule_members.ensures) c.behind_spaces.ensures (omega (arith, c.if-behind_spaces-s.false)) (omega (arith, c.if-n-gt-MAX_TEXT.true))
 
 pub shape_of-out-then-m-gt-MAX_TEXT : goal.shape_of-out-then-m-gt-MAX_TEXT
-shape_of-out-then-m-gt-MAX_TEXT c = c.read_rule_members.auto.1.1.0
+shape_of-out-then-m-gt-MAX_TEXT c = c.read_rule_members.auto.out
 
 pub returns-then-m-gt-MAX_TEXT : goal.returns-then-m-gt-MAX_TEXT
 returns-then-m-gt-MAX_TEXT c = message-long c.behind_spaces-i.ensures (rw c.if-starts_with.true at c.starts_with.ensures) (rw c.in-Good.is at c.read_rule_members.ensures) c.behind_spaces.ensures (omega (arith, c.if-behind_spaces-s.false)) (omega (arith, c.if-m-gt-MAX_TEXT.true))
 
 pub shape_of-out-then-starts_with : goal.shape_of-out-then-starts_with
-shape_of-out-then-starts_with c = c.lay_front.auto.1.1.1.1.1.0 ∙ c.read_rule_members.auto.1.1.0
+shape_of-out-then-starts_with c = c.lay_front.auto.out ∙ c.read_rule_members.auto.out
 
 pub returns-then-starts_with : goal.returns-then-starts_with
 returns-then-starts_with c = rule-given c.behind_spaces-i.ensures (rw c.if-starts_with.true at c.starts_with.ensures) (rw c.in-Good.is at c.read_rule_members.ensures) c.behind_spaces.ensures (omega (arith, c.type_inv)) (omega (arith, c.if-behind_spaces-s.false)) (omega (arith, c.if-n-gt-MAX_TEXT.false)) (omega (arith, c.if-m-gt-MAX_TEXT.false)) c.lay_front.ensures

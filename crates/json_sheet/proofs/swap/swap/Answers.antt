@@ -17,10 +17,10 @@ pub reverse-requires : goal.reverse-requires
 reverse-requires c = (omega arith, omega arith)
 
 pub reverse-requires-2 : goal.reverse-requires-2
-reverse-requires-2 c = (omega arith, omega (arith, c.reverse.auto.0))
+reverse-requires-2 c = (omega arith, omega (arith, c.reverse.auto.out))
 
 pub reverse-requires-3 : goal.reverse-requires-3
-reverse-requires-3 c = (omega arith, omega (arith, c.reverse-2.auto.0, c.reverse.auto.0))
+reverse-requires-3 c = (omega arith, omega (arith, c.reverse-2.auto.out, c.reverse.auto.out))
 
 pub returns : goal.returns
-returns c = swapped-turned _ _ _ _ _ _ _ (omega (arith, c.type_inv)) (c.reverse-3.auto.0 ∙ c.reverse-2.auto.0 ∙ c.reverse.auto.0) c.reverse.ensures c.reverse-2.ensures c.reverse-3.ensures
+returns c = swapped-turned _ _ _ _ _ _ _ (omega (arith, c.type_inv)) (c.reverse-3.auto.out ∙ c.reverse-2.auto.out ∙ c.reverse.auto.out) c.reverse.ensures c.reverse-2.ensures c.reverse-3.ensures

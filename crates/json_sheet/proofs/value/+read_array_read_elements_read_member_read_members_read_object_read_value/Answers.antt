@@ -12,7 +12,7 @@ pub read_array-returns-then-starts_with : goal.read_array-returns-then-starts_wi
 read_array-returns-then-starts_with t c = array-empty (value c.args.depth) c.args.s.now c.args.at c.behind_spaces-i.result c.behind_spaces-i.ensures (omega arith) c.lay-count.ensures c.lay-start.ensures (rw c.if-starts_with.true at c.starts_with.ensures)
 
 pub read_array-read_elements-requires : goal.read_array-read_elements-requires
-read_array-read_elements-requires t c = (omega (arith, c.requires.0), (c.behind_spaces-i.ensures.within, spaces-full (drop c.args.at c.args.s.now) c.behind_spaces-i.ensures.skips))
+read_array-read_elements-requires t c = (omega arith, (c.behind_spaces-i.ensures.within, spaces-full (drop c.args.at c.args.s.now) c.behind_spaces-i.ensures.skips))
 
 pub read_array-returns-in_default : goal.read_array-returns-in_default
 read_array-returns-in_default t c = array-bad (value c.args.depth) c.args.s.now c.args.at c.behind_spaces-i.result c.behind_spaces-i.ensures (rw c.if-starts_with.false at c.starts_with.ensures) (rw c.in_default.is at c.read_elements.ensures)
@@ -23,11 +23,8 @@ read_array-returns t c = array-given (value c.args.depth) c.args.s.now c.args.at
 pub read_elements-loop-next-init : goal.read_elements-loop-next-init
 read_elements-loop-next-init t c = walking_start _ _ _ _ _ _ _ _ c.args.s.now c.args.at c.args.out.now c.args.o (omega arith) c.requires.0 c.requires.1
 
-pub read_elements-read_value-requires : goal.read_elements-read_value-requires
-read_elements-read_value-requires t c = (omega (arith, c.requires.0), tt)
-
 pub read_elements-shape_of-out-in_default : goal.read_elements-shape_of-out-in_default
-read_elements-shape_of-out-in_default t c = c.read_value.auto.1.1.1.0 ∙ c.loop-next.invariant.len
+read_elements-shape_of-out-in_default t c = c.read_value.auto.out ∙ c.loop-next.invariant.len
 
 pub read_elements-returns-in_default : goal.read_elements-returns-in_default
 read_elements-returns-in_default t c = walking-unread _ _ _ _ _ _ _ _ (elements-kind (value c.args.depth)) c.args.s.now c.args.at c.args.out.now c.loop-next.out c.args.o c.loop-next.i c.loop-next.e c.loop-next.n c.loop-next.invariant (rw c.in_default.is at c.read_value.ensures)
@@ -45,13 +42,13 @@ pub read_elements-loop-next-preserved : goal.read_elements-loop-next-preserved
 read_elements-loop-next-preserved t c = let g = rw c.in-Good.is at c.read_value.ensures in walking-more _ _ _ _ _ _ _ _ (elements-kind (value c.args.depth)) c.args.s.now c.args.at c.args.out.now c.loop-next.out c.args.o c.loop-next.i c.loop-next.e c.loop-next.n c.loop-next.invariant g.tree (omega arith) g.read g.lies (rw c.in-More.is at c.read_separator.ensures)
 
 pub read_elements-shape_of-out-in-End : goal.read_elements-shape_of-out-in-End
-read_elements-shape_of-out-in-End t c = c.read_value.auto.1.1.1.0 ∙ c.loop-next.invariant.len
+read_elements-shape_of-out-in-End t c = c.read_value.auto.out ∙ c.loop-next.invariant.len
 
 pub read_elements-returns-in-End : goal.read_elements-returns-in-End
 read_elements-returns-in-End t c = let g = rw c.in-Good.is at c.read_value.ensures in walking-end _ _ _ _ _ _ _ _ (elements-kind (value c.args.depth)) c.args.s.now c.args.at c.args.out.now c.loop-next.out c.args.o c.loop-next.i c.loop-next.e c.loop-next.n c.loop-next.invariant g.tree (omega arith) g.read g.lies (rw c.in-End.is at c.read_separator.ensures)
 
 pub read_elements-shape_of-out-in-Bad : goal.read_elements-shape_of-out-in-Bad
-read_elements-shape_of-out-in-Bad t c = c.read_value.auto.1.1.1.0 ∙ c.loop-next.invariant.len
+read_elements-shape_of-out-in-Bad t c = c.read_value.auto.out ∙ c.loop-next.invariant.len
 
 pub read_elements-returns-in-Bad : goal.read_elements-returns-in-Bad
 read_elements-returns-in-Bad t c = let g = rw c.in-Good.is at c.read_value.ensures in walking-alone _ _ _ _ _ _ _ _ (elements-kind (value c.args.depth)) c.args.s.now c.args.at c.args.out.now c.loop-next.out c.args.o c.loop-next.i c.loop-next.e c.loop-next.n c.loop-next.invariant g.tree (omega arith) g.read g.lies (rw c.in-Bad.is at c.read_separator.ensures)
@@ -65,20 +62,14 @@ read_member-overflow_add-at t c = let k = rw c.in-Is.is at c.read_key.ensures in
 pub read_member-lay_headed-e-requires : goal.read_member-lay_headed-e-requires
 read_member-lay_headed-e-requires t c = let k = rw c.in-Is.is at c.read_key.ensures in omega (arith, k.quoted.past, k.quoted.within)
 
-pub read_member-read_value-requires : goal.read_member-read_value-requires
-read_member-read_value-requires t c = (omega (arith, c.requires.0), tt)
-
 pub read_member-returns : goal.read_member-returns
 read_member-returns t c = member_is (value c.args.depth) c.args.s.now c.args.at _ _ c.args.out.now _ _ _ _ (omega arith) (rw c.in-Is.is at c.read_key.ensures) c.lay_headed-e.ensures c.read_value.result c.read_value.ensures
 
 pub read_members-loop-next-init : goal.read_members-loop-next-init
 read_members-loop-next-init t c = walking_start _ _ _ _ _ _ _ _ c.args.s.now c.args.at c.args.out.now c.args.o (omega arith) c.requires.0 c.requires.1
 
-pub read_members-read_member-requires : goal.read_members-read_member-requires
-read_members-read_member-requires t c = (omega (arith, c.requires.0), tt)
-
 pub read_members-shape_of-out-in_default : goal.read_members-shape_of-out-in_default
-read_members-shape_of-out-in_default t c = c.read_member.auto.1.1.1.0 ∙ c.loop-next.invariant.len
+read_members-shape_of-out-in_default t c = c.read_member.auto.out ∙ c.loop-next.invariant.len
 
 pub read_members-returns-in_default : goal.read_members-returns-in_default
 read_members-returns-in_default t c = walking-unread _ _ _ _ _ _ _ _ (members-kind (value c.args.depth)) c.args.s.now c.args.at c.args.out.now c.loop-next.out c.args.o c.loop-next.i c.loop-next.e c.loop-next.n c.loop-next.invariant (rw c.in_default.is at c.read_member.ensures)
@@ -96,13 +87,13 @@ pub read_members-loop-next-preserved : goal.read_members-loop-next-preserved
 read_members-loop-next-preserved t c = let g = rw c.in-Good.is at c.read_member.ensures in walking-more _ _ _ _ _ _ _ _ (members-kind (value c.args.depth)) c.args.s.now c.args.at c.args.out.now c.loop-next.out c.args.o c.loop-next.i c.loop-next.e c.loop-next.n c.loop-next.invariant g.member (omega arith) g.read g.lies (rw c.in-More.is at c.read_separator.ensures)
 
 pub read_members-shape_of-out-in-End : goal.read_members-shape_of-out-in-End
-read_members-shape_of-out-in-End t c = c.read_member.auto.1.1.1.0 ∙ c.loop-next.invariant.len
+read_members-shape_of-out-in-End t c = c.read_member.auto.out ∙ c.loop-next.invariant.len
 
 pub read_members-returns-in-End : goal.read_members-returns-in-End
 read_members-returns-in-End t c = let g = rw c.in-Good.is at c.read_member.ensures in walking-end _ _ _ _ _ _ _ _ (members-kind (value c.args.depth)) c.args.s.now c.args.at c.args.out.now c.loop-next.out c.args.o c.loop-next.i c.loop-next.e c.loop-next.n c.loop-next.invariant g.member (omega arith) g.read g.lies (rw c.in-End.is at c.read_separator.ensures)
 
 pub read_members-shape_of-out-in-Bad : goal.read_members-shape_of-out-in-Bad
-read_members-shape_of-out-in-Bad t c = c.read_member.auto.1.1.1.0 ∙ c.loop-next.invariant.len
+read_members-shape_of-out-in-Bad t c = c.read_member.auto.out ∙ c.loop-next.invariant.len
 
 pub read_members-returns-in-Bad : goal.read_members-returns-in-Bad
 read_members-returns-in-Bad t c = let g = rw c.in-Good.is at c.read_member.ensures in walking-alone _ _ _ _ _ _ _ _ (members-kind (value c.args.depth)) c.args.s.now c.args.at c.args.out.now c.loop-next.out c.args.o c.loop-next.i c.loop-next.e c.loop-next.n c.loop-next.invariant g.member (omega arith) g.read g.lies (rw c.in-Bad.is at c.read_separator.ensures)
@@ -111,7 +102,7 @@ pub read_object-returns-then-starts_with : goal.read_object-returns-then-starts_
 read_object-returns-then-starts_with t c = object-empty (value c.args.depth) c.args.s.now c.args.at c.behind_spaces-i.result c.behind_spaces-i.ensures (omega arith) c.lay-count.ensures c.lay-start.ensures (rw c.if-starts_with.true at c.starts_with.ensures)
 
 pub read_object-read_members-requires : goal.read_object-read_members-requires
-read_object-read_members-requires t c = (omega (arith, c.requires.0), (c.behind_spaces-i.ensures.within, spaces-full (drop c.args.at c.args.s.now) c.behind_spaces-i.ensures.skips))
+read_object-read_members-requires t c = (omega arith, (c.behind_spaces-i.ensures.within, spaces-full (drop c.args.at c.args.s.now) c.behind_spaces-i.ensures.skips))
 
 pub read_object-returns-in_default : goal.read_object-returns-in_default
 read_object-returns-in_default t c = object-bad (value c.args.depth) c.args.s.now c.args.at c.behind_spaces-i.result c.behind_spaces-i.ensures (rw c.if-starts_with.false at c.starts_with.ensures) (rw c.in_default.is at c.read_members.ensures)
@@ -126,7 +117,7 @@ pub read_value-returns-then-depth-eq0 : goal.read_value-returns-then-depth-eq0
 read_value-returns-then-depth-eq0 t c = array-flat c.args.s.now c.args.at c.args.depth c.if-s-at.false c.if-b-eq91.true c.if-depth-eq0.true
 
 pub read_value-read_array-requires : goal.read_value-read_array-requires
-read_value-read_array-requires t c = (omega (arith, c.requires.0, c.if-depth-eq0.false), omega arith)
+read_value-read_array-requires t c = omega arith
 
 pub read_value-returns-then-b-eq91 : goal.read_value-returns-then-b-eq91
 read_value-returns-then-b-eq91 t c = is-array c.args.s.now c.args.at c.args.depth c.if-s-at.false c.read_array.result _ _ _ c.if-b-eq91.true c.if-depth-eq0.false c.read_array.ensures
@@ -135,7 +126,7 @@ pub read_value-returns-then-depth-eq0-2 : goal.read_value-returns-then-depth-eq0
 read_value-returns-then-depth-eq0-2 t c = object-flat c.args.s.now c.args.at c.args.depth c.if-s-at.false c.if-b-eq123.true c.if-depth-eq0-2.true
 
 pub read_value-read_object-requires : goal.read_value-read_object-requires
-read_value-read_object-requires t c = (omega (arith, c.requires.0, c.if-depth-eq0-2.false), omega arith)
+read_value-read_object-requires t c = omega arith
 
 pub read_value-returns-then-b-eq123 : goal.read_value-returns-then-b-eq123
 read_value-returns-then-b-eq123 t c = is-object c.args.s.now c.args.at c.args.depth c.if-s-at.false c.read_object.result _ _ _ c.if-b-eq123.true c.if-depth-eq0-2.false c.read_object.ensures

@@ -12,7 +12,7 @@ pub overflow_add-i-2 : goal.overflow_add-i-2
 overflow_add-i-2 c = omega (arith, c.requires)
 
 pub shape_of-out : goal.shape_of-out
-shape_of-out c = c.lay.ensures.len ∙ c.lay_value_as-g.auto.1.1.1.0 ∙ c.lay-f.ensures.len ∙ c.lay_comparison-e.ensures.len ∙ c.lay-d.ensures.len ∙ c.lay_value_as-c.auto.1.1.1.0 ∙ c.lay-b.ensures.len ∙ c.lay_opened-a.ensures.len
+shape_of-out c = c.lay.ensures.len ∙ c.lay_value_as-g.auto.out ∙ c.lay-f.ensures.len ∙ c.lay_comparison-e.ensures.len ∙ c.lay-d.ensures.len ∙ c.lay_value_as-c.auto.out ∙ c.lay-b.ensures.len ∙ c.lay_opened-a.ensures.len
 
 pub returns : goal.returns
 unfolding ascii

@@ -9,7 +9,7 @@ pub overflow_add-i : goal.overflow_add-i
 overflow_add-i c = omega arith
 
 pub shape_of-out : goal.shape_of-out
-shape_of-out c = c.lay.ensures.len ∙ c.lay_quoted-e.ensures.len ∙ c.lay-d.ensures.len ∙ c.lay_value_as-c.auto.1.1.1.0 ∙ c.lay-b.ensures.len ∙ c.lay_opened-a.ensures.len
+shape_of-out c = c.lay.ensures.len ∙ c.lay_quoted-e.ensures.len ∙ c.lay-d.ensures.len ∙ c.lay_value_as-c.auto.out ∙ c.lay-b.ensures.len ∙ c.lay_opened-a.ensures.len
 
 pub returns : goal.returns
 unfolding ascii

@@ -12,7 +12,7 @@ pub overflow_add-i-2 : goal.overflow_add-i-2
 overflow_add-i-2 c = omega arith
 
 pub shape_of-out : goal.shape_of-out
-shape_of-out c = c.lay.ensures.len ∙ c.lay_value_as-d.auto.1.1.1.0 ∙ c.lay_byte-c.ensures.len ∙ c.lay_value_as-b.auto.1.1.1.0 ∙ c.lay_many-a.ensures.len
+shape_of-out c = c.lay.ensures.len ∙ c.lay_value_as-d.auto.out ∙ c.lay_byte-c.ensures.len ∙ c.lay_value_as-b.auto.out ∙ c.lay_many-a.ensures.len
 
 pub returns : goal.returns
 unfolding ascii
