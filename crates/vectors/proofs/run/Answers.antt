@@ -1,4 +1,3 @@
-use Prim.Native.Nat.{◌-◌}
 use Rattle.vectors.proofs.Compared.{tally}
 use native.Mathlib.Omega.{arith}
 use Rattle.vectors.proofs.run.Goals as goal
