@@ -477,7 +477,7 @@ pub(crate) fn numbers(result: &[u8]) -> [u32; 7] {
 /// The version of the library that is linked: major, minor and patch, eight bits for each of the last two.
 ///
 /// ```
-/// assert_eq!(entity_rules::raw::version(), 0x00_04_00);
+/// assert_eq!(entity_rules::raw::version(), 0x00_03_00);
 /// ```
 #[must_use]
 pub fn version() -> u32 {

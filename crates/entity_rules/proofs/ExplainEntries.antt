@@ -17,7 +17,6 @@ use Rattle.validation.specs.Constant.{marks_heard}
 use Rattle.validation.specs.Marking.{marks_by}
 use Rattle.single_check.specs.Runs.{lent_run_of}
 use Rattle.single_check.specs.Sheets.{takes_of}
-use Rattle.single_check.specs.Outcomes.{numbers_by}
 use Rattle.single_check.specs.declared.sheets.Takes.TheVariants.{Any}
 use Rattle.message.specs.Explaining.{message_by, fits, MeetsExplained}
 use Rattle.explained_check.specs.ExplainedLaws.{same-message}

@@ -1,5 +1,5 @@
 -- What holds of every C function that hands a reply over: it returns the refusal's number, or 0 where something is told; and calls with one reply return the same.
-use Rattle.std.specs.Prelude.{ℕ, ◌≤◌, true, List, ◌↔◌, ◌≡◌, refl, length}
+use Rattle.std.specs.Prelude.{ℕ, true, List, ◌↔◌, ◌≡◌, length}
 use Rattle.std.proofs.Common.{arith, ◌∙◌, le-leb}
 use Rattle.std.proofs.Math.Path.{ap, sym}
 use Rattle.reference.specs.Setting.{one_of}

@@ -3,18 +3,17 @@
 use Rattle.std.specs.Prelude.{ℕ, ◌*◌, ◌≤◌, ◌<◌, true, List, [], ◌∷◌, ◌≡◌, refl, get_or}
 use native.Mathlib.Omega.{arith}
 use Rattle.std.proofs.Math.Path.{ap}
-use Rattle.std.proofs.Common.{sym, ◌∙◌}
+use Rattle.std.proofs.Common.{◌∙◌}
 use Rattle.std.proofs.Math.ListN.{length}
 use Rattle.std.proofs.lemmas.List.Edits.{sets}
 use borrow.Author.Tests.{le-leb}
 use Rattle.buffer.specs.Bytes.{field_at}
 use Rattle.buffer.specs.BytesLaws.{field-written}
 use Rattle.reference.specs.Setting.{one_of}
-use Rattle.call.specs.Call.{Shape, Reply, Refusal, refused_by, told, if_told, numbers_with, result_numbers, number_of}
+use Rattle.call.specs.Call.{Refusal, told, if_told, result_numbers, number_of}
 use Rattle.call.proofs.CallLaws.{numbers-size}
 use Rattle.json_rule.specs.Conversion.{Conversion, converting, from_json, to_json}
 use Rattle.conversion.specs.FareLaws.{from-among, to-among}
-use Rattle.conversion.specs.RoundTrip.{round_trip}
 use Rattle.entity_rules.specs.Entry.{numbers_after}
 use Rattle.entity_rules.specs.HandedLaws.{returned-refused, returned-among}
 use Rattle.entity_rules.specs.JsonEntry.{conversion_bytes, converted_reply, Converted}

@@ -1,6 +1,6 @@
 -- What a host may rely on where it asks for the fewest marks: `rulecheck_field` gives the three numbers of the answer, and the marks in the list; elements past
 -- the set keep their values, all of them after none or a refusal; and a refusal is one of 1, 3, 36, 37, 38, 4 and 5.
-use Rattle.std.specs.Prelude.{ℕ, ◌*◌, ◌≤◌, ◌<◌, true, List, [], ◌∷◌, ◌≡◌, refl, drop}
+use Rattle.std.specs.Prelude.{ℕ, ◌*◌, ◌≤◌, ◌<◌, true, List, ◌≡◌, refl, drop}
 use Rattle.std.proofs.Common.{arith, ◌∙◌, le-leb}
 use Rattle.std.proofs.Math.Option.{Option}
 use Rattle.std.proofs.Math.Path.{ap, sym}

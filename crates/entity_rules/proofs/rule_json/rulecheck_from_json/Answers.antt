@@ -10,5 +10,5 @@ pub returns : goal.returns
 returns c =
     let called = c.from_json-numbers in
     let a = c.args in
-    conversion-handed from_json a.text.now a.sheet.now called.new.1.0 called.result a.res.now
+    conversion-handed from_json a.text.now a.sheet.now called.new.sheet called.result a.res.now
     (from-small (record { bytes = a.text.now; room = length a.sheet.now })) called.ensures c.write_numbers.ensures refl

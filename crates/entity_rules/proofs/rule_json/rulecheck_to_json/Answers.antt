@@ -10,5 +10,5 @@ pub returns : goal.returns
 returns c =
     let called = c.to_json-numbers in
     let a = c.args in
-    conversion-handed to_json a.sheet.now a.json.now called.new.1.0 called.result a.res.now
+    conversion-handed to_json a.sheet.now a.json.now called.new.json called.result a.res.now
     (to-small (record { bytes = a.sheet.now; room = length a.json.now })) called.ensures c.write_numbers.ensures refl
