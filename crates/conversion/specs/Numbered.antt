@@ -12,7 +12,7 @@ unfoldable mutual
   numbered_value n (constant e type) = constant n type
   numbered_value n (number e digits) = number n digits
   numbered_value n (string e text) = string n text
-  numbered_value n (array e values) = array n (numbered_values (n + 1) values)
+  numbered_value n (array e vs) = array n (numbered_values (n + 1) vs)
   numbered_value n (object e pairs) = object n (numbered_pairs (n + 1) pairs)
 
   pub numbered_values : ℕ → Values → Values
@@ -49,7 +49,7 @@ unfoldable mutual
   longest_of_value (constant e type) = 0
   longest_of_value (number e digits) = length digits
   longest_of_value (string e text) = length text
-  longest_of_value (array e values) = longest_of_values values
+  longest_of_value (array e vs) = longest_of_values vs
   longest_of_value (object e pairs) = longest_of_pairs pairs
 
   pub longest_of_values : Values → ℕ

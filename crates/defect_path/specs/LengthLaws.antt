@@ -110,8 +110,8 @@ unfolding write_value
 value-least (constant e type) = value-head-least (constant_head type)
 value-least (number e digits) = value-head-least (number_head digits)
 value-least (string e t) = value-head-least (string_head t)
-value-least (array e values) =
-    let h = value-head-least (array_head (count_of_values values)) in
+value-least (array e vs) =
+    let h = value-head-least (array_head (count_of_values vs)) in
     simp length-append (omega arith)
 value-least (object e pairs) =
     let h = value-head-least (object_head (count_of_pairs pairs)) in
@@ -221,10 +221,10 @@ module _ (place : ℕ) where
     value-short (constant e type) = own-short (eqb e place) none (value-head-least (constant_head type)) none-short
     value-short (number e digits) = own-short (eqb e place) none (value-head-least (number_head digits)) none-short
     value-short (string e t) = own-short (eqb e place) none (value-head-least (string_head t)) none-short
-    value-short (array e values) =
-        let h = value-head-least (array_head (count_of_values values)) in
-        let l = length-append (write_value_head (array_head (count_of_values values))) (write_values values) in
-        own-short (eqb e place) (in_values place 0 values) (omega arith) (wider (in_values place 0 values) (values-short 0 values) (omega arith))
+    value-short (array e vs) =
+        let h = value-head-least (array_head (count_of_values vs)) in
+        let l = length-append (write_value_head (array_head (count_of_values vs))) (write_values vs) in
+        own-short (eqb e place) (in_values place 0 vs) (omega arith) (wider (in_values place 0 vs) (values-short 0 vs) (omega arith))
     value-short (object e pairs) =
         let h = value-head-least (object_head (count_of_pairs pairs)) in
         let l = length-append (write_value_head (object_head (count_of_pairs pairs))) (write_pairs pairs) in

@@ -56,7 +56,7 @@ unfolding in_value entry_of
 own_value (constant e type) = own-some e none
 own_value (number e digits) = own-some e none
 own_value (string e t) = own-some e none
-own_value (array e values) = own-some e _
+own_value (array e vs) = own-some e _
 own_value (object e pairs) = own-some e _
 
 -- The references of a value, and the checks of an operand
@@ -86,10 +86,10 @@ mutual
   references-found bs (constant e type) = tt
   references-found bs (number e digits) = tt
   references-found bs (string e t) = reference-found bs e t (reference_text t)
-  references-found bs (array e values) =
-      every-weaker (InValues 0 values) (InValue (array e values)) (references_of_values bs values)
-      (λ c h. record { other = h.other; found = inside-some (eqb e c.place) (in_values c.place 0 values) h.found })
-      (values-found bs 0 values)
+  references-found bs (array e vs) =
+      every-weaker (InValues 0 vs) (InValue (array e vs)) (references_of_values bs vs)
+      (λ c h. record { other = h.other; found = inside-some (eqb e c.place) (in_values c.place 0 vs) h.found })
+      (values-found bs 0 vs)
   references-found bs (object e pairs) =
       every-weaker (InPairs pairs) (InValue (object e pairs)) (references_of_pairs bs pairs)
       (λ c h. record { other = h.other; found = inside-some (eqb e c.place) (in_pairs c.place pairs) h.found })
@@ -287,10 +287,10 @@ mutual
   numbers-found (constant e type) = tt
   numbers-found (number e digits) = (own-some e none, tt)
   numbers-found (string e t) = tt
-  numbers-found (array e values) =
-      all_weaker (NumberAmong 0 values) (NumberIn (array e values)) (numbers_of_values values)
-      (λ l h. inside-some (eqb e l.entry) (in_values l.entry 0 values) h)
-      (numbers-among 0 values)
+  numbers-found (array e vs) =
+      all_weaker (NumberAmong 0 vs) (NumberIn (array e vs)) (numbers_of_values vs)
+      (λ l h. inside-some (eqb e l.entry) (in_values l.entry 0 vs) h)
+      (numbers-among 0 vs)
   numbers-found (object e pairs) =
       all_weaker (NumberInPairs pairs) (NumberIn (object e pairs)) (numbers_of_pairs pairs)
       (λ l h. inside-some (eqb e l.entry) (in_pairs l.entry pairs) h)

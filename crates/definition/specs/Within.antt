@@ -15,7 +15,7 @@ use Rattle.definition.specs.Write.{write_schema, write_rule}
 
 unfoldable mutual
   pub field_entries : Field → ℕ
-  field_entries (field e kind is_open tag items members) = 1 + (items_entries items + members_entries members)
+  field_entries (field e kind is_open tag items ms) = 1 + (items_entries items + members_entries ms)
 
   pub items_entries : Items → ℕ
   items_entries absent = 0
@@ -38,7 +38,7 @@ unfoldable mutual
   value_entries (constant e type) = 1
   value_entries (number e digits) = 1
   value_entries (string e text) = 1
-  value_entries (array e values) = 1 + values_entries values
+  value_entries (array e vs) = 1 + values_entries vs
   value_entries (object e pairs) = 1 + pairs_entries pairs
 
   pub values_entries : Values → ℕ
@@ -71,7 +71,7 @@ rule_entries (template v) = 1 + value_entries v
 
 unfoldable mutual
   pub field_nesting : Field → ℕ
-  field_nesting (field e kind is_open tag items members) = 1 + max (items_nesting items) (members_nesting members)
+  field_nesting (field e kind is_open tag items ms) = 1 + max (items_nesting items) (members_nesting ms)
 
   pub items_nesting : Items → ℕ
   items_nesting absent = 0
@@ -93,7 +93,7 @@ unfoldable mutual
   value_nesting (constant e type) = 1
   value_nesting (number e digits) = 1
   value_nesting (string e text) = 1
-  value_nesting (array e values) = 1 + values_nesting values
+  value_nesting (array e vs) = 1 + values_nesting vs
   value_nesting (object e pairs) = 1 + pairs_nesting pairs
 
   pub values_nesting : Values → ℕ
@@ -126,7 +126,7 @@ Behind (some before) name = precedes before name ≡ true
 
 abbrev mutual
   pub FieldRises : Field → Type 0
-  FieldRises (field e kind is_open tag items members) = ItemsRise items × MembersRise none members
+  FieldRises (field e kind is_open tag items ms) = ItemsRise items × MembersRise none ms
 
   pub ItemsRise : Items → Type 0
   ItemsRise absent = Unit {0}
@@ -147,7 +147,7 @@ SchemaRises t = MembersRise none t.fields.members × ArgumentsRise t.arguments
 
 abbrev mutual
   pub FieldFits : Field → Type 0
-  FieldFits (field e kind is_open tag items members) = ((1 ≤ kind) × (kind ≤ 12)) × OptionWithin tag × ItemsFit items × MembersFit members
+  FieldFits (field e kind is_open tag items ms) = ((1 ≤ kind) × (kind ≤ 12)) × OptionWithin tag × ItemsFit items × MembersFit ms
 
   pub ItemsFit : Items → Type 0
   ItemsFit absent = Unit {0}
@@ -176,7 +176,7 @@ abbrev mutual
   ValueFits (constant e type) = (1 ≤ type) × (type ≤ 3)
   ValueFits (number e digits) = TextWithin digits × (is_number digits ≡ true)
   ValueFits (string e text) = TextWithin text
-  ValueFits (array e values) = ValuesFit values
+  ValueFits (array e vs) = ValuesFit vs
   ValueFits (object e pairs) = KeysDiffer pairs × PairsFit pairs
 
   pub ValuesFit : Values → Type 0
@@ -214,7 +214,7 @@ RuleFits (template v) = OperandFits v
 
 abbrev mutual
   pub FieldFrom : ℕ → Field → Type 0
-  FieldFrom n (field e kind is_open tag items members) = (e ≡ n) × ItemsFrom (n + 1) items × MembersFrom (n + 1 + items_entries items) members
+  FieldFrom n (field e kind is_open tag items ms) = (e ≡ n) × ItemsFrom (n + 1) items × MembersFrom (n + 1 + items_entries items) ms
 
   pub ItemsFrom : ℕ → Items → Type 0
   ItemsFrom n absent = Unit {0}
@@ -233,7 +233,7 @@ abbrev mutual
   ValueFrom n (constant e type) = e ≡ n
   ValueFrom n (number e digits) = e ≡ n
   ValueFrom n (string e text) = e ≡ n
-  ValueFrom n (array e values) = (e ≡ n) × ValuesFrom (n + 1) values
+  ValueFrom n (array e vs) = (e ≡ n) × ValuesFrom (n + 1) vs
   ValueFrom n (object e pairs) = (e ≡ n) × PairsFrom (n + 1) pairs
 
   pub ValuesFrom : ℕ → Values → Type 0

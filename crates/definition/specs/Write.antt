@@ -18,10 +18,10 @@ count_of_members (member name f others) = count_of_members others + 1
 
 unfoldable mutual
   pub write_field : Text → Field → List ℕ
-  write_field name (field e kind is_open tag items members) =
+  write_field name (field e kind is_open tag items ms) =
       write_field_head
-      (record { kind = kind; is_open = is_open; has_items = has_items items; count = count_of_members members; name = name; tag = tag })
-      ++ (write_items items ++ write_members members)
+      (record { kind = kind; is_open = is_open; has_items = has_items items; count = count_of_members ms; name = name; tag = tag })
+      ++ (write_items items ++ write_members ms)
 
   -- an element's name is empty
   pub write_items : Items → List ℕ
@@ -63,7 +63,7 @@ unfoldable mutual
   write_value (constant e type) = write_value_head (constant_head type)
   write_value (number e digits) = write_value_head (number_head digits)
   write_value (string e text) = write_value_head (string_head text)
-  write_value (array e values) = write_value_head (array_head (count_of_values values)) ++ write_values values
+  write_value (array e vs) = write_value_head (array_head (count_of_values vs)) ++ write_values vs
   write_value (object e pairs) = write_value_head (object_head (count_of_pairs pairs)) ++ write_pairs pairs
 
   pub write_values : Values → List ℕ

@@ -10,8 +10,8 @@ use Rattle.definition.specs.Within.{field_entries, items_entries, members_entrie
 -- The same tree with the numbers of its entries, the first of which is `n`.
 unfoldable mutual
   pub numbered_field : (n : ℕ) → Field → Field
-  numbered_field n (field e kind is_open tag items members) =
-      field n kind is_open tag (numbered_items (n + 1) items) (numbered_members (n + 1 + items_entries items) members)
+  numbered_field n (field e kind is_open tag items ms) =
+      field n kind is_open tag (numbered_items (n + 1) items) (numbered_members (n + 1 + items_entries items) ms)
 
   pub numbered_items : (n : ℕ) → Items → Items
   numbered_items n absent = absent

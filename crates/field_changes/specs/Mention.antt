@@ -30,7 +30,7 @@ unfoldable mutual
   in_value name (constant e type) = false
   in_value name (number e digits) = false
   in_value name (string e t) = in_reference name t (reference_text t)
-  in_value name (array e values) = in_values name values
+  in_value name (array e vs) = in_values name vs
   in_value name (object e pairs) = in_pairs name pairs
 
   pub in_values : Text → Values → Bool
@@ -46,7 +46,7 @@ unfoldable pub in_over : Text → Value → Bool
 in_over name (constant e type) = false
 in_over name (number e digits) = false
 in_over name (string e t) = is_named name t
-in_over name (array e values) = false
+in_over name (array e vs) = false
 in_over name (object e pairs) = false
 
 unfoldable mutual

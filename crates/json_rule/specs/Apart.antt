@@ -9,7 +9,7 @@ unfoldable mutual
   apart_value (constant e type) = true
   apart_value (number e digits) = true
   apart_value (string e text) = true
-  apart_value (array e values) = apart_values values
+  apart_value (array e vs) = apart_values vs
   apart_value (object e pairs) = none_twice (keys_of pairs) && apart_pairs pairs
 
   pub apart_values : Values → Bool

@@ -18,7 +18,7 @@ unfoldable mutual
   as_json (constant e type) = constant_of type
   as_json (number e digits) = Json.number digits
   as_json (string e text) = Json.string text
-  as_json (array e values) = Json.array (as_elements values)
+  as_json (array e vs) = Json.array (as_elements vs)
   as_json (object e pairs) = Json.object (as_members pairs)
 
   pub as_elements : Values → Elements

@@ -6,7 +6,7 @@ unfoldable mutual
   bare_value (constant e type) = constant 0 type
   bare_value (number e digits) = number 0 digits
   bare_value (string e text) = string 0 text
-  bare_value (array e values) = array 0 (bare_values values)
+  bare_value (array e vs) = array 0 (bare_values vs)
   bare_value (object e pairs) = object 0 (bare_pairs pairs)
 
   pub bare_values : Values → Values

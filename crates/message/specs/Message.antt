@@ -25,7 +25,7 @@ unfoldable mutual
   value_in place (constant e type) = here_else (eqb e place) (constant e type) none
   value_in place (number e digits) = here_else (eqb e place) (number e digits) none
   value_in place (string e t) = here_else (eqb e place) (string e t) none
-  value_in place (array e values) = here_else (eqb e place) (array e values) (value_in_values place values)
+  value_in place (array e vs) = here_else (eqb e place) (array e vs) (value_in_values place vs)
   value_in place (object e pairs) = here_else (eqb e place) (object e pairs) (value_in_pairs place pairs)
 
   pub value_in_values : (place : ℕ) → Values → Option Value
@@ -98,7 +98,7 @@ unescaped_at none = []
 unescaped_at (some (constant e type)) = []
 unescaped_at (some (number e digits)) = []
 unescaped_at (some (string e t)) = drop 1 t
-unescaped_at (some (array e values)) = []
+unescaped_at (some (array e vs)) = []
 unescaped_at (some (object e pairs)) = []
 
 -- `unreadable_instant`

@@ -125,8 +125,8 @@ no_collection f = ascii "it is a " ++ (kind_of f ++ ascii " field, and a quantif
 
 -- `element_of`
 unfoldable pub tell_last : Field → Option Text
-tell_last (field e kind is_open tag items members) =
-    cond (eqb kind array_kind || eqb kind map_kind) none (some (no_collection (field e kind is_open tag items members)))
+tell_last (field e kind is_open tag items ms) =
+    cond (eqb kind array_kind || eqb kind map_kind) none (some (no_collection (field e kind is_open tag items ms)))
 
 unfoldable pub field_told : Text → List Text → Field → (Field → Option Text) → Step → Option Text
 field_told s path f onward (refuse d) = some (field_sentence d s f)
@@ -179,5 +179,5 @@ unfoldable pub tell_collection : Schema → Environment → Value → Option Tex
 tell_collection schema env (constant e type) = some (ascii "`in` is a reference to an array or map field")
 tell_collection schema env (number e digits) = some (ascii "`in` is a reference to an array or map field")
 tell_collection schema env (string e t) = tell_collection_text schema env t
-tell_collection schema env (array e values) = some (ascii "`in` is a reference to an array or map field")
+tell_collection schema env (array e vs) = some (ascii "`in` is a reference to an array or map field")
 tell_collection schema env (object e pairs) = some (ascii "`in` is a reference to an array or map field")

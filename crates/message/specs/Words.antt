@@ -20,7 +20,7 @@ path_text [] = []
 path_text (s ∷ path) = s ++ dotted_tail path
 
 unfoldable pub kind_of : Field → Text
-kind_of (field e kind is_open tag items members) = kind_name kind
+kind_of (field e kind is_open tag items ms) = kind_name kind
 
 -- empty where there is none
 unfoldable pub text_in : Option Text → Text
@@ -28,7 +28,7 @@ text_in none = []
 text_in (some t) = t
 
 unfoldable pub tag_of : Field → Option Text
-tag_of (field e kind is_open tag items members) = tag
+tag_of (field e kind is_open tag items ms) = tag
 
 -- `ScopeKind::what`
 unfoldable pub what : (kind : ℕ) → Text

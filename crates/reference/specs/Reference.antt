@@ -120,5 +120,5 @@ unfoldable pub collection : Schema → Environment → Value → Reached
 collection schema env (constant e type) = refused 1 0 []
 collection schema env (number e digits) = refused 1 0 []
 collection schema env (string e t) = collection_text schema env t
-collection schema env (array e values) = refused 1 0 []
+collection schema env (array e vs) = refused 1 0 []
 collection schema env (object e pairs) = refused 1 0 []

@@ -53,7 +53,7 @@ arrive at s path onward free = unknown
 arrive at s path onward (into g) = onward g
 
 unfoldable pub entry_of : Field → ℕ
-entry_of (field e kind is_open tag items members) = e
+entry_of (field e kind is_open tag items ms) = e
 
 unfoldable pub travel : (Field → Text → Step) → List Text → Field → Reached
 travel step [] f = known f
@@ -117,14 +117,14 @@ module _ (reader : Reader) (is_service is_open : Bool) (tag : Option Text) (item
 
 -- `walk_field_path`; the details are those of number 18
 unfoldable pub walk_step : Reader → (is_service : Bool) → Field → Text → Step
-walk_step reader is_service (field e kind is_open tag items members) s =
-    cond (is_empty s) (refuse 1) (walk_into reader is_service is_open tag items members s (form_of_kind kind))
+walk_step reader is_service (field e kind is_open tag items ms) s =
+    cond (is_empty s) (refuse 1) (walk_into reader is_service is_open tag items ms s (form_of_kind kind))
 
 -- `field_at`; the details are those of number 22
 unfoldable pub field_step : Field → Text → Step
-field_step (field e kind is_open tag items members) s =
+field_step (field e kind is_open tag items ms) s =
     cond (eqb kind json_kind || eqb kind union_kind) free
-    (cond (eqb kind object_kind) (member_step (lookup s members) is_open 2)
+    (cond (eqb kind object_kind) (member_step (lookup s ms) is_open 2)
     (cond (eqb kind array_kind && is_ordinal s) (item_step items) (refuse 3)))
 
 unfoldable pub element_or : Items → Reached
@@ -133,7 +133,7 @@ element_or (element f) = known f
 
 -- `element_of`: arrays and maps have elements
 unfoldable pub element_of_field : Field → Reached
-element_of_field (field e kind is_open tag items members) = cond (eqb kind array_kind || eqb kind map_kind) (element_or items) (refused 4 e [])
+element_of_field (field e kind is_open tag items ms) = cond (eqb kind array_kind || eqb kind map_kind) (element_or items) (refused 4 e [])
 
 unfoldable pub element_of : Reached → Reached
 element_of (refused d at left) = refused d at left

@@ -28,9 +28,9 @@ abbrev mutual
   ValueAt sheet words i (constant e type) = EntryAt value_head sheet words i 1 e (constant_head type)
   ValueAt sheet words i (number e digits) = EntryAt value_head sheet words i 1 e (number_head digits)
   ValueAt sheet words i (string e t) = EntryAt value_head sheet words i 1 e (string_head t)
-  ValueAt sheet words i (array e values) =
-      EntryAt value_head sheet words i (1 + values_entries values) e (array_head (count_of_values values))
-      × ValuesAt sheet words (i + 1) values
+  ValueAt sheet words i (array e vs) =
+      EntryAt value_head sheet words i (1 + values_entries vs) e (array_head (count_of_values vs))
+      × ValuesAt sheet words (i + 1) vs
   ValueAt sheet words i (object e pairs) =
       EntryAt value_head sheet words i (1 + pairs_entries pairs) e (object_head (count_of_pairs pairs))
       × PairsAt sheet words (i + 1) pairs

@@ -38,8 +38,8 @@ module _ (sheet words later : List ℕ) where
     value_frame (constant e type) i at agree = entry_frame at agree (omega arith) (omega arith)
     value_frame (number e digits) i at agree = entry_frame at agree (omega arith) (omega arith)
     value_frame (string e t) i at agree = entry_frame at agree (omega arith) (omega arith)
-    value_frame (array e values) i at agree =
-        (entry_frame at.0 agree (omega arith) (omega arith), values-frame values (i + 1) at.1 (agree-within agree (omega arith) (omega arith)))
+    value_frame (array e vs) i at agree =
+        (entry_frame at.0 agree (omega arith) (omega arith), values-frame vs (i + 1) at.1 (agree-within agree (omega arith) (omega arith)))
     value_frame (object e pairs) i at agree =
         (entry_frame at.0 agree (omega arith) (omega arith), pairs-frame pairs (i + 1) at.1 (agree-within agree (omega arith) (omega arith)))
 
@@ -89,7 +89,7 @@ module _ (sheet words : List ℕ) (i : ℕ) where
   value-next (constant e type) at = at.ends
   value-next (number e digits) at = at.ends
   value-next (string e t) at = at.ends
-  value-next (array e values) at = at.0.ends
+  value-next (array e vs) at = at.0.ends
   value-next (object e pairs) at = at.0.ends
 
   pub condition-next : (c : Condition) → ConditionAt sheet words i c → end_of words i ≡ i + condition_entries c

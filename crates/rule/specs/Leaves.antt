@@ -34,7 +34,7 @@ module _ {A : Type 0} (says : ℕ → ValueHead → List A) where
     leaves (constant e type) = says e (constant_head type)
     leaves (number e digits) = says e (number_head digits)
     leaves (string e t) = says e (string_head t)
-    leaves (array e values) = says e (array_head (count_of_values values)) ++ leaves_of_values values
+    leaves (array e vs) = says e (array_head (count_of_values vs)) ++ leaves_of_values vs
     leaves (object e pairs) = says e (object_head (count_of_pairs pairs)) ++ leaves_of_pairs pairs
 
     pub leaves_of_values : Values → List A
@@ -88,9 +88,9 @@ module _ {A : Type 0} (says : ℕ → ValueHead → List A) where
     said-value sheet words i (constant e type) a = said-one sheet words i 1 e (constant_head type) a
     said-value sheet words i (number e digits) a = said-one sheet words i 1 e (number_head digits) a
     said-value sheet words i (string e t) a = said-one sheet words i 1 e (string_head t) a
-    said-value sheet words i (array e values) a =
-        said-append sheet words 1 (values_entries values) i
-        ∙ ap₂ ◌++◌ (said-one sheet words i _ e _ a.0) (said-values sheet words (i + 1) values a.1)
+    said-value sheet words i (array e vs) a =
+        said-append sheet words 1 (values_entries vs) i
+        ∙ ap₂ ◌++◌ (said-one sheet words i _ e _ a.0) (said-values sheet words (i + 1) vs a.1)
     said-value sheet words i (object e pairs) a =
         said-append sheet words 1 (pairs_entries pairs) i
         ∙ ap₂ ◌++◌ (said-one sheet words i _ e _ a.0) (said-pairs sheet words (i + 1) pairs a.1)

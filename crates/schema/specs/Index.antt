@@ -44,7 +44,7 @@ elements (element f) = 1
 -- how many fields lie below
 unfoldable mutual
   pub below : Field → ℕ
-  below (field e kind o tag items members) = elements items + count_of_members members + (below_items items + below_members members)
+  below (field e kind o tag items ms) = elements items + count_of_members ms + (below_items items + below_members ms)
 
   pub below_items : Items → ℕ
   below_items absent = 0
@@ -62,14 +62,14 @@ pub record HeadAt (sheet : List ℕ) (start : ℕ) (h : FieldHead) : Type 0 wher
 -- slot `k` is that of a field with that name; the slots of what lies below it begin at `low`
 abbrev mutual
   pub FieldAt : (sheet words : List ℕ) (k low : ℕ) → Text → Field → Type 0
-  FieldAt sheet words k low name (field e kind o tag items members) =
+  FieldAt sheet words k low name (field e kind o tag items ms) =
       (place_word words k % word_entries ≡ e)
       × HeadAt sheet (place_word words k / word_entries)
-      (record { kind = kind; is_open = o; has_items = has_items items; count = count_of_members members; name = name; tag = tag })
+      (record { kind = kind; is_open = o; has_items = has_items items; count = count_of_members ms; name = name; tag = tag })
       × (part_of sheet (slot_name words k) ≡ name)
       × (child_slot words k ≡ low)
-      × ItemsAt sheet words low (low + (elements items + count_of_members members)) items
-      × MembersAt sheet words (low + elements items) (low + (elements items + count_of_members members) + below_items items) members
+      × ItemsAt sheet words low (low + (elements items + count_of_members ms)) items
+      × MembersAt sheet words (low + elements items) (low + (elements items + count_of_members ms) + below_items items) ms
 
   pub ItemsAt : (sheet words : List ℕ) (k low : ℕ) → Items → Type 0
   ItemsAt sheet words k low absent = Unit {0}

@@ -15,15 +15,15 @@ mutual
   unfolding elements count_of_members below below_items below_members
 
   pub FieldAt-kept : (s a b : List ℕ) (k low : ℕ) (name : Text) (f : Field) → SlotKept a b k → SlotsKept a b low (below f) → FieldAt s a k low name f → FieldAt s b k low name f
-  FieldAt-kept s a b k low name (field e kind o tag items members) here there h = (
+  FieldAt-kept s a b k low name (field e kind o tag items ms) here there h = (
     rw here.place h.0,
     rw here.place h.1,
     rw (here.place, here.name) h.2,
     rw here.name h.3,
-    ItemsAt-kept s a b low (low + (elements items + count_of_members members)) items
+    ItemsAt-kept s a b low (low + (elements items + count_of_members ms)) items
         (λ j p q. there j (omega arith) (omega arith))
         (λ j p q. there j (omega arith) (omega arith)) h.4,
-    MembersAt-kept s a b (low + elements items) (low + (elements items + count_of_members members) + below_items items) members
+    MembersAt-kept s a b (low + elements items) (low + (elements items + count_of_members ms) + below_items items) ms
         (λ j p q. there j (omega arith) (omega arith))
         (λ j p q. there j (omega arith) (omega arith)) h.5,
   )
@@ -44,7 +44,7 @@ mutual
 
 -- a slot's name is in its words
 pub slot-named : (s w : List ℕ) (k low : ℕ) (name : Text) (f : Field) → FieldAt s w k low name f → part_of s (slot_name w k) ≡ name
-slot-named s w k low name (field e kind o tag items members) at = at.2
+slot-named s w k low name (field e kind o tag items ms) at = at.2
 
 -- Whatever two trees have the same index are the same.
 
@@ -65,16 +65,16 @@ mutual
   unfolding has_items count_of_members below below_items
 
   pub FieldAt-unique : (s w : List ℕ) (k low low' : ℕ) (name name' : Text) (f g : Field) → FieldAt s w k low name f → FieldAt s w k low' name' g → Same low low' name name' f g
-  FieldAt-unique s w k low low' name name' (field e kind o tag items members) (field e' kind' o' tag' items' members') p q =
+  FieldAt-unique s w k low low' name name' (field e kind o tag items ms) (field e' kind' o' tag' items' members') p q =
       let h = head-unique p.1 q.1 in
       let l : low ≡ low' = sym p.3 ∙ q.3 in
       let has : has_items items ≡ has_items items' = ap (λ (h : FieldHead). h.has_items) h in
-      let count : count_of_members members ≡ count_of_members members' = ap (λ (h : FieldHead). h.count) h in
+      let count : count_of_members ms ≡ count_of_members members' = ap (λ (h : FieldHead). h.count) h in
       let n : elements items ≡ elements items' = elements-marked items ∙ ap to_count has ∙ sym (elements-marked items') in
-      let i : items ≡ items' = ItemsAt-unique s w low (low + (elements items + count_of_members members)) items items' has p.4 (rw (l, n, count) q.4) in
+      let i : items ≡ items' = ItemsAt-unique s w low (low + (elements items + count_of_members ms)) items items' has p.4 (rw (l, n, count) q.4) in
       let b : below_items items ≡ below_items items' = ap below_items i in
-      let m : members ≡ members'
-      = MembersAt-unique s w (low + elements items) (low + (elements items + count_of_members members) + below_items items) members members' count p.5 (rw (l, n, count, b) q.5) in
+      let m : ms ≡ members'
+      = MembersAt-unique s w (low + elements items) (low + (elements items + count_of_members ms) + below_items items) ms members' count p.5 (rw (l, n, count, b) q.5) in
       record {
         lows = l;
         names = ap (λ (h : FieldHead). h.name) h;

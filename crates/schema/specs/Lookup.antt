@@ -16,8 +16,8 @@ pub record FoundAt (sheet words : List ℕ) (name : Text) (members : Members) (k
   pub holds : SlotHolds sheet words k f
 
 abbrev pub FoundIs : (sheet words : List ℕ) (name : Text) (members : Members) → Found → Type 0
-FoundIs sheet words name members (Found.At k) = FoundAt sheet words name members k
-FoundIs sheet words name members Found.Missing = lookup name members ≡ none
+FoundIs sheet words name ms (Found.At k) = FoundAt sheet words name ms k
+FoundIs sheet words name ms Found.Missing = lookup name ms ≡ none
 
 abbrev pub LookedUp : (sheet words : List ℕ) → Holder → Text → Found → Type 0
 LookedUp sheet words h name r = (t : Tree.Holder) → HolderAt sheet words h t → FoundIs sheet words name t.members r

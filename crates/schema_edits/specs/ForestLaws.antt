@@ -29,16 +29,16 @@ mutual
   pub field_row : (p n : ℕ) (name : Text) (f : Field) (more rest : List ℕ) → TextWithin name → FieldFits f → field_entries f ≤ max_count
       → Fields p n more rest
       → Fields (p + 1) (n + field_entries f) (write_field name f ++ more) rest
-  field_row p n name (field e kind is_open tag items members) more rest within fits few o =
-      let k = members-take members in
-      let h : FieldHead = record { kind = kind; is_open = is_open; has_items = has_items items; count = count_of_members members; name = name; tag = tag } in
-      fields-are {p = suc p} {n = suc (n + members_entries members + items_entries items)} (omega arith) (omega arith)
-      (entered {pending = p} h (write_items items ++ (write_members members ++ more))
-      (ap field_head (joined (write_field_head h) (write_items items) (write_members members) more)
+  field_row p n name (field e kind is_open tag items ms) more rest within fits few o =
+      let k = members-take ms in
+      let h : FieldHead = record { kind = kind; is_open = is_open; has_items = has_items items; count = count_of_members ms; name = name; tag = tag } in
+      fields-are {p = suc p} {n = suc (n + members_entries ms + items_entries items)} (omega arith) (omega arith)
+      (entered {pending = p} h (write_items items ++ (write_members ms ++ more))
+      (ap field_head (joined (write_field_head h) (write_items items) (write_members ms) more)
       ∙ field_head-exact.complete h _ (record { kind = fits.0; count = omega arith; name = within; tag = fits.1 }) refl)
-      (fields-are {p = p + count_of_members members + to_count (has_items items)} (omega arith) refl
-      (items-row (p + count_of_members members) (n + members_entries members) items (write_members members ++ more) rest fits.2 (omega arith)
-      (members-row p n members more rest fits.3 (omega arith) o))))
+      (fields-are {p = p + count_of_members ms + to_count (has_items items)} (omega arith) refl
+      (items-row (p + count_of_members ms) (n + members_entries ms) items (write_members ms ++ more) rest fits.2 (omega arith)
+      (members-row p n ms more rest fits.3 (omega arith) o))))
 
   items-row : (p n : ℕ) (i : Items) (more rest : List ℕ) → ItemsFit i → items_entries i ≤ max_count
       → Fields p n more rest

@@ -61,7 +61,7 @@ unfoldable mutual
   references binders (constant e type) = []
   references binders (number e digits) = []
   references binders (string e t) = reference_check binders e (reference_text t)
-  references binders (array e values) = references_of_values binders values
+  references binders (array e vs) = references_of_values binders vs
   references binders (object e pairs) = references_of_pairs binders pairs
 
   pub references_of_values : List Binder → Values → List Check
@@ -83,7 +83,7 @@ unfoldable mutual
   numbers (constant e type) = []
   numbers (number e digits) = record { entry = e; digits = digits } ∷ []
   numbers (string e t) = []
-  numbers (array e values) = numbers_of_values values
+  numbers (array e vs) = numbers_of_values vs
   numbers (object e pairs) = numbers_of_pairs pairs
 
   pub numbers_of_values : Values → List Literal
@@ -117,21 +117,21 @@ unfoldable pub entry_of : Value → ℕ
 entry_of (constant e type) = e
 entry_of (number e digits) = e
 entry_of (string e t) = e
-entry_of (array e values) = e
+entry_of (array e vs) = e
 entry_of (object e pairs) = e
 
 unfoldable pub is_string : Value → Bool
 is_string (constant e type) = false
 is_string (number e digits) = false
 is_string (string e t) = true
-is_string (array e values) = false
+is_string (array e vs) = false
 is_string (object e pairs) = false
 
 unfoldable pub is_holder : Value → Bool
 is_holder (constant e type) = false
 is_holder (number e digits) = false
 is_holder (string e t) = false
-is_holder (array e values) = true
+is_holder (array e vs) = true
 is_holder (object e pairs) = true
 
 -- `$$` text is not an instant, any other `$` text a reference
@@ -142,7 +142,7 @@ unfoldable pub instant_form : Value → Question
 instant_form (constant e type) = settled (some 2)
 instant_form (number e digits) = settled (some 2)
 instant_form (string e t) = instant_text t
-instant_form (array e values) = settled (some 2)
+instant_form (array e vs) = settled (some 2)
 instant_form (object e pairs) = settled (some 2)
 
 unfoldable pub instant_operand : List Binder → Value → List Check

@@ -18,7 +18,7 @@ unfoldable pub literal_instant : Value → Option Fields
 literal_instant (constant e type) = none
 literal_instant (number e digits) = none
 literal_instant (string e t) = literal_text t
-literal_instant (array e values) = none
+literal_instant (array e vs) = none
 literal_instant (object e pairs) = none
 
 unfoldable pub truth_of : (op : ℕ) (left right : Fields) → Option Bool

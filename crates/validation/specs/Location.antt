@@ -29,7 +29,7 @@ unfoldable mutual
   in_value place (constant e type) = here_or (eqb e place) none
   in_value place (number e digits) = here_or (eqb e place) none
   in_value place (string e t) = here_or (eqb e place) none
-  in_value place (array e values) = here_or (eqb e place) (in_values place 0 values)
+  in_value place (array e vs) = here_or (eqb e place) (in_values place 0 vs)
   in_value place (object e pairs) = here_or (eqb e place) (in_pairs place pairs)
 
   pub in_values : (place i : ℕ) → Values → Option Text

@@ -39,7 +39,7 @@ closes o o' = o && not o'
 
 -- what the entries of two fields say themselves, mark by mark as an entry has them
 unfoldable pub own_differences : Field → Field → List Difference
-own_differences (field e kind o tag items members) (field e' kind' o' tag' items' members') =
+own_differences (field e kind o tag items ms) (field e' kind' o' tag' items' members') =
     breach_if (not (eqb kind kind')) kind_differs e e'
     ++ (breach_if (closes o o') mark_closes e e'
     ++ (breach_if (not (same_items_mark items items')) items_differ e e'
@@ -69,9 +69,9 @@ sought o name f found lost (member name' f' others') =
 -- First what a field's entry says, then its element, then its properties in the order of their names.
 unfoldable mutual
   pub field_differences : Field → Field → List Difference
-  field_differences (field e kind o tag items members) (field e' kind' o' tag' items' members') =
-      own_differences (field e kind o tag items members) (field e' kind' o' tag' items' members')
-      ++ (items_differences items items' ++ members_differences o members members')
+  field_differences (field e kind o tag items ms) (field e' kind' o' tag' items' members') =
+      own_differences (field e kind o tag items ms) (field e' kind' o' tag' items' members')
+      ++ (items_differences items items' ++ members_differences o ms members')
 
   -- that only one of the two is there shows in the items marks
   pub items_differences : Items → Items → List Difference

@@ -10,8 +10,8 @@ is_in (x ∷ xs) e = eqb x e || is_in xs e
 -- the schema with the marks of those entries open as well
 unfoldable mutual
   pub opened_field : (ℕ → Bool) → Field → Field
-  opened_field may (field e kind is_open tag items members) =
-      field e kind (is_open || may e) tag (opened_items may items) (opened_members may members)
+  opened_field may (field e kind is_open tag items ms) =
+      field e kind (is_open || may e) tag (opened_items may items) (opened_members may ms)
 
   pub opened_items : (ℕ → Bool) → Items → Items
   opened_items may absent = absent
@@ -35,8 +35,8 @@ opened may t = record { fields = opened_holder may 1 t.fields; arguments = opene
 -- whether the entry has an open mark, and it is 0
 unfoldable mutual
   pub closed_in_field : Field → ℕ → Bool
-  closed_in_field (field n kind is_open tag items members) e =
-      (not is_open && eqb n e) || (closed_in_items items e || closed_in_members members e)
+  closed_in_field (field n kind is_open tag items ms) e =
+      (not is_open && eqb n e) || (closed_in_items items e || closed_in_members ms e)
 
   pub closed_in_items : Items → ℕ → Bool
   closed_in_items absent e = false
