@@ -113,7 +113,7 @@ module _ (value : Reader (List ℕ) Json) where
       (λ s. elements_in (length s) s)
 
   unfoldable pub members : Reader (List ℕ) Members
-  ms =
+  members =
       either
       (do
         spaces

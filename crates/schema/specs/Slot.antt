@@ -50,7 +50,7 @@ pub record FieldParts (sheet words : List ℕ) (e kind : ℕ) (tag : Option Text
   pub members : HolderAt sheet words r.members holder
 
 abbrev pub PartsOf : (sheet words : List ℕ) → Field → IndexedField → Type 0
-PartsOf sheet words (field e kind o tag items ms) r = FieldParts sheet words e kind tag items (record { is_open = o; ms = ms }) r
+PartsOf sheet words (field e kind o tag items ms) r = FieldParts sheet words e kind tag items (record { is_open = o; members = ms }) r
 
 -- the parts of the field that slot `k` holds, whichever it is
 abbrev pub IndexedIs : (sheet words : List ℕ) (k : ℕ) → IndexedField → Type 0
