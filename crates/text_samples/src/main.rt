@@ -180,9 +180,11 @@ fn count(rt: &impl Print, s: &[u8], list: u8, only: bool) -> io::Result<u64> {
 }
 
 fn report(rt: &impl Print, name: &str, s: &[u8], list: u8) -> io::Result<()> {
+    print!(rt; "{name}: ")?;
     let passed = count(rt, s, list, true)?;
+    print!(rt; "{passed} of ")?;
     let all = count(rt, s, list, false)?;
-    println!(rt; "{name}: {passed} of {all}")
+    println!(rt; "{all}")
 }
 
 // How many code points are White_Space: 25 in Unicode's PropList.txt.
