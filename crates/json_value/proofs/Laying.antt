@@ -16,47 +16,47 @@ use Rattle.rule.specs.Index.{start_of, end_of, EntryAt}
 use Rattle.rule.specs.IndexLaws.{value-next}
 use Rattle.buffer.specs.Laid.{Laid, most_place}
 use Rattle.buffer.specs.LaidLaws.{laid-nothing, laid_then}
-use Rattle.json_text.specs.Escaped.{Escapes, short, quoted, written, written_elements, written_members}
+use Rattle.json_text.specs.Escaped.{short, quoted, written, written_elements, written_members}
 use Rattle.json_rule.specs.AsJson.{constant_of, as_json, as_elements, as_members}
 use Rattle.json_rule.proofs.AsJsonLaws.{json-is}
 use Rattle.rule.specs.Nodes.{IsValue, AreValues, Behind}
 use Rattle.rule.proofs.NodeSteps.{same_head, value-size, others_of, value-stands, others-stand, no-values-left}
-use Rattle.json_value.specs.Lays.{ArePairs, LaysConstant, LaysValueAs, LaysValue, LaysWithin, LaysHeld, LaysKey, comma_before}
+use Rattle.json_value.specs.Lays.{ArePairs, LaysValue, LaysWithin, LaysHeld, LaysKey, comma_before}
 
 -- Constants
 
 module _ (kind : ℕ) {before after : List ℕ} {at next : ℕ} where
-  pub laid-null : kind ≡ 1 → Laid before after at (0x6E ∷ 0x75 ∷ 0x6C ∷ 0x6C ∷ []) next → LaysConstant kind before after at next
+  pub laid-null : kind ≡ 1 → Laid before after at (0x6E ∷ 0x75 ∷ 0x6C ∷ 0x6C ∷ []) next → Laid before after at (written short (constant_of kind)) next
   unfolding written constant_of ascii
-  laid-null e w = record { lays = λ how. rw (eq-eqb kind 1 e) w }
+  laid-null e w = rw (eq-eqb kind 1 e) w
 
-  pub laid-true : kind ≡ 3 → Laid before after at (0x74 ∷ 0x72 ∷ 0x75 ∷ 0x65 ∷ []) next → LaysConstant kind before after at next
+  pub laid-true : kind ≡ 3 → Laid before after at (0x74 ∷ 0x72 ∷ 0x75 ∷ 0x65 ∷ []) next → Laid before after at (written short (constant_of kind)) next
   unfolding written constant_of ascii
-  laid-true e w = record { lays = λ how. rw e w }
+  laid-true e w = rw e w
 
   pub laid-false : (kind ≡ 1 → ⊥) → (kind ≡ 3 → ⊥) → Laid before after at (0x66 ∷ 0x61 ∷ 0x6C ∷ 0x73 ∷ 0x65 ∷ []) next
-      → LaysConstant kind before after at next
+      → Laid before after at (written short (constant_of kind)) next
   unfolding written constant_of ascii
-  laid-false n t w = record { lays = λ how. rw (ne_eqb kind 1 n, ne_eqb kind 3 t) w }
+  laid-false n t w = rw (ne_eqb kind 1 n, ne_eqb kind 3 t) w
 
 -- What is laid for the head of a value
 
 refused : {H R : Type 0} {o : Option (H × List ℕ)} {h : H} {rest : List ℕ} → o ≡ none → o ≡ some (h, rest) → R
 refused a b = zero-not-one cc
 
-module _ (how : Escapes) (rule words : List ℕ) (i end : ℕ) (before after : List ℕ) (at next : ℕ) where
+module _ (rule words : List ℕ) (i end : ℕ) (before after : List ℕ) (at next : ℕ) where
   abbrev HeadLaid : ValueHead → Type 0
-  HeadLaid (constant_head type) = Laid before after at (written how (constant_of type)) next
+  HeadLaid (constant_head type) = Laid before after at (written short (constant_of type)) next
   HeadLaid (number_head digits) = Laid before after at digits next
-  HeadLaid (string_head t) = Laid before after at (quoted how t) next
-  HeadLaid (array_head count) = (vs : Values) → AreValues rule words (i + 1) end vs → Laid before after at (0x5B ∷ written_elements how [] (as_elements vs)) next
-  HeadLaid (object_head count) = (ps : Pairs) → ArePairs rule words (i + 1) end ps → Laid before after at (0x7B ∷ written_members how [] (as_members ps)) next
+  HeadLaid (string_head t) = Laid before after at (quoted short t) next
+  HeadLaid (array_head count) = (vs : Values) → AreValues rule words (i + 1) end vs → Laid before after at (0x5B ∷ written_elements short [] (as_elements vs)) next
+  HeadLaid (object_head count) = (ps : Pairs) → ArePairs rule words (i + 1) end ps → Laid before after at (0x7B ∷ written_members short [] (as_members ps)) next
 
   module _ {start behind : ℕ} (h : ValueHead) (place : start ≡ start_of words i) (read : ReadsTo value_head rule start h behind) (laid : HeadLaid h) where
     entry-laid : {size e : ℕ} {k : ValueHead} → EntryAt value_head rule words i size e k → HeadLaid k
     entry-laid a = subst (λ (x : ValueHead). HeadLaid x) (same_head place read a) laid
 
-    value-laid : (v : Value) → IsValue rule words i end v → Laid before after at (written how (as_json v)) next
+    value-laid : (v : Value) → IsValue rule words i end v → Laid before after at (written short (as_json v)) next
     unfolding written as_json value_entries
     value-laid (constant e type) w = entry-laid w.stands
     value-laid (number e digits) w = entry-laid w.stands
@@ -64,22 +64,22 @@ module _ (how : Escapes) (rule words : List ℕ) (i end : ℕ) (before after : L
     value-laid (array e vs) w = entry-laid w.stands.0 vs (record { stand = w.stands.1; ends = omega (arith, w.ends) })
     value-laid (object e ps) w = entry-laid w.stands.0 ps (record { stand = w.stands.1; ends = omega (arith, w.ends) })
 
-    head-lays : LaysWithin how rule words i end before after at next
+    head-lays : LaysWithin rule words i end before after at next
     head-lays = record { lays = value-laid }
 
-module _ {how : Escapes} {rule words : List ℕ} {i end : ℕ} {before after : List ℕ} {at next : ℕ} where
+module _ {rule words : List ℕ} {i end : ℕ} {before after : List ℕ} {at next : ℕ} where
   -- no value stands there
-  pub empty-lays : end ≤ i → LaysWithin how rule words i end before after at next
+  pub empty-lays : end ≤ i → LaysWithin rule words i end before after at next
   empty-lays h = record { lays = λ v w. let p : 1 ≤ value_entries v = value-size v in absurd (omega (arith, w.ends)) }
 
   module _ {start : ℕ} (place : start ≡ start_of words i) where
-    pub unread-lays : Refuses value_head rule start → LaysWithin how rule words i end before after at next
+    pub unread-lays : Refuses value_head rule start → LaysWithin rule words i end before after at next
     unread-lays none_read = record { lays = go }
       where
         here : value_head (drop (start_of words i) rule) ≡ none
         here = rw (sym place) none_read
 
-        go : (v : Value) → IsValue rule words i end v → Laid before after at (written how (as_json v)) next
+        go : (v : Value) → IsValue rule words i end v → Laid before after at (written short (as_json v)) next
         go (constant e type) w = refused here w.stands.reads
         go (number e digits) w = refused here w.stands.reads
         go (string e t) w = refused here w.stands.reads
@@ -87,45 +87,45 @@ module _ {how : Escapes} {rule words : List ℕ} {i end : ℕ} {before after : L
         go (object e ps) w = refused here w.stands.0.reads
 
     pub constant-lays : {type behind : ℕ} → ReadsTo value_head rule start (constant_head type) behind
-        → LaysConstant type before after at next
-        → LaysWithin how rule words i end before after at next
-    constant-lays {type} read w = head-lays how rule words i end before after at next (constant_head type) place read (w.lays how)
+        → Laid before after at (written short (constant_of type)) next
+        → LaysWithin rule words i end before after at next
+    constant-lays {type} read w = head-lays rule words i end before after at next (constant_head type) place read w
 
     pub number-lays : {digits found : Text} {behind : ℕ} → ReadsTo value_head rule start (number_head found) behind → digits ≡ found
         → Laid before after at digits next
-        → LaysWithin how rule words i end before after at next
+        → LaysWithin rule words i end before after at next
     number-lays {found = found} read same w =
-        head-lays how rule words i end before after at next (number_head found) place read (subst (λ (t : Text). Laid before after at t next) same w)
+        head-lays rule words i end before after at next (number_head found) place read (subst (λ (t : Text). Laid before after at t next) same w)
 
     pub string-lays : {text found : Text} {behind : ℕ} → ReadsTo value_head rule start (string_head found) behind → text ≡ found
-        → Laid before after at (quoted how text) next
-        → LaysWithin how rule words i end before after at next
+        → Laid before after at (quoted short text) next
+        → LaysWithin rule words i end before after at next
     string-lays {found = found} read same w =
-        head-lays how rule words i end before after at next (string_head found) place read (subst (λ (t : Text). Laid before after at (quoted how t) next) same w)
+        head-lays rule words i end before after at next (string_head found) place read (subst (λ (t : Text). Laid before after at (quoted short t) next) same w)
 
     pub array-lays : {inside : List ℕ} {o count behind : ℕ} → ReadsTo value_head rule start (array_head count) behind
         → Laid before inside at (0x5B ∷ []) o
-        → LaysHeld how rule words 0 (i + 1) end inside after o next
+        → LaysHeld rule words 0 (i + 1) end inside after o next
         → length before ≤ most_place
-        → LaysWithin how rule words i end before after at next
+        → LaysWithin rule words i end before after at next
     array-lays {count = count} read w l room =
-        head-lays how rule words i end before after at next (array_head count) place read (λ vs are. laid_then room w (l.elements refl vs are))
+        head-lays rule words i end before after at next (array_head count) place read (λ vs are. laid_then room w (l.elements refl vs are))
 
     pub object-lays : {inside : List ℕ} {o count behind : ℕ} → ReadsTo value_head rule start (object_head count) behind
         → Laid before inside at (0x7B ∷ []) o
-        → LaysHeld how rule words 1 (i + 1) end inside after o next
+        → LaysHeld rule words 1 (i + 1) end inside after o next
         → length before ≤ most_place
-        → LaysWithin how rule words i end before after at next
+        → LaysWithin rule words i end before after at next
     object-lays {count = count} read w l room =
-        head-lays how rule words i end before after at next (object_head count) place read (λ ps are. laid_then room w (l.members refl ps are))
+        head-lays rule words i end before after at next (object_head count) place read (λ ps are. laid_then room w (l.members refl ps are))
 
 -- A key
 
-module _ {how : Escapes} {rule words : List ℕ} {keys i : ℕ} {before : List ℕ} {at : ℕ} where
-  pub no_key : keys ≡ 0 → at ≤ most_place → LaysKey how rule words keys i before before at at
+module _ {rule words : List ℕ} {keys i : ℕ} {before : List ℕ} {at : ℕ} where
+  pub no_key : keys ≡ 0 → at ≤ most_place → LaysKey rule words keys i before before at at
   no_key e h = record { nothing = λ z. laid-nothing before at h; key = λ z. absurd (omega arith) }
 
-  pub key-unread : {start : ℕ} → (keys ≡ 0 → ⊥) → start ≡ start_of words i → Refuses key_head rule start → LaysKey how rule words keys i before before at at
+  pub key-unread : {start : ℕ} → (keys ≡ 0 → ⊥) → start ≡ start_of words i → Refuses key_head rule start → LaysKey rule words keys i before before at at
   key-unread {start} some_key place none_read =
       record {
         nothing = λ z. absurd (some_key z);
@@ -136,9 +136,9 @@ module _ {how : Escapes} {rule words : List ℕ} {keys i : ℕ} {before : List �
       → start ≡ start_of words i
       → ReadsTo key_head rule start found stop
       → key ≡ found
-      → Laid before quote at (quoted how key) o
+      → Laid before quote at (quoted short key) o
       → Laid quote after o (0x3A ∷ []) next
-      → LaysKey how rule words keys i before after at next
+      → LaysKey rule words keys i before after at next
   key-laid {start} {stop} {found} {key} {quote} {after} {o} {next} room some_key place read same w c =
       record {
         nothing = λ z. absurd (some_key z);
@@ -147,7 +147,7 @@ module _ {how : Escapes} {rule words : List ℕ} {keys i : ℕ} {before : List �
             let here : key_head (drop (start_of words i) rule) ≡ some (found, drop stop rule) = rw (sym place) read.reads in
             let q : ◌≡◌ {A = Text × List ℕ} (found, drop stop rule) (k, rest) = cc in
             let found-is : key ≡ k = same ∙ ap (λ (x : Text × List ℕ). x.0) q in
-            subst (λ (t : Text). Laid before after at (quoted how t ++ (0x3A ∷ [])) next) found-is (laid_then room w c);
+            subst (λ (t : Text). Laid before after at (quoted short t ++ (0x3A ∷ [])) next) found-is (laid_then room w c);
       }
 
 -- A comma
@@ -160,11 +160,11 @@ pub no-comma : (i end : ℕ) (before : List ℕ) (at : ℕ) → end ≤ i → at
 unfolding comma_before
 no-comma i end before at h k = rw (le-ltb i end h) (laid-nothing before at k)
 
-pub comma-some : (i end : ℕ) → i < end → comma_before i end ≡ 0x2C ∷ []
+comma-some : (i end : ℕ) → i < end → comma_before i end ≡ 0x2C ∷ []
 unfolding comma_before
 comma-some i end h = rw (lt-ltb i end h)
 
-pub comma-none : (i end : ℕ) → end ≤ i → comma_before i end ≡ []
+comma-none : (i end : ℕ) → end ≤ i → comma_before i end ≡ []
 unfolding comma_before
 comma-none i end h = rw (le-ltb i end h)
 
@@ -177,39 +177,39 @@ pair_end b w =
     let n = w.stand.0.ends in
     b.exact (omega arith) (omega (arith, w.ends)) ∙ n
 
-element-comma : (how : Escapes) {rule words : List ℕ} {r end : ℕ} (vs : Values) → AreValues rule words r end vs
-    → comma_before r end ++ written_elements how [] (as_elements vs) ≡ written_elements how (0x2C ∷ []) (as_elements vs)
+element-comma : {rule words : List ℕ} {r end : ℕ} (vs : Values) → AreValues rule words r end vs
+    → comma_before r end ++ written_elements short [] (as_elements vs) ≡ written_elements short (0x2C ∷ []) (as_elements vs)
 unfolding written_elements as_elements values_entries
-element-comma how {r = r} {end = end} no_values w = rw (comma-none r end (omega (arith, w.ends)))
-element-comma how {r = r} {end = end} (value v others) w =
+element-comma {r = r} {end = end} no_values w = rw (comma-none r end (omega (arith, w.ends)))
+element-comma {r = r} {end = end} (value v others) w =
     let p : 1 ≤ value_entries v = value-size v in
     rw (comma-some r end (omega (arith, w.ends)))
 
-member-comma : (how : Escapes) {rule words : List ℕ} {r end : ℕ} (ps : Pairs) → ArePairs rule words r end ps
-    → comma_before r end ++ written_members how [] (as_members ps) ≡ written_members how (0x2C ∷ []) (as_members ps)
+member-comma : {rule words : List ℕ} {r end : ℕ} (ps : Pairs) → ArePairs rule words r end ps
+    → comma_before r end ++ written_members short [] (as_members ps) ≡ written_members short (0x2C ∷ []) (as_members ps)
 unfolding written_members as_members pairs_entries
-member-comma how {r = r} {end = end} no_pairs w = rw (comma-none r end (omega (arith, w.ends)))
-member-comma how {r = r} {end = end} (pair key v others) w = rw (comma-some r end (omega (arith, w.ends)))
+member-comma {r = r} {end = end} no_pairs w = rw (comma-none r end (omega (arith, w.ends)))
+member-comma {r = r} {end = end} (pair key v others) w = rw (comma-some r end (omega (arith, w.ends)))
 
 -- whatever lays the rest from word `j` on has laid all from word `i` on
-pub record Leads (how : Escapes) (rule words : List ℕ) (keys i end : ℕ) (before : List ℕ) (at j : ℕ) (now : List ℕ) (o : ℕ) : Type 0 where
+pub record Leads (rule words : List ℕ) (keys i end : ℕ) (before : List ℕ) (at j : ℕ) (now : List ℕ) (o : ℕ) : Type 0 where
   pub forward : i ≤ j
   pub len : length now ≡ length before
-  pub leads : (after : List ℕ) (next : ℕ) → LaysHeld how rule words keys j end now after o next → LaysHeld how rule words keys i end before after at next
+  pub leads : (after : List ℕ) (next : ℕ) → LaysHeld rule words keys j end now after o next → LaysHeld rule words keys i end before after at next
 
-pub leads-start : {how : Escapes} {rule words : List ℕ} {keys i end : ℕ} {before : List ℕ} {at : ℕ} → Leads how rule words keys i end before at i before at
+pub leads-start : {rule words : List ℕ} {keys i end : ℕ} {before : List ℕ} {at : ℕ} → Leads rule words keys i end before at i before at
 leads-start = record { forward = omega arith; len = refl; leads = λ after next l. l }
 
 -- one more
-module _ {how : Escapes} {rule words : List ℕ} {keys end j r : ℕ} {now one two three : List ℕ} {o p q s : ℕ}
-    (front : LaysKey how rule words keys j now one o p)
-    (own : LaysWithin how rule words (j + keys) r one two p q)
+module _ {rule words : List ℕ} {keys end j r : ℕ} {now one two three : List ℕ} {o p q s : ℕ}
+    (front : LaysKey rule words keys j now one o p)
+    (own : LaysWithin rule words (j + keys) r one two p q)
     (comma : Laid two three q (comma_before r end) s)
     (b : Behind words j end r)
     (inside : j < end)
     (room : length now ≤ most_place) where
-  element-step : {after : List ℕ} {next : ℕ} → LaysHeld how rule words keys r end three after s next → keys ≡ 0 → (vs : Values) → AreValues rule words j end vs
-      → Laid now after o (written_elements how [] (as_elements vs)) next
+  element-step : {after : List ℕ} {next : ℕ} → LaysHeld rule words keys r end three after s next → keys ≡ 0 → (vs : Values) → AreValues rule words j end vs
+      → Laid now after o (written_elements short [] (as_elements vs)) next
   unfolding written_elements as_elements values_entries others_of
   element-step rest e no_values w = absurd (omega (arith, w.ends, inside))
   element-step {after} {next} rest e (value v others) w =
@@ -217,13 +217,13 @@ module _ {how : Escapes} {rule words : List ℕ} {keys end j r : ℕ} {now one t
       let others-are : AreValues rule words r end others = others-stand inside b (value v others) w in
       let first = own.lays v (rw place (value-stands inside b w)) in
       let all = laid_then room (laid_then room (laid_then room (front.nothing e) first) comma) (rest.elements e others others-are) in
-      let same : ((([] ++ written how (as_json v)) ++ comma_before r end) ++ written_elements how [] (as_elements others)) ≡ written how (as_json v) ++ written_elements how (0x2C ∷ []) (as_elements others) =
-      append_assoc (written how (as_json v)) (comma_before r end) (written_elements how [] (as_elements others))
-      ∙ ap (λ (l : List ℕ). written how (as_json v) ++ l) (element-comma how others others-are) in
+      let same : ((([] ++ written short (as_json v)) ++ comma_before r end) ++ written_elements short [] (as_elements others)) ≡ written short (as_json v) ++ written_elements short (0x2C ∷ []) (as_elements others) =
+      append_assoc (written short (as_json v)) (comma_before r end) (written_elements short [] (as_elements others))
+      ∙ ap (λ (l : List ℕ). written short (as_json v) ++ l) (element-comma others others-are) in
       subst (λ (l : List ℕ). Laid now after o l next) same all
 
-  member-step : {after : List ℕ} {next : ℕ} → LaysHeld how rule words keys r end three after s next → keys ≡ 1 → (ps : Pairs) → ArePairs rule words j end ps
-      → Laid now after o (written_members how [] (as_members ps)) next
+  member-step : {after : List ℕ} {next : ℕ} → LaysHeld rule words keys r end three after s next → keys ≡ 1 → (ps : Pairs) → ArePairs rule words j end ps
+      → Laid now after o (written_members short [] (as_members ps)) next
   unfolding written_members as_members pairs_entries
   member-step rest e no_pairs w = absurd (omega (arith, w.ends, inside))
   member-step {after} {next} rest e (pair key v others) w =
@@ -234,13 +234,13 @@ module _ {how : Escapes} {rule words : List ℕ} {keys end j r : ℕ} {now one t
       let first = own.lays v (rw place stands) in
       let named = front.key e key w.stand.0.rest w.stand.0.reads in
       let all = laid_then room (laid_then room (laid_then room named first) comma) (rest.members e others others-are) in
-      let same : (((quoted how key ++ (0x3A ∷ [])) ++ written how (as_json v)) ++ comma_before r end) ++ written_members how [] (as_members others)
-      ≡ quoted how key ++ (0x3A ∷ (written how (as_json v) ++ written_members how (0x2C ∷ []) (as_members others))) =
-      rw (sym (member-comma how others others-are)) (simp append_assoc) in
+      let same : (((quoted short key ++ (0x3A ∷ [])) ++ written short (as_json v)) ++ comma_before r end) ++ written_members short [] (as_members others)
+      ≡ quoted short key ++ (0x3A ∷ (written short (as_json v) ++ written_members short (0x2C ∷ []) (as_members others))) =
+      rw (sym (member-comma others others-are)) (simp append_assoc) in
       subst (λ (l : List ℕ). Laid now after o l next) same all
 
-  pub leads-more : {i : ℕ} {before : List ℕ} {at : ℕ} → length three ≡ length before → Leads how rule words keys i end before at j now o
-      → Leads how rule words keys i end before at r three s
+  pub leads-more : {i : ℕ} {before : List ℕ} {at : ℕ} → length three ≡ length before → Leads rule words keys i end before at j now o
+      → Leads rule words keys i end before at r three s
   leads-more same k =
       record {
         forward = omega (arith, k.forward, b.past inside);
@@ -254,8 +254,8 @@ no-pairs-left no_pairs h w = refl
 no-pairs-left (pair key v others) h w = absurd (omega (arith, w.ends))
 
 -- the closing bracket
-module _ {how : Escapes} {rule words : List ℕ} {keys j end : ℕ} {now after : List ℕ} {o next : ℕ} where
-  pub array-closed : Laid now after o (0x5D ∷ []) next → keys ≡ 0 → end ≤ j → LaysHeld how rule words keys j end now after o next
+module _ {rule words : List ℕ} {keys j end : ℕ} {now after : List ℕ} {o next : ℕ} where
+  pub array-closed : Laid now after o (0x5D ∷ []) next → keys ≡ 0 → end ≤ j → LaysHeld rule words keys j end now after o next
   unfolding written_elements as_elements
   array-closed w e out_of_lem =
       record {
@@ -263,7 +263,7 @@ module _ {how : Escapes} {rule words : List ℕ} {keys j end : ℕ} {now after :
         members = λ z ps are. absurd (omega arith);
       }
 
-  pub object-closed : Laid now after o (0x7D ∷ []) next → (keys ≡ 0 → ⊥) → end ≤ j → LaysHeld how rule words keys j end now after o next
+  pub object-closed : Laid now after o (0x7D ∷ []) next → (keys ≡ 0 → ⊥) → end ≤ j → LaysHeld rule words keys j end now after o next
   unfolding written_members as_members
   object-closed w some_key out_of_lem =
       record {
@@ -273,11 +273,12 @@ module _ {how : Escapes} {rule words : List ℕ} {keys j end : ℕ} {now after :
 
 -- The whole
 
-pub value-lays : {how : Escapes} {rule words : List ℕ} {i end : ℕ} {before after : List ℕ} {at next : ℕ} → end ≡ end_of words i
-    → LaysWithin how rule words i end before after at next
-    → LaysValueAs how rule words i before after at next
-value-lays {rule = rule} {words = words} {i = i} ends l = record { lays = λ v a. l.lays v (record { stands = a; ends = ends ∙ value-next rule words i v a }) }
-
-pub short-lays : {rule words : List ℕ} {i : ℕ} {before after : List ℕ} {at next : ℕ} → LaysValueAs short rule words i before after at next
+pub value-lays : {rule words : List ℕ} {i end : ℕ} {before after : List ℕ} {at next : ℕ} → end ≡ end_of words i → LaysWithin rule words i end before after at next
     → LaysValue rule words i before after at next
-short-lays l = record { lays = λ v a. rw (json-is v) (l.lays v a) }
+value-lays {rule} {words} {i} {end} {before} {after} {at} {next} ends l =
+    record {
+      lays =
+          λ v a.
+          subst (λ (t : List ℕ). Laid before after at t next) (sym (json-is v))
+          (l.lays v (record { stands = a; ends = ends ∙ value-next rule words i v a }));
+    }

@@ -1,12 +1,11 @@
-// A value of a rule's index as compact JSON, laid into a lent buffer.
+// A value of a rule's index as compact JSON with the short escapes, laid into a lent buffer.
 #![tactic(auto)]
-
-pub mod operator; // operator.rt: operators by number
 
 ghost use Rattle.std.specs.Prelude.{◌≤◌};
 ghost use Rattle.buffer.specs.Laid.{Laid};
-ghost use Rattle.json_text.specs.Quoted.{escapes_of};
-ghost use Rattle.json_value.specs.Lays.{comma_before, LaysConstant, LaysKey, LaysHeld, LaysWithin, LaysValueAs, LaysValue};
+ghost use Rattle.json_text.specs.Escaped.{short, written};
+ghost use Rattle.json_rule.specs.AsJson.{constant_of};
+ghost use Rattle.json_value.specs.Lays.{comma_before, LaysKey, LaysHeld, LaysWithin, LaysValue};
 
 use buffer::lay::{lay, lay_byte};
 use json_text::quote::{Escapes, lay_quoted};
@@ -17,7 +16,7 @@ use text::part::bytes_of;
 
 // A constant by its type: 1 null, 2 false, 3 true.
 fn lay_constant(out: &mut [u8], at: usize, kind: usize) -> usize
-    ensures { LaysConstant kind out.old out.new at result }
+    ensures { Laid out.old out.new at (written short (constant_of kind)) result }
 {
     if kind == 1 {
         return lay(out, at, b"null");
@@ -29,16 +28,8 @@ fn lay_constant(out: &mut [u8], at: usize, kind: usize) -> usize
 }
 
 // In front of a value at which word `i` begins: its key with a colon, where it has one. `keys` is 1 for members, 0 for elements.
-fn lay_key(
-    rule: &[u8],
-    words: &[u32],
-    keys: usize,
-    i: usize,
-    out: &mut [u8],
-    at: usize,
-    how: Escapes,
-) -> usize
-    ensures { LaysKey (escapes_of how) rule.now words.now keys i out.old out.new at result }
+fn lay_key(rule: &[u8], words: &[u32], keys: usize, i: usize, out: &mut [u8], at: usize) -> usize
+    ensures { LaysKey rule.now words.now keys i out.old out.new at result }
 {
     if keys == 0 {
         return at;
@@ -46,12 +37,12 @@ fn lay_key(
     let KeyRead::Is(key, _) = key_head(rule, start_of(words, i)) else {
         return at;
     };
-    let colon = lay_quoted(out, at, bytes_of(rule, key), how);
+    let colon = lay_quoted(out, at, bytes_of(rule, key), Escapes::Short);
     lay_byte(out, colon, b':')
 }
 
 // Behind a value after which word `i` comes: a comma, where others follow up to word `end`.
-pub fn lay_comma(out: &mut [u8], at: usize, i: usize, end: usize) -> usize
+fn lay_comma(out: &mut [u8], at: usize, i: usize, end: usize) -> usize
     ensures { Laid out.old out.new at (comma_before i end) result }
 {
     if i < end {
@@ -70,17 +61,16 @@ fn lay_held(
     end: usize,
     out: &mut [u8],
     at: usize,
-    how: Escapes,
 ) -> usize
     requires { keys ≤ 1 }
-    ensures { LaysHeld (escapes_of how) rule.now words.now keys i end out.old out.new at result }
+    ensures { LaysHeld rule.now words.now keys i end out.old out.new at result }
 {
     let mut j = i;
     let mut o = at;
     while j < end {
         let next = behind(words, j, end);
-        let inner = lay_key(rule, words, keys, j, out, o, how);
-        let outer = lay_within(rule, words, j + keys, next, out, inner, how);
+        let inner = lay_key(rule, words, keys, j, out, o);
+        let outer = lay_within(rule, words, j + keys, next, out, inner);
         o = lay_comma(out, outer, next, end);
         j = next;
     }
@@ -92,16 +82,8 @@ fn lay_held(
 
 // The value from word `i` up to word `end`.
 #[cycle(lay_held_lay_within)]
-fn lay_within(
-    rule: &[u8],
-    words: &[u32],
-    i: usize,
-    end: usize,
-    out: &mut [u8],
-    at: usize,
-    how: Escapes,
-) -> usize
-    ensures { LaysWithin (escapes_of how) rule.now words.now i end out.old out.new at result }
+fn lay_within(rule: &[u8], words: &[u32], i: usize, end: usize, out: &mut [u8], at: usize) -> usize
+    ensures { LaysWithin rule.now words.now i end out.old out.new at result }
 {
     if end <= i {
         return at;
@@ -112,35 +94,21 @@ fn lay_within(
     match head {
         ValueHead::Constant(kind) => lay_constant(out, at, kind),
         ValueHead::Number(digits) => lay(out, at, bytes_of(rule, digits)),
-        ValueHead::Text(text) => lay_quoted(out, at, bytes_of(rule, text), how),
+        ValueHead::Text(text) => lay_quoted(out, at, bytes_of(rule, text), Escapes::Short),
         ValueHead::Array(_) => {
             let inside = lay_byte(out, at, b'[');
-            lay_held(rule, words, 0, i + 1, end, out, inside, how)
+            lay_held(rule, words, 0, i + 1, end, out, inside)
         }
         ValueHead::Object(_) => {
             let inside = lay_byte(out, at, b'{');
-            lay_held(rule, words, 1, i + 1, end, out, inside, how)
+            lay_held(rule, words, 1, i + 1, end, out, inside)
         }
     }
 }
 
 // The value at word `i`.
-pub fn lay_value_as(
-    rule: &[u8],
-    words: &[u32],
-    i: usize,
-    out: &mut [u8],
-    at: usize,
-    how: Escapes,
-) -> usize
-    ensures { LaysValueAs (escapes_of how) rule.now words.now i out.old out.new at result }
-{
-    lay_within(rule, words, i, end_of(words, i), out, at, how)
-}
-
-// The value at word `i`, with the short escapes.
 pub fn lay_value(rule: &[u8], words: &[u32], i: usize, out: &mut [u8], at: usize) -> usize
     ensures { LaysValue rule.now words.now i out.old out.new at result }
 {
-    lay_value_as(rule, words, i, out, at, Escapes::Short)
+    lay_within(rule, words, i, end_of(words, i), out, at)
 }

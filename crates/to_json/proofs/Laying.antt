@@ -25,8 +25,8 @@ use Rattle.json_text.specs.Json.{truth}
 use Rattle.json_text.specs.Escaped.{plain, quoted, written}
 use Rattle.json_rule.specs.Shape.{comparison_names}
 use Rattle.json_rule.specs.AsJson.{comparison_name, condition_as_json}
-use Rattle.json_value.specs.Lays.{LaysValueAs, comma_before}
-use Rattle.json_value.proofs.Laying.{comma-some, comma-none}
+use Rattle.json_laying.specs.Lays.{LaysValue, comma_before}
+use Rattle.json_laying.proofs.Laying.{comma-some, comma-none}
 use Rattle.to_json.specs.Parts.{value_text, opened, front_of, closing, joined, name_text, message_text}
 use Rattle.to_json.specs.Lays.{LaysOne, LaysTwo, LaysCompared, LaysScope, LaysFront, LaysConditions, LaysRule}
 use Rattle.to_json.proofs.PartLaws.{only_child, condition-parts}
@@ -50,7 +50,7 @@ pub many-laid : {b c d : List ℕ} {at m n : ℕ} → length b ≤ most_place �
 many-laid room op u v = laid_then room u v
 
 pub one-laid : {rule words : List ℕ} {i op : ℕ} {b c d e : List ℕ} {at m n next : ℕ} → length b ≤ most_place → Laid b c at (opened op) m
-    → LaysValueAs plain rule words (i + 1) c d m n
+    → LaysValue plain rule words (i + 1) c d m n
     → Laid d e n (ascii "}") next
     → LaysOne rule words i b e at next op
 unfolding front_of value_text
@@ -65,9 +65,9 @@ right-stands rule words i place left right e a b =
 
 pub two-laid : {rule words : List ℕ} {i place op : ℕ} {b c d e f g : List ℕ} {at m n o p next : ℕ} → length b ≤ most_place → place ≡ end_of words (i + 1)
     → Laid b c at (opened op ++ ascii "[") m
-    → LaysValueAs plain rule words (i + 1) c d m n
+    → LaysValue plain rule words (i + 1) c d m n
     → Laid d e n (ascii ",") o
-    → LaysValueAs plain rule words place e f o p
+    → LaysValue plain rule words place e f o p
     → Laid f g p (ascii "]}") next
     → LaysTwo rule words i b g at next op
 unfolding front_of value_text
@@ -81,11 +81,11 @@ pub compared-laid : {rule words : List ℕ} {i place which : ℕ} {b c d e f g h
     → place ≡ end_of words (i + 1)
     → Laid b c at (opened compare_operator) m
     → Laid c d m (ascii "{\"left\":") n
-    → LaysValueAs plain rule words (i + 1) d e n o
+    → LaysValue plain rule words (i + 1) d e n o
     → Laid e f o (ascii ",\"op\":\"") p
     → Laid f g p (comparison_name which) q
     → Laid g h q (ascii "\",\"right\":") s
-    → LaysValueAs plain rule words place h j s t
+    → LaysValue plain rule words place h j s t
     → Laid j k t (ascii "}}") next
     → LaysCompared rule words i b k at next which
 unfolding front_of value_text
@@ -101,7 +101,7 @@ compared-laid {rule} {words} {i} {place} room ends u v w x y z second last =
 pub scope-laid : {rule words : List ℕ} {i op : ℕ} {name : Text} {b c d e f g h : List ℕ} {at m n o p q next : ℕ} → length b ≤ most_place
     → Laid b c at (opened op) m
     → Laid c d m (ascii "{\"in\":") n
-    → LaysValueAs plain rule words (i + 1) d e n o
+    → LaysValue plain rule words (i + 1) d e n o
     → Laid e f o (ascii ",\"as\":") p
     → Laid f g p (quoted plain name) q
     → Laid g h q (ascii ",\"that\":") next

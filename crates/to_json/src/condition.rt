@@ -7,7 +7,7 @@ ghost use Rattle.to_json.specs.Lays.{LaysConditions};
 
 use crate::front::lay_front;
 use buffer::lay::{lay, lay_byte};
-use json_value::lay_comma;
+use json_laying::lay_comma;
 use rule::index::start_of;
 use rule::kind::operator_at;
 use rule::node::{behind, children_from};

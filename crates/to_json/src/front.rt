@@ -9,9 +9,9 @@ ghost use Rattle.to_json.specs.Parts.{opened};
 ghost use Rattle.to_json.specs.Lays.{LaysOne, LaysTwo, LaysCompared, LaysScope, LaysFront};
 
 use buffer::lay::{lay, lay_byte};
+use json_laying::lay_value;
+use json_laying::operator::lay_operator;
 use json_text::quote::{Escapes, lay_quoted};
-use json_value::lay_value_as;
-use json_value::operator::lay_operator;
 use rule::index::{end_of, start_of};
 use sheet::operators::{COMPARE, NOT};
 use sheet::rule_heads::{ConditionHead, ConditionRead, condition_head};
@@ -48,7 +48,7 @@ fn lay_one(rule: &[u8], words: &[u32], op: usize, i: usize, out: &mut [u8], at: 
     ensures { LaysOne rule.now words.now i out.old out.new at result op }
 {
     let a = lay_opened(out, at, op);
-    let b = lay_value_as(rule, words, i + 1, out, a, Escapes::Plain);
+    let b = lay_value(rule, words, i + 1, out, a, Escapes::Plain);
     lay_byte(out, b, b'}')
 }
 
@@ -57,9 +57,9 @@ fn lay_two(rule: &[u8], words: &[u32], op: usize, i: usize, out: &mut [u8], at: 
     ensures { LaysTwo rule.now words.now i out.old out.new at result op }
 {
     let a = lay_many(out, at, op);
-    let b = lay_value_as(rule, words, i + 1, out, a, Escapes::Plain);
+    let b = lay_value(rule, words, i + 1, out, a, Escapes::Plain);
     let c = lay_byte(out, b, b',');
-    let d = lay_value_as(rule, words, end_of(words, i + 1), out, c, Escapes::Plain);
+    let d = lay_value(rule, words, end_of(words, i + 1), out, c, Escapes::Plain);
     lay(out, d, b"]}")
 }
 
@@ -101,11 +101,11 @@ fn lay_compared(
 {
     let a = lay_opened(out, at, COMPARE);
     let b = lay(out, a, b"{\"left\":");
-    let c = lay_value_as(rule, words, i + 1, out, b, Escapes::Plain);
+    let c = lay_value(rule, words, i + 1, out, b, Escapes::Plain);
     let d = lay(out, c, b",\"op\":\"");
     let e = lay_comparison(out, d, which);
     let f = lay(out, e, b"\",\"right\":");
-    let g = lay_value_as(rule, words, end_of(words, i + 1), out, f, Escapes::Plain);
+    let g = lay_value(rule, words, end_of(words, i + 1), out, f, Escapes::Plain);
     lay(out, g, b"}}")
 }
 
@@ -124,7 +124,7 @@ fn lay_scope(
 {
     let a = lay_opened(out, at, op);
     let b = lay(out, a, b"{\"in\":");
-    let c = lay_value_as(rule, words, i + 1, out, b, Escapes::Plain);
+    let c = lay_value(rule, words, i + 1, out, b, Escapes::Plain);
     let d = lay(out, c, b",\"as\":");
     let e = lay_quoted(out, d, name, Escapes::Plain);
     lay(out, e, b",\"that\":")

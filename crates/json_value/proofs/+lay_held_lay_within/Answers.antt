@@ -2,6 +2,7 @@ use native.Mathlib.Omega.{arith}
 use Rattle.json_value.proofs.Laying.{leads-start, leads-more, array-closed, object-closed, empty-lays, unread-lays, constant-lays, number-lays, string-lays, array-lays, object-lays}
 use mathlib.Core.Path.{◌∙◌}
 use Rattle.sheet.specs.Places.{value_of}
+use Prim.Native.Nat.{◌-◌}
 use Rattle.json_value.proofs.+lay_held_lay_within.Goals as goal
 
 pub lay_held-loop-j-init : goal.lay_held-loop-j-init

@@ -9,8 +9,8 @@ pub overflow_add-i : goal.overflow_add-i
 overflow_add-i c = omega arith
 
 pub shape_of-out : goal.shape_of-out
-shape_of-out c = c.lay_byte.ensures.len ∙ c.lay_value_as-b.auto.out ∙ c.lay_opened-a.ensures.len
+shape_of-out c = c.lay_byte.ensures.len ∙ c.lay_value-b.auto.out ∙ c.lay_opened-a.ensures.len
 
 pub returns : goal.returns
 unfolding ascii
-returns c = one-laid (omega arith) c.lay_opened-a.ensures c.lay_value_as-b.ensures c.lay_byte.ensures
+returns c = one-laid (omega arith) c.lay_opened-a.ensures c.lay_value-b.ensures c.lay_byte.ensures

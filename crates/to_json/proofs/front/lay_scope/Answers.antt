@@ -9,8 +9,8 @@ pub overflow_add-i : goal.overflow_add-i
 overflow_add-i c = omega arith
 
 pub shape_of-out : goal.shape_of-out
-shape_of-out c = c.lay.ensures.len ∙ c.lay_quoted-e.ensures.len ∙ c.lay-d.ensures.len ∙ c.lay_value_as-c.auto.out ∙ c.lay-b.ensures.len ∙ c.lay_opened-a.ensures.len
+shape_of-out c = c.lay.ensures.len ∙ c.lay_quoted-e.ensures.len ∙ c.lay-d.ensures.len ∙ c.lay_value-c.auto.out ∙ c.lay-b.ensures.len ∙ c.lay_opened-a.ensures.len
 
 pub returns : goal.returns
 unfolding ascii
-returns c = scope-laid (omega (arith, c.type_inv)) c.lay_opened-a.ensures c.lay-b.ensures c.lay_value_as-c.ensures c.lay-d.ensures c.lay_quoted-e.ensures c.lay.ensures
+returns c = scope-laid (omega (arith, c.type_inv)) c.lay_opened-a.ensures c.lay-b.ensures c.lay_value-c.ensures c.lay-d.ensures c.lay_quoted-e.ensures c.lay.ensures

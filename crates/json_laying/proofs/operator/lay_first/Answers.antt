@@ -1,9 +1,9 @@
--- `json_value::operator::lay_first` meets its contract.
+-- `json_laying::operator::lay_first` meets its contract.
 use native.Mathlib.Omega.{arith}
 use Rattle.text.specs.Ascii.{ascii}
 use Rattle.sheet.specs.Operators.{operator_name}
-use Rattle.json_value.proofs.OperatorNames.{laid-low, laid-named, laid-above}
-use Rattle.json_value.proofs.operator.lay_first.Goals as goal
+use Rattle.json_laying.proofs.OperatorNames.{laid-low, laid-named, laid-above}
+use Rattle.json_laying.proofs.operator.lay_first.Goals as goal
 
 pub returns-then-op-le1 : goal.returns-then-op-le1
 unfolding ascii

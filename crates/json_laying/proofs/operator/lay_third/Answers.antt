@@ -1,9 +1,9 @@
--- `json_value::operator::lay_third` meets its contract.
+-- `json_laying::operator::lay_third` meets its contract.
 use native.Mathlib.Omega.{arith}
 use Rattle.text.specs.Ascii.{ascii}
 use Rattle.sheet.specs.Operators.{operator_name}
-use Rattle.json_value.proofs.OperatorNames.{laid-named, laid-last}
-use Rattle.json_value.proofs.operator.lay_third.Goals as goal
+use Rattle.json_laying.proofs.OperatorNames.{laid-named, laid-last}
+use Rattle.json_laying.proofs.operator.lay_third.Goals as goal
 
 pub returns-then-op-le15 : goal.returns-then-op-le15
 unfolding operator_name ascii

@@ -1,9 +1,9 @@
--- `json_value::operator::lay_second` meets its contract.
+-- `json_laying::operator::lay_second` meets its contract.
 use native.Mathlib.Omega.{arith}
 use Rattle.text.specs.Ascii.{ascii}
 use Rattle.sheet.specs.Operators.{operator_name}
-use Rattle.json_value.proofs.OperatorNames.{laid-named, laid-above}
-use Rattle.json_value.proofs.operator.lay_second.Goals as goal
+use Rattle.json_laying.proofs.OperatorNames.{laid-named, laid-above}
+use Rattle.json_laying.proofs.operator.lay_second.Goals as goal
 
 pub returns-then-op-le8 : goal.returns-then-op-le8
 unfolding operator_name ascii

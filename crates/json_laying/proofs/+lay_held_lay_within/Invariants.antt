@@ -1,0 +1,17 @@
+-- `json_laying::lay_held` and `json_laying::lay_within` meet their contracts.
+use Rattle.json_laying.proofs.Laying.{Leads}
+use Rattle.json_text.specs.Quoted.{escapes_of}
+use Prim.Native.Nat.{◌+◌, ◌*◌, ◌-◌}
+use Rattle.json_laying.proofs.+lay_held_lay_within.Given as goal
+
+abbrev pub decreases-lay_held : goal.decreases-lay_held
+decreases-lay_held l = 2 * (l.end - l.i) + 1
+
+abbrev pub decreases-lay_within : goal.decreases-lay_within
+decreases-lay_within l = 2 * (l.end - l.i)
+
+abbrev pub invariant-lay_held-loop-j : goal.invariant-lay_held-loop-j
+invariant-lay_held-loop-j l = Leads (escapes_of l.how) l.rule l.words l.keys l.i l.end l.initial.out l.at l.j l.out l.o
+
+abbrev pub decreases-lay_held-loop-j : goal.decreases-lay_held-loop-j
+decreases-lay_held-loop-j l = l.end - l.j

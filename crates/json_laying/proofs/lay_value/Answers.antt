@@ -1,0 +1,6 @@
+-- `json_laying::lay_value` meets its contract.
+use Rattle.json_laying.proofs.Laying.{value-lays}
+use Rattle.json_laying.proofs.lay_value.Goals as goal
+
+pub returns : goal.returns
+returns c = value-lays c.end_of.ensures c.lay_within.ensures
