@@ -9,7 +9,7 @@ use rule_book::tally::{TALLY_NUMBERS, tally};
 
 const TALLY_BYTES: usize = 8 * TALLY_NUMBERS;
 
-// Tallies a rule book. `path` takes at least 32,768 bytes, of which the first 32,768 are free afterwards, and `result` 144.
+// Tallies a rule book. `path` takes at least 32,768 bytes, of which the first 32,768 are free afterwards, and `res` 144.
 #[unsafe(no_mangle)]
 pub extern "C" fn rulecheck_tally(
     kind: u64,

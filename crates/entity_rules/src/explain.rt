@@ -31,7 +31,7 @@ fn write_explained(e: Explained, bytes: &mut [u8])
     write_numbers(&numbers, bytes);
 }
 
-// Checks a rule or template under a name table, and says what a defect is. `path` takes at least 32,768 bytes, `marks` 8,192, `message` any number, and `result` 40.
+// Checks a rule or template under a name table, and says what a defect is. `path` takes at least 32,768 bytes, `marks` 8,192, `message` any number, and `res` 40.
 #[unsafe(no_mangle)]
 pub extern "C" fn rulecheck_explain(
     kind: u64,

@@ -10,7 +10,7 @@ use openings::{OPEN_NUMBERS, fewest_marks};
 const OPEN_BYTES: usize = 4 * OPEN_NUMBERS;
 
 // Finds the fewest marks that must be opened for acceptance. `path` takes at least 32,768 bytes, of which the first 32,768 are free afterwards, `list` 4,100, four for each
-// mark, and `result` 12.
+// mark, and `res` 12.
 #[unsafe(no_mangle)]
 pub extern "C" fn rulecheck_openings(
     kind: u64,

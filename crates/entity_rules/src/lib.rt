@@ -81,7 +81,7 @@ fn check(
     outcome.number
 }
 
-// Checks a rule. `path` takes at least 32,768 bytes, and `result` 28.
+// Checks a rule. `path` takes at least 32,768 bytes, and `res` 28.
 #[unsafe(no_mangle)]
 pub extern "C" fn rulecheck_rule(
     kind: u64,
@@ -139,7 +139,7 @@ pub extern "C" fn rulecheck_load_table(table: &[u8], buffer: &mut [u8]) -> u32
     load(table, buffer)
 }
 
-// Checks one path of `$fields`, given without `$fields.`, for reader 1 (Kernel) or 2 (Projection). `result` takes at least 28 bytes; there is no
+// Checks one path of `$fields`, given without `$fields.`, for reader 1 (Kernel) or 2 (Projection). `res` takes at least 28 bytes; there is no
 // path buffer, so the contract has empty ones.
 #[unsafe(no_mangle)]
 pub extern "C" fn rulecheck_path(
@@ -164,7 +164,7 @@ pub extern "C" fn rulecheck_path(
     key.number
 }
 
-// Whether the second of two schema sheets is a widening of the first. `result` takes at least 28 bytes.
+// Whether the second of two schema sheets is a widening of the first. `res` takes at least 28 bytes.
 #[unsafe(no_mangle)]
 pub extern "C" fn rulecheck_widens(first: &[u8], second: &[u8], res: &mut [u8]) -> u32
     ensures { WidensAnswered first.now second.now res.old res.new result }

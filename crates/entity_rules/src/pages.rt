@@ -10,7 +10,7 @@ use wall::{WALL_NUMBERS, wall};
 const WALL_BYTES: usize = 8 * WALL_NUMBERS;
 
 // Prints the run over a rule book on pages. `path` takes at least 32,768 bytes, of which the first 32,768 are free afterwards, `pages` 4,860 for
-// each page, and `result` 16.
+// each page, and `res` 16.
 #[unsafe(no_mangle)]
 pub extern "C" fn rulecheck_wall(
     kind: u64,

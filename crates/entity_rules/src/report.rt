@@ -33,7 +33,7 @@ fn write_report(report: Report, bytes: &mut [u8])
 }
 
 // Checks a rule or template under a name table; 0 bytes stand for the stock table. `path` takes at least 32,768 bytes, `marks` 8,192, four for each
-// mark, and `result` 32.
+// mark, and `res` 32.
 #[unsafe(no_mangle)]
 pub extern "C" fn rulecheck_check(
     kind: u64,
