@@ -33,11 +33,7 @@ fn copy(part: &mut [u8], bytes: &[u8])
     requires { length part.old ≡ length bytes.now }
     ensures { part.new ≡ bytes.now }
 {
-    let mut i = 0;
-    while i < bytes.len() {
-        part[i] = bytes[i];
-        i += 1;
-    }
+    part.copy_from_slice(bytes);
 }
 
 pub fn lay(out: &mut [u8], o: usize, bytes: &[u8]) -> usize
@@ -71,11 +67,7 @@ pub fn shift(out: &mut [u8], from: usize, end: usize, n: usize)
     requires { (from ≤ end) × (end + n ≤ length out.old) }
     ensures { out.new ≡ sets out.old (from + n) (take (end - from) (drop from out.old)) }
 {
-    let mut i = end;
-    while from < i {
-        i -= 1;
-        out[i + n] = out[i];
-    }
+    out.copy_within(from..end, from + n);
 }
 
 // How many digits a numeral has besides its last one.

@@ -25,10 +25,8 @@ pub fn put(out: &mut [u8], at: usize, bytes: &[u8]) -> usize
     ensures { Wrote out.old out.new at bytes.now result }
 {
     let mut next = at;
-    let mut i = 0;
-    while i < bytes.len() {
-        next = push(out, next, bytes[i]);
-        i += 1;
+    for &byte in bytes {
+        next = push(out, next, byte);
     }
     next
 }
@@ -58,10 +56,8 @@ pub fn put_numbers(out: &mut [u8], at: usize, numbers: &[u32]) -> usize
     ensures { Wrote out.old out.new at (bytes_of numbers.now) result }
 {
     let mut next = at;
-    let mut i = 0;
-    while i < numbers.len() {
-        next = put_u32(out, next, numbers[i]);
-        i += 1;
+    for &n in numbers {
+        next = put_u32(out, next, n);
     }
     next
 }

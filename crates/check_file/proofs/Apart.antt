@@ -1,4 +1,5 @@
 -- Laws of a whole file: each way through the code that takes it apart.
+use Rattle.std.specs.Prelude.{Option as Optional, Some, None}
 use Prim.Native.Nat.{ℕ, suc, ◌+◌, ◌-◌, ◌<◌, ◌≤◌, min}
 use mathlib.Core.List.{List, [], ◌∷◌}
 use mathlib.Core.Option.{Option, none, some, map, none-ne-some}
@@ -15,8 +16,7 @@ use Rattle.text.specs.ByteReaders.{byte, bytes}
 use Rattle.text.specs.Parts.{part_of}
 use Rattle.check_file.specs.File.{max_file, Parts, field, end, texts, whole_file, taken_apart}
 use Rattle.check_file.specs.Places.{too_large, CappedTo, parts_at, TextsAre, answerable, TakenIs}
-use Rattle.check_file.specs.declared.file.Taken.{Taken}
-use Rattle.check_file.specs.declared.file.Taken.TheVariants.{Apart, OtherForm}
+use Rattle.check_file.specs.declared.file.Placed.{Placed}
 
 -- What a chain of readers does not read.
 
@@ -84,7 +84,7 @@ module _ (s : List ℕ) (at kind semantics label schema rule line middle last : 
 
   pub placed-all : (l m r : ℕ) → l ≡ label → m ≡ schema → r ≡ rule → last ≡ length s → get_or s line 0 ≡ 10
       → TextsAre s at kind semantics label schema rule
-      (Apart (record { kind = kind; semantics = semantics; label = record { start = at; len = l }; schema = record { start = line + 1; len = m }; rule = record { start = middle; len = r } }))
+      (Some (record { kind = kind; semantics = semantics; label = record { start = at; len = l }; schema = record { start = line + 1; len = m }; rule = record { start = middle; len = r } }))
   unfolding parts_at part_of
   placed-all l m r label_is schema-is rule-is e n =
       let past : at + (label + 1) ≡ line + 1 = omega arith in
@@ -176,6 +176,6 @@ module _ (s : List ℕ) (short : length s ≤ max_file) where
                 rw (r1.answered, r2.answered, r3.answered, r4.answered, r5.answered)
                 (texts-answered r1.number r2.number r3.number r4.number r5.number (drop at s) (omega (arith, length-drop at s)))
 
-            pub taken-apart : (r : Taken) → TextsAre s at kind semantics label schema rule r → TakenIs s r
-            taken-apart (Apart p) e = rw opened (taken-some behind (parts_at s p) (answers ∙ e))
-            taken-apart OtherForm e = rw opened (taken_none behind (answers ∙ e))
+            pub taken-apart : (r : Optional Placed) → TextsAre s at kind semantics label schema rule r → TakenIs s r
+            taken-apart (Some p) e = rw opened (taken-some behind (parts_at s p) (answers ∙ e))
+            taken-apart None e = rw opened (taken_none behind (answers ∙ e))

@@ -1,4 +1,5 @@
 -- Laws of numerals at a place of the file: each way through the code's readers.
+use Rattle.std.specs.Prelude.{Option, Some, None}
 use Prim.Native.Nat.{ℕ, ◌+◌, ◌*◌, ◌-◌, ◌<◌, ◌≤◌, min}
 use mathlib.Core.Bool.{true, false}
 use mathlib.Core.List.{List}
@@ -15,8 +16,6 @@ use Rattle.text.specs.Numeral.{digits, decimal}
 use Rattle.text.specs.ByteReaders.{byte}
 use Rattle.check_file.specs.File.{field}
 use Rattle.check_file.specs.Places.{too_large, CappedTo, CappedIs, digits_behind}
-use Rattle.check_file.specs.declared.numeral.CappedRead.{CappedRead}
-use Rattle.check_file.specs.declared.numeral.CappedRead.TheVariants.{Is, Missing}
 
 -- The digits from place i on, after those whose value is n: none at the end, none before another byte, one more.
 
@@ -99,15 +98,15 @@ module _ (s : List ℕ) (at : ℕ) (h : at < length s) where
     unfolding decimal digits_behind
     decimal-digits d = rw (add-one, drop-cons s at 0 h, ne_eqb (get_or s at 0) 48 other, d)
 
-    pub decimal-some : is_digit (get_or s at 0) ≡ true → (r : CappedRead) → CappedIs (digits_behind (get_or s at 0 - 48)) s (at + 1) r → CappedIs decimal s at r
-    decimal-some d (Is value next) e =
+    pub decimal-some : is_digit (get_or s at 0) ≡ true → (r : Option (ℕ × ℕ)) → CappedIs (digits_behind (get_or s at 0 - 48)) s (at + 1) r → CappedIs decimal s at r
+    decimal-some d (Some (value, next)) e =
         record {
           number = e.number;
           reads = decimal-digits d ∙ e.reads;
           answered = e.answered;
           within = e.within;
         }
-    decimal-some d Missing e = decimal-digits d ∙ e
+    decimal-some d None e = decimal-digits d ∙ e
 
 -- A numeral and the comma after it.
 

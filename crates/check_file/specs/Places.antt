@@ -1,16 +1,12 @@
 -- What the code's readers answer, by cases: numbers, and places in the file.
-use Rattle.std.specs.Prelude.{ℕ, ◌+◌, ◌-◌, ◌≤◌, min, List, [], ◌≡◌, length, drop}
+use Rattle.std.specs.Prelude.{ℕ, ◌+◌, ◌-◌, ◌≤◌, min, List, [], ◌≡◌, length, drop, Option, Some, None}
 use Rattle.std.proofs.Math.Option.{none, some, map}
 use Rattle.text.specs.Reader.{Reader}
 use Rattle.text.specs.Numeral as Numeral
 use Rattle.text.specs.Parts.{part_of}
 use Rattle.check_file.specs.File as File
 use Rattle.check_file.specs.File.{max_file, Parts, taken_apart}
-use Rattle.check_file.specs.declared.numeral.CappedRead.{CappedRead}
-use Rattle.check_file.specs.declared.numeral.CappedRead.TheVariants as numeral
 use Rattle.check_file.specs.declared.file.Placed.{Placed}
-use Rattle.check_file.specs.declared.file.Taken.{Taken}
-use Rattle.check_file.specs.declared.file.Taken.TheVariants as taken
 
 -- what every larger number is answered as: too large for a count, since the file is shorter, and for a setting
 abbrev pub too_large : ℕ
@@ -23,9 +19,9 @@ pub record CappedTo (p : Reader (List ℕ) ℕ) (s : List ℕ) (at value next : 
   pub answered : value ≡ min number too_large
   pub within : next ≤ length s
 
-abbrev pub CappedIs : Reader (List ℕ) ℕ → List ℕ → ℕ → CappedRead → Type 0
-CappedIs p s at (numeral.Is value next) = CappedTo p s at value next
-CappedIs p s at numeral.Missing = p (drop at s) ≡ none
+abbrev pub CappedIs : Reader (List ℕ) ℕ → List ℕ → ℕ → Option (ℕ × ℕ) → Type 0
+CappedIs p s at (Some (value, next)) = CappedTo p s at value next
+CappedIs p s at None = p (drop at s) ≡ none
 
 -- the digits after those whose value is `first`
 unfoldable pub digits_behind : ℕ → Reader (List ℕ) ℕ
@@ -41,10 +37,10 @@ parts_at file p =
       rule = part_of file p.rule;
     }
 
-abbrev pub TextsAre : List ℕ → (at kind semantics label schema rule : ℕ) → Taken → Type 0
-TextsAre file at kind semantics label schema rule (taken.Apart p) =
+abbrev pub TextsAre : List ℕ → (at kind semantics label schema rule : ℕ) → Option Placed → Type 0
+TextsAre file at kind semantics label schema rule (Some p) =
     File.texts kind semantics label schema rule (drop at file) ≡ some (parts_at file p, [])
-TextsAre file at kind semantics label schema rule taken.OtherForm = File.texts kind semantics label schema rule (drop at file) ≡ none
+TextsAre file at kind semantics label schema rule None = File.texts kind semantics label schema rule (drop at file) ≡ none
 
 -- parts as the code answers them
 unfoldable pub answerable : Parts → Parts
@@ -57,6 +53,6 @@ answerable p =
       rule = p.rule;
     }
 
-abbrev pub TakenIs : List ℕ → Taken → Type 0
-TakenIs file (taken.Apart p) = map answerable (taken_apart file) ≡ some (parts_at file p)
-TakenIs file taken.OtherForm = taken_apart file ≡ none
+abbrev pub TakenIs : List ℕ → Option Placed → Type 0
+TakenIs file (Some p) = map answerable (taken_apart file) ≡ some (parts_at file p)
+TakenIs file None = taken_apart file ≡ none

@@ -2,7 +2,7 @@
 ghost use Rattle.std.specs.Prelude.{◌≤◌, length};
 ghost use Rattle.check_file.specs.Places.{TextsAre, TakenIs};
 
-use crate::numeral::{self, CappedRead};
+use crate::numeral;
 use definition::limits::MAX_FILE_BYTES;
 use text::numeral::to_size;
 use text::part::Part;
@@ -16,12 +16,6 @@ pub struct Placed {
     pub rule: Part,
 }
 
-#[derive(Clone, Copy)]
-pub enum Taken {
-    Apart(Placed),
-    OtherForm,
-}
-
 // The texts after the numbers, from `at` on. No sum here wraps: a slice is shorter than half the address space.
 fn texts(
     file: &[u8],
@@ -31,7 +25,7 @@ fn texts(
     label: u32,
     schema: u32,
     rule: u32,
-) -> Taken
+) -> Option<Placed>
     requires { at ≤ length file.now }
     ensures { TextsAre file.now at kind semantics label schema rule result }
 {
@@ -41,10 +35,10 @@ fn texts(
     let line = at + label_bytes;
     let middle = line + 1 + schema_bytes;
     if middle + rule_bytes != file.len() {
-        return Taken::OtherForm;
+        return None;
     }
     if file[line] == b'\n' {
-        return Taken::Apart(Placed {
+        return Some(Placed {
             kind,
             semantics,
             label: Part {
@@ -61,30 +55,20 @@ fn texts(
             },
         });
     }
-    Taken::OtherForm
+    None
 }
 
 // Where the parts of a file lie in it. Settings above 65,537 are answered as 65,537.
-pub fn take_apart(file: &[u8]) -> Taken
+pub fn take_apart(file: &[u8]) -> Option<Placed>
     ensures { TakenIs file.now result }
 {
     if MAX_FILE_BYTES < file.len() {
-        return Taken::OtherForm;
+        return None;
     }
-    let CappedRead::Is(kind, second) = numeral::field(file, 0) else {
-        return Taken::OtherForm;
-    };
-    let CappedRead::Is(semantics, third) = numeral::field(file, second) else {
-        return Taken::OtherForm;
-    };
-    let CappedRead::Is(label, fourth) = numeral::field(file, third) else {
-        return Taken::OtherForm;
-    };
-    let CappedRead::Is(schema, fifth) = numeral::field(file, fourth) else {
-        return Taken::OtherForm;
-    };
-    let CappedRead::Is(rule, behind) = numeral::field(file, fifth) else {
-        return Taken::OtherForm;
-    };
+    let (kind, second) = numeral::field(file, 0)?;
+    let (semantics, third) = numeral::field(file, second)?;
+    let (label, fourth) = numeral::field(file, third)?;
+    let (schema, fifth) = numeral::field(file, fourth)?;
+    let (rule, behind) = numeral::field(file, fifth)?;
     texts(file, behind, kind, semantics, label, schema, rule)
 }

@@ -10,67 +10,55 @@ use text::{is_digit, wide};
 
 const TOO_LARGE: u32 = MAX_FILE_BYTES as u32 + 1;
 
-#[derive(Clone, Copy)]
-pub enum CappedRead {
-    // The number, and the place after it.
-    Is(u32, usize),
-    Missing,
-}
-
 fn capped(n: u32) -> u32
     ensures { result ≡ min n too_large }
 {
     if n < TOO_LARGE { n } else { TOO_LARGE }
 }
 
-// The digits from `at` on, after the one whose value is `first`.
-fn digits(s: &[u8], at: usize, first: u32) -> CappedRead
+// The digits from `at` on, after the one whose value is `first`: the number, and the place after it.
+fn digits(s: &[u8], at: usize, first: u32) -> Option<(u32, usize)>
     requires { (at ≤ length s.now) × (first ≤ 9) }
     ensures { CappedIs (digits_behind first) s.now at result }
 {
     let mut value = first;
-    let mut i = at;
-    while i < s.len() {
+    for i in at..s.len() {
         let b = s[i];
-        if is_digit(b) {
-            value = capped(value * 10 + (wide(b) - 48));
-            i += 1;
-        } else {
-            return CappedRead::Is(value, i);
+        if !is_digit(b) {
+            return Some((value, i));
         }
+        value = capped(value * 10 + (wide(b) - 48));
     }
-    CappedRead::Is(value, i)
+    Some((value, s.len()))
 }
 
-// A numeral whose first digit is at `at`.
-fn numeral(s: &[u8], at: usize) -> CappedRead
+// A numeral whose first digit is at `at`: the number, and the place after it.
+fn numeral(s: &[u8], at: usize) -> Option<(u32, usize)>
     ensures { CappedIs decimal s.now at result }
 {
     if s.len() <= at {
-        return CappedRead::Missing;
+        return None;
     }
     let b = s[at];
     if b == b'0' {
-        return CappedRead::Is(0, at + 1);
+        return Some((0, at + 1));
     }
     if is_digit(b) {
         return digits(s, at + 1, wide(b) - 48);
     }
-    CappedRead::Missing
+    None
 }
 
-// A numeral and the comma after it.
-pub fn field(s: &[u8], at: usize) -> CappedRead
+// A numeral and the comma after it: the number, and the place after the comma.
+pub fn field(s: &[u8], at: usize) -> Option<(u32, usize)>
     ensures { CappedIs field s.now at result }
 {
-    let CappedRead::Is(value, next) = numeral(s, at) else {
-        return CappedRead::Missing;
-    };
+    let (value, next) = numeral(s, at)?;
     if s.len() <= next {
-        return CappedRead::Missing;
+        return None;
     }
     if s[next] == b',' {
-        return CappedRead::Is(value, next + 1);
+        return Some((value, next + 1));
     }
-    CappedRead::Missing
+    None
 }

@@ -1,4 +1,5 @@
 -- The checks of a condition, step by step.
+use Rattle.std.specs.Prelude.{Option as Optional, Some, None, Result, Err}
 use Prim.Native.Nat.{ℕ, ◌+◌, ◌*◌, ◌-◌, ◌≤◌, ◌<◌}
 use native.Mathlib.Omega.{arith}
 use mathlib.Core.Bool.{Bool, true, false, cond, ◌||◌}
@@ -26,8 +27,6 @@ use Rattle.definition.specs.Within.{condition_entries, conditions_entries}
 use Rattle.rule.specs.Index.{start_of, ValueAt}
 use Rattle.walk.specs.Answers.{collection_detail, CollectedIs}
 use Rattle.walk.specs.Dots.{is_more}
-use Rattle.walk.specs.declared.answer.Collected.{Collected}
-use Rattle.walk.specs.declared.answer.Collected.TheVariants as Collected
 use Rattle.walk.specs.declared.answer.CollectionFault.TheVariants.{NotAString}
 use Rattle.validation.specs.Check.{Binder, check, fails_if, entry_of, is_string, has_dot, operator_check, is_empty, body, bodies, depth, depth_of_conditions}
 use Rattle.validation.specs.Judge.{failure, unasked, outcome}
@@ -37,23 +36,20 @@ use Rattle.value_checks.specs.Verdicts.{number_of, failure_of, failed, going, Go
 use Rattle.scope.specs.Collections.{CollectionIs}
 use Rattle.value_checks.specs.Frames.{Frame, frame, Stands, OperandsJudged}
 use Rattle.condition_checks.specs.Bodies.{OperatorJudged, NonemptyJudged, EntryJudged, Leaf, LeafJudged, bind_by, BindAt, CollectionOf, BodyJudged, BodiesJudged, QuantifierJudged}
-use Rattle.condition_checks.specs.declared.body.BindRead.{BindRead}
-use Rattle.condition_checks.specs.declared.body.BindRead.TheVariants as BindRead
 use Rattle.scope.specs.declared.binder.Scope.{Scope}
-use Rattle.value_checks.specs.declared.verdict.Over.{Over}
 use Rattle.value_checks.specs.declared.verdict.Fault.{Fault}
 use Rattle.value_checks.specs.declared.verdict.Fault.TheVariants.{Operator, Empty}
-use Rattle.value_checks.specs.declared.verdict.Verdict.TheVariants.{Defect}
 use Rattle.value_checks.specs.declared.verdict.Progress.{Progress}
 use Rattle.value_checks.proofs.Going.{goes-nothing, goes_then, goes-stopped, passed_on}
 use Rattle.rule.proofs.NodeSteps.{has-operator, condition-size, tail_of, first-stands, tail-stands, none_left, none-ends}
 use Rattle.value_checks.proofs.LiteralSteps.{settled-outcome}
 use Rattle.value_checks.proofs.OperandSteps.{asked-outcome}
 use Rattle.condition_checks.proofs.OperandLaws.{operands-none, operands-one, operands-two, operands-sides}
+use Rattle.walk.specs.declared.answer.CollectionFault.{CollectionFault}
 
 -- Operators.
 
-module _ {scope : Scope} {over : Over} {op i : ℕ} {a r : Progress} {test : Bool} (said : test ≡ is_service_operator op) where
+module _ {scope : Scope} {over : Optional ℕ} {op i : ℕ} {a r : Progress} {test : Bool} (said : test ≡ is_service_operator op) where
   operator-early : test ≡ false → PassedOn a r → OperatorJudged scope over op i a r
   unfolding operator_check fails_if unasked
   operator-early f p =
@@ -95,7 +91,7 @@ module _ {scope : Scope} {over : Over} {op i : ℕ} {a r : Progress} {test : Boo
 
 -- A condition's own entry.
 
-module _ {over : Over} {op i end : ℕ} {a : Progress} where
+module _ {over : Optional ℕ} {op i end : ℕ} {a : Progress} where
   pub nonempty-many : {r : Progress} → 1 < op → op < 4 → Required a (eqb (i + 1) end) Empty (i + 1) over r → NonemptyJudged over op i end a r
   nonempty-many low high p =
       record { at_most = p.at_most; many = λ h. p; other = λ h. absurd (⊎_elim (λ e. omega arith) (λ e. omega arith) h) }
@@ -104,14 +100,14 @@ module _ {over : Over} {op i end : ℕ} {a : Progress} where
   nonempty-other h =
       record { at_most = omega arith; many = λ k. absurd (⊎_elim (λ e. omega arith) (λ e. omega arith) h); other = λ e. refl }
 
-pub entry-early : {scope : Scope} {over : Over} {op i end n : ℕ} {r : Progress} {test : Bool}
+pub entry-early : {scope : Scope} {over : Optional ℕ} {op i end n : ℕ} {r : Progress} {test : Bool}
     → test ≡ is_service_operator op
     → test ≡ false
     → NonemptyJudged over op i end (going (n + 1)) r
     → EntryJudged scope over op i end (going n) r
 entry-early {n = n} said f p = record { between = going (n + 1); operator = operator-early said f passed_on; nonempty = p }
 
-pub entry-late : {scope : Scope} {over : Over} {op i end : ℕ} {a r : Progress} {test : Bool}
+pub entry-late : {scope : Scope} {over : Optional ℕ} {op i end : ℕ} {a r : Progress} {test : Bool}
     → test ≡ is_service_operator op
     → test ≡ true
     → OperatorJudged scope over op i a r
@@ -142,7 +138,7 @@ bind_in (comparison_head which) = none
 bind_in (quantifier_head op bind) = some bind
 
 module _ {rule words : List ℕ} {i at : ℕ} (start : at ≡ start_of words i) where
-  pub bind-bad : condition_head (drop at rule) ≡ none → BindAt rule words i BindRead.Bad
+  pub bind-bad : condition_head (drop at rule) ≡ none → BindAt rule words i None
   bind-bad e =
       record {
         is = λ op bind rest reads.
@@ -150,7 +146,7 @@ module _ {rule words : List ℕ} {i at : ℕ} (start : at ≡ start_of words i) 
             zero-not-one cc;
       }
 
-  pub bind-read : {h : ConditionHead} {next : ℕ} {r : BindRead} → ReadsTo condition_head rule at h next → bind_by rule r ≡ bind_in h → BindAt rule words i r
+  pub bind-read : {h : ConditionHead} {next : ℕ} {r : Optional Part} → ReadsTo condition_head rule at h next → bind_by rule r ≡ bind_in h → BindAt rule words i r
   unfolding bind_in
   bind-read {h} {next} {r} t same =
       record {
@@ -171,7 +167,7 @@ no_text tree env (Tree.array e values) s = refl
 no_text tree env (Tree.object e pairs) s = refl
 
 module _ {schema rule words : List ℕ} {scope : Scope} {i : ℕ} where
-  pub collection-text : {text t : Text} {x : Collected}
+  pub collection-text : {text t : Text} {x : Result (Optional ℕ) (CollectionFault × ℕ)}
       → ((v : Value) → ValueAt rule words i v → v ≡ string (entry_of v) t)
       → text ≡ t
       → CollectionIs schema rule words scope text x
@@ -184,7 +180,7 @@ module _ {schema rule words : List ℕ} {scope : Scope} {i : ℕ} where
             rw (g v w) q;
       }
 
-  pub collection-other : ((v : Value) → ValueAt rule words i v → is_string v ≡ false) → CollectionOf schema rule words scope i (Collected.No NotAString 0)
+  pub collection-other : ((v : Value) → ValueAt rule words i v → is_string v ≡ false) → CollectionOf schema rule words scope i (Err (NotAString, 0))
   unfolding collection_detail
   collection-other g = record { leads = λ setting tree env v s w. (1, [], no_text tree env v (g v w), λ h. refl) }
 
@@ -229,7 +225,7 @@ module _ {f : Frame} {i end left op : ℕ} {b : Progress} where
         quantifier = λ p. absurd (omega arith);
       }
 
-  pub inner-quantifier : {x : BindRead} {p : Part} {r : Progress} → Leaf op false → 4 < op → BindAt f.rule f.words i x → x ≡ BindRead.Is p
+  pub inner-quantifier : {x : Optional Part} {p : Part} {r : Progress} → Leaf op false → 4 < op → BindAt f.rule f.words i x → x ≡ Some p
       → QuantifierJudged f (part_of f.rule p) i end (left - 1) b r
       → Inner f i end left op b r
   unfolding bind_by
@@ -243,7 +239,7 @@ module _ {f : Frame} {i end left op : ℕ} {b : Progress} where
       }
 
   -- a quantifier that is there has a bind
-  pub inner-unbound : {x : BindRead} → Leaf op false → 4 < op → BindAt f.rule f.words i x → x ≡ BindRead.Bad → Inner f i end left op b b
+  pub inner-unbound : {x : Optional Part} → Leaf op false → 4 < op → BindAt f.rule f.words i x → x ≡ None → Inner f i end left op b b
   unfolding bind_by
   inner-unbound {x} l h k e =
       record {
@@ -253,7 +249,7 @@ module _ {f : Frame} {i end left op : ℕ} {b : Progress} where
       }
 
   -- nothing is asked after the entry's own checks, where one of these failed
-  pub inner-stopped : {fault : Fault} {place : ℕ} {o : Over} → b.verdict ≡ Defect fault place o → Inner f i end left op b b
+  pub inner-stopped : {fault : Fault} {place : ℕ} {o : Optional ℕ} → b.verdict ≡ Err (fault, place, o) → Inner f i end left op b b
   inner-stopped t =
       record {
         operands = λ p q. record { at_most = omega arith; goes = λ setting tree binders env vs s w. goes-stopped t };
@@ -276,7 +272,7 @@ depth-some (two e op left right) = omega arith
 depth-some (comparison e which left right) = omega arith
 depth-some (quantifier e op bind over that) = omega arith
 
-module _ {schema rule words : List ℕ} {scope : Scope} {over : Over} {i end left : ℕ} {a : Progress} where
+module _ {schema rule words : List ℕ} {scope : Scope} {over : Optional ℕ} {i end left : ℕ} {a : Progress} where
   pub body-zero : left ≡ 0 → BodyJudged (frame schema rule words scope over) i end left a a
   body-zero z =
       record {
@@ -284,10 +280,10 @@ module _ {schema rule words : List ℕ} {scope : Scope} {over : Over} {i end lef
         goes = λ setting tree binders env c s w d k. absurd (omega (arith, depth-some c, d, z));
       }
 
-pub body-stopped : {f : Frame} {i end left : ℕ} {r : Progress} {fault : Fault} {place : ℕ} {o : Over} → r.verdict ≡ Defect fault place o → BodyJudged f i end left r r
+pub body-stopped : {f : Frame} {i end left : ℕ} {r : Progress} {fault : Fault} {place : ℕ} {o : Optional ℕ} → r.verdict ≡ Err (fault, place, o) → BodyJudged f i end left r r
 body-stopped t = record { at_most = omega arith; goes = λ setting tree binders env c s w d k. goes-stopped t }
 
-module _ (schema rule words : List ℕ) (scope : Scope) (over : Over) (i end left : ℕ) {at op : ℕ} {a b : Progress} (r : Progress) (some_left : left ≡ 0 → ⊥) (start : at ≡ start_of words i) (kind : OperatorAt rule at op) (entry : EntryJudged scope over op i end a b) (inner : Inner (frame schema rule words scope over) i end left op b r) where
+module _ (schema rule words : List ℕ) (scope : Scope) (over : Optional ℕ) (i end left : ℕ) {at op : ℕ} {a b : Progress} (r : Progress) (some_left : left ≡ 0 → ⊥) (start : at ≡ start_of words i) (kind : OperatorAt rule at op) (entry : EntryJudged scope over op i end a b) (inner : Inner (frame schema rule words scope over) i end left op b r) where
   module _ (setting : Setting) (tree : Schema) (binders : List Binder) (env : Environment) (s : Stands (frame schema rule words scope over) setting tree binders env) where
     -- the operator's check, by the operator that the tree has
     operator-goes : (own : ℕ) → op ≡ own → GoesOn (outcome setting tree) a (operator_check setting binders (i + 1) own ∷ []) entry.between
@@ -357,7 +353,7 @@ module _ (schema rule words : List ℕ) (scope : Scope) (over : Over) (i end lef
   body-judged most =
       record { at_most = most; goes = λ setting tree binders env c s w d k. body-goes setting tree binders env s c w d k }
 
-module _ (schema rule words : List ℕ) (scope : Scope) (over : Over) (i end left : ℕ) {at op : ℕ} {a : Progress} (r : Progress) (start : at ≡ start_of words i) (kind : OperatorAt rule at op) where
+module _ (schema rule words : List ℕ) (scope : Scope) (over : Optional ℕ) (i end left : ℕ) {at op : ℕ} {a : Progress} (r : Progress) (start : at ≡ start_of words i) (kind : OperatorAt rule at op) where
   -- a condition that holds none is never too deep
   pub body-leaf : Leaf op true → LeafJudged (frame schema rule words scope over) op i end a r → BodyJudged (frame schema rule words scope over) i end left a r
   body-leaf h j =
@@ -370,7 +366,7 @@ module _ (schema rule words : List ℕ) (scope : Scope) (over : Over) (i end lef
       }
 
 -- the checks of a leaf, one after the other
-pub leaf-judged : {schema rule words : List ℕ} {scope : Scope} {over : Over} {op i end : ℕ} {a b r : Progress} → i < end
+pub leaf-judged : {schema rule words : List ℕ} {scope : Scope} {over : Optional ℕ} {op i end : ℕ} {a b r : Progress} → i < end
     → EntryJudged scope over op i end a b
     → OperandsJudged (frame schema rule words scope over) op (i + 1) end b r
     → LeafJudged (frame schema rule words scope over) op i end a r
@@ -382,9 +378,9 @@ leaf-judged {b = b} inside p q =
       operands = q;
     }
 
-pub leaf-stopped : {schema rule words : List ℕ} {scope : Scope} {over : Over} {op i end : ℕ} {a r : Progress} {fault : Fault} {place : ℕ} {o : Over} → i < end
+pub leaf-stopped : {schema rule words : List ℕ} {scope : Scope} {over : Optional ℕ} {op i end : ℕ} {a r : Progress} {fault : Fault} {place : ℕ} {o : Optional ℕ} → i < end
     → EntryJudged scope over op i end a r
-    → r.verdict ≡ Defect fault place o
+    → r.verdict ≡ Err (fault, place, o)
     → LeafJudged (frame schema rule words scope over) op i end a r
 leaf-stopped inside p t =
     leaf-judged inside p (record { at_most = omega arith; goes = λ setting tree binders env vs s w. goes-stopped t })
@@ -444,7 +440,7 @@ module _ {f : Frame} {i end next left : ℕ} {b d : Progress} (inside : i < end)
             (first_goes setting tree binders env (l.rest cs w) r (l.stand cs w) s (omega (arith, l.deep cs w)) n g);
       }
 
-pub bodies-stopped : {f : Frame} {start i end left : ℕ} {a b : Progress} {fault : Fault} {place : ℕ} {o : Over} → b.verdict ≡ Defect fault place o → i - start ≤ end - start → BodiesLeft f start i end left a b → BodiesJudged f start end left a b
+pub bodies-stopped : {f : Frame} {start i end left : ℕ} {a b : Progress} {fault : Fault} {place : ℕ} {o : Optional ℕ} → b.verdict ≡ Err (fault, place, o) → i - start ≤ end - start → BodiesLeft f start i end left a b → BodiesJudged f start end left a b
 bodies-stopped {b = b} t m l =
     record {
       at_most = omega (arith, l.at_most);

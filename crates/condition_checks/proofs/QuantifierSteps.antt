@@ -1,4 +1,5 @@
 -- A quantifier, step by step.
+use Rattle.std.specs.Prelude.{Option as Optional, Some, None, Result, Ok, Err}
 use Prim.Native.Nat.{ℕ, suc, ◌+◌, ◌*◌, ◌-◌, ◌≤◌, ◌<◌}
 use Prim.Native.Char.{code}
 use native.Mathlib.Omega.{arith}
@@ -21,8 +22,6 @@ use Rattle.definition.specs.Within.{condition_entries, conditions_entries, value
 use Rattle.rule.specs.Index.{end_of, ValueAt, ConditionAt}
 use Rattle.rule.specs.IndexLaws.{value-next}
 use Rattle.walk.specs.Answers.{collection_detail, CollectedIs}
-use Rattle.walk.specs.declared.answer.Collected.{Collected}
-use Rattle.walk.specs.declared.answer.Collected.TheVariants as Collected
 use Rattle.walk.specs.declared.answer.CollectionFault.{CollectionFault}
 use Rattle.validation.specs.Check.{Binder, walkable, readable, Check, check, fails_if, reference_text, reference_check, references, has_dot, body, bodies, depth, depth_of_conditions}
 use Rattle.validation.specs.Judge.{Failure, failure, CheckOutcome, outcome, verdict, extend, enter, environment, answer, answer_in, decide, judge_from}
@@ -34,14 +33,9 @@ use Rattle.scope.specs.Scopes.{BoundElement, Binds}
 use Rattle.scope.specs.ScopeLaws.{scope-bound}
 use Rattle.value_checks.specs.Frames.{Frame, frame, Stands, OperandsJudged}
 use Rattle.condition_checks.specs.Bodies.{CollectionOf, BodiesJudged, QuantifierJudged}
-use Rattle.scope.specs.declared.binder.Element.{Element}
-use Rattle.scope.specs.declared.binder.Element.TheVariants as Element
 use Rattle.scope.specs.declared.binder.Scope.{Scope}
-use Rattle.value_checks.specs.declared.verdict.Over.{Over}
-use Rattle.value_checks.specs.declared.verdict.Over.TheVariants.{In}
 use Rattle.value_checks.specs.declared.verdict.Fault.{Fault}
 use Rattle.value_checks.specs.declared.verdict.Fault.TheVariants.{Bind, Collection}
-use Rattle.value_checks.specs.declared.verdict.Verdict.TheVariants.{Pass, Defect}
 use Rattle.value_checks.specs.declared.verdict.Progress.{Progress}
 use Rattle.value_checks.proofs.Going.{goes_then, goes-stopped}
 use Rattle.rule.proofs.NodeSteps.{value-size}
@@ -150,7 +144,7 @@ unread-shows f setting tree binders env v {b} {d} s n g =
     (readable-outcome setting tree binders env 18 n.entry n.behind s.bound ∙ n.refuses)
     (shown_by b))
 
-none-fails : (d : Progress) → d.verdict ≡ Pass → Shows (shown_by d) → ⊥
+none-fails : (d : Progress) → d.verdict ≡ (Ok tt) → Shows (shown_by d) → ⊥
 unfolding shown_by shown_with
 none-fails d e s =
     let p : passes d.passed ≡ fails s.n s.number s.place s.over s.why = rw e at s.shown in
@@ -164,7 +158,7 @@ known-passes : (x : Reached) (f : Field) → x ≡ known f → verdict x ≡ non
 unfolding verdict
 known-passes x f e = rw e
 
-pub quantifier-misnamed : {schema rule words : List ℕ} {scope : Scope} {over : Over} (name : Part) {i end left : ℕ} {wrong : Bool} {text : Text} {a r : Progress}
+pub quantifier-misnamed : {schema rule words : List ℕ} {scope : Scope} {over : Optional ℕ} (name : Part) {i end left : ℕ} {wrong : Bool} {text : Text} {a r : Progress}
     → text ≡ part_of rule name
     → wrong ≡ (is_blank text || has_dot text)
     → wrong ≡ true
@@ -182,7 +176,7 @@ quantifier-misnamed {rule = rule} name {i} {wrong = wrong} same said t p =
           ∙ ap (λ (x : Bool). failed x (failure 0 0)) (sym q ∙ t));
     }
 
-module _ (schema rule words : List ℕ) (scope : Scope) (over : Over) (name : Part) (i end left : ℕ) {wrong : Bool} {text : Text} {middle : ℕ} {a b d : Progress} (inside : i < end) (k : Behind words (i + 1) end middle) (same : text ≡ part_of rule name) (said : wrong ≡ (is_blank text || has_dot text)) (bound : Required a wrong Bind (i + 1) over b) (refs : OperandsJudged (frame schema rule words scope over) 5 (i + 1) middle b d) where
+module _ (schema rule words : List ℕ) (scope : Scope) (over : Optional ℕ) (name : Part) (i end left : ℕ) {wrong : Bool} {text : Text} {middle : ℕ} {a b d : Progress} (inside : i < end) (k : Behind words (i + 1) end middle) (same : text ≡ part_of rule name) (said : wrong ≡ (is_blank text || has_dot text)) (bound : Required a wrong Bind (i + 1) over b) (refs : OperandsJudged (frame schema rule words scope over) 5 (i + 1) middle b d) where
   module _ (setting : Setting) (tree : Schema) (binders : List Binder) (env : Environment) (v : Value) (that : Condition) (s : Stands (frame schema rule words scope over) setting tree binders env) (w : ValueAt rule words (i + 1) v) (ends : end ≡ i + 1 + value_entries v + condition_entries that) where
     middle-is : middle ≡ i + 1 + value_entries v
     middle-is =
@@ -201,7 +195,7 @@ module _ (schema rule words : List ℕ) (scope : Scope) (over : Over) (name : Pa
     over-goes : GoesOn (outcome setting tree) b (references binders v) d
     over-goes = value-references refs setting tree binders env v s (record { stands = w; ends = middle-is })
 
-  pub quantifier-stopped : {fault : Fault} {place : ℕ} {o : Over} → d.verdict ≡ Defect fault place o → QuantifierJudged (frame schema rule words scope over) (part_of rule name) i end left a d
+  pub quantifier-stopped : {fault : Fault} {place : ℕ} {o : Optional ℕ} → d.verdict ≡ Err (fault, place, o) → QuantifierJudged (frame schema rule words scope over) (part_of rule name) i end left a d
   quantifier-stopped t =
       record {
         at_most = omega (arith, bound.at_most, refs.at_most, k.most, k.least (omega arith));
@@ -212,7 +206,7 @@ module _ (schema rule words : List ℕ) (scope : Scope) (over : Over) (name : Pa
       }
 
   -- the body, where the value is walked
-  module _ {element : Element} {inner : Scope} {g r : Progress} (binds : Binds scope name element inner) (goes_on : PassedOn d g) (judged : BodiesJudged (frame schema rule words inner (In (i + 1 + 1))) middle end left g r) where
+  module _ {element : Optional ℕ} {inner : Scope} {g r : Progress} (binds : Binds scope name element inner) (goes_on : PassedOn d g) (judged : BodiesJudged (frame schema rule words inner (Some (i + 1 + 1))) middle end left g r) where
     walked : (setting : Setting) (tree : Schema) (binders : List Binder) (env : Environment) (v : Value) (that : Condition) (o : Option Field)
         → Stands (frame schema rule words scope over) setting tree binders env
         → ValueAt rule words (i + 1) v
@@ -233,7 +227,7 @@ module _ (schema rule words : List ℕ) (scope : Scope) (over : Over) (name : Pa
     walked setting tree binders env v that o s w u ends deep room element-is entered walks =
         let few : scope.count < 31 = omega (arith, depth-some that) in
         let m : middle ≡ i + 1 + value_entries v = middle-is setting tree binders env v that s w ends in
-        let stands : Stands (frame schema rule words inner (In (i + 1 + 1))) setting tree (record { name = part_of rule name; over = v } ∷ binders) (record { name = part_of rule name; element = o } ∷ env) =
+        let stands : Stands (frame schema rule words inner (Some (i + 1 + 1))) setting tree (record { name = part_of rule name; over = v } ∷ binders) (record { name = part_of rule name; element = o } ∷ env) =
         record {
           scoped = scope-bound schema rule words scope name element inner o setting tree env binds few element-is s.scoped;
           bound = rw s.bound entered;
@@ -254,12 +248,12 @@ module _ (schema rule words : List ℕ) (scope : Scope) (over : Over) (name : Pa
     most : r.passed ≤ a.passed + 2 + 8 * (end - (i + 1))
     most = omega (arith, bound.at_most, refs.at_most, goes_on.at_most, judged.at_most, k.most, k.least (omega arith))
 
-  pub quantifier-known : {slot : ℕ} {x : Collected} {inner : Scope} {g r : Progress}
+  quantifier-known : {slot : ℕ} {x : Result (Optional ℕ) (CollectionFault × ℕ)} {inner : Scope} {g r : Progress}
       → CollectionOf schema rule words scope (i + 1) x
-      → x ≡ Collected.Known slot
-      → Binds scope name (Element.Known slot) inner
+      → x ≡ Ok (Some slot)
+      → Binds scope name (Some slot) inner
       → PassedOn d g
-      → BodiesJudged (frame schema rule words inner (In (i + 1 + 1))) middle end left g r
+      → BodiesJudged (frame schema rule words inner (Some (i + 1 + 1))) middle end left g r
       → QuantifierJudged (frame schema rule words scope over) (part_of rule name) i end left a r
   unfolding extend verdict
   quantifier-known {slot} {x} collects y binds goes_on judged =
@@ -267,17 +261,17 @@ module _ (schema rule words : List ℕ) (scope : Scope) (over : Over) (name : Pa
         at_most = most binds goes_on judged;
         goes =
             λ setting tree binders env v that s w u ends deep room.
-            let q : CollectedIs schema words (Collected.Known slot) (collection tree env v) = rw y at (collects.leads setting tree env v s.scoped w) in
+            let q : CollectedIs schema words (Ok (Some slot)) (collection tree env v) = rw y at (collects.leads setting tree env v s.scoped w) in
             walked binds goes_on judged setting tree binders env v that (some q.0) s w u ends deep room q.2
             (known-extends (part_of rule name) env (collection tree env v) q.0 q.1) (known-passes (collection tree env v) q.0 q.1);
       }
 
-  pub quantifier-unknown : {x : Collected} {inner : Scope} {g r : Progress}
+  quantifier-unknown : {x : Result (Optional ℕ) (CollectionFault × ℕ)} {inner : Scope} {g r : Progress}
       → CollectionOf schema rule words scope (i + 1) x
-      → x ≡ Collected.Unknown
-      → Binds scope name Element.Unknown inner
+      → x ≡ (Ok None)
+      → Binds scope name None inner
       → PassedOn d g
-      → BodiesJudged (frame schema rule words inner (In (i + 1 + 1))) middle end left g r
+      → BodiesJudged (frame schema rule words inner (Some (i + 1 + 1))) middle end left g r
       → QuantifierJudged (frame schema rule words scope over) (part_of rule name) i end left a r
   unfolding extend verdict
   quantifier-unknown {x} collects y binds goes_on judged =
@@ -289,10 +283,20 @@ module _ (schema rule words : List ℕ) (scope : Scope) (over : Over) (name : Pa
             walked binds goes_on judged setting tree binders env v that none s w u ends deep room tt (rw q) (rw q);
       }
 
-  pub quantifier-refused : {x : Collected} {fault : CollectionFault} {place : ℕ} {r : Progress}
+  pub quantifier-walked : (found : Optional ℕ) {x : Result (Optional ℕ) (CollectionFault × ℕ)} {inner : Scope} {g r : Progress}
       → CollectionOf schema rule words scope (i + 1) x
-      → x ≡ Collected.No fault place
-      → d.verdict ≡ Pass
+      → x ≡ Ok found
+      → Binds scope name found inner
+      → PassedOn d g
+      → BodiesJudged (frame schema rule words inner (Some (i + 1 + 1))) middle end left g r
+      → QuantifierJudged (frame schema rule words scope over) (part_of rule name) i end left a r
+  quantifier-walked (Some slot) collects y binds goes_on judged = quantifier-known collects y binds goes_on judged
+  quantifier-walked None collects y binds goes_on judged = quantifier-unknown collects y binds goes_on judged
+
+  pub quantifier-refused : {x : Result (Optional ℕ) (CollectionFault × ℕ)} {fault : CollectionFault} {place : ℕ} {r : Progress}
+      → CollectionOf schema rule words scope (i + 1) x
+      → x ≡ Err (fault, place)
+      → d.verdict ≡ (Ok tt)
       → Failed d (Collection fault place) (i + 1) over r
       → QuantifierJudged (frame schema rule words scope over) (part_of rule name) i end left a r
   unfolding verdict number_of failure_of check
@@ -301,7 +305,7 @@ module _ (schema rule words : List ℕ) (scope : Scope) (over : Over) (name : Pa
         at_most = omega (arith, bound.at_most, refs.at_most, p.same, k.most, k.least (omega arith));
         goes =
             λ setting tree binders env v that s w u ends deep room.
-            let q : CollectedIs schema words (Collected.No fault place) (collection tree env v) = rw y at (collects.leads setting tree env v s.scoped w) in
+            let q : CollectedIs schema words (Err (fault, place)) (collection tree env v) = rw y at (collects.leads setting tree env v s.scoped w) in
             let o : outcome setting tree (check 22 (i + 1) binders (walkable v)) ≡ some (failure q.0 place) =
             walkable-outcome setting tree binders env 22 (i + 1) v s.bound ∙ ap verdict q.2 in
             goes_then (bind_goes setting tree binders env v that s w ends)

@@ -1,4 +1,5 @@
 -- A whole rule or template, step by step.
+use Rattle.std.specs.Prelude.{Option, None}
 use Prim.Native.Nat.{ℕ, zero, suc, ◌-◌, ◌≤◌, ◌<◌, min}
 use native.Mathlib.Omega.{arith}
 use mathlib.Core.Bool.{Bool, true, false, not}
@@ -10,7 +11,6 @@ use lib.Dec.{leb}
 use borrow.Author.Tests.{le-leb, lt-leb}
 use Rattle.text.specs.ReadAt.{ReadsTo}
 use Rattle.text.specs.Parts.{optional_of}
-use Rattle.text.specs.declared.part.OptionalPart.{OptionalPart}
 use Rattle.text.specs.CaseLaws.{zero-not-one}
 use Rattle.sheet.specs.Entries.{RuleHead, rule_head}
 use Rattle.sheet.specs.Entries as Entries
@@ -32,12 +32,12 @@ use Rattle.condition_checks.specs.Bodies.{BodyJudged}
 use Rattle.condition_checks.specs.Rules.{PassJudged, DefinitionJudged, RuleJudged}
 use Rattle.value_checks.specs.declared.verdict.Fault.{Fault}
 use Rattle.value_checks.specs.declared.verdict.Fault.TheVariants.{Name, Message, Deep}
-use Rattle.value_checks.specs.declared.verdict.Over.TheVariants.{Outside}
 use Rattle.value_checks.specs.declared.verdict.Progress.{Progress}
 use Rattle.value_checks.proofs.Going.{goes-nothing, goes_then}
 use Rattle.rule.proofs.NodeSteps.{same_head, condition-size}
 use Rattle.value_checks.proofs.LiteralSteps.{settled-outcome}
 use Rattle.condition_checks.proofs.OperandLaws.{value-references}
+use Rattle.text.specs.declared.part.Part.{Part}
 
 pub begin-judges : (setting : Setting) (tree : Schema) (cs : List Check) (r : Progress) → GoesOn (outcome setting tree) (going 0) cs r → shown_by r ≡ shown_of (judge setting tree cs)
 unfolding shown_by shown_with go_on judge
@@ -50,7 +50,7 @@ no-binders schema sheet words (suc n) bs c = absurd c
 
 outermost : {schema sheet words : List ℕ} {scope : Scope} {setting : Setting} {tree : Schema}
     → ScopeAt schema sheet words scope setting tree []
-    → Stands (frame schema sheet words scope Outside) setting tree [] []
+    → Stands (frame schema sheet words scope None) setting tree [] []
 unfolding environment over_of over_by
 outermost s = record { scoped = s; bound = refl; held = refl }
 
@@ -89,7 +89,7 @@ pass-kernel t =
 -- Checks outside all quantifiers.
 
 outside-required : {a r : Progress} {wrong : Bool} {fault : Fault} {place : ℕ} (n d : ℕ) (flag : Bool) (setting : Setting) (tree : Schema)
-    → Required a wrong fault place Outside r
+    → Required a wrong fault place None r
     → wrong ≡ flag
     → n ≡ number_of fault
     → failure d 0 ≡ failure_of fault
@@ -100,7 +100,7 @@ outside-required {a} {r} {wrong} {fault} {place} n d flag setting tree p e m q =
     (settled-outcome setting tree [] [] n place flag d refl ∙ ap (λ (x : Bool). failed x (failure d 0)) (sym e) ∙ ap (λ (x : Failure). failed wrong x) q)
 
 outside-failed : {a r : Progress} {fault : Fault} {place : ℕ} (n d : ℕ) (flag : Bool) (setting : Setting) (tree : Schema) (others : List Check)
-    → Failed a fault place Outside r
+    → Failed a fault place None r
     → flag ≡ true
     → n ≡ number_of fault
     → failure d 0 ≡ failure_of fault
@@ -110,11 +110,11 @@ outside-failed {place = place} n d flag setting tree others p e m q =
     p.goes (outcome setting tree) _ others (record { numbered = m; placed = refl; held = refl })
     (settled-outcome setting tree [] [] n place flag d refl ∙ ap (λ (x : Bool). failed x (failure d 0)) e ∙ ap some q)
 
-both_go : (sheet : List ℕ) (name message : OptionalPart) {unnamed untold : Bool} {b c : Progress} (setting : Setting) (tree : Schema)
+both_go : (sheet : List ℕ) (name message : Option Part) {unnamed untold : Bool} {b c : Progress} (setting : Setting) (tree : Schema)
     → unnamed ≡ is_blank_text (optional_of sheet name)
     → untold ≡ is_blank_text (optional_of sheet message)
-    → Required (going 0) unnamed Name 1 Outside b
-    → Required b untold Message 1 Outside c
+    → Required (going 0) unnamed Name 1 None b
+    → Required b untold Message 1 None c
     → GoesOn (outcome setting tree) (going 0)
     (check 11 1 [] (fails_if (is_blank_text (optional_of sheet name)) 0)
     ∷ check 12 1 [] (fails_if (is_blank_text (optional_of sheet message)) 0)
@@ -125,8 +125,8 @@ both_go sheet name message setting tree blank-name blank-message named told =
     goes_then (outside-required 11 0 (is_blank_text (optional_of sheet name)) setting tree named blank-name refl refl)
     (outside-required 12 0 (is_blank_text (optional_of sheet message)) setting tree told blank-message refl refl)
 
-module _ {schema sheet words : List ℕ} {scope : Scope} {name message : OptionalPart} {end : ℕ} {unnamed : Bool} (blank-name : unnamed ≡ is_blank_text (optional_of sheet name)) where
-  pub definition-unnamed : {r : Progress} → unnamed ≡ true → Failed (going 0) Name 1 Outside r → DefinitionJudged schema sheet words scope name message end r
+module _ {schema sheet words : List ℕ} {scope : Scope} {name message : Option Part} {end : ℕ} {unnamed : Bool} (blank-name : unnamed ≡ is_blank_text (optional_of sheet name)) where
+  pub definition-unnamed : {r : Progress} → unnamed ≡ true → Failed (going 0) Name 1 None r → DefinitionJudged schema sheet words scope name message end r
   unfolding checks number_of failure_of
   definition-unnamed {r} t p =
       record {
@@ -138,9 +138,9 @@ module _ {schema sheet words : List ℕ} {scope : Scope} {name message : Optiona
 
   pub definition-untold : {untold : Bool} {b r : Progress}
       → untold ≡ is_blank_text (optional_of sheet message)
-      → Required (going 0) unnamed Name 1 Outside b
+      → Required (going 0) unnamed Name 1 None b
       → untold ≡ true
-      → Failed b Message 1 Outside r
+      → Failed b Message 1 None r
       → DefinitionJudged schema sheet words scope name message end r
   unfolding checks number_of failure_of
   definition-untold {r = r} blank-message named t p =
@@ -152,15 +152,15 @@ module _ {schema sheet words : List ℕ} {scope : Scope} {name message : Optiona
             (outside-failed 12 0 (is_blank_text (optional_of sheet message)) setting tree _ p (sym blank-message ∙ t) refl refl));
       }
 
-pub definition-none : {schema sheet words : List ℕ} {scope : Scope} {name message : OptionalPart} {end : ℕ} {r : Progress} → end ≤ 1 → DefinitionJudged schema sheet words scope name message end r
+pub definition-none : {schema sheet words : List ℕ} {scope : Scope} {name message : Option Part} {end : ℕ} {r : Progress} → end ≤ 1 → DefinitionJudged schema sheet words scope name message end r
 definition-none h =
     record { shows = λ setting tree assert s w. absurd (omega (arith, w.ends, condition-size assert)) }
 
-module _ {schema sheet words : List ℕ} {scope : Scope} {name message : OptionalPart} {end : ℕ} {unnamed untold : Bool} {b c : Progress} (blank-name : unnamed ≡ is_blank_text (optional_of sheet name)) (blank-message : untold ≡ is_blank_text (optional_of sheet message)) (named : Required (going 0) unnamed Name 1 Outside b) (told : Required b untold Message 1 Outside c) where
+module _ {schema sheet words : List ℕ} {scope : Scope} {name message : Option Part} {end : ℕ} {unnamed untold : Bool} {b c : Progress} (blank-name : unnamed ≡ is_blank_text (optional_of sheet name)) (blank-message : untold ≡ is_blank_text (optional_of sheet message)) (named : Required (going 0) unnamed Name 1 None b) (told : Required b untold Message 1 None c) where
   pub definition-deep : {n : ℕ} {r : Progress}
       → DepthIs sheet words 1 end 33 n
       → 32 < n
-      → Failed c Deep 2 Outside r
+      → Failed c Deep 2 None r
       → DefinitionJudged schema sheet words scope name message end r
   unfolding checks number_of failure_of
   definition-deep {n} {r} m h p =
@@ -179,7 +179,7 @@ module _ {schema sheet words : List ℕ} {scope : Scope} {name message : Optiona
       → n ≤ 32
       → PassedOn c d
       → PassJudged sheet words scope.service end d g
-      → BodyJudged (frame schema sheet words scope Outside) 1 end 32 g r
+      → BodyJudged (frame schema sheet words scope None) 1 end 32 g r
       → DefinitionJudged schema sheet words scope name message end r
   unfolding checks environment failed
   definition-judged {n} {d} {g} {r} m h p l q =
@@ -217,7 +217,7 @@ module _ {schema sheet words : List ℕ} {scope : Scope} {at end : ℕ} (start :
       unread (rule name message assert) w = clash _ _ w.0.reads
       unread (template v) w = clash _ _ w.0.reads
 
-  pub judge-rule : {next : ℕ} {name message : OptionalPart} {r : Progress}
+  pub judge-rule : {next : ℕ} {name message : Option Part} {r : Progress}
       → ReadsTo rule_head sheet at (Entries.rule (optional_of sheet name) (optional_of sheet message)) next
       → DefinitionJudged schema sheet words scope name message end r
       → RuleJudged schema sheet words scope r
@@ -239,7 +239,7 @@ module _ {schema sheet words : List ℕ} {scope : Scope} {at end : ℕ} (start :
 
   pub judge-template : {next : ℕ} {r : Progress}
       → ReadsTo rule_head sheet at Entries.template next
-      → OperandsJudged (frame schema sheet words scope Outside) 5 1 end (going 0) r
+      → OperandsJudged (frame schema sheet words scope None) 5 1 end (going 0) r
       → RuleJudged schema sheet words scope r
   unfolding checks
   judge-template {next} {r} reads p = record { shows = λ setting tree x s w. shows setting tree x s w }

@@ -1,5 +1,5 @@
 -- What the checks of a condition ask, by what the code is given.
-use Rattle.std.specs.Prelude.{ℕ, suc, ◌+◌, ◌*◌, ◌-◌, ◌≤◌, ◌<◌, Bool, true, false, ◌||◌, List, [], ◌∷◌, ◌++◌, ◌⊎◌, ◌≡◌, eqb, drop}
+use Rattle.std.specs.Prelude.{ℕ, suc, ◌+◌, ◌*◌, ◌-◌, ◌≤◌, ◌<◌, Bool, true, false, ◌||◌, List, [], ◌∷◌, ◌++◌, ◌⊎◌, ◌≡◌, eqb, drop, Option as Optional, Some, None, Result}
 use Rattle.std.proofs.Math.Option.{Option, none, some}
 use Rattle.sheet.specs.Operators as Operators
 use Rattle.sheet.specs.Operators.{literal_operator, not_operator, truthy_operator, InShape}
@@ -12,7 +12,6 @@ use Rattle.reference.specs.Reference.{Environment, collection}
 use Rattle.definition.specs.Within.{condition_entries, value_entries}
 use Rattle.rule.specs.Index.{start_of, ValueAt, ConditionAt}
 use Rattle.walk.specs.Answers.{CollectedIs}
-use Rattle.walk.specs.declared.answer.Collected.{Collected}
 use Rattle.validation.specs.Check.{Binder, check, fails_if, walkable, references, has_dot, operator_check, body, bodies, depth, depth_of_conditions}
 use Rattle.validation.specs.Judge.{outcome}
 use Rattle.rule.specs.Nodes.{IsCondition, AreConditions}
@@ -21,25 +20,24 @@ use Rattle.scope.specs.Scopes.{ScopeAt}
 use Rattle.value_checks.specs.Frames.{Frame, frame, Stands, OperandsJudged}
 use Rattle.scope.specs.declared.binder.Scope.{Scope}
 use Rattle.value_checks.specs.declared.verdict.Fault.TheVariants.{Empty}
-use Rattle.value_checks.specs.declared.verdict.Over.{Over}
 use Rattle.value_checks.specs.declared.verdict.Progress.{Progress}
-use Rattle.condition_checks.specs.declared.body.BindRead.{BindRead}
-use Rattle.condition_checks.specs.declared.body.BindRead.TheVariants as BindRead
+use Rattle.walk.specs.declared.answer.CollectionFault.{CollectionFault}
+use Rattle.text.specs.declared.part.Part.{Part}
 
-pub record OperatorJudged (scope : Scope) (over : Over) (op i : ℕ) (a r : Progress) : Type 0 where
+pub record OperatorJudged (scope : Scope) (over : Optional ℕ) (op i : ℕ) (a r : Progress) : Type 0 where
   pub at_most : r.passed ≤ a.passed + 1
   pub goes : (schema rule words : List ℕ) (setting : Setting) (tree : Schema) (binders : List Binder) (env : Environment)
       → Stands (frame schema rule words scope over) setting tree binders env
       → GoesOn (outcome setting tree) a (operator_check setting binders (i + 1) op ∷ []) r
 
 -- `all` and `any` are asked whether they end right after their own word
-pub record NonemptyJudged (over : Over) (op i end : ℕ) (a r : Progress) : Type 0 where
+pub record NonemptyJudged (over : Optional ℕ) (op i end : ℕ) (a r : Progress) : Type 0 where
   pub at_most : r.passed ≤ a.passed + 1
   pub many : InShape op Operators.many → Required a (eqb (i + 1) end) Empty (i + 1) over r
   pub other : (op ≤ literal_operator) ⊎ (not_operator ≤ op) → r ≡ a
 
 -- the checks of a condition's own entry, one after the other
-pub record EntryJudged (scope : Scope) (over : Over) (op i end : ℕ) (a r : Progress) : Type 0 where
+pub record EntryJudged (scope : Scope) (over : Optional ℕ) (op i end : ℕ) (a r : Progress) : Type 0 where
   pub between : Progress
   pub operator : OperatorJudged scope over op i a between
   pub nonempty : NonemptyJudged over op i end between r
@@ -56,18 +54,18 @@ pub record LeafJudged (f : Frame) (op i end : ℕ) (a r : Progress) : Type 0 whe
   pub entry : EntryJudged f.scope f.over op i end a between
   pub operands : OperandsJudged f op (i + 1) end between r
 
-unfoldable pub bind_by : List ℕ → BindRead → Option Text
-bind_by rule (BindRead.Is p) = some (part_of rule p)
-bind_by rule BindRead.Bad = none
+unfoldable pub bind_by : List ℕ → Optional Part → Option Text
+bind_by rule (Some p) = some (part_of rule p)
+bind_by rule None = none
 
 -- the bind of a quantifier whose entry is that of word `i`
-pub record BindAt (rule words : List ℕ) (i : ℕ) (r : BindRead) : Type 0 where
+pub record BindAt (rule words : List ℕ) (i : ℕ) (r : Optional Part) : Type 0 where
   pub is : (op : ℕ) (bind : Text) (rest : List ℕ)
       → condition_head (drop (start_of words i) rule) ≡ some (quantifier_head op bind, rest)
       → bind_by rule r ≡ some bind
 
 -- what the value of word `i` leads to as the value of `in`
-pub record CollectionOf (schema rule words : List ℕ) (scope : Scope) (i : ℕ) (r : Collected) : Type 0 where
+pub record CollectionOf (schema rule words : List ℕ) (scope : Scope) (i : ℕ) (r : Result (Optional ℕ) (CollectionFault × ℕ)) : Type 0 where
   pub leads : (setting : Setting) (tree : Schema) (env : Environment) (v : Value)
       → ScopeAt schema rule words scope setting tree env
       → ValueAt rule words i v

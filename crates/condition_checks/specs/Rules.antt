@@ -1,7 +1,6 @@
 -- A whole rule or template: the code's answer shows what the check list's verdict shows.
-use Rattle.std.specs.Prelude.{ℕ, ◌+◌, ◌-◌, ◌≤◌, Bool, List, [], ◌≡◌}
+use Rattle.std.specs.Prelude.{ℕ, ◌+◌, ◌-◌, ◌≤◌, Bool, List, [], ◌≡◌, Option}
 use Rattle.text.specs.Parts.{optional_of}
-use Rattle.text.specs.declared.part.OptionalPart.{OptionalPart}
 use Rattle.definition.specs.Tree.{Schema, Condition, Rule, rule}
 use Rattle.reference.specs.Setting.{Setting}
 use Rattle.rule.specs.Index.{RuleAt}
@@ -13,6 +12,7 @@ use Rattle.rule.specs.Nodes.{IsCondition}
 use Rattle.value_checks.specs.Shown.{shown_of}
 use Rattle.value_checks.specs.Verdicts.{shown_by, GoesOn}
 use Rattle.value_checks.specs.declared.verdict.Progress.{Progress}
+use Rattle.text.specs.declared.part.Part.{Part}
 
 -- the literal pass, which belongs to service
 pub record PassJudged (rule words : List ℕ) (is_service : Bool) (end : ℕ) (a r : Progress) : Type 0 where
@@ -23,7 +23,7 @@ pub record PassJudged (rule words : List ℕ) (is_service : Bool) (end : ℕ) (a
       → GoesOn (outcome setting tree) a (literal_checks setting c) r
 
 -- a rule with that name and that message, whose condition is from word 1 on
-pub record DefinitionJudged (schema sheet words : List ℕ) (scope : Scope) (name message : OptionalPart) (end : ℕ) (r : Progress) : Type 0 where
+pub record DefinitionJudged (schema sheet words : List ℕ) (scope : Scope) (name message : Option Part) (end : ℕ) (r : Progress) : Type 0 where
   pub shows : (setting : Setting) (tree : Schema) (assert : Condition)
       → ScopeAt schema sheet words scope setting tree []
       → IsCondition sheet words 1 end assert

@@ -11,25 +11,24 @@ ghost use Rattle.condition_checks.specs.Bodies.{NonemptyJudged, EntryJudged, Lea
 use rule::index::start_of;
 use rule::kind::operator_at;
 use rule::node::behind;
-use scope::binder::{Element, Scope, bind};
+use scope::binder::{Scope, bind};
 use scope::collections::collection_element;
 use sheet::operators::{EXISTS, LITERAL, NOT, TRUTHY, is_service_operator};
-use sheet::rule_heads::{ConditionHead, ConditionRead, condition_head};
+use sheet::rule_heads::{ConditionHead, condition_head};
 use text::part::{Part, bytes_of};
 use value_checks::operand::{Form, form_of, validate_operands};
-use value_checks::verdict::{Fault, Over, Progress, Verdict, fail, going, pass, require};
+use value_checks::verdict::{Fault, Progress, fail, going, pass, require};
 use walk::answer::{Collected, CollectionFault};
 use walk::path::has_dot;
 
-// The bind of a quantifier.
-#[derive(Clone, Copy)]
-pub enum BindRead {
-    Is(Part),
-    Bad,
-}
-
 // `all` and `any` hold a condition: at word `i` they do not end right after their own entry.
-fn validate_nonempty(passed: usize, over: Over, op: usize, i: usize, end: usize) -> Progress
+fn validate_nonempty(
+    passed: usize,
+    over: Option<usize>,
+    op: usize,
+    i: usize,
+    end: usize,
+) -> Progress
     requires { HasRoom (going passed) 1 × (i < word_entries) }
     ensures { NonemptyJudged over op i end (going passed) result }
 {
@@ -46,7 +45,7 @@ fn validate_nonempty(passed: usize, over: Over, op: usize, i: usize, end: usize)
 fn validate_entry(
     passed: usize,
     scope: Scope,
-    over: Over,
+    over: Option<usize>,
     op: usize,
     i: usize,
     end: usize,
@@ -83,7 +82,7 @@ fn validate_leaf(
     rule: &[u8],
     words: &[u32],
     scope: Scope,
-    over: Over,
+    over: Option<usize>,
     op: usize,
     i: usize,
     end: usize,
@@ -93,27 +92,25 @@ fn validate_leaf(
 {
     let r = validate_entry(passed, scope, over, op, i, end);
     let verdict = r.verdict;
-    let Verdict::Pass = verdict else {
+    let Ok(()) = verdict else {
         return r;
     };
     validate_operands(r.passed, schema, rule, words, scope, over, op, i + 1, end)
 }
 
 // The bind of the quantifier at word `i`.
-pub fn bind_of(rule: &[u8], words: &[u32], i: usize) -> BindRead
+pub fn bind_of(rule: &[u8], words: &[u32], i: usize) -> Option<Part>
     ensures { BindAt rule.now words.now i result }
 {
-    let ConditionRead::Is(head, _) = condition_head(rule, start_of(words, i)) else {
-        return BindRead::Bad;
-    };
+    let (head, _) = condition_head(rule, start_of(words, i))?;
     match head {
-        ConditionHead::Literal(_) => BindRead::Bad,
-        ConditionHead::Many(_, _) => BindRead::Bad,
-        ConditionHead::Negation => BindRead::Bad,
-        ConditionHead::One(_) => BindRead::Bad,
-        ConditionHead::Two(_) => BindRead::Bad,
-        ConditionHead::Comparison(_) => BindRead::Bad,
-        ConditionHead::Quantifier(_, name) => BindRead::Is(name),
+        ConditionHead::Literal(_) => None,
+        ConditionHead::Many(_, _) => None,
+        ConditionHead::Negation => None,
+        ConditionHead::One(_) => None,
+        ConditionHead::Two(_) => None,
+        ConditionHead::Comparison(_) => None,
+        ConditionHead::Quantifier(_, name) => Some(name),
     }
 }
 
@@ -132,8 +129,8 @@ pub fn collection_of(schema: &[u8], rule: &[u8], words: &[u32], scope: Scope, i:
 {
     match form_of(rule, words, i) {
         Form::Text(part) => collection_element(schema, rule, words, scope, bytes_of(rule, part)),
-        Form::Holder => Collected::No(CollectionFault::NotAString, 0),
-        Form::Other => Collected::No(CollectionFault::NotAString, 0),
+        Form::Holder => Err((CollectionFault::NotAString, 0)),
+        Form::Other => Err((CollectionFault::NotAString, 0)),
     }
 }
 
@@ -145,7 +142,7 @@ pub fn validate_condition_body(
     rule: &[u8],
     words: &[u32],
     scope: Scope,
-    over: Over,
+    over: Option<usize>,
     i: usize,
     end: usize,
     left: usize,
@@ -162,14 +159,14 @@ pub fn validate_condition_body(
     }
     let r = validate_entry(passed, scope, over, op, i, end);
     let verdict = r.verdict;
-    let Verdict::Pass = verdict else {
+    let Ok(()) = verdict else {
         return r;
     };
     let n = r.passed;
     if op <= NOT {
         return validate_conditions(n, schema, rule, words, scope, over, i + 1, end, left - 1);
     }
-    let BindRead::Is(name) = bind_of(rule, words, i) else {
+    let Some(name) = bind_of(rule, words, i) else {
         return going(n);
     };
     validate_quantifier(n, schema, rule, words, scope, over, name, i, end, left - 1)
@@ -183,7 +180,7 @@ fn validate_conditions(
     rule: &[u8],
     words: &[u32],
     scope: Scope,
-    over: Over,
+    over: Option<usize>,
     start: usize,
     end: usize,
     left: usize,
@@ -199,7 +196,7 @@ fn validate_conditions(
         if is_leaf(op) {
             let r = validate_leaf(so_far, schema, rule, words, scope, over, op, i, next);
             let verdict = r.verdict;
-            let Verdict::Pass = verdict else {
+            let Ok(()) = verdict else {
                 return r;
             };
             so_far = r.passed;
@@ -209,7 +206,7 @@ fn validate_conditions(
                 so_far, schema, rule, words, scope, over, i, next, left,
             );
             let verdict = r.verdict;
-            let Verdict::Pass = verdict else {
+            let Ok(()) = verdict else {
                 return r;
             };
             so_far = r.passed;
@@ -228,7 +225,7 @@ fn validate_quantifier(
     rule: &[u8],
     words: &[u32],
     scope: Scope,
-    over: Over,
+    over: Option<usize>,
     name: Part,
     i: usize,
     end: usize,
@@ -254,20 +251,16 @@ fn validate_quantifier(
         mid,
     );
     let verdict = r.verdict;
-    let Verdict::Pass = verdict else {
+    let Ok(()) = verdict else {
         return r;
     };
     let n = r.passed;
-    let within = Over::In(start + 1);
+    let within = Some(start + 1);
     match collection_of(schema, rule, words, scope, start) {
-        Collected::Known(slot) => {
-            let inner = bind(scope, name, Element::Known(slot));
+        Ok(element) => {
+            let inner = bind(scope, name, element);
             validate_conditions(n + 1, schema, rule, words, inner, within, mid, end, left)
         }
-        Collected::Unknown => {
-            let inner = bind(scope, name, Element::Unknown);
-            validate_conditions(n + 1, schema, rule, words, inner, within, mid, end, left)
-        }
-        Collected::No(fault, at) => fail(n, Fault::Collection(fault, at), start, over),
+        Err((fault, at)) => fail(n, Fault::Collection(fault, at), start, over),
     }
 }

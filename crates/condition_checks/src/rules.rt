@@ -12,17 +12,17 @@ use definition::limits::MAX_CONDITION_DEPTH;
 use rule::index::{end_of, start_of};
 use scope::binder::Scope;
 use sheet::operators::EXISTS;
-use sheet::rule_heads::{RuleHead, RuleHeadRead, rule_head};
-use text::part::{OptionalPart, bytes_of};
+use sheet::rule_heads::{RuleHead, rule_head};
+use text::part::{Part, bytes_of};
 use value_checks::literal::unobservable_condition_literals;
 use value_checks::operand::validate_operands;
-use value_checks::verdict::{Fault, Over, Progress, Verdict, fail, going};
+use value_checks::verdict::{Fault, Progress, fail, going};
 
 // Whether a text is present but blank.
-fn is_blank_text(rule: &[u8], text: OptionalPart) -> bool
+fn is_blank_text(rule: &[u8], text: Option<Part>) -> bool
     ensures { result ≡ is_blank_text (optional_of rule.now text) }
 {
-    let OptionalPart::Is(part) = text else {
+    let Some(part) = text else {
         return false;
     };
     text::is_blank(bytes_of(rule, part))
@@ -51,14 +51,14 @@ fn validate_rule_definition(
     rule: &[u8],
     words: &[u32],
     scope: Scope,
-    name: OptionalPart,
-    message: OptionalPart,
+    name: Option<Part>,
+    message: Option<Part>,
     end: usize,
 ) -> Progress
     requires { end < word_entries }
     ensures { DefinitionJudged schema.now rule.now words.now scope name message end result }
 {
-    let outside = Over::Outside;
+    let outside = None;
     if is_blank_text(rule, name) {
         return fail(0, Fault::Name, 1, outside);
     }
@@ -74,7 +74,7 @@ fn validate_rule_definition(
     }
     let r = validate_condition_literals(3, rule, words, scope.service, end);
     let verdict = r.verdict;
-    let Verdict::Pass = verdict else {
+    let Ok(()) = verdict else {
         return r;
     };
     validate_condition_body(r.passed, schema, rule, words, scope, outside, 1, end, most)
@@ -85,12 +85,12 @@ pub fn judge(schema: &[u8], rule: &[u8], words: &[u32], scope: Scope) -> Progres
     ensures { RuleJudged schema.now rule.now words.now scope result }
 {
     let end = end_of(words, 0);
-    let RuleHeadRead::Is(head, _) = rule_head(rule, start_of(words, 0)) else {
+    let Some((head, _)) = rule_head(rule, start_of(words, 0)) else {
         return going(0);
     };
     let RuleHead::Rule(name, message) = head else {
         // The value of a template is asked what `exists` asks.
-        return validate_operands(0, schema, rule, words, scope, Over::Outside, EXISTS, 1, end);
+        return validate_operands(0, schema, rule, words, scope, None, EXISTS, 1, end);
     };
     validate_rule_definition(schema, rule, words, scope, name, message, end)
 }

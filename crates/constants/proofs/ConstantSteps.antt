@@ -1,4 +1,5 @@
 -- Which conditions are constant, step by step.
+use Rattle.std.specs.Prelude.{Option as Optional, Some, None, Result, Ok}
 use Prim.Native.Nat.{ℕ, ◌+◌, ◌≤◌}
 use native.Mathlib.Omega.{arith}
 use mathlib.Core.Bool.{Bool, true, false, false≢true}
@@ -16,32 +17,28 @@ use Rattle.rule.specs.Index.{ValueAt}
 use Rattle.validation.specs.Check.{instant_form}
 use Rattle.validation.specs.Constant.{literal_instant, truth_of, truth_in, constant_of}
 use Rattle.value_checks.specs.Frames.{literal_by, ReadAs}
-use Rattle.value_checks.specs.declared.operand.InstantRead.{InstantRead}
-use Rattle.value_checks.specs.declared.operand.InstantRead.TheVariants as InstantRead
 use Rattle.constants.specs.Marks.{instant_by, truth_by, LiteralAt, PairIs, ConstantAt}
-use Rattle.constants.specs.declared.Literal.{Literal}
-use Rattle.constants.specs.declared.Literal.TheVariants as Literal
-use Rattle.constants.specs.declared.Constant.{Constant}
-use Rattle.constants.specs.declared.Constant.TheVariants as Constant
+use Rattle.value_checks.specs.declared.verdict.InstantFault.{InstantFault}
 
-module _ {rule words : List ℕ} {i : ℕ} {x : InstantRead} (read : (v : Value) → ValueAt rule words i v → ReadAs (instant_form v) (literal_instant v) x) where
-  pub literal-is : {f : Fields} → x ≡ InstantRead.Literal f → LiteralAt rule words i (Literal.Is f)
+module _ {rule words : List ℕ} {i : ℕ} {x : Result (Optional Fields) InstantFault} (read : (v : Value) → ValueAt rule words i v → ReadAs (instant_form v) (literal_instant v) x) where
+  pub literal-is : (f : Optional Fields) → x ≡ Ok f → LiteralAt rule words i f
   unfolding literal_by instant_by
-  literal-is e = record { fields = λ v a. (read v a).fields ∙ rw e }
+  literal-is (Some f) e = record { fields = λ v a. (read v a).fields ∙ rw e }
+  literal-is None e = record { fields = λ v a. (read v a).fields ∙ rw e }
 
-  pub literal-not : literal_by x ≡ none → LiteralAt rule words i Literal.No
+  pub literal-not : literal_by x ≡ none → LiteralAt rule words i None
   unfolding instant_by
   literal-not e = record { fields = λ v a. (read v a).fields ∙ e }
 
-pub truth-before : (op : ℕ) (left right : Fields) {t : Bool} → op ≡ 6 → t ≡ is_earlier left right → truth_of op left right ≡ truth_by (Constant.Is t)
+pub truth-before : (op : ℕ) (left right : Fields) {t : Bool} → op ≡ 6 → t ≡ is_earlier left right → truth_of op left right ≡ truth_by (Some t)
 unfolding truth_of truth_by
 truth-before op left right e h = rw (e, h)
 
-pub truth-after : (op : ℕ) (left right : Fields) {t : Bool} → op ≡ 7 → t ≡ is_earlier right left → truth_of op left right ≡ truth_by (Constant.Is t)
+pub truth-after : (op : ℕ) (left right : Fields) {t : Bool} → op ≡ 7 → t ≡ is_earlier right left → truth_of op left right ≡ truth_by (Some t)
 unfolding truth_of truth_by
 truth-after op left right e h = rw (e, h)
 
-pub truth-none : (op : ℕ) (left right : Fields) → (op ≡ 6 → ⊥) → (op ≡ 7 → ⊥) → truth_of op left right ≡ truth_by Constant.No
+pub truth-none : (op : ℕ) (left right : Fields) → (op ≡ 6 → ⊥) → (op ≡ 7 → ⊥) → truth_of op left right ≡ truth_by None
 unfolding truth_of truth_by
 truth-none op left right e h = rw (ne_eqb op 6 e, ne_eqb op 7 h)
 
@@ -68,7 +65,7 @@ other_none op h (some f) none = refl
 other_none op h (some f) (some g) = truth-none op f g (λ e. false≢true (sym (rw e at h))) (λ e. false≢true (sym (rw e at h)))
 
 module _ {rule words : List ℕ} {i : ℕ} (op : ℕ) {test : Bool} (said : test ≡ is_instant_test op) where
-  pub constant-not : test ≡ false → ConstantAt rule words op i Constant.No
+  pub constant-not : test ≡ false → ConstantAt rule words op i None
   unfolding constant_of truth_by
   constant-not h =
       record {
@@ -76,7 +73,7 @@ module _ {rule words : List ℕ} {i : ℕ} (op : ℕ) {test : Bool} (said : test
         other = λ k. refl;
       }
 
-  pub constant_by : {r : Constant} → test ≡ true → PairIs rule words op (i + 1) r → ConstantAt rule words op i r
+  pub constant_by : {r : Optional Bool} → test ≡ true → PairIs rule words op (i + 1) r → ConstantAt rule words op i r
   constant_by t p = record { pair = p; other = λ h. absurd (false≢true (sym h ∙ sym said ∙ t)) }
 
 right-none : (op : ℕ) (o : Option Fields) → truth_in op o none ≡ none
@@ -84,8 +81,8 @@ unfolding truth_in
 right-none op none = refl
 right-none op (some f) = refl
 
-module _ {rule words : List ℕ} (op start : ℕ) {x : Literal} (first : LiteralAt rule words start x) where
-  pub pair_left : x ≡ Literal.No → PairIs rule words op start Constant.No
+module _ {rule words : List ℕ} (op start : ℕ) {x : Optional Fields} (first : LiteralAt rule words start x) where
+  pub pair_left : x ≡ None → PairIs rule words op start None
   unfolding constant_of truth_in instant_by truth_by
   pair_left e =
       record {
@@ -94,7 +91,7 @@ module _ {rule words : List ℕ} (op start : ℕ) {x : Literal} (first : Literal
             rw p;
       }
 
-  module _ {f : Fields} (is : x ≡ Literal.Is f) {y : Literal} (second : LiteralAt rule words (start + 1) y) where
+  module _ {f : Fields} (is : x ≡ Some f) {y : Optional Fields} (second : LiteralAt rule words (start + 1) y) where
     left_is : (left : Value) → ValueAt rule words start left → literal_instant left ≡ some f
     unfolding instant_by
     left_is left a = first.fields left a ∙ rw is
@@ -102,7 +99,7 @@ module _ {rule words : List ℕ} (op start : ℕ) {x : Literal} (first : Literal
     right_is : (left right : Value) → ValueAt rule words start left → ValueAt rule words (start + value_entries left) right → literal_instant right ≡ instant_by y
     right_is left right a b = second.fields right (rw (one_entry left f (left_is left a)) at b)
 
-    pub pair-right : y ≡ Literal.No → PairIs rule words op start Constant.No
+    pub pair-right : y ≡ None → PairIs rule words op start None
     unfolding constant_of instant_by truth_by
     pair-right e =
         record {
@@ -111,7 +108,7 @@ module _ {rule words : List ℕ} (op start : ℕ) {x : Literal} (first : Literal
               rw q (right-none op (literal_instant left));
         }
 
-    pub pair-both : {g : Fields} {r : Constant} → y ≡ Literal.Is g → truth_of op f g ≡ truth_by r → PairIs rule words op start r
+    pub pair-both : {g : Fields} {r : Optional Bool} → y ≡ Some g → truth_of op f g ≡ truth_by r → PairIs rule words op start r
     unfolding constant_of truth_in instant_by
     pair-both {g} e h =
         record {

@@ -1,4 +1,5 @@
 -- The mark pass over conditions, step by step: what is left is a list of conditions side by side, and each step puts a condition's children in its place.
+use Rattle.std.specs.Prelude.{Option as Optional, Some, None}
 use Prim.Native.Nat.{ℕ, ◌+◌, ◌*◌, ◌≤◌, ◌<◌}
 use native.Mathlib.Omega.{arith}
 use mathlib.Core.Bool.{Bool}
@@ -26,18 +27,16 @@ use Rattle.rule.proofs.NodeSteps.{same_head, has-operator, none_left, none-ends}
 use Rattle.rule.proofs.Opening.{beside, opened, opened-stand}
 use Rattle.validation.specs.Marking.{MarksAre}
 use Rattle.constants.specs.Marks.{truth_by, PairIs, ConstantAt, MarkedOn, Unmarked, ConditionsMarked, RuleMarked}
-use Rattle.constants.specs.declared.Constant.{Constant}
-use Rattle.constants.specs.declared.Constant.TheVariants as Constant
 use Rattle.constants.proofs.ConstantSteps.{none-early, none-late}
 
 -- One entry's mark.
 
-pub marked-none : (count entry : ℕ) {k : Constant} (l : List ℕ) → k ≡ Constant.No → MarkedOn count entry k l l count
+pub marked-none : (count entry : ℕ) {k : Optional Bool} (l : List ℕ) → k ≡ None → MarkedOn count entry k l l count
 unfolding truth_by mark_if bytes_of
 marked-none count entry l e = record { most = omega arith; counted = rw e (omega arith); written = rw e }
 
-pub marked-one : (count entry : ℕ) {k : Constant} {t : Bool} {m next : ℕ} {before after : List ℕ}
-    → k ≡ Constant.Is t
+pub marked-one : (count entry : ℕ) {k : Optional Bool} {t : Bool} {m next : ℕ} {before after : List ℕ}
+    → k ≡ Some t
     → m ≡ mark_of entry t
     → Wrote before after (4 * count) (little_endian m) next
     → MarkedOn count entry k before after (count + 1)
@@ -46,7 +45,7 @@ marked-one count entry {m = m} {before = before} e q w =
     record { most = omega arith; counted = rw e; written = rw (e, ← q) (w.stands ∙ ap (λ (b : List ℕ). sets before (4 * count) b) (sym (bytes-of-one m))) }
 
 -- marks after marks
-marks_then : {ms before now after : List ℕ} {count entry r : ℕ} {k : Constant}
+marks_then : {ms before now after : List ℕ} {count entry r : ℕ} {k : Optional Bool}
     → MarksAre ms before now count
     → MarkedOn count entry k now after r
     → MarksAre (ms ++ mark_if entry (truth_by k)) before after r
@@ -70,7 +69,7 @@ unfolding beside marks_of_conditions
 beside-marks no_conditions ds = refl
 beside-marks (condition c others) ds = rw (beside-marks others ds, append_assoc)
 
-module _ (rule words : List ℕ) (i : ℕ) (k : Constant) {at op : ℕ} (start : at ≡ start_of words i) (kind : OperatorAt rule at op) (by : ConstantAt rule words op i k) where
+module _ (rule words : List ℕ) (i : ℕ) (k : Optional Bool) {at op : ℕ} (start : at ≡ start_of words i) (kind : OperatorAt rule at op) (by : ConstantAt rule words op i k) where
   marks-parts : (c : Condition) → ConditionAt rule words i c → marks_of c ≡ mark_if (i + 1) (truth_by k) ++ marks_of_conditions (children_of c)
   unfolding marks_of mark_if children_of
   marks-parts (literal e truth) a =
@@ -117,7 +116,7 @@ left-begin =
       marks = λ cs w. record { counted = refl; written = refl };
     }
 
-module _ {rule words : List ℕ} {i end own at op next : ℕ} {k : Constant} (inside : i < end) (start : at ≡ start_of words i) (kind : OperatorAt rule at op) (by : ConstantAt rule words op i k) (ends : Behind words i end own) (first : ChildrenFrom words op i own next) where
+module _ {rule words : List ℕ} {i end own at op next : ℕ} {k : Optional Bool} (inside : i < end) (start : at ≡ start_of words i) (kind : OperatorAt rule at op) (by : ConstantAt rule words op i k) (ends : Behind words i end own) (first : ChildrenFrom words op i own next) where
   opened-marks : (cs : Conditions) → AreConditions rule words i end cs → marks_of_conditions cs ≡ mark_if (i + 1) (truth_by k) ++ marks_of_conditions (opened cs)
   unfolding opened marks_of_conditions
   opened-marks no_conditions w = absurd (omega (arith, none-ends w, inside))

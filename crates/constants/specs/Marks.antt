@@ -1,5 +1,5 @@
 -- What the mark pass answers for the words of an index.
-use Rattle.std.specs.Prelude.{ℕ, ◌+◌, ◌*◌, ◌≤◌, ◌<◌, Bool, true, false, List, ◌≡◌, length}
+use Rattle.std.specs.Prelude.{ℕ, ◌+◌, ◌*◌, ◌≤◌, ◌<◌, Bool, true, false, List, ◌≡◌, length, Option as Optional, Some, None}
 use Rattle.std.proofs.Math.Option.{Option, none, some}
 use Rattle.std.proofs.lemmas.List.Edits.{sets}
 use Rattle.timestamp.specs.declared.Fields.{Fields}
@@ -11,35 +11,31 @@ use Rattle.buffer.specs.Bytes.{bytes_of}
 use Rattle.validation.specs.Constant.{literal_instant, constant_of, mark_if, marks_of_conditions, marks_in}
 use Rattle.validation.specs.Marking.{MarksAre}
 use Rattle.rule.specs.Nodes.{AreConditions}
-use Rattle.constants.specs.declared.Literal.{Literal}
-use Rattle.constants.specs.declared.Literal.TheVariants as Literal
-use Rattle.constants.specs.declared.Constant.{Constant}
-use Rattle.constants.specs.declared.Constant.TheVariants as Constant
 
-unfoldable pub instant_by : Literal → Option Fields
-instant_by (Literal.Is fields) = some fields
-instant_by Literal.No = none
+unfoldable pub instant_by : Optional Fields → Option Fields
+instant_by (Some fields) = some fields
+instant_by None = none
 
-unfoldable pub truth_by : Constant → Option Bool
-truth_by (Constant.Is truth) = some truth
-truth_by Constant.No = none
+unfoldable pub truth_by : Optional Bool → Option Bool
+truth_by (Some truth) = some truth
+truth_by None = none
 
 -- the value of word `i`
-pub record LiteralAt (rule words : List ℕ) (i : ℕ) (r : Literal) : Type 0 where
+pub record LiteralAt (rule words : List ℕ) (i : ℕ) (r : Optional Fields) : Type 0 where
   pub fields : (v : Value) → ValueAt rule words i v → literal_instant v ≡ instant_by r
 
 -- two operands, one after the other
-pub record PairIs (rule words : List ℕ) (op start : ℕ) (r : Constant) : Type 0 where
+pub record PairIs (rule words : List ℕ) (op start : ℕ) (r : Optional Bool) : Type 0 where
   pub truth : (left right : Value) → ValueAt rule words start left → ValueAt rule words (start + value_entries left) right
       → constant_of op left right ≡ truth_by r
 
 -- a condition at word `i` with operator `op`: `before` and `after` alone can be constant
-pub record ConstantAt (rule words : List ℕ) (op i : ℕ) (r : Constant) : Type 0 where
+pub record ConstantAt (rule words : List ℕ) (op i : ℕ) (r : Optional Bool) : Type 0 where
   pub pair : PairIs rule words op (i + 1) r
   pub other : is_instant_test op ≡ false → truth_by r ≡ none
 
 -- an entry's mark after so many others, where it has one
-pub record MarkedOn (count entry : ℕ) (constant : Constant) (before after : List ℕ) (r : ℕ) : Type 0 where
+pub record MarkedOn (count entry : ℕ) (constant : Optional Bool) (before after : List ℕ) (r : ℕ) : Type 0 where
   pub most : r ≤ count + 1
   pub counted : r ≡ count + length (mark_if entry (truth_by constant))
   pub written : after ≡ sets before (4 * count) (bytes_of (mark_if entry (truth_by constant)))

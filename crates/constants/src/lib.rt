@@ -11,69 +11,52 @@ use rule::index::{end_of, start_of};
 use rule::kind::operator_at;
 use rule::node::{behind, children_from};
 use sheet::operators::{AFTER, BEFORE, EXISTS, LITERAL, TRUTHY, is_instant_test};
-use sheet::rule_heads::{RuleHead, RuleHeadRead, rule_head};
+use sheet::rule_heads::{RuleHead, rule_head};
 use timestamp::{Fields, is_earlier};
-use value_checks::operand::{InstantRead, instant_form};
+use value_checks::operand::instant_form;
 
-// The instant that a value is by itself.
-#[derive(Clone, Copy)]
-pub enum Literal {
-    Is(Fields),
-    No,
-}
-
-// Whether a condition is constant, and then its truth.
-#[derive(Clone, Copy)]
-pub enum Constant {
-    Is(bool),
-    No,
-}
-
-fn literal_at(rule: &[u8], words: &[u32], i: usize) -> Literal
+// The instant that the value of word `i` is by itself.
+fn literal_at(rule: &[u8], words: &[u32], i: usize) -> Option<Fields>
     ensures { LiteralAt rule.now words.now i result }
 {
     match instant_form(rule, words, i) {
-        InstantRead::Reference => Literal::No,
-        InstantRead::Literal(fields) => Literal::Is(fields),
-        InstantRead::Bad(_) => Literal::No,
+        Ok(fields) => fields,
+        Err(_) => None,
     }
 }
 
-fn truth_of(op: usize, left: Fields, right: Fields) -> Constant
+// Whether a condition on two instants is constant, and then its truth.
+fn truth_of(op: usize, left: Fields, right: Fields) -> Option<bool>
     ensures { truth_of op left right ≡ truth_by result }
 {
     if op == BEFORE {
-        return Constant::Is(is_earlier(left, right));
+        return Some(is_earlier(left, right));
     }
     if op == AFTER {
-        return Constant::Is(is_earlier(right, left));
+        return Some(is_earlier(right, left));
     }
-    Constant::No
+    None
 }
 
 // A condition with two operands, the first at word `start`. A literal instant is one entry.
-fn constant_pair(rule: &[u8], words: &[u32], op: usize, start: usize) -> Constant
+fn constant_pair(rule: &[u8], words: &[u32], op: usize, start: usize) -> Option<bool>
     requires { start < word_entries }
     ensures { PairIs rule.now words.now op start result }
 {
-    let Literal::Is(left) = literal_at(rule, words, start) else {
-        return Constant::No;
-    };
-    let Literal::Is(right) = literal_at(rule, words, start + 1) else {
-        return Constant::No;
-    };
+    let left = literal_at(rule, words, start)?;
+    let right = literal_at(rule, words, start + 1)?;
     truth_of(op, left, right)
 }
 
 // The condition of word `i`, by its operator.
-fn constant_at(rule: &[u8], words: &[u32], op: usize, i: usize) -> Constant
+fn constant_at(rule: &[u8], words: &[u32], op: usize, i: usize) -> Option<bool>
     requires { i + 1 < word_entries }
     ensures { ConstantAt rule.now words.now op i result }
 {
     if is_instant_test(op) {
         return constant_pair(rule, words, op, i + 1);
     }
-    Constant::No
+    None
 }
 
 fn mark_of(entry: usize, truth: bool) -> u32
@@ -85,11 +68,11 @@ fn mark_of(entry: usize, truth: bool) -> u32
 }
 
 // Writes the mark of an entry after `count` others, if its condition is constant; how many there are then.
-fn mark(count: usize, entry: usize, constant: Constant, marks: &mut [u8]) -> usize
+fn mark(count: usize, entry: usize, constant: Option<bool>, marks: &mut [u8]) -> usize
     requires { (count ≤ word_entries) × (entry ≤ word_entries) }
     ensures { MarkedOn count entry constant marks.old marks.new result }
 {
-    let Constant::Is(truth) = constant else {
+    let Some(truth) = constant else {
         return count;
     };
     put_u32(marks, 4 * count, mark_of(entry, truth));
@@ -145,7 +128,7 @@ fn mark_conditions(rule: &[u8], words: &[u32], start: usize, end: usize, marks: 
 pub fn mark_constants(rule: &[u8], words: &[u32], marks: &mut [u8]) -> usize
     ensures { RuleMarked rule.now words.now marks.old marks.new result }
 {
-    let RuleHeadRead::Is(head, _) = rule_head(rule, start_of(words, 0)) else {
+    let Some((head, _)) = rule_head(rule, start_of(words, 0)) else {
         return 0;
     };
     let RuleHead::Rule(_, _) = head else {

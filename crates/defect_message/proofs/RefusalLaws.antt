@@ -1,4 +1,5 @@
 -- Why a segment is refused: each sentence as a law, by the texts that it is made of and by their places.
+use Rattle.std.specs.Prelude.{Option as Optional, Some, None}
 use Prim.Native.Nat.{ℕ, zero, suc, ◌+◌, ◌-◌, ◌≤◌, ◌<◌}
 use native.Mathlib.Nat.{zero-add, suc-add}
 use native.Mathlib.Omega.{arith}
@@ -12,8 +13,6 @@ use Rattle.text.specs.Ascii.{ascii}
 use Rattle.text.specs.Order.{same_bytes}
 use Rattle.text.specs.Parts.{part_of, optional_of}
 use Rattle.text.specs.declared.part.Part.{Part}
-use Rattle.text.specs.declared.part.OptionalPart.{OptionalPart}
-use Rattle.text.specs.declared.part.OptionalPart.TheVariants as OptionalPart
 use Rattle.buffer.specs.Laid.{most_place, Laid}
 use Rattle.buffer.specs.LaidLaws.{laid_then}
 use Rattle.definition.specs.Tree.{Text, Field, field}
@@ -63,13 +62,13 @@ module _ (sheet : List ℕ) (walked s : Text) {b c a : List ℕ} {o m n : ℕ} (
       ∙ ap (λ (l : Text). ascii " is a union field, so " ++ l) (append_assoc (in_quotes s) (ascii " resolves to nothing; it carries ") (carries t))))
       (laid_then room u v)
 
-  pub union-tagged : {tag : OptionalPart} {p : Part} {name : Text} → tag ≡ OptionalPart.Is p → Laid b c o (in_quotes walked ++ (ascii " is a union field, so " ++ (in_quotes s ++ ascii " resolves to nothing; it carries "))) m → name ≡ part_of sheet p → Laid c a m (carries (some name)) n
+  pub union-tagged : {tag : Optional Part} {p : Part} {name : Text} → tag ≡ Some p → Laid b c o (in_quotes walked ++ (ascii " is a union field, so " ++ (in_quotes s ++ ascii " resolves to nothing; it carries "))) m → name ≡ part_of sheet p → Laid c a m (carries (some name)) n
       → Laid b a o (no_union_member walked s (optional_of sheet tag)) n
   unfolding optional_of
   union-tagged {p = p} e u same v =
       rw e (union-laid (some (part_of sheet p)) u (subst (λ (t : Text). Laid c a m (carries (some t)) n) same v))
 
-  pub union-untagged : {tag : OptionalPart} → tag ≡ OptionalPart.Absent → Laid b c o (in_quotes walked ++ (ascii " is a union field, so " ++ (in_quotes s ++ ascii " resolves to nothing; it carries "))) m → Laid c a m (in_quotes [] ++ (ascii " and " ++ (in_quotes (ascii "value") ++ []))) n
+  pub union-untagged : {tag : Optional Part} → tag ≡ None → Laid b c o (in_quotes walked ++ (ascii " is a union field, so " ++ (in_quotes s ++ ascii " resolves to nothing; it carries "))) m → Laid c a m (in_quotes [] ++ (ascii " and " ++ (in_quotes (ascii "value") ++ []))) n
       → Laid b a o (no_union_member walked s (optional_of sheet tag)) n
   unfolding optional_of
   union-untagged e u v = rw e (union-laid none u (carried-untagged v))

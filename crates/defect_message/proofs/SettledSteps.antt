@@ -1,4 +1,5 @@
 -- What is said of a check that no schema answers: each sentence as a law.
+use Rattle.std.specs.Prelude.{Option as Optional, Some, None}
 use Prim.Native.Nat.{ℕ, ◌+◌, ◌-◌, ◌≤◌, ◌<◌, min}
 use native.Mathlib.Omega.{arith}
 use mathlib.Core.Bool.{Bool, true, false, cond, false≢true}
@@ -28,8 +29,6 @@ use Rattle.rule.specs.Kinds.{operator_in, OperatorAt}
 use Rattle.rule.specs.Nodes.{IsCondition}
 use Rattle.condition_checks.specs.Bodies.{bind_by, BindAt}
 use Rattle.condition_checks.specs.Depth.{DepthIs}
-use Rattle.condition_checks.specs.declared.body.BindRead.{BindRead}
-use Rattle.condition_checks.specs.declared.body.BindRead.TheVariants as BindRead
 use Rattle.message.specs.Words.{in_quotes}
 use Rattle.message.specs.Message.{value_at, json_at, unescaped_at, instant_forms, instant_sentence, literal_sentence, affix_sentence, names_value, value_sentence, Head, head, head_of, head_at, names_head, head_sentence, empty_sentence, depth_in, settled_sentence}
 use Rattle.defect_message.specs.Settled.{IsSettled, QuantifierAt, ValueLaid, UnescapedLaid, InstantLaid, ValuedLaid, BindLaid, HeadedLaid, DepthLaid, IsRule, SettledLaid}
@@ -123,7 +122,7 @@ module _ {rule words : List ℕ} {i : ℕ} {b a : List ℕ} {o n : ℕ} where
     unfolding value_sentence
     valued-instant n14 n19 u = record { lays = λ x h. rw (ne_eqb number 14 n14, ne_eqb number 19 n19) (u.lays x h) }
 
-  pub bind-laid : {r : BindRead} {p : Part} {text : Text} → BindAt rule words i r → r ≡ BindRead.Is p → text ≡ part_of rule p → Laid b a o text n → BindLaid rule words i b a o n
+  pub bind-laid : {r : Optional Part} {p : Part} {text : Text} → BindAt rule words i r → r ≡ Some p → text ≡ part_of rule p → Laid b a o text n → BindLaid rule words i b a o n
   unfolding bind_by
   bind-laid {p = p} {text = text} is e same u = record {
     lays = λ op bind rest reads.
@@ -131,7 +130,7 @@ module _ {rule words : List ℕ} {i : ℕ} {b a : List ℕ} {o n : ℕ} where
         subst (λ (t : Text). Laid b a o t n) (same ∙ some-injective (part_of rule p) bind q) u;
   }
 
-  pub bind-bad : {r : BindRead} → BindAt rule words i r → r ≡ BindRead.Bad → BindLaid rule words i b a o n
+  pub bind-bad : {r : Optional Part} → BindAt rule words i r → r ≡ None → BindLaid rule words i b a o n
   unfolding bind_by
   bind-bad is e = record {
     lays = λ op bind rest reads.

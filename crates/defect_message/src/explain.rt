@@ -7,7 +7,7 @@ use crate::settled::{lay_settled, word_of};
 use defect_walk::standing::scope_below;
 use rule::index::{end_of, start_of};
 use scope::binder::Scope;
-use sheet::rule_heads::{RuleHead, RuleHeadRead, rule_head};
+use sheet::rule_heads::{RuleHead, rule_head};
 use text::part::bytes_of;
 use value_checks::operand::{Form, form_of};
 
@@ -15,7 +15,7 @@ use value_checks::operand::{Form, form_of};
 fn scope_at(schema: &[u8], rule: &[u8], words: &[u32], scope: Scope, place: u32) -> Scope
     ensures { ScopePlaced schema.now rule.now words.now scope place result }
 {
-    let RuleHeadRead::Is(head, _) = rule_head(rule, start_of(words, 0)) else {
+    let Some((head, _)) = rule_head(rule, start_of(words, 0)) else {
         return scope;
     };
     let RuleHead::Rule(_, _) = head else {

@@ -14,7 +14,7 @@ use crate::words::{lay_both, lay_kind, lay_quoted};
 use buffer::lay::lay;
 use schema::index::{IndexedField, indexed_field};
 use text::order::same_bytes;
-use text::part::{OptionalPart, bytes_of};
+use text::part::{Part, bytes_of};
 use walk::answer::ReferenceFault;
 use walk::path::first_end;
 
@@ -32,7 +32,7 @@ fn lay_union(
     out: &mut [u8],
     o: usize,
     schema: &[u8],
-    tag: OptionalPart,
+    tag: Option<Part>,
     walked: &[u8],
     segment: &[u8],
 ) -> usize
@@ -47,8 +47,8 @@ fn lay_union(
         b" resolves to nothing; it carries ",
     );
     match tag {
-        OptionalPart::Is(part) => lay_carried(out, next, bytes_of(schema, part)),
-        OptionalPart::Absent => lay_both(out, next, b"", b" and ", b"value", b""),
+        Some(part) => lay_carried(out, next, bytes_of(schema, part)),
+        None => lay_both(out, next, b"", b" and ", b"value", b""),
     }
 }
 

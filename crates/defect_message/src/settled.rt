@@ -9,7 +9,7 @@ ghost use Rattle.defect_message.specs.Settled.{ValueLaid, UnescapedLaid, Instant
 use crate::operator::lay_operator;
 use crate::words::lay_quoted;
 use buffer::lay::{lay, lay_byte, lay_decimal};
-use condition_checks::body::{BindRead, bind_of};
+use condition_checks::body::bind_of;
 use condition_checks::depth::condition_depth;
 use definition::limits::{MAX_CONDITION_NESTING, WORD_ENTRIES};
 use json_value::lay_value;
@@ -127,7 +127,7 @@ fn lay_valued(
 fn lay_bind(out: &mut [u8], o: usize, rule: &[u8], words: &[u32], i: usize) -> usize
     ensures { BindLaid rule.now words.now i out.old out.new o result }
 {
-    let BindRead::Is(name) = bind_of(rule, words, i) else {
+    let Some(name) = bind_of(rule, words, i) else {
         return o;
     };
     lay(out, o, bytes_of(rule, name))

@@ -17,7 +17,7 @@ use crate::value::put_value;
 use crate::word::find_sibling;
 use buffer::put;
 use rule::index::start_of;
-use sheet::rule_heads::{ConditionHead, ConditionRead, condition_head};
+use sheet::rule_heads::{ConditionHead, condition_head};
 
 // How the descent goes on.
 #[derive(Clone, Copy)]
@@ -132,7 +132,7 @@ fn condition_step(
     requires { (i < target) × (target < place_bound) }
     ensures { NextLeads rule.now words.now number target i path.old at path.new result }
 {
-    let ConditionRead::Is(head, _) = condition_head(rule, start_of(words, i)) else {
+    let Some((head, _)) = condition_head(rule, start_of(words, i)) else {
         return Next::Done(at);
     };
     if is_whole(number, head) {
@@ -150,7 +150,7 @@ fn condition_step(
 fn put_end(rule: &[u8], words: &[u32], number: u32, i: usize, at: usize, path: &mut [u8]) -> usize
     ensures { ConditionWritten rule.now words.now number i i path.old path.new at result }
 {
-    let ConditionRead::Is(head, _) = condition_head(rule, start_of(words, i)) else {
+    let Some((head, _)) = condition_head(rule, start_of(words, i)) else {
         return at;
     };
     put_own(path, at, number, head)

@@ -17,7 +17,7 @@ use crate::defect::MESSAGE;
 use crate::value::put_value;
 use buffer::put;
 use rule::index::start_of;
-use sheet::rule_heads::{RuleHead, RuleHeadRead, rule_head};
+use sheet::rule_heads::{RuleHead, rule_head};
 use text::numeral::to_size;
 
 // Writes the way from a rule's root: none for the defects that have the label's own path.
@@ -50,7 +50,7 @@ fn put_rule(
 ) -> usize
     ensures { RuleWritten rule.now words.now number place path.old path.new at result }
 {
-    let RuleHeadRead::Is(head, _) = rule_head(rule, start_of(words, 0)) else {
+    let Some((head, _)) = rule_head(rule, start_of(words, 0)) else {
         return at;
     };
     if place == 0 {

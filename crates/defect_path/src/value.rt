@@ -8,7 +8,7 @@ use crate::bracket::put_index;
 use crate::word::find_sibling;
 use buffer::{push, put};
 use rule::index::start_of;
-use sheet::rule_heads::{KeyRead, ValueHead, ValueRead, key_head, value_head};
+use sheet::rule_heads::{ValueHead, key_head, value_head};
 use text::part::bytes_of;
 
 // A word further down, and the place after what the path has for the way to it.
@@ -22,7 +22,7 @@ pub struct Step {
 fn put_key(rule: &[u8], words: &[u32], i: usize, at: usize, path: &mut [u8]) -> usize
     ensures { KeyWritten rule.now words.now i path.old path.new at result }
 {
-    let KeyRead::Is(key, _) = key_head(rule, start_of(words, i)) else {
+    let Some((key, _)) = key_head(rule, start_of(words, i)) else {
         return at;
     };
     let next = push(path, at, b'.');
@@ -41,7 +41,7 @@ fn value_step(
     requires { (i < target) × (target < place_bound) }
     ensures { ValueLeads rule.now words.now target i path.old at result.word path.new result.at × (i < result.word) }
 {
-    let ValueRead::Is(head, _) = value_head(rule, start_of(words, i)) else {
+    let Some((head, _)) = value_head(rule, start_of(words, i)) else {
         return Step { word: target, at };
     };
     let inner = find_sibling(words, target, i + 1);

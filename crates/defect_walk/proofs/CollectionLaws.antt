@@ -1,4 +1,5 @@
 -- What is to be said of an `in` value: each way through the code, as a law.
+use Rattle.std.specs.Prelude.{Option as Optional, Some, None, Result, Ok, Err}
 use Prim.Native.Nat.{ℕ, ◌+◌, ◌-◌, ◌<◌, ◌≤◌}
 use native.Mathlib.Omega.{arith}
 use mathlib.Core.Bool.{Bool, true, false, cond, ◌||◌}
@@ -22,26 +23,16 @@ use Rattle.schema.specs.Lookup.{FoundAt, LookedUp}
 use Rattle.schema.specs.Read.{SchemaAt}
 use Rattle.schema.specs.declared.index.Holder.{Holder}
 use Rattle.schema.specs.declared.index.IndexedField.{IndexedField}
-use Rattle.schema.specs.declared.lookup.Found.{Found}
-use Rattle.schema.specs.declared.lookup.Found.TheVariants as Found
 use Rattle.walk.specs.Dots.{Ends}
 use Rattle.walk.specs.DotLaws.{part_length, rest-whole}
 use Rattle.walk.specs.Answers.{collection_detail}
 use Rattle.walk.specs.Steps.{FieldSteps}
 use Rattle.walk.specs.declared.answer.CollectionFault.{CollectionFault}
-use Rattle.walk.specs.declared.answer.FieldStep.{FieldStep}
-use Rattle.walk.specs.declared.answer.FieldStep.TheVariants as FieldStep
 use Rattle.scope.specs.Names.{name_is, NamedIs}
 use Rattle.scope.specs.Scopes.{BoundElement, EnvironmentAt, BoundIs}
 use Rattle.scope.specs.Roots.{RootIs}
 use Rattle.scope.specs.declared.name.Name.{Name}
-use Rattle.scope.specs.declared.name.Named.{Named}
-use Rattle.scope.specs.declared.name.Named.TheVariants as Named
-use Rattle.scope.specs.declared.binder.Element.{Element}
-use Rattle.scope.specs.declared.binder.Element.TheVariants.{Known, Unknown}
 use Rattle.scope.specs.declared.binder.Scope.{Scope}
-use Rattle.scope.specs.declared.binder.Bound.{Bound}
-use Rattle.scope.specs.declared.binder.Bound.TheVariants as Bound
 use Rattle.scope.specs.declared.root.Root.{Root}
 use Rattle.scope.specs.declared.root.Root.TheVariants as Root
 use Rattle.message.specs.Words.{in_quotes}
@@ -105,11 +96,11 @@ unfolding tell_field
 told-last path f e = rw e
 
 module _ (sheet words path : List ℕ) (k : ℕ) (x : IndexedField) (held : IndexedIs sheet words k x) (n : ℕ) (ends : Ends path n)
-    (at : ℕ) (w : FieldStep) (steps : FieldSteps sheet words x (take n path) w) where
+    (at : ℕ) (w : Result (Optional ℕ) CollectionFault) (steps : FieldSteps sheet words x (take n path) w) where
   step_is : (f : Field) (y : Step) → field_step f (take n path) ≡ y → field_step f (split path).first ≡ y
   step_is f y e = ap (field_step f) ends.first ∙ e
 
-  pub field-refused : (fault : CollectionFault) → w ≡ FieldStep.Refuse fault → FieldTells sheet words k path at (Telling.Refused fault at k)
+  pub field-refused : (fault : CollectionFault) → w ≡ Err fault → FieldTells sheet words k path at (Telling.Refused fault at k)
   field-refused fault e = record {
     leads = λ text behind f within p there.
         let d = collection_detail fault in
@@ -121,14 +112,14 @@ module _ (sheet words path : List ℕ) (k : ℕ) (x : IndexedField) (held : Inde
         );
   }
 
-  pub field-free : w ≡ FieldStep.Free → FieldTells sheet words k path at Telling.Nothing
+  pub field-free : w ≡ (Ok None) → FieldTells sheet words k path at Telling.Nothing
   field-free e = record {
     leads = λ text behind f within p there.
         let q : field_step f (take n path) ≡ free = rw e at (steps.leads f (held f there)) in
         told_free (split path).first (split path).others f (step_is f free q);
   }
 
-  pub field-last : (next : ℕ) (r : CollectionTelling) → w ≡ FieldStep.Into next → n ≡ length path → ElementTells sheet words next r → FieldTells sheet words k path at r
+  pub field-last : (next : ℕ) (r : CollectionTelling) → w ≡ Ok (Some next) → n ≡ length path → ElementTells sheet words next r → FieldTells sheet words k path at r
   field-last next r e end m = record {
     leads = λ text behind f within p there.
         let q : (g : Field) × (field_step f (take n path) ≡ into g) × SlotHolds sheet words next g = rw e at (steps.leads f (held f there)) in
@@ -136,7 +127,7 @@ module _ (sheet words path : List ℕ) (k : ℕ) (x : IndexedField) (held : Inde
         subst (λ (o : Option Text). CollectIs sheet words text behind r o) (sym same) (m.leads text behind q.0 q.2);
   }
 
-  pub field-into : (next : ℕ) (r : CollectionTelling) → w ≡ FieldStep.Into next → (n ≡ length path → ⊥)
+  pub field-into : (next : ℕ) (r : CollectionTelling) → w ≡ Ok (Some next) → (n ≡ length path → ⊥)
       → FieldTells sheet words next (take (length path - (n + 1)) (drop (n + 1) path)) (at + n + 1) r
       → FieldTells sheet words k path at r
   field-into next r e further m = record {
@@ -169,24 +160,24 @@ module _ (text : Text) (t : Tree.Holder) (s : Text) (path : List Text) where
   unfolding collection_root_told member_step
   root-found f l = rw l
 
-module _ (sheet words path : List ℕ) (at : ℕ) (h : Holder) (n : ℕ) (ends : Ends path n) (found : Found) (looked : LookedUp sheet words h (take n path) found) where
-  missing : found ≡ Found.Missing → (t : Tree.Holder) → HolderAt sheet words h t → lookup (split path).first t.members ≡ none
+module _ (sheet words path : List ℕ) (at : ℕ) (h : Holder) (n : ℕ) (ends : Ends path n) (found : Optional ℕ) (looked : LookedUp sheet words h (take n path) found) where
+  missing : found ≡ None → (t : Tree.Holder) → HolderAt sheet words h t → lookup (split path).first t.members ≡ none
   missing e t here = let l : lookup (take n path) t.members ≡ none = rw e at (looked t here) in rw ends.first l
 
-  found_at : (k : ℕ) → found ≡ Found.At k → (t : Tree.Holder) → HolderAt sheet words h t → FoundAt sheet words (split path).first t.members k
+  found_at : (k : ℕ) → found ≡ Some k → (t : Tree.Holder) → HolderAt sheet words h t → FoundAt sheet words (split path).first t.members k
   found_at k e t here = let l : FoundAt sheet words (take n path) t.members k = rw e at (looked t here) in rw ends.first l
 
-  pub collects-open : found ≡ Found.Missing → h.opened ≡ true → RootCollects sheet words h path at Telling.Nothing
+  pub collects-open : found ≡ None → h.opened ≡ true → RootCollects sheet words h path at Telling.Nothing
   collects-open e o = record {
     leads = λ text behind t within p here. root-free text t (split path).first (split path).others (missing e t here) (sym here.marked ∙ o);
   }
 
-  pub collects-closed : found ≡ Found.Missing → h.opened ≡ false → RootCollects sheet words h path at Telling.NotDeclared
+  pub collects-closed : found ≡ None → h.opened ≡ false → RootCollects sheet words h path at Telling.NotDeclared
   collects-closed e o = record {
     leads = λ text behind t within p here. root-nowhere text t (split path).first (split path).others (missing e t here) (sym here.marked ∙ o);
   }
 
-  pub collects-last : (k : ℕ) (r : CollectionTelling) → found ≡ Found.At k → n ≡ length path → ElementTells sheet words k r → RootCollects sheet words h path at r
+  pub collects-last : (k : ℕ) (r : CollectionTelling) → found ≡ Some k → n ≡ length path → ElementTells sheet words k r → RootCollects sheet words h path at r
   collects-last k r e end m = record {
     leads = λ text behind t within p here.
         let l = found_at k e t here in
@@ -194,7 +185,7 @@ module _ (sheet words path : List ℕ) (at : ℕ) (h : Holder) (n : ℕ) (ends :
         subst (λ (o : Option Text). CollectIs sheet words text behind r o) (sym same) (m.leads text behind l.f l.holds);
   }
 
-  pub collects-more : (k : ℕ) (r : CollectionTelling) → found ≡ Found.At k → (n ≡ length path → ⊥)
+  pub collects-more : (k : ℕ) (r : CollectionTelling) → found ≡ Some k → (n ≡ length path → ⊥)
       → FieldTells sheet words k (take (length path - (n + 1)) (drop (n + 1) path)) (at + n + 1) r → RootCollects sheet words h path at r
   collects-more k r e further m = record {
     leads = λ text behind t within p here.
@@ -237,15 +228,15 @@ module _ (sheet words behind : List ℕ) (scope : Scope) (end : ℕ) where
         name-last text t (split behind).others (name_of (split behind).first) (ends.last whole);
   }
 
-  module _ (named : Named) (is : NamedIs (take end behind) named) where
-    pub name-none : named ≡ Named.Nothing → NameCollects sheet words scope behind end Telling.NoName
+  module _ (named : Optional Name) (is : NamedIs (take end behind) named) where
+    pub name-none : named ≡ None → NameCollects sheet words scope behind end Telling.NoName
     name-none e = record {
       leads = λ text t at ends.
           let q : name_of (take end behind) ≡ none = rw e at is in
           name-missing text t (split behind).others (name_of (split behind).first) (ap name_of ends.first ∙ q);
     }
 
-    module _ (name : Name) (found : named ≡ Named.Is name) (more : end < length behind) (root : Root) (leads-to : RootIs scope.schema name root) where
+    module _ (name : Name) (found : named ≡ Some name) (more : end < length behind) (root : Root) (leads-to : RootIs scope.schema name root) where
       so-named : Ends behind end → name_of (split behind).first ≡ some (name_is name)
       so-named ends = let q : name_of (take end behind) ≡ some (name_is name) = rw found at is in ap name_of ends.first ∙ q
 
@@ -310,35 +301,35 @@ module _ (t : Tree.Schema) (env : Environment) (text behind : Text) (is : behind
   unfolding tell_collection_bound tell_collection_element
   text_path f s rest e p = text-is ∙ rw (e, p) refl
 
-module _ (sheet rule words text behind : List ℕ) (scope : Scope) (end : ℕ) (ends : Ends behind end) (found : Bound) (is : BoundIs rule scope (take end behind) found) where
+module _ (sheet rule words text behind : List ℕ) (scope : Scope) (end : ℕ) (ends : Ends behind end) (found : Optional (Optional ℕ)) (is : BoundIs rule scope (take end behind) found) where
   same_name : (env : Environment) → bound (split behind).first env ≡ bound (take end behind) env
   same_name env = ap (λ (s : Text). bound s env) ends.first
 
-  unbound-is : found ≡ Bound.Nothing → (env : Environment) → EnvironmentAt sheet rule words scope env → bound (split behind).first env ≡ none
+  unbound-is : found ≡ None → (env : Environment) → EnvironmentAt sheet rule words scope env → bound (split behind).first env ≡ none
   unbound-is e env at = let q : bound (take end behind) env ≡ none = rw e at (is.leads sheet words env at) in same_name env ∙ q
 
-  pub text-free : (r : CollectionTelling) (d : Bool) → found ≡ Bound.Nothing → d ≡ begins_with_dollar text → d ≡ true → NameCollects sheet words scope behind end r
+  pub text-free : (r : CollectionTelling) (d : Bool) → found ≡ None → d ≡ begins_with_dollar text → d ≡ true → NameCollects sheet words scope behind end r
       → TextCollects sheet rule words scope text behind r
   text-free r d e same h m = record {
     leads = λ setting t env b at.
         subst (λ (o : Option Text). CollectIs sheet words text behind r o) (sym (text-named t env text behind b (sym same ∙ h) (unbound-is e env at.binders))) (m.leads text t at.schema ends);
   }
 
-  pub text-none : (d : Bool) → found ≡ Bound.Nothing → d ≡ begins_with_dollar text → d ≡ false → TextCollects sheet rule words scope text behind Telling.NoName
+  pub text-none : (d : Bool) → found ≡ None → d ≡ begins_with_dollar text → d ≡ false → TextCollects sheet rule words scope text behind Telling.NoName
   text-none d e same h = record { leads = λ setting t env b at. text-nameless t env text behind b (sym same ∙ h) (unbound-is e env at.binders) }
 
-  module _ (x : Element) (to : found ≡ Bound.To x) where
+  module _ (x : Optional ℕ) (to : found ≡ Some x) where
     bound-to : (env : Environment) → EnvironmentAt sheet rule words scope env → (o : Option Field) × (bound (take end behind) env ≡ some o) × BoundElement sheet words x o
     bound-to env at = rw to at (is.leads sheet words env at)
 
-    pub text-unknown : x ≡ Unknown → TextCollects sheet rule words scope text behind Telling.Nothing
+    pub text-unknown : x ≡ None → TextCollects sheet rule words scope text behind Telling.Nothing
     text-unknown e = record {
       leads = λ setting t env b at.
           let q = bound-to env at.binders in
           text-any t env text behind b (same_name env ∙ q.1 ∙ ap some (element-unknown sheet words x q.0 e q.2));
     }
 
-    module _ (k : ℕ) (known_at_lem : x ≡ Known k) where
+    module _ (k : ℕ) (known_at_lem : x ≡ Some k) where
       to-field : (env : Environment) → EnvironmentAt sheet rule words scope env → (f : Field) × (bound (split behind).first env ≡ some (some f)) × SlotHolds sheet words k f
       to-field env at =
           let q = bound-to env at in

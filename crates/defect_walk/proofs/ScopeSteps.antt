@@ -1,4 +1,5 @@
 -- The scope of an entry: each way through `scope_below`, as a law.
+use Rattle.std.specs.Prelude.{Option as Optional, Some, None, Result, Ok, Err}
 use Prim.Native.Nat.{ℕ, suc, ◌+◌, ◌≤◌, ◌<◌, max}
 use native.Mathlib.Omega.{arith}
 use mathlib.Core.Bool.{Bool, true, false, cond}
@@ -24,17 +25,11 @@ use Rattle.rule.specs.Nodes.{IsCondition, AreConditions, children_of, ChildrenFr
 use Rattle.rule.proofs.NodeSteps.{has-operator, children-stand, value-size}
 use Rattle.rule.specs.IndexLaws.{value-next}
 use Rattle.walk.specs.Answers.{CollectedIs}
-use Rattle.walk.specs.declared.answer.Collected.{Collected}
-use Rattle.walk.specs.declared.answer.Collected.TheVariants as Collected
 use Rattle.walk.specs.declared.answer.CollectionFault.{CollectionFault}
 use Rattle.scope.specs.Scopes.{BoundElement, ScopeAt, Binds}
 use Rattle.scope.specs.ScopeLaws.{scope-bound}
-use Rattle.scope.specs.declared.binder.Element.{Element}
-use Rattle.scope.specs.declared.binder.Element.TheVariants as Element
 use Rattle.scope.specs.declared.binder.Scope.{Scope}
 use Rattle.condition_checks.specs.Bodies.{bind_by, BindAt, CollectionOf}
-use Rattle.condition_checks.specs.declared.body.BindRead.{BindRead}
-use Rattle.condition_checks.specs.declared.body.BindRead.TheVariants as BindRead
 use Rattle.message.specs.Standing.{standing, standing_in}
 use Rattle.message.proofs.StandingLaws.{standing-before, standing-before-all}
 use Rattle.defect_walk.specs.declared.standing.Child.{Child}
@@ -207,7 +202,7 @@ record Quantified (c : Condition) : Type 0 where
   is : c ≡ quantifier e own bind over body
 
 -- its binder, and the condition in its body that holds the word
-record Entered (rule words : List ℕ) (scope : Scope) (i target : ℕ) (child : Child) (read : BindRead) (tree : Schema) (bs : List Binder) (env' : Environment) : Type 0 where
+record Entered (rule words : List ℕ) (scope : Scope) (i target : ℕ) (child : Child) (read : Optional Part) (tree : Schema) (bs : List Binder) (env' : Environment) : Type 0 where
   name : Text
   over : Value
   c : Condition
@@ -224,23 +219,23 @@ known-entered : (tree : Schema) (name : Text) (over : Value) (bs : List Binder) 
 unfolding environment enter extend
 known-entered tree name over bs env f e g = rw (e, g)
 
-name-is : (rule : List ℕ) (read : BindRead) (name : Part) (t : Text) → read ≡ BindRead.Is name → bind_by rule read ≡ some t → part_of rule name ≡ t
+name-is : (rule : List ℕ) (read : Optional Part) (name : Part) (t : Text) → read ≡ Some name → bind_by rule read ≡ some t → part_of rule name ≡ t
 unfolding bind_by
-name-is rule BindRead.Bad name t e f = zero-not-one cc
-name-is rule (BindRead.Is p) name t e f = let same : p ≡ name = cc in rw (← same) (some_same f)
+name-is rule None name t e f = zero-not-one cc
+name-is rule (Some p) name t e f = let same : p ≡ name = cc in rw (← same) (some_same f)
   where
     some_same : {x y : Text} → some x ≡ some y → x ≡ y
     some_same q = cc
 
-no-name : (rule : List ℕ) (read : BindRead) (t : Text) → read ≡ BindRead.Bad → bind_by rule read ≡ some t → ⊥
+no-name : (rule : List ℕ) (read : Optional Part) (t : Text) → read ≡ None → bind_by rule read ≡ some t → ⊥
 unfolding bind_by
-no-name rule BindRead.Bad t e f = zero-not-one cc
-no-name rule (BindRead.Is p) t e f = zero-not-one cc
+no-name rule None t e f = zero-not-one cc
+no-name rule (Some p) t e f = zero-not-one cc
 
 module _ {rule words : List ℕ} {i end at op start target : ℕ} {child : Child}
     (begins : at ≡ start_of words i) (kind : OperatorAt rule at op) (from : ChildrenFrom words op i end start) (inside : target < end)
     (l : start ≤ target) (k : ChildIs words start end target child) (many-op : 5 ≤ op)
-    {read : BindRead} (bound : BindAt rule words i read) where
+    {read : Optional Part} (bound : BindAt rule words i read) where
   quantified : (c : Condition) → IsCondition rule words i end c → Quantified c
   quantified (literal e truth) w = let p = has-operator rule words i begins kind (literal e truth) w.stands in absurd (omega arith)
   quantified (many e own children) w = let p = has-operator rule words i begins kind (many e own children) w.stands in absurd (omega (arith, p.2))
@@ -286,10 +281,10 @@ module _ {rule words : List ℕ} {i end at op start target : ℕ} {child : Child
             ap (environment tree) (sym (same ∙ ap (λ (z : List Binder). standing_in (target + 1) (start + 1) z (children_of c)) held ∙ x.same inner)) ∙ f;
       }
 
-  module _ {schema : List ℕ} {scope : Scope} {name : Part} {collected : Collected}
-      (is-bind : read ≡ BindRead.Is name) (walks : CollectionOf schema rule words scope (i + 1) collected) where
+  module _ {schema : List ℕ} {scope : Scope} {name : Part} {collected : Result (Optional ℕ) (CollectionFault × ℕ)}
+      (is-bind : read ≡ Some name) (walks : CollectionOf schema rule words scope (i + 1) collected) where
     -- the scope of the body, where the binder's element is `f`
-    bound-scope : (inner r : Scope) (setting : Setting) (tree : Schema) (bs : List Binder) (env env' : Environment) (element : Element) (f : Option Field)
+    bound-scope : (inner r : Scope) (setting : Setting) (tree : Schema) (bs : List Binder) (env env' : Environment) (element : Optional ℕ) (f : Option Field)
         (x : Entered rule words scope i target child read tree bs env')
         → Binds scope name element inner
         → BoundElement schema words element f
@@ -307,7 +302,7 @@ module _ {rule words : List ℕ} {i end at op start target : ℕ} {child : Child
         below.is setting tree (record { name = x.name; over = x.over } ∷ bs) (record { name = x.name; element = f } ∷ env) env' x.c
         (rw at_name at inner-at) e x.held (omega arith) x.found
 
-    pub found-known : {slot : ℕ} {inner r : Scope} → collected ≡ Collected.Known slot → Binds scope name (Element.Known slot) inner
+    pub found-known : {slot : ℕ} {inner r : Scope} → collected ≡ Ok (Some slot) → Binds scope name (Some slot) inner
         → ScopeFound schema rule words inner child.word child.end target r
         → ScopeFound schema rule words scope i end target r
     unfolding environment enter extend
@@ -316,10 +311,10 @@ module _ {rule words : List ℕ} {i end at op start target : ℕ} {child : Child
           is = λ setting tree bs env env' c s e w d f.
               let x = entered scope tree bs env' c w d f (quantified c w) in
               let g = rw is at (walks.leads setting tree env x.over s x.stands) in
-              bound-scope inner r setting tree bs env env' (Element.Known slot) (some g.0) x b g.2 s (known-entered tree x.name x.over bs env g.0 e g.1) below;
+              bound-scope inner r setting tree bs env env' (Some slot) (some g.0) x b g.2 s (known-entered tree x.name x.over bs env g.0 e g.1) below;
         }
 
-    pub found-unknown : {inner r : Scope} → collected ≡ Collected.Unknown → Binds scope name Element.Unknown inner
+    pub found-unknown : {inner r : Scope} → collected ≡ (Ok None) → Binds scope name None inner
         → ScopeFound schema rule words inner child.word child.end target r
         → ScopeFound schema rule words scope i end target r
     unfolding environment enter extend
@@ -328,11 +323,11 @@ module _ {rule words : List ℕ} {i end at op start target : ℕ} {child : Child
           is = λ setting tree bs env env' c s e w d f.
               let x = entered scope tree bs env' c w d f (quantified c w) in
               let g = rw is at (walks.leads setting tree env x.over s x.stands) in
-              bound-scope inner r setting tree bs env env' Element.Unknown none x b tt s (rw (e, g)) below;
+              bound-scope inner r setting tree bs env env' None none x b tt s (rw (e, g)) below;
         }
 
     -- a binder that walks no collection has no scope below it
-    pub found_none : {fault : CollectionFault} {place : ℕ} → collected ≡ Collected.No fault place → ScopeFound schema rule words scope i end target scope
+    pub found_none : {fault : CollectionFault} {place : ℕ} → collected ≡ Err (fault, place) → ScopeFound schema rule words scope i end target scope
     unfolding environment enter extend
     found_none {fault} {place} is =
         record {
@@ -346,7 +341,7 @@ module _ {rule words : List ℕ} {i end at op start target : ℕ} {child : Child
         }
 
   -- no quantifier is without a bind
-  pub found-bad : {schema : List ℕ} {scope : Scope} → read ≡ BindRead.Bad → ScopeFound schema rule words scope i end target scope
+  pub found-bad : {schema : List ℕ} {scope : Scope} → read ≡ None → ScopeFound schema rule words scope i end target scope
   found-bad {schema} {scope} is =
       record {
         is = λ setting tree bs env env' c s e w d f.

@@ -1,4 +1,5 @@
 -- What is to be said of a reference: each way through the code, as a law.
+use Rattle.std.specs.Prelude.{Option as Optional, Some, None}
 use Prim.Native.Nat.{ℕ, suc, ◌+◌, ◌-◌, ◌<◌, ◌≤◌}
 use native.Mathlib.Omega.{arith}
 use mathlib.Core.Bool.{Bool, true, false, cond}
@@ -24,8 +25,6 @@ use Rattle.schema.specs.Lookup.{FoundAt, LookedUp}
 use Rattle.schema.specs.Read.{SchemaAt}
 use Rattle.schema.specs.declared.index.Holder.{Holder}
 use Rattle.schema.specs.declared.index.IndexedField.{IndexedField}
-use Rattle.schema.specs.declared.lookup.Found.{Found}
-use Rattle.schema.specs.declared.lookup.Found.TheVariants as Found
 use Rattle.walk.specs.Dots.{Ends}
 use Rattle.walk.specs.DotLaws.{ends-length, rest-whole, segment-empty, segment-full}
 use Rattle.walk.specs.Answers.{reference_detail}
@@ -37,13 +36,7 @@ use Rattle.scope.specs.Names.{name_is, may_read_by, NamedIs}
 use Rattle.scope.specs.Scopes.{BoundElement, EnvironmentAt, SettingAt, BoundIs}
 use Rattle.scope.specs.Roots.{RootIs}
 use Rattle.scope.specs.declared.name.Name.{Name}
-use Rattle.scope.specs.declared.name.Named.{Named}
-use Rattle.scope.specs.declared.name.Named.TheVariants as Named
-use Rattle.scope.specs.declared.binder.Element.{Element}
-use Rattle.scope.specs.declared.binder.Element.TheVariants.{Known, Unknown}
 use Rattle.scope.specs.declared.binder.Scope.{Scope}
-use Rattle.scope.specs.declared.binder.Bound.{Bound}
-use Rattle.scope.specs.declared.binder.Bound.TheVariants as Bound
 use Rattle.scope.specs.declared.root.Root.{Root}
 use Rattle.scope.specs.declared.root.Root.TheVariants as Root
 use Rattle.message.specs.Words.{dotted_tail, path_text, noun_of}
@@ -263,24 +256,24 @@ module _ (sheet words path : List ℕ) (at : ℕ) (name : Name) (h : Holder) (se
         ap (map (unresolved kind text)) (path_empty service (noun_of (name_is name)) t (split path).first (split path).others e);
   }
 
-  module _ (found : Found) (looked : LookedUp sheet words h (take n path) found) (some_bytes : n ≡ 0 → ⊥) where
+  module _ (found : Optional ℕ) (looked : LookedUp sheet words h (take n path) found) (some_bytes : n ≡ 0 → ⊥) where
     full : is_empty (split path).first ≡ false
     full = ap is_empty ends.first ∙ segment-full (take n path) (λ z. some_bytes (ends-length ends ∙ z))
 
-    missing : found ≡ Found.Missing → (t : Tree.Holder) → HolderAt sheet words h t → lookup (split path).first t.members ≡ none
+    missing : found ≡ None → (t : Tree.Holder) → HolderAt sheet words h t → lookup (split path).first t.members ≡ none
     missing e t here = let l : lookup (take n path) t.members ≡ none = rw e at (looked t here) in rw ends.first l
 
-    found_at : (k : ℕ) → found ≡ Found.At k → (t : Tree.Holder) → HolderAt sheet words h t → FoundAt sheet words (split path).first t.members k
+    found_at : (k : ℕ) → found ≡ Some k → (t : Tree.Holder) → HolderAt sheet words h t → FoundAt sheet words (split path).first t.members k
     found_at k e t here = let l : FoundAt sheet words (take n path) t.members k = rw e at (looked t here) in rw ends.first l
 
-    pub root-open : found ≡ Found.Missing → h.opened ≡ true → RootTells sheet words name h path at service Telling.Nothing
+    pub root-open : found ≡ None → h.opened ≡ true → RootTells sheet words name h path at service Telling.Nothing
     root-open e o = record {
       leads = λ kind text t within p here.
           ap (map (unresolved kind text))
           (path-open service (noun_of (name_is name)) t (split path).first (split path).others full (missing e t here) (sym here.marked ∙ o));
     }
 
-    pub root-closed : found ≡ Found.Missing → h.opened ≡ false → RootTells sheet words name h path at service (Telling.UnknownRoot name at)
+    pub root-closed : found ≡ None → h.opened ≡ false → RootTells sheet words name h path at service (Telling.UnknownRoot name at)
     root-closed e o = record {
       leads = λ kind text t within p here.
           let noun = noun_of (name_is name) in (
@@ -290,7 +283,7 @@ module _ (sheet words path : List ℕ) (at : ℕ) (name : Name) (h : Holder) (se
           );
     }
 
-    pub root-last : (k : ℕ) → found ≡ Found.At k → n ≡ length path → RootTells sheet words name h path at service Telling.Nothing
+    pub root-last : (k : ℕ) → found ≡ Some k → n ≡ length path → RootTells sheet words name h path at service Telling.Nothing
     root-last k e end = record {
       leads = λ kind text t within p here.
           let l = found_at k e t here in
@@ -299,7 +292,7 @@ module _ (sheet words path : List ℕ) (at : ℕ) (name : Name) (h : Holder) (se
           ∙ told-nowhere service (split path).first (split path).others l.f (ends.last end));
     }
 
-    pub root-more : (k : ℕ) (r : Telling) → found ≡ Found.At k → (n ≡ length path → ⊥)
+    pub root-more : (k : ℕ) (r : Telling) → found ≡ Some k → (n ≡ length path → ⊥)
         → WalkTells sheet words k (take (length path - (n + 1)) (drop (n + 1) path)) at (at + n + 1) service r → RootTells sheet words name h path at service r
     root-more k r e further m = record {
       leads = λ kind text t within p here.
@@ -399,15 +392,15 @@ module _ (sheet words text : List ℕ) (scope : Scope) (end : ℕ) where
   pub name-behind : length text < end → NameTells sheet words scope text end Telling.Nothing
   name-behind past = record { leads = λ kind setting t v at ends. absurd (omega (arith, ends.within)) }
 
-  module _ (named : Named) (is : NamedIs (take end text) named) where
-    pub name-none : named ≡ Named.Nothing → NameTells sheet words scope text end Telling.NoReference
+  module _ (named : Optional Name) (is : NamedIs (take end text) named) where
+    pub name-none : named ≡ None → NameTells sheet words scope text end Telling.NoReference
     name-none e = record {
       leads = λ kind setting t v at ends.
           let q : name_of (take end text) ≡ none = rw e at is in
           no-name kind (ascii "$" ++ text) setting t (split text).others (name_of (split text).first) (ap name_of ends.first ∙ q);
     }
 
-    module _ (name : Name) (found : named ≡ Named.Is name) where
+    module _ (name : Name) (found : named ≡ Some name) where
       so-named : Ends text end → name_of (split text).first ≡ some (name_is name)
       so-named ends = let q : name_of (take end text) ≡ some (name_is name) = rw found at is in ap name_of ends.first ∙ q
 
@@ -457,25 +450,25 @@ module _ (kind : ℕ) (setting : Setting) (t : Tree.Schema) (env : Environment) 
   unfolding tell_reference tell_bound tell_element
   reference-known service f v e = rw (e, v)
 
-known-element : (sheet words : List ℕ) (k : ℕ) (o : Option Field) → BoundElement sheet words (Known k) o → (f : Field) × (o ≡ some f) × SlotHolds sheet words k f
+known-element : (sheet words : List ℕ) (k : ℕ) (o : Option Field) → BoundElement sheet words (Some k) o → (f : Field) × (o ≡ some f) × SlotHolds sheet words k f
 known-element sheet words k none h = absurd h
 known-element sheet words k (some f) h = (f, refl, h)
 
-unknown-element : (sheet words : List ℕ) (o : Option Field) → BoundElement sheet words Unknown o → o ≡ none
+unknown-element : (sheet words : List ℕ) (o : Option Field) → BoundElement sheet words None o → o ≡ none
 unknown-element sheet words none h = refl
 unknown-element sheet words (some f) h = absurd h
 
-pub element-unknown : (sheet words : List ℕ) (x : Element) (o : Option Field) → x ≡ Unknown → BoundElement sheet words x o → o ≡ none
+pub element-unknown : (sheet words : List ℕ) (x : Optional ℕ) (o : Option Field) → x ≡ None → BoundElement sheet words x o → o ≡ none
 element-unknown sheet words x o e h = unknown-element sheet words o (rw e at h)
 
-pub element-known : (sheet words : List ℕ) (k : ℕ) (x : Element) (o : Option Field) → x ≡ Known k → BoundElement sheet words x o → (f : Field) × (o ≡ some f) × SlotHolds sheet words k f
+pub element-known : (sheet words : List ℕ) (k : ℕ) (x : Optional ℕ) (o : Option Field) → x ≡ Some k → BoundElement sheet words x o → (f : Field) × (o ≡ some f) × SlotHolds sheet words k f
 element-known sheet words k x o e h = known-element sheet words k o (rw e at h)
 
-module _ (sheet rule words text : List ℕ) (scope : Scope) (end : ℕ) (ends : Ends text end) (found : Bound) (is : BoundIs rule scope (take end text) found) where
+module _ (sheet rule words text : List ℕ) (scope : Scope) (end : ℕ) (ends : Ends text end) (found : Optional (Optional ℕ)) (is : BoundIs rule scope (take end text) found) where
   same_name : (env : Environment) → bound (split text).first env ≡ bound (take end text) env
   same_name env = ap (λ (s : Text). bound s env) ends.first
 
-  pub reference-free : (r : Telling) → found ≡ Bound.Nothing → NameTells sheet words scope text end r → ReferenceTells sheet rule words scope text r
+  pub reference-free : (r : Telling) → found ≡ None → NameTells sheet words scope text end r → ReferenceTells sheet rule words scope text r
   reference-free r e m = record {
     leads = λ kind setting t env at.
         let q : bound (take end text) env ≡ none = rw e at (is.leads sheet words env at.binders) in
@@ -483,18 +476,18 @@ module _ (sheet rule words text : List ℕ) (scope : Scope) (end : ℕ) (ends : 
         (m.leads kind setting t at.set at.schema ends);
   }
 
-  module _ (x : Element) (to : found ≡ Bound.To x) where
+  module _ (x : Optional ℕ) (to : found ≡ Some x) where
     bound-to : (env : Environment) → EnvironmentAt sheet rule words scope env → (o : Option Field) × (bound (take end text) env ≡ some o) × BoundElement sheet words x o
     bound-to env at = rw to at (is.leads sheet words env at)
 
-    pub reference-unknown : x ≡ Unknown → ReferenceTells sheet rule words scope text Telling.Nothing
+    pub reference-unknown : x ≡ None → ReferenceTells sheet rule words scope text Telling.Nothing
     reference-unknown e = record {
       leads = λ kind setting t env at.
           let q = bound-to env at.binders in
           reference-any kind setting t env text (same_name env ∙ q.1 ∙ ap some (element-unknown sheet words x q.0 e q.2));
     }
 
-    module _ (k : ℕ) (known_at_lem : x ≡ Known k) where
+    module _ (k : ℕ) (known_at_lem : x ≡ Some k) where
       to-field : (env : Environment) → EnvironmentAt sheet rule words scope env → (f : Field) × (bound (split text).first env ≡ some (some f)) × SlotHolds sheet words k f
       to-field env at =
           let q = bound-to env at in

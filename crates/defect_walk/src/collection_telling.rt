@@ -4,13 +4,13 @@ ghost use Rattle.buffer.specs.Laid.{most_place};
 ghost use Rattle.defect_walk.specs.CollectionTellings.{ElementTells, FieldTells, RootCollects, NameCollects, TextCollects};
 
 use schema::index::{Holder, indexed_field};
-use schema::lookup::{Found, lookup};
-use scope::binder::{Bound, Element, Scope, find_binder};
+use schema::lookup::lookup;
+use scope::binder::{Scope, find_binder};
 use scope::collections::begins_with_dollar;
-use scope::name::{Named, name_of};
+use scope::name::name_of;
 use scope::root::{Root, root_of};
 use sheet::schema_heads::{ARRAY, MAP};
-use walk::answer::{CollectionFault, FieldStep};
+use walk::answer::CollectionFault;
 use walk::collection::field_step;
 use walk::path::first_end;
 
@@ -56,9 +56,9 @@ fn field_telling(
     let field = indexed_field(schema, words, slot);
     let end = first_end(path);
     match field_step(schema, words, field, &path[..end]) {
-        FieldStep::Refuse(fault) => CollectionTelling::Refused(fault, at, slot),
-        FieldStep::Free => CollectionTelling::Nothing,
-        FieldStep::Into(next) => {
+        Err(fault) => CollectionTelling::Refused(fault, at, slot),
+        Ok(None) => CollectionTelling::Nothing,
+        Ok(Some(next)) => {
             if end == path.len() {
                 return element_telling(schema, words, next);
             }
@@ -79,7 +79,7 @@ fn root_collecting(
     ensures { RootCollects schema.now words.now holder path.now at result }
 {
     let end = first_end(path);
-    let Found::At(slot) = lookup(schema, words, holder, &path[..end]) else {
+    let Some(slot) = lookup(schema, words, holder, &path[..end]) else {
         if holder.opened {
             return CollectionTelling::Nothing;
         }
@@ -104,7 +104,7 @@ fn name_collecting(
     if text.len() <= end {
         return CollectionTelling::NoName;
     }
-    let Named::Is(name) = name_of(&text[..end]) else {
+    let Some(name) = name_of(&text[..end]) else {
         return CollectionTelling::NoName;
     };
     let index = scope.schema;
@@ -127,13 +127,13 @@ pub fn text_collecting(
     ensures { TextCollects schema.now rule.now words.now scope text.now behind.now result }
 {
     let end = first_end(behind);
-    let Bound::To(element) = find_binder(rule, scope, &behind[..end]) else {
+    let Some(element) = find_binder(rule, scope, &behind[..end]) else {
         if begins_with_dollar(text) {
             return name_collecting(schema, words, scope, behind, end);
         }
         return CollectionTelling::NoName;
     };
-    let Element::Known(slot) = element else {
+    let Some(slot) = element else {
         return CollectionTelling::Nothing;
     };
     if end == behind.len() {

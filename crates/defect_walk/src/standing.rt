@@ -3,13 +3,12 @@ ghost use Rattle.std.specs.Prelude.{◌<◌, ◌≤◌};
 ghost use Rattle.definition.specs.Limits.{word_entries};
 ghost use Rattle.defect_walk.specs.Scoped.{ChildIs, ScopeFound};
 
-use condition_checks::body::{BindRead, bind_of, collection_of};
+use condition_checks::body::{bind_of, collection_of};
 use rule::index::start_of;
 use rule::kind::operator_at;
 use rule::node::{behind, children_from};
-use scope::binder::{Element, Scope, bind};
+use scope::binder::{Scope, bind};
 use sheet::operators::NOT;
-use walk::answer::Collected;
 
 // A condition: its first word, and the word after its last.
 #[derive(Clone, Copy)]
@@ -54,18 +53,18 @@ pub fn scope_below(
     if op <= NOT {
         return scope_below(schema, rule, words, scope, child.word, child.end, target);
     }
-    let BindRead::Is(name) = bind_of(rule, words, i) else {
+    let Some(name) = bind_of(rule, words, i) else {
         return scope;
     };
     match collection_of(schema, rule, words, scope, i + 1) {
-        Collected::Known(slot) => {
-            let inner = bind(scope, name, Element::Known(slot));
+        Ok(Some(slot)) => {
+            let inner = bind(scope, name, Some(slot));
             scope_below(schema, rule, words, inner, child.word, child.end, target)
         }
-        Collected::Unknown => {
-            let inner = bind(scope, name, Element::Unknown);
+        Ok(None) => {
+            let inner = bind(scope, name, None);
             scope_below(schema, rule, words, inner, child.word, child.end, target)
         }
-        Collected::No(_, _) => scope,
+        Err(_) => scope,
     }
 }

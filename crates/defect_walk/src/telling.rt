@@ -4,9 +4,9 @@ ghost use Rattle.buffer.specs.Laid.{most_place};
 ghost use Rattle.defect_walk.specs.Tellings.{WalkTells, RootTells, NamedTells, NameTells, ReferenceTells};
 
 use schema::index::{Holder, indexed_field};
-use schema::lookup::{Found, lookup};
-use scope::binder::{Bound, Element, Scope, find_binder};
-use scope::name::{Name, Named, may_read, name_of};
+use schema::lookup::lookup;
+use scope::binder::{Scope, find_binder};
+use scope::name::{Name, may_read, name_of};
 use scope::root::{Root, root_of};
 use walk::answer::{Reader, ReferenceFault, WalkStep};
 use walk::path::first_end;
@@ -82,7 +82,7 @@ fn root_telling(
     if end == 0 {
         return Telling::EmptyPath;
     }
-    let Found::At(slot) = lookup(schema, words, holder, &path[..end]) else {
+    let Some(slot) = lookup(schema, words, holder, &path[..end]) else {
         if holder.opened {
             return Telling::Nothing;
         }
@@ -136,7 +136,7 @@ fn name_telling(schema: &[u8], words: &[u32], scope: Scope, text: &[u8], end: us
     if text.len() < end {
         return Telling::Nothing;
     }
-    let Named::Is(name) = name_of(&text[..end]) else {
+    let Some(name) = name_of(&text[..end]) else {
         return Telling::NoReference;
     };
     if end < text.len() {
@@ -161,10 +161,10 @@ pub fn reference_telling(
     ensures { ReferenceTells schema.now rule.now words.now scope text.now result }
 {
     let end = first_end(text);
-    let Bound::To(element) = find_binder(rule, scope, &text[..end]) else {
+    let Some(element) = find_binder(rule, scope, &text[..end]) else {
         return name_telling(schema, words, scope, text, end);
     };
-    let Element::Known(slot) = element else {
+    let Some(slot) = element else {
         return Telling::Nothing;
     };
     if end == text.len() {

@@ -1,4 +1,5 @@
 -- The rules that are marked, one by one: what is put, and what is still to be put, make all records.
+use Rattle.std.specs.Prelude.{Option}
 use Prim.Native.Nat.{ℕ, zero, suc, ◌+◌, ◌*◌, ◌/◌, ◌≤◌, ◌<◌}
 use native.Mathlib.Omega.{arith}
 use mathlib.Core.Bool.{Bool, true, false, cond, ◌||◌, false≢true}
@@ -14,7 +15,6 @@ use Rattle.text.proofs.Bools.{and-true-0}
 use Rattle.buffer.specs.BytesLaws.{bytes-length}
 use Rattle.buffer.specs.WroteLaws.{sets-append}
 use Rattle.definition.specs.Limits.{max_rule_entries}
-use Rattle.schema.specs.declared.read.SchemaRead.{SchemaRead}
 use Rattle.rule.specs.Read.{Kept}
 use Rattle.validation.specs.Result.{path_bytes, max_label_bytes, KeptFrom}
 use Rattle.validation.proofs.RefusalLaws.{is_set}
@@ -26,6 +26,7 @@ use Rattle.drafts.specs.Reading.{rule_by, LentAt, rules_from, record_in, marked_
 use Rattle.drafts.specs.declared.lent.Lent.{Lent}
 use Rattle.drafts.proofs.LentSteps.{from_start, from_next, from_end}
 use Rattle.drafts.proofs.MarkSteps.{front-both, front-none}
+use Rattle.schema.specs.declared.read.Schema.{Schema}
 
 -- a write before a place leaves what is there
 drop_past : (xs l : List ℕ) (k : ℕ) → drop (k + length xs) (sets l k xs) ≡ drop (k + length xs) l
@@ -50,7 +51,7 @@ record-bytes : (table schema : List ℕ) (r : LentRule) → length (record_in ta
 unfolding record_in seven_of
 record-bytes table schema r = bytes-length _
 
-pub record CheckedSoFar (table schema : List ℕ) (read : SchemaRead) (heads texts marks records₀ path₀ before : List ℕ) (i at : ℕ) (records path words : List ℕ) : Type 0 where
+pub record CheckedSoFar (table schema : List ℕ) (read : Option Schema) (heads texts marks records₀ path₀ before : List ℕ) (i at : ℕ) (records path words : List ℕ) : Type 0 where
   pub kept : Kept before words 0 max_rule_entries
   pub size : length records ≡ length records₀
   pub size_path : length path ≡ length path₀
@@ -67,7 +68,7 @@ or-false : (x y : Bool) → (x || y) ≡ false → (x ≡ false) × (y ≡ false
 or-false true y e = absurd (false≢true (sym e))
 or-false false y e = (refl, e)
 
-module _ (table schema : List ℕ) (read : SchemaRead) (heads texts marks records₀ path₀ before : List ℕ) where
+module _ (table schema : List ℕ) (read : Option Schema) (heads texts marks records₀ path₀ before : List ℕ) where
   pub checked-start : CheckedSoFar table schema read heads texts marks records₀ path₀ before 0 0 records₀ path₀ before
   checked-start =
       record {

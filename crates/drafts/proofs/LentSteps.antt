@@ -1,4 +1,5 @@
 -- The rules that are lent, one by one, and what is refused before a sheet is read.
+use Rattle.std.specs.Prelude.{Ok, Err}
 use Prim.Native.Nat.{ℕ, zero, suc, ◌+◌, ◌*◌, ◌/◌, ◌-◌, ◌≤◌, ◌<◌, min}
 use native.Mathlib.Omega.{arith}
 use mathlib.Core.Bool.{Bool, true, false, not, cond, ◌&&◌, ◌||◌}
@@ -15,7 +16,6 @@ use Rattle.definition.specs.Limits.{max_sheet_bytes}
 use Rattle.validation.specs.Result.{any, Refusal, Widths, are_wide, of_table, of_settings, first_refusal, number_in, path_bytes, scratch_words}
 use Rattle.single_check.specs.Settings.{widths_by, asked_by, EarlyIs, SettledIs}
 use Rattle.single_check.specs.declared.settings.Setting.{Setting}
-use Rattle.single_check.specs.declared.settings.Settled.TheVariants.{Set, Refused}
 use Rattle.drafts.specs.Lent.{LentRule, head_bytes, label_size, sheet_size, first_rule, behind_first, rules_in, rules_lent, is_any}
 use Rattle.drafts.specs.DraftCalls.{DraftCall, max_rules, record_bytes, is_unset, is_mislabelled, has_room, early_refusals}
 use Rattle.drafts.specs.Reading.{rule_by, LentAt, rules_from, sooner, settings_of, table_number, EarlyOf}
@@ -250,11 +250,11 @@ module _ (count buffer records path scratch : ℕ) where
 
 -- The table.
 
-pub table-due : (table : List ℕ) (n : ℕ) → SettledIs 1 1 table (Refused n) → n ≡ table_number table
+pub table-due : (table : List ℕ) (n : ℕ) → SettledIs 1 1 table (Err n) → n ≡ table_number table
 unfolding table_number number_in
 table-due table n e = rw e refl
 
-pub table-sound : (table : List ℕ) (s : Setting) → SettledIs 1 1 table (Set s) → 0 ≡ table_number table
+pub table-sound : (table : List ℕ) (s : Setting) → SettledIs 1 1 table (Ok s) → 0 ≡ table_number table
 unfolding table_number number_in
 table-sound table s e = rw e.0 refl
 

@@ -1,9 +1,10 @@
 -- The rules of a draft one by one: which of them are marked, and the records of those that are.
+use Rattle.std.specs.Prelude.{Option, Ok, Err}
 use Prim.Native.Nat.{ℕ, zero, suc, ◌+◌, ◌*◌, ◌/◌, ◌-◌, ◌≤◌, ◌<◌}
 use native.Mathlib.Omega.{arith}
 use mathlib.Core.Bool.{Bool, true, false, not, cond, ◌&&◌, ◌||◌, false≢true}
 use mathlib.Core.List.{List, [], ◌∷◌, ◌++◌}
-use mathlib.Core.Option.{Option, none, some, none-ne-some, some-injective}
+use mathlib.Core.Option.{none, some, none-ne-some, some-injective}
 use mathlib.Core.Path.{◌≡◌, refl, sym, ap, ap₂, subst, ◌∙◌}
 use lib.Dec.{leb, eqb}
 use lib.ListN.{length, take, drop, get_or, set, length-set, length-drop}
@@ -20,7 +21,6 @@ use Rattle.definition.specs.Tree.{Text, Rule}
 use Rattle.definition.specs.Decode.{decode_rule}
 use Rattle.reference.specs.Table.{table_in, setting_under, or_stock}
 use Rattle.schema.specs.Read.{SchemaIs}
-use Rattle.schema.specs.declared.read.SchemaRead.{SchemaRead}
 use Rattle.rule.specs.Read.{Kept}
 use Rattle.rule.specs.Rule.{RuleIndexed}
 use Rattle.rule.specs.declared.RuleSheet.{RuleSheet}
@@ -34,7 +34,6 @@ use Rattle.single_check.specs.Sheets.{takes_of, sheet_answer, SheetChecked}
 use Rattle.single_check.specs.SheetLaws.{still_read}
 use Rattle.single_check.specs.declared.outcome.Outcome.{Outcome}
 use Rattle.single_check.specs.declared.settings.Setting.{Setting}
-use Rattle.single_check.specs.declared.settings.Settled.TheVariants.{Set, Refused}
 use Rattle.single_check.specs.declared.sheets.Takes.TheVariants.{Any}
 use Rattle.rule_book.proofs.AnswerLaws.{sheet-path}
 use Rattle.drafts.specs.Lent.{LentRule, rules_lent, is_any}
@@ -43,6 +42,7 @@ use Rattle.drafts.specs.Mentions.{RuleNamed}
 use Rattle.drafts.specs.Reading.{rule_by, LentAt, rules_from, mark_of, marks_of, RulesRead, record_in, RecordPut, Readied, RuleChecked}
 use Rattle.drafts.specs.declared.lent.Lent.{Lent}
 use Rattle.drafts.proofs.LentSteps.{from_start, from_next, from_end}
+use Rattle.schema.specs.declared.read.Schema.{Schema}
 
 -- only a rule's own words have changed, by one and then by another
 pub front-both : {before middle after : List ℕ} → Kept before middle 0 max_rule_entries → Kept middle after 0 max_rule_entries → Kept before after 0 max_rule_entries
@@ -133,13 +133,13 @@ module _ (name heads texts marks₀ before : List ℕ) where
 pub record-put : (o : Outcome) {before after : List ℕ} {at next : ℕ} → Wrote before after at (bytes_of (seven_of (numbers_by o))) next → RecordPut o before after at
 record-put o w = record { stands = w.stands }
 
-module _ (l : Lent) (texts : List ℕ) (start : ℕ) (table schema : List ℕ) (read : SchemaRead) (place : ℕ) where
-  pub rule-refused : {records path words : List ℕ} {n : ℕ} → SettledIs l.kind l.semantics table (Refused n) → RuleChecked l texts start table schema read records records place path path words words
+module _ (l : Lent) (texts : List ℕ) (start : ℕ) (table schema : List ℕ) (read : Option Schema) (place : ℕ) where
+  pub rule-refused : {records path words : List ℕ} {n : ℕ} → SettledIs l.kind l.semantics table (Err n) → RuleChecked l texts start table schema read records records place path path words words
   rule-refused {words = words} e =
       record { kept = front-none words; size = refl; size_path = refl; put = λ ready small. absurd (none-ne-some _ (sym ready.sound ∙ e)) }
 
   pub rule-checked : {records records_now path_before path before after : List ℕ} {o : Outcome} (s : Setting)
-      → SettledIs l.kind l.semantics table (Set s)
+      → SettledIs l.kind l.semantics table (Ok s)
       → SheetChecked Any (setting_by s) (take (l.middle - start) (drop start texts)) schema read (take (l.end - l.middle) (drop l.middle texts)) path_before path before after o
       → RecordPut o records records_now place
       → length path ≡ length path_before

@@ -1,4 +1,5 @@
 -- The calls by which a field comes or goes: each way to an end of one gives what the definitions say of it.
+use Rattle.std.specs.Prelude.{Result, Ok, Err}
 use Prim.Native.Nat.{ℕ, ◌+◌, ◌*◌, ◌≤◌}
 use native.Mathlib.Omega.{arith}
 use mathlib.Core.Bool.{Bool, true, false, not, ◌||◌}
@@ -26,8 +27,6 @@ use Rattle.field_changes.specs.Draft.{Change, removing, name_of, changed}
 use Rattle.schema_edits.specs.Place.{PlaceOf, GoesFrom}
 use Rattle.schema_edits.specs.Edit.{Puts, Removes}
 use Rattle.schema_edits.specs.EditLaws.{puts-sheet, sheet-fits, removed-good}
-use Rattle.schema_edits.specs.declared.place.Place.{Place}
-use Rattle.schema_edits.specs.declared.place.Place.TheVariants.{Found, Missing}
 use Rattle.drafts.specs.Lent.{LentRule, rules_lent, is_any, Given, going, change_of}
 use Rattle.drafts.specs.DraftCalls.{DraftCall, StepCall, sheet_in, schema_in, is_malformed, early_refusals, is_twice, is_missing, outgrows, of_both, change_refusals, step_refusals, stepped_records, Drafted, step_in, step_tells, draft_figures, step_answer, draft_numbers, MeetsStep}
 use Rattle.drafts.specs.Drafting.{draft_of, step_run_of}
@@ -160,8 +159,8 @@ module _ (heads texts table name buffer : List ℕ) (size : ℕ) (records₀ pat
       → MeetsStep (step_run_of heads texts table (going name) buffer size records₀ path₀ before r buffer records₀ path₀ middle)
   remove-sheets h q = step-sheets heads texts table (going name) buffer size records₀ path₀ before e z (removing name) given_is is named h q (same_kept path_bytes path₀)
 
-  module _ (y : m ≡ 0) {found : Place} (f : PlaceOf sheet name found) where
-    pub remove-missing : {at : ℕ} {r : List ℕ} → found ≡ Missing at → r ≡ draft_numbers (refused_by 41)
+  module _ (y : m ≡ 0) {found : Result (ℕ × ℕ) ℕ} (f : PlaceOf sheet name found) where
+    pub remove-missing : {at : ℕ} {r : List ℕ} → found ≡ Err at → r ≡ draft_numbers (refused_by 41)
         → MeetsStep (step_run_of heads texts table (going name) buffer size records₀ path₀ before r buffer records₀ path₀ middle)
     unfolding change_refusals of_both is_twice is_missing heard_by first_refusal refused_or
     remove-missing {at} g q =
@@ -170,7 +169,7 @@ module _ (heads texts table name buffer : List ℕ) (size : ℕ) (records₀ pat
         let a : step_answer (step heads texts table (going name) buffer size records₀ path₀ before) ≡ refused_by 41 = by-change heads texts table (going name) buffer size records₀ path₀ before e z (removing name) given_is is named y t reads ∙ rw missing refl in
         change-refused heads texts table (going name) buffer size records₀ path₀ before e z (removing name) given_is is named y a q (same_kept path_bytes path₀)
 
-    module _ {at end : ℕ} (g : found ≡ Found at end) {next : ℕ} {buffer_now path_now : List ℕ} (d : FieldRemoved buffer buffer_now size at end path₀ path_now next) where
+    module _ {at end : ℕ} (g : found ≡ Ok (at, end)) {next : ℕ} {buffer_now path_now : List ℕ} (d : FieldRemoved buffer buffer_now size at end path₀ path_now next) where
       pub remove-done : {sheet' records path after : List ℕ}
           → length marks₀ ≡ 16
           → sheet' ≡ take next buffer_now

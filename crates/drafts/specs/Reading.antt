@@ -1,6 +1,6 @@
 -- The rules of a draft as the code goes through them: at each turn those that are left are at the next head and the next text.
-use Rattle.std.specs.Prelude.{ℕ, ◌+◌, ◌*◌, ◌/◌, ◌-◌, ◌≤◌, min, Bool, true, false, not, cond, List, [], ◌∷◌, ◌++◌, ◌≡◌, eqb, length, take, drop}
-use Rattle.std.proofs.Math.Option.{Option, none, some}
+use Rattle.std.specs.Prelude.{ℕ, ◌+◌, ◌*◌, ◌/◌, ◌-◌, ◌≤◌, min, Bool, true, false, not, cond, List, [], ◌∷◌, ◌++◌, ◌≡◌, eqb, length, take, drop, Option}
+use Rattle.std.proofs.Math.Option.{none, some}
 use Rattle.std.proofs.lemmas.List.Edits.{sets}
 use Rattle.buffer.specs.Bytes.{bytes_of}
 use Rattle.definition.specs.Limits.{max_rule_entries, max_sheet_bytes}
@@ -8,7 +8,6 @@ use Rattle.definition.specs.Tree.{Text, Schema}
 use Rattle.definition.specs.Decode.{decode_schema, decode_rule}
 use Rattle.reference.specs.Table.{table_in, setting_under, or_stock}
 use Rattle.schema.specs.Read.{SchemaIs}
-use Rattle.schema.specs.declared.read.SchemaRead.{SchemaRead}
 use Rattle.rule.specs.Read.{Kept}
 use Rattle.validation.specs.Check.{is_none}
 use Rattle.validation.specs.Result.{any, Answer, Refusal, Widths, of_table, first_refusal, number_in, numbers_of, max_label_bytes, path_bytes, KeptFrom}
@@ -22,6 +21,7 @@ use Rattle.schema_edits.specs.Edit.{Puts}
 use Rattle.drafts.specs.Lent.{LentRule, head_bytes, first_rule, behind_first, rules_in, rules_lent, is_any}
 use Rattle.drafts.specs.DraftCalls.{DraftCall, is_unset, is_mislabelled, is_malformed, early_refusals, record_bytes, seven_of, mentions_in}
 use Rattle.drafts.specs.declared.lent.Lent.{Lent}
+use Rattle.schema.specs.declared.read.Schema as Index
 
 -- a rule of the code, whose texts begin at `at`
 abbrev pub rule_by : (texts : List ℕ) (at : ℕ) → Lent → LentRule
@@ -101,12 +101,12 @@ pub record RecordPut (o : Outcome) (before after : List ℕ) (at : ℕ) : Type 0
   pub stands : after ≡ sets before at (bytes_of (seven_of (numbers_by o)))
 
 -- what a check of a rule may rely on
-pub record Readied (table schema : List ℕ) (read : SchemaRead) (path words : List ℕ) : Type 0 where
+pub record Readied (table schema : List ℕ) (read : Option Index.Schema) (path words : List ℕ) : Type 0 where
   pub sound : first_refusal (of_table table) ≡ none
   pub indexed : SchemaIs schema words read
   pub room : path_bytes ≤ length path
 
-pub record RuleChecked (l : Lent) (texts : List ℕ) (start : ℕ) (table schema : List ℕ) (read : SchemaRead) (records records_now : List ℕ) (place : ℕ) (path_before path before after : List ℕ) : Type 0 where
+pub record RuleChecked (l : Lent) (texts : List ℕ) (start : ℕ) (table schema : List ℕ) (read : Option Index.Schema) (records records_now : List ℕ) (place : ℕ) (path_before path before after : List ℕ) : Type 0 where
   pub kept : Kept before after 0 max_rule_entries
   pub size : length records_now ≡ length records
   pub size_path : length path ≡ length path_before
@@ -114,7 +114,7 @@ pub record RuleChecked (l : Lent) (texts : List ℕ) (start : ℕ) (table schema
       → length (rule_by texts start l).label ≤ max_label_bytes
       → (records_now ≡ sets records place (record_in table schema (rule_by texts start l))) × KeptFrom path_bytes path_before path
 
-pub record MarkedChecked (rules : List LentRule) (table schema : List ℕ) (read : SchemaRead) (marks records records_now path_before path before after : List ℕ) : Type 0 where
+pub record MarkedChecked (rules : List LentRule) (table schema : List ℕ) (read : Option Index.Schema) (marks records records_now path_before path before after : List ℕ) : Type 0 where
   pub kept : Kept before after 0 max_rule_entries
   pub size : length records_now ≡ length records
   pub size_path : length path ≡ length path_before

@@ -7,7 +7,7 @@ ghost use Rattle.drafts.specs.Reading.{MarkedChecked};
 use crate::lent::{HEAD_BYTES, lent_at};
 use crate::marks::check_rule;
 use crate::refusals::RECORD_BYTES;
-use schema::read::SchemaRead;
+use schema::read::Schema;
 
 // Checks the rules that are marked, under a schema that has been read into the scratch.
 pub fn check_marked(
@@ -15,7 +15,7 @@ pub fn check_marked(
     texts: &[u8],
     table: &[u8],
     schema: &[u8],
-    read: SchemaRead,
+    read: Option<Schema>,
     marks: &[u8],
     records: &mut [u8],
     path: &mut [u8],
@@ -26,20 +26,15 @@ pub fn check_marked(
 {
     let count = heads.len() / HEAD_BYTES;
     let mut at: usize = 0;
-    let mut i: usize = 0;
-    while i < count {
+    for i in 0..count {
         let l = lent_at(heads, texts, i, at);
-        let end = l.end;
+        let start = at;
+        at = l.end;
         if marks[i] != 0 {
             let place = RECORD_BYTES * i;
             check_rule(
-                l, texts, at, table, schema, read, records, place, path, scratch,
+                l, texts, start, table, schema, read, records, place, path, scratch,
             );
-            at = end;
-            i += 1;
-        } else {
-            at = end;
-            i += 1;
         }
     }
 }

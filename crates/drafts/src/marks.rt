@@ -7,10 +7,10 @@ ghost use Rattle.drafts.specs.Reading.{mark_of, RulesRead, RecordPut, RuleChecke
 use crate::lent::{HEAD_BYTES, Lent, lent_at};
 use crate::mention::mentions;
 use buffer::put_numbers;
-use rule::{RuleRead, read_rule};
-use schema::read::SchemaRead;
+use rule::read_rule;
+use schema::read::Schema;
 use single_check::outcome::Outcome;
-use single_check::settings::{Settled, settle};
+use single_check::settings::settle;
 use single_check::sheets::{Takes, check_sheet};
 
 fn mark_of(b: bool) -> u8
@@ -32,18 +32,16 @@ pub fn read_rules(
 {
     let count = heads.len() / HEAD_BYTES;
     let mut at: usize = 0;
-    let mut i: usize = 0;
-    while i < count {
+    for i in 0..count {
         let l = lent_at(heads, texts, i, at);
         let middle = l.middle;
         let end = l.end;
         let sheet = &texts[middle..end];
-        let RuleRead::Good(r) = read_rule(sheet, scratch) else {
+        let Some(r) = read_rule(sheet, scratch) else {
             return false;
         };
         marks[i] = mark_of(mentions(sheet, scratch, r.is_template, r.entries, name));
         at = end;
-        i += 1;
     }
     true
 }
@@ -70,7 +68,7 @@ pub fn check_rule(
     start: usize,
     table: &[u8],
     schema: &[u8],
-    read: SchemaRead,
+    read: Option<Schema>,
     records: &mut [u8],
     place: usize,
     path: &mut [u8],
@@ -79,7 +77,7 @@ pub fn check_rule(
     requires { (start ≤ l.middle) × (l.middle ≤ l.end) × (l.end ≤ length texts.now) × (max_rule_entries ≤ length scratch.old) }
     ensures { RuleChecked l texts.now start table.now schema.now read records.old records.new place path.old path.new scratch.old scratch.new }
 {
-    let Settled::Set(setting) = settle(l.kind, l.semantics, table) else {
+    let Ok(setting) = settle(l.kind, l.semantics, table) else {
         return;
     };
     let middle = l.middle;

@@ -56,12 +56,10 @@ fn is_named_at(rule: &[u8], words: &[u32], i: usize, name: &[u8]) -> bool
 fn is_any_named(rule: &[u8], words: &[u32], start: usize, end: usize, name: &[u8]) -> bool
     ensures { NamedIn name.now rule.now words.now start (end - start) result }
 {
-    let mut i = start;
-    while i < end {
+    for i in start..end {
         if is_named_at(rule, words, i, name) {
             return true;
         }
-        i += 1;
     }
     false
 }

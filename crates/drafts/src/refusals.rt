@@ -9,7 +9,7 @@ ghost use Rattle.drafts.specs.Reading.{sooner, settings_of, table_number, EarlyO
 
 use crate::lent::{HEAD_BYTES, lent_at};
 use definition::limits::{MAX_SHEET_BYTES, PATH_BYTES, SCRATCH_WORDS};
-use single_check::settings::{Settled, refused_settings, settle};
+use single_check::settings::{refused_settings, settle};
 
 pub const MAX_RULES: usize = 16;
 
@@ -44,15 +44,13 @@ fn refused_rules(heads: &[u8], texts: &[u8]) -> u32
     let count = heads.len() / HEAD_BYTES;
     let mut found: u32 = 0;
     let mut at: usize = 0;
-    let mut i: usize = 0;
-    while i < count {
+    for i in 0..count {
         let l = lent_at(heads, texts, i, at);
         let middle = l.middle;
         let label = &texts[at..middle];
         let number = refused_settings(l.kind, l.semantics, label, PATH_BYTES, SCRATCH_WORDS);
         found = sooner_of(found, number);
         at = l.end;
-        i += 1;
     }
     found
 }
@@ -76,8 +74,8 @@ fn refused_table(table: &[u8]) -> u32
     ensures { result ≡ table_number table.now }
 {
     match settle(1, 1, table) {
-        Settled::Refused(number) => number,
-        Settled::Set(_) => 0,
+        Err(number) => number,
+        Ok(_) => 0,
     }
 }
 

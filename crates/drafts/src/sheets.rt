@@ -6,7 +6,7 @@ ghost use Rattle.drafts.specs.Reading.{SheetsRead, SheetsChecked};
 
 use crate::checked::check_marked;
 use crate::marks::read_rules;
-use schema::read::{SchemaRead, read_schema};
+use schema::read::read_schema;
 
 // 4 or 5 where a sheet is not well formed, or 0; then the rules that mention the name are marked.
 pub fn read_sheets(
@@ -20,7 +20,7 @@ pub fn read_sheets(
     requires { (length heads.now / 16 ≤ length marks.old) × (scratch_words ≤ length scratch.old) }
     ensures { SheetsRead name.now (rules_lent heads.now texts.now) schema.now marks.old marks.new scratch.old scratch.new result }
 {
-    let SchemaRead::Good(_) = read_schema(schema, scratch) else {
+    let Some(_) = read_schema(schema, scratch) else {
         return 4;
     };
     if read_rules(heads, texts, name, marks, scratch) {

@@ -8,7 +8,7 @@ use crate::refusals::{DRAFT_NUMBERS, MAX_RULES, refused, refused_early};
 use crate::sheets::{check_sheets, read_sheets};
 use buffer::put;
 use schema_edits::edit::remove_field;
-use schema_edits::place::{Place, place_of};
+use schema_edits::place::place_of;
 use text::part::{Part, bytes_of};
 
 // Writes the sheet without the field from `at` to `end`, by a copy in the path buffer; its new length is returned.
@@ -74,7 +74,7 @@ pub fn draft_remove(
     if number != 0 {
         return refused(number);
     }
-    let Place::Found(at, end) = place_of(sheet, name) else {
+    let Ok((at, end)) = place_of(sheet, name) else {
         return refused(41);
     };
     let next = remove_from(buffer, size, at, end, path);

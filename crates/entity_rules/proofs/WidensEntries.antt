@@ -1,4 +1,5 @@
 -- The call that `rulecheck_widens` makes, and the numbers that it tells.
+use Rattle.std.specs.Prelude.{Result, Ok, Err}
 use Prim.Native.Nat.{ℕ, ◌≤◌, ◌<◌}
 use native.Mathlib.Omega.{arith}
 use mathlib.Core.List.{List}
@@ -13,8 +14,6 @@ use Rattle.schema_change.specs.Answers.{reason_of, decision_of, widens_answer_of
 use Rattle.schema_change.specs.declared.answer.Reason.{Reason}
 use Rattle.schema_change.specs.declared.answer.Change.{Change}
 use Rattle.schema_change.specs.declared.answer.Change.TheVariants.{Marks, Anything, Refuted}
-use Rattle.schema_change.specs.declared.answer.WidensAnswer.{WidensAnswer}
-use Rattle.schema_change.specs.declared.answer.WidensAnswer.TheVariants.{Malformed, Is}
 use Rattle.entity_rules.specs.Entry.{result_bytes, result_after, Written}
 use Rattle.entity_rules.specs.WidensEntry.{in_places, widens_numbers, WidensAnswered}
 
@@ -38,14 +37,14 @@ module _ {x : Change} {r : Outcome} where
   unfolding decision_numbers
   refuted-told q n h = rw (q, ← n) h
 
-module _ {x : WidensAnswer} {r : Outcome} where
-  pub malformed-told : {which : ℕ} → x ≡ Malformed which
+module _ {x : Result Change ℕ} {r : Outcome} where
+  pub malformed-told : {which : ℕ} → x ≡ Err which
       → numbers_by r ≡ in_places (record { number = 4; answer = which; reason = 0; first = 0; second = 0 })
       → numbers_by r ≡ in_places (decision_numbers (widens_answer_of x))
   unfolding decision_numbers
   malformed-told e h = rw e h
 
-  pub change-told : {c : Change} → x ≡ Is c → numbers_by r ≡ in_places (decision_numbers (decision (decision_of c))) → numbers_by r ≡ in_places (decision_numbers (widens_answer_of x))
+  pub change-told : {c : Change} → x ≡ Ok c → numbers_by r ≡ in_places (decision_numbers (decision (decision_of c))) → numbers_by r ≡ in_places (decision_numbers (widens_answer_of x))
   change-told e h = rw e h
 
 pub short-answered : {first second result : List ℕ} → length result < result_bytes → WidensAnswered first second result result 3
@@ -54,7 +53,7 @@ short-answered {result = result} short =
     let no_room = lt-leb result_bytes (length result) short in
     record { number = rw no_room refl; result = rw no_room refl; small = λ room. absurd (omega arith) }
 
-pub widens-answered : {first second result result_now : List ℕ} (x : WidensAnswer) (r : Outcome)
+pub widens-answered : {first second result result_now : List ℕ} (x : Result Change ℕ) (r : Outcome)
     → result_bytes ≤ length result
     → widens_answer_of x ≡ widens_sheets first second
     → numbers_by r ≡ in_places (decision_numbers (widens_answer_of x))

@@ -5,7 +5,7 @@ ghost use Rattle.single_check.specs.Outcomes.{numbers_by};
 ghost use Rattle.widening.specs.SheetDecision.{decision, reason_number, decision_numbers};
 ghost use Rattle.entity_rules.specs.WidensEntry.{in_places};
 
-use schema_change::answer::{Change, Reason, WidensAnswer};
+use schema_change::answer::{Change, Reason};
 use single_check::outcome::Outcome;
 
 fn reason_number(reason: Reason) -> u32
@@ -49,11 +49,11 @@ fn told_change(change: Change) -> Outcome
     }
 }
 
-pub fn told(answer: WidensAnswer) -> Outcome
+pub fn told(answer: Result<Change, u32>) -> Outcome
     ensures { numbers_by result ≡ in_places (decision_numbers (widens_answer_of answer)) }
 {
     match answer {
-        WidensAnswer::Malformed(which) => in_places(4, which, 0, 0, 0),
-        WidensAnswer::Is(change) => told_change(change),
+        Err(which) => in_places(4, which, 0, 0, 0),
+        Ok(change) => told_change(change),
     }
 }

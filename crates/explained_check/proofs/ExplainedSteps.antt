@@ -1,4 +1,5 @@
 -- The whole call: each way to its end gives what the definitions say of the call and its message.
+use Rattle.std.specs.Prelude.{Option as Optional, Some, None, Ok, Err}
 use Prim.Native.Nat.{ℕ, zero, suc, ◌+◌, ◌*◌, ◌≤◌, ◌<◌, max}
 use native.Mathlib.Omega.{arith}
 use mathlib.Core.Bool.{Bool, true, false, not, cond}
@@ -19,8 +20,6 @@ use Rattle.reference.specs.Table.{table_in, setting_under, or_stock}
 use Rattle.buffer.specs.Bytes.{bytes_of}
 use Rattle.schema.specs.Read.{SchemaIs, SchemaAt, SchemaAnswer}
 use Rattle.schema.specs.declared.read.Schema.{Schema}
-use Rattle.schema.specs.declared.read.SchemaRead.{SchemaRead}
-use Rattle.schema.specs.declared.read.SchemaRead.TheVariants as SchemaRead
 use Rattle.rule.specs.Index.{RuleAt}
 use Rattle.walk.specs.declared.answer.Reader.TheVariants.{Kernel}
 use Rattle.scope.specs.Scopes.{chain_of, ChainAt, Unbound}
@@ -46,7 +45,6 @@ use Rattle.single_check.specs.Sheets.{takes_of, taken_of, sheet_answer, SheetChe
 use Rattle.single_check.specs.SheetLaws.{still_read, sheets-decide}
 use Rattle.single_check.specs.Runs.{lent_run_of, MeetsIndexed}
 use Rattle.single_check.specs.declared.settings.Setting.{Setting as CodeSetting}
-use Rattle.single_check.specs.declared.settings.Settled.TheVariants.{Set, Refused}
 use Rattle.single_check.specs.declared.sheets.Takes.{Takes}
 use Rattle.single_check.specs.declared.outcome.Outcome.{Outcome}
 use Rattle.single_check.proofs.WholeSteps.{meets-sheets, unmarked, marked}
@@ -197,14 +195,14 @@ module _ (takes : Takes) (kind semantics : ℕ) (label table schema sheet path_b
 
     module _ (enough : mark_bytes ≤ length marks_before) where
       pub ends-table : {m : ℕ} {o : Outcome} {r : Explained}
-          → SettledIs kind semantics table (Refused m)
+          → SettledIs kind semantics table (Err m)
           → numbers_by o ≡ numbers_of (Result.refused m)
           → r ≡ quiet o 0
           → Ends r path_before marks_before message_before before
       ends-table {m} t q u = ends-refused (early-refused call m (table-decides call settings-pass enough ∙ t)) q u
 
-      module _ (s : CodeSetting) {middle after path : List ℕ} {read : SchemaRead} {o : Outcome}
-          (t : SettledIs kind semantics table (Set s)) (p : SchemaAnswer schema before middle read)
+      module _ (s : CodeSetting) {middle after path : List ℕ} {read : Optional Schema} {o : Outcome}
+          (t : SettledIs kind semantics table (Ok s)) (p : SchemaAnswer schema before middle read)
           (c : SheetChecked takes (setting_by s) label schema read sheet path_before path middle after o)
         where
           checks-so : MeetsIndexed (lent_run_of takes kind semantics label table schema sheet path_before (length marks_before) before o path after)
@@ -240,7 +238,7 @@ module _ (takes : Takes) (kind semantics : ℕ) (label table schema sheet path_b
                   message = nothing_said message_before none-there;
                 })
 
-            pub ends-unread : {r : Explained} → read ≡ SchemaRead.Bad → r ≡ quiet o 0 → Ends r path marks_before message_before after
+            pub ends-unread : {r : Explained} → read ≡ None → r ≡ quiet o 0 → Ends r path marks_before message_before after
             unfolding message_by message_in
             ends-unread bad u =
                 let none-there : decode_schema schema ≡ none = rw bad at p.answer in
@@ -250,14 +248,14 @@ module _ (takes : Takes) (kind semantics : ℕ) (label table schema sheet path_b
             ends-unsaid less u = ends-quiet (no-message call (ap (λ (n : Numbers). n.number) numbers-so) (λ d. omega (arith, d.low))) u
 
             pub ends-said : {x : Schema} {scope : Scope} {message : List ℕ} {said : Said}
-                → read ≡ SchemaRead.Good x
+                → read ≡ Some x
                 → 11 ≤ o.number
                 → Unbound s.row s.service Kernel x scope
                 → SaidOf schema sheet after scope kind o message_before message said
                 → Ends (record { report = record { outcome = o; marks = 0 }; refusal = said.refusal; size = said.size }) path marks_before message after
             unfolding call_of message_by sheet_answer of_sheets first_refusal is_none
             ends-said {x} good found u said =
-                let read-so = still_read schema (SchemaRead.Good x) c.kept (rw good at p.answer) in
+                let read-so = still_read schema (Some x) c.kept (rw good at p.answer) in
                 let none-due = table-decides call settings-pass enough ∙ t.0 in
                 let decided = sheets-decide call none-due in
                 let sound = ((schema-round-trip schema read-so.tree).0 read-so.reads).1 in

@@ -10,10 +10,10 @@ ghost use Rattle.explained_check.specs.Saying.{SaidOf};
 use constants::mark_constants;
 use defect_message::explain::lay_message;
 use definition::limits::MARK_BYTES;
-use schema::read::{SchemaRead, read_schema};
+use schema::read::read_schema;
 use scope::binder::{Scope, unbound};
 use single_check::outcome::{Outcome, Report, refused};
-use single_check::settings::{Settled, refused_settings, settle};
+use single_check::settings::{refused_settings, settle};
 use single_check::sheets::{Takes, check_sheet};
 use walk::answer::Reader;
 
@@ -112,15 +112,15 @@ pub fn validate_explained(
         return unsaid(refused(35), 0);
     }
     match settle(kind, semantics, table) {
-        Settled::Refused(number) => unsaid(refused(number), 0),
-        Settled::Set(setting) => {
+        Err(number) => unsaid(refused(number), 0),
+        Ok(setting) => {
             let read = read_schema(schema, scratch);
             let o = check_sheet(takes, setting, label, schema, read, rule, path, scratch);
             if o.number == 0 {
                 let count = mark_constants(rule, scratch, marks);
                 return unsaid(o, count as u32);
             }
-            let SchemaRead::Good(s) = read else {
+            let Some(s) = read else {
                 return unsaid(o, 0);
             };
             if o.number < 11 {

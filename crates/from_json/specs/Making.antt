@@ -1,5 +1,5 @@
 -- What making a sheet comes to, before it is known whether there is room for it.
-use Rattle.std.specs.Prelude.{ℕ, ◌-◌, ◌≤◌, Bool, true, false, not, List, ◌≡◌, length, take, drop}
+use Rattle.std.specs.Prelude.{ℕ, ◌-◌, ◌≤◌, Bool, true, false, not, List, ◌≡◌, length, take, drop, Result, Ok, Err}
 use Rattle.std.proofs.Math.Option.{none, some, bind}
 use Rattle.buffer.specs.Laid.{Laid}
 use Rattle.definition.specs.Tree.{Rule}
@@ -10,8 +10,6 @@ use Rattle.json_text.specs.Grammar.{document}
 use Rattle.json_rule.specs.Shape.{rule_of}
 use Rattle.json_rule.specs.Conversion.{is_missing, rule_in, from_json_refusals}
 use Rattle.json_sheet.specs.RuleAt.{front_room}
-use Rattle.from_json.specs.declared.making.Made.{Made}
-use Rattle.from_json.specs.declared.making.Made.TheVariants.{Sheet, Refused}
 
 -- the buffer in which a sheet is made
 abbrev pub out_bytes : ℕ
@@ -40,6 +38,6 @@ pub record SheetMade (text out : List ℕ) (start end : ℕ) : Type 0 where
   pub inside : end ≤ out_bytes
   pub size : length out ≡ out_bytes
 
-abbrev pub MadeIs : List ℕ → List ℕ → Made → Type 0
-MadeIs text out (Sheet start end) = SheetMade text out start end
-MadeIs text out (Refused number) = RefusedBy text number
+abbrev pub MadeIs : List ℕ → List ℕ → Result (ℕ × ℕ) ℕ → Type 0
+MadeIs text out (Ok (start, end)) = SheetMade text out start end
+MadeIs text out (Err number) = RefusedBy text number

@@ -2,7 +2,7 @@
 ghost use Rattle.from_json.specs.Making.{IsFormed};
 
 use definition::limits::MAX_RULE_ENTRIES;
-use rule::{RuleRead, read_rule};
+use rule::read_rule;
 
 pub fn is_formed(out: &[u8], start: usize, end: usize) -> bool
     ensures { IsFormed out.now start end result }
@@ -15,7 +15,7 @@ pub fn is_formed(out: &[u8], start: usize, end: usize) -> bool
     }
     let mut scratch = [0u32; MAX_RULE_ENTRIES];
     match read_rule(&out[start..end], &mut scratch) {
-        RuleRead::Good(_) => true,
-        RuleRead::Bad => false,
+        Some(_) => true,
+        None => false,
     }
 }

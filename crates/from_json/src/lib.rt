@@ -8,7 +8,7 @@ ghost use Rattle.call.specs.Call.{Meets};
 ghost use Rattle.json_rule.specs.Conversion.{run_of, from_json};
 
 use buffer::lay::lay;
-use making::{Made, make_sheet};
+use making::make_sheet;
 
 // What lies in front of a condition has at most 1,060 bytes, and a sheet at most 30,000.
 const OUT_BYTES: usize = 31100;
@@ -22,13 +22,13 @@ pub fn from_json(text: &[u8], sheet: &mut [u8]) -> [u32; 2]
 {
     let mut out = [0u8; OUT_BYTES];
     match make_sheet(text, &mut out) {
-        Made::Sheet(start, end) => {
+        Ok((start, end)) => {
             if sheet.len() < end - start {
                 return [NO_ROOM, 0];
             }
             lay(sheet, 0, &out[start..end]);
             [0, (end - start) as u32]
         }
-        Made::Refused(number) => [number, 0],
+        Err(number) => [number, 0],
     }
 }

@@ -12,14 +12,6 @@ const NO_RULE: u32 = 31;
 // Its sheet is over a limit.
 const OVER_LIMIT: u32 = 32;
 
-#[derive(Clone, Copy)]
-pub enum Made {
-    // Where it lies.
-    Sheet(usize, usize),
-    // The number of the refusal.
-    Refused(u32),
-}
-
 // The refusal of a text whose sheet is over a limit. No rule's text has a key twice.
 fn over_limit(text: &[u8]) -> u32
     ensures { OverIs text.now result }
@@ -30,19 +22,19 @@ fn over_limit(text: &[u8]) -> u32
     NO_RULE
 }
 
-// A sheet that is well formed has no key twice, so only for others the keys are looked at.
-pub fn make_sheet(text: &[u8], out: &mut [u8]) -> Made
+// Where the sheet lies in `out`, or the number of the refusal. A sheet that is well formed has no key twice, so only for others the keys are looked at.
+pub fn make_sheet(text: &[u8], out: &mut [u8]) -> Result<(usize, usize), u32>
     requires { length out.old ≡ out_bytes }
     ensures { MadeIs text.now out.new result }
 {
     match read_rule_text(text, out) {
         RuleRead::Good(start, end) => {
             if is_formed(out, start, end) {
-                return Made::Sheet(start, end);
+                return Ok((start, end));
             }
-            Made::Refused(over_limit(text))
+            Err(over_limit(text))
         }
-        RuleRead::Long => Made::Refused(over_limit(text)),
-        RuleRead::Bad => Made::Refused(NO_RULE),
+        RuleRead::Long => Err(over_limit(text)),
+        RuleRead::Bad => Err(NO_RULE),
     }
 }

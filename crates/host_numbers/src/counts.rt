@@ -21,10 +21,8 @@ pub fn write_counts(numbers: &[u64], bytes: &mut [u8])
     if bytes.len() / 8 < numbers.len() {
         return;
     }
-    let mut i: usize = 0;
-    while i < numbers.len() {
+    for i in 0..numbers.len() {
         put_u64(numbers[i], i * 8, bytes);
-        i += 1;
     }
 }
 

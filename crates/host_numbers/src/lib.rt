@@ -10,7 +10,6 @@ ghost use Rattle.host_numbers.specs.Version.{version};
 ghost use Rattle.host_numbers.specs.InstantEntry.{InstantAnswered};
 
 use buffer::{put_numbers, read_u32};
-use timestamp::Parsed;
 
 const MAJOR: u32 = 0;
 
@@ -54,7 +53,7 @@ pub fn instant_fields(text: &[u8], fields: &mut [u8]) -> u32
     if fields.len() < INSTANT_BYTES {
         return 3;
     }
-    let Parsed::Instant(found) = timestamp::parse(text) else {
+    let Some(found) = timestamp::parse(text) else {
         return 20;
     };
     let numbers = [

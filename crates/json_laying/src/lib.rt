@@ -12,7 +12,7 @@ use buffer::lay::{lay, lay_byte};
 use json_text::quote::{Escapes, lay_quoted};
 use rule::index::{end_of, start_of};
 use rule::node::behind;
-use sheet::rule_heads::{KeyRead, ValueHead, ValueRead, key_head, value_head};
+use sheet::rule_heads::{ValueHead, key_head, value_head};
 use text::part::bytes_of;
 
 // A constant by its type: 1 null, 2 false, 3 true.
@@ -43,7 +43,7 @@ fn lay_key(
     if keys == 0 {
         return at;
     }
-    let KeyRead::Is(key, _) = key_head(rule, start_of(words, i)) else {
+    let Some((key, _)) = key_head(rule, start_of(words, i)) else {
         return at;
     };
     let colon = lay_quoted(out, at, bytes_of(rule, key), how);
@@ -106,7 +106,7 @@ fn lay_within(
     if end <= i {
         return at;
     }
-    let ValueRead::Is(head, _) = value_head(rule, start_of(words, i)) else {
+    let Some((head, _)) = value_head(rule, start_of(words, i)) else {
         return at;
     };
     match head {

@@ -1,4 +1,5 @@
 -- Laws of conditions that hold others, and of conditions by their first byte.
+use Rattle.std.specs.Prelude.{Option}
 use Prim.Native.Nat.{ℕ, zero, suc, ◌+◌, ◌-◌, ◌<◌, ◌≤◌}
 use mathlib.Core.List.{List, [], ◌∷◌, ◌++◌, append-nil}
 use mathlib.Core.Option.{none, some, none-ne-some}
@@ -30,7 +31,6 @@ use Rattle.json_text.proofs.Separating.{spaces-full}
 use Rattle.json_rule.specs.Shape.{operator_of, the_only, conditions_from}
 use Rattle.json_rule.specs.Streamed.{asked, literals, flat, deep, streamed, operand}
 use Rattle.json_sheet.specs.Places.{Holding, Chosen, part_of, operator_start, operand_in, operation_rest, GivenCondition, ConditionIs, entries_of_conditions, count_of_conditions_from}
-use Rattle.json_sheet.specs.declared.value.Got.{Got}
 use Rattle.json_sheet.proofs.Siblings.{Kind}
 use Rattle.json_sheet.proofs.Held.{or-none, here}
 use Rattle.json_sheet.proofs.Turns.{Begun, begun-start, begun-unread, begun-never, begun-alone, begun_more, begun-end, elements-turns, parts-turns, parts_none, parts-some, spaced, more, last, unread, alone}
@@ -213,7 +213,7 @@ module _ (op d : ℕ) (s : List ℕ) (at : ℕ) where
       go zero = refl
       go (suc d) = refl
 
-  module _ (r : Got) (before after : List ℕ) (o : ℕ) where
+  module _ (r : Option (ℕ × ℕ)) (before after : List ℕ) (o : ℕ) where
     shaped-as : (sh : Shape) → shape_of op ≡ sh → ConditionIs (operand_in sh op d) s at before after o r → ConditionIs (operand_in (shape_of op) op d) s at before after o r
     shaped-as sh e v = subst (λ (x : Shape). ConditionIs (operand_in x op d) s at before after o r) (sym e) v
 
@@ -289,7 +289,7 @@ module _ (s : List ℕ) (at d : ℕ) (h : at < length s) where
   pub condition-flat : get_or s at 0 ≡ 0x7B → d ≡ 0 → Refuses (streamed d) s at
   condition-flat e z = ap (streamed d) (here s at d h) ∙ streamed-flat d (get_or s at 0) (drop (at + 1) s) z e
 
-  module _ (r : Got) (before after : List ℕ) (o : ℕ) where
+  module _ (r : Option (ℕ × ℕ)) (before after : List ℕ) (o : ℕ) where
     pub is-operation : get_or s at 0 ≡ 0x7B → (d ≡ 0 → ⊥) → ConditionIs (operation_rest (d - 1)) s (at + 1) before after o r → ConditionIs (streamed d) s at before after o r
     is-operation e z v =
         passed_on s at (at + 1) (streamed d) (operation_rest (d - 1)) (omega arith) (ap (streamed d) (here s at d h) ∙ streamed-brace d (get_or s at 0) (drop (at + 1) s) z e) r before after o v

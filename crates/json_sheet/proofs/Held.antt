@@ -1,4 +1,5 @@
 -- Laws of arrays and objects: what their readers read, and their entries.
+use Rattle.std.specs.Prelude.{Option as Optional, Some, None}
 use Prim.Native.Nat.{ℕ, zero, suc, ◌+◌, ◌-◌, ◌<◌, ◌≤◌}
 use mathlib.Core.Bool.{true, false}
 use mathlib.Core.List.{List, [], ◌∷◌, ◌++◌, append_assoc}
@@ -32,8 +33,6 @@ use Rattle.json_text.proofs.ShapedMembers.{after-key, members-turn}
 use Rattle.json_text.proofs.Separating.{spaces-full}
 use Rattle.json_rule.specs.Shape.{value_of, values_of, pairs_of}
 use Rattle.json_sheet.specs.Places.{elements_rest, members_rest, member_of, headed, LaysHeaded, Given, ValueIs, MemberIs, Holding, entries_of_elements, count_of_elements, entries_of_members, count_of_members}
-use Rattle.json_sheet.specs.declared.value.Got.{Got}
-use Rattle.json_sheet.specs.declared.value.Got.TheVariants as got
 use Rattle.json_sheet.proofs.Siblings.{Kind}
 use Rattle.json_sheet.proofs.Scalars.{handed-on, key-bytes}
 
@@ -189,16 +188,16 @@ module _ (p : Reader (List ℕ) Json) where
   pub member_is : (s : List ℕ) (at len next : ℕ) (before middle after : List ℕ) (o e : ℕ) → length before ≤ most_place
       → KeyAt s at len next
       → LaysHeaded (75 ∷ 44 ∷ []) s (at + 1) len before middle o e
-      → (r : Got) → ValueIs p s next middle after e r → MemberIs p s at before after o r
+      → (r : Optional (ℕ × ℕ)) → ValueIs p s next middle after e r → MemberIs p s at before after o r
   unfolding member_of ◌>>=◌ and_then pure
-  member_is s at len next before middle after o e room k l (got.Good last end) v =
+  member_is s at len next before middle after o e room k l (Some (last, end)) v =
       let first : Laid before middle o (write_key_head k.text) e = subst (λ (x : List ℕ). Laid before middle o x e) (ap (λ (n : ℕ). (75 ∷ 44 ∷ []) ++ headed n k.text) (sym k.size) ∙ key-bytes k.text) (l.lies k.text k.behind k.quoted k.size) in
       record {
         member = (k.text, v.tree);
         read = record { reads = rw (k.read.reads, v.read.reads); past = omega (arith, k.read.past, v.read.past); within = v.read.within };
         lies = laid_then room first v.lies;
       }
-  member_is s at len next before middle after o e room k l got.Bad v = rw (k.read.reads, v)
+  member_is s at len next before middle after o e room k l None v = rw (k.read.reads, v)
 
   -- Behind an opening bracket
 
@@ -404,7 +403,7 @@ module _ (s : List ℕ) (at d : ℕ) (h : at < length s) where
   pub object-flat : get_or s at 0 ≡ 0x7B → d ≡ 0 → Refuses (value d) s at
   object-flat e z = ap (value d) here ∙ flat-object d (get_or s at 0) (drop (at + 1) s) z e
 
-  module _ (r : Got) (before after : List ℕ) (o : ℕ) where
+  module _ (r : Optional (ℕ × ℕ)) (before after : List ℕ) (o : ℕ) where
     pub is-array : get_or s at 0 ≡ 0x5B → (d ≡ 0 → ⊥) → ValueIs (elements_rest (value (d - 1))) s (at + 1) before after o r → ValueIs (value d) s at before after o r
     is-array e z v =
         handed-on s at h (value d) (elements_rest (value (d - 1))) (at + 1) (omega arith) (ap (value d) here ∙ value-opens d (get_or s at 0) (drop (at + 1) s) z e) r before after o v

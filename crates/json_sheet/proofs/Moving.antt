@@ -3,111 +3,11 @@ use Prim.Native.Nat.{ℕ, suc, ◌+◌, ◌-◌, ◌<◌, ◌≤◌}
 use mathlib.Core.List.{List, [], ◌∷◌, ◌++◌, append_assoc, append-nil}
 use mathlib.Core.Path.{◌≡◌, refl, sym, ap, ap₂, ◌∙◌}
 use native.Mathlib.Omega.{arith}
-use lib.ListN.{length, take, drop, set, get_or, length-append, length-take, length-set}
-use lib.Seq.{sets, sets-eq, take-suc, take_all, set_at, set_comm, get_or_at}
+use lib.ListN.{length, take, drop, set, length-append, length-take, length-drop}
+use lib.Seq.{sets, sets-eq, set_comm, take-append_seam, drop-append_seam}
 use Rattle.buffer.specs.Laid.{Laid, most_place}
 use Rattle.buffer.specs.WroteLaws.{sets-append}
-use Rattle.json_sheet.specs.Blocks.{reversed, Turned, Swapped}
-
--- Bytes the other way round
-
-reversed-append : (xs ys : List ℕ) → reversed (xs ++ ys) ≡ reversed ys ++ reversed xs
-unfolding reversed
-reversed-append [] ys = sym (append-nil (reversed ys))
-reversed-append (x ∷ xs) ys = ap (λ (l : List ℕ). l ++ (x ∷ [])) (reversed-append xs ys) ∙ append_assoc (reversed ys) (reversed xs) (x ∷ [])
-
-reversed-twice : (xs : List ℕ) → reversed (reversed xs) ≡ xs
-unfolding reversed
-reversed-twice [] = refl
-reversed-twice (x ∷ xs) = reversed-append (reversed xs) (x ∷ []) ∙ ap (λ (l : List ℕ). x ∷ l) (reversed-twice xs)
-
-reversed-length : (xs : List ℕ) → length (reversed xs) ≡ length xs
-unfolding reversed
-reversed-length [] = refl
-reversed-length (x ∷ xs) = let more = reversed-length xs in let both = length-append (reversed xs) (x ∷ []) in omega arith
-
-reversed-short : (xs : List ℕ) → length xs ≤ 1 → reversed xs ≡ xs
-unfolding reversed
-reversed-short [] h = refl
-reversed-short (x ∷ []) h = refl
-reversed-short (x ∷ y ∷ xs) h = absurd (omega arith)
-
-reversed-ends : (u v : ℕ) (m : List ℕ) → reversed (u ∷ (m ++ (v ∷ []))) ≡ (v ∷ reversed m) ++ (u ∷ [])
-unfolding reversed
-reversed-ends u v m = ap (λ (l : List ℕ). l ++ (u ∷ [])) (reversed-append m (v ∷ []))
-
--- A turn of the loop: the outermost bytes of what is left change places
-
-pub record Turning (before now : List ℕ) (from to a b : ℕ) : Type 0 where
-  pub len : length now ≡ length before
-  pub ordered : a ≤ b
-  pub within : b ≤ length before
-  pub rest : (after : List ℕ) → Turned now after a b → Turned before after from to
-
-pub turning-start : (l : List ℕ) (from to : ℕ) → from ≤ to → to ≤ length l → Turning l l from to from to
-turning-start l from to h k = record { len = refl; ordered = h; within = k; rest = λ after t. t }
-
-pub turning-end : (before now : List ℕ) (from to a b : ℕ) → b - a ≤ 1 → Turning before now from to a b → Turned before now from to
-turning-end before now from to a b h t =
-    t.rest now
-    (record {
-      stands =
-          λ front bytes back e p q.
-          e ∙ ap (λ (l : List ℕ). front ++ (l ++ back)) (sym (reversed-short bytes (omega arith)));
-    })
-
--- the outermost two of some bytes
-ends-apart : {C : Type 0} (bytes : List ℕ) → 1 < length bytes → ((u v : ℕ) (m : List ℕ) → bytes ≡ u ∷ (m ++ (v ∷ [])) → C) → C
-ends-apart [] h f = absurd (omega arith)
-ends-apart (u ∷ bytes) h f =
-    let n = length bytes - 1 in
-    let size : suc n ≡ length bytes = omega arith in
-    f u (get_or bytes n 0) (take n bytes)
-    (ap (λ (l : List ℕ). u ∷ l) (sym (take_all (suc n) bytes (omega arith)) ∙ take-suc bytes n 0 (omega arith)))
-
-step : (now after front m back : List ℕ) (a b u v : ℕ) → now ≡ front ++ ((u ∷ (m ++ (v ∷ []))) ++ back) → length front ≡ a → length front + length (u ∷ (m ++ (v ∷ []))) ≡ b
-    → Turned (set (set now a (get_or now (b - 1) 0)) (b - 1) (get_or now a 0)) after (a + 1) (b - 1)
-    → after ≡ front ++ (reversed (u ∷ (m ++ (v ∷ []))) ++ back)
-step now after front m back a b u v e p q t =
-    let inner = length-append m (v ∷ []) in
-    let there : length (front ++ (u ∷ m)) ≡ b - 1 = omega (arith, length-append front (u ∷ m)) in
-    let later : length (front ++ (v ∷ m)) ≡ b - 1 = omega (arith, length-append front (v ∷ m)) in
-    let split : (x y : ℕ) → front ++ ((x ∷ (m ++ (y ∷ []))) ++ back) ≡ (front ++ (x ∷ m)) ++ (y ∷ back) = λ x y. simp append_assoc in
-    let far : (x y : ℕ) → front ++ (x ∷ (m ++ (y ∷ back))) ≡ (front ++ (x ∷ m)) ++ (y ∷ back) = λ x y. simp append_assoc in
-    let first : get_or now a 0 ≡ u = ap (λ (l : List ℕ). get_or l a 0) e ∙ get_or_at front u ((m ++ (v ∷ [])) ++ back) 0 a p in
-    let last : get_or now (b - 1) 0 ≡ v = ap (λ (l : List ℕ). get_or l (b - 1) 0) (e ∙ split u v) ∙ get_or_at (front ++ (u ∷ m)) v back 0 (b - 1) there in
-    let one : set now a v ≡ front ++ ((v ∷ (m ++ (v ∷ []))) ++ back) = ap (λ (l : List ℕ). set l a v) e ∙ set_at front u ((m ++ (v ∷ [])) ++ back) v a p in
-    let both : set (set now a v) (b - 1) u ≡ (front ++ (v ∷ m)) ++ (u ∷ back) =
-    ap (λ (l : List ℕ). set l (b - 1) u) (one ∙ split v v) ∙ set_at (front ++ (v ∷ m)) v back u (b - 1) later in
-    let next : (front ++ (v ∷ m)) ++ (u ∷ back) ≡ (front ++ (v ∷ [])) ++ (m ++ (u ∷ back)) = simp append_assoc in
-    let whole : set (set now a (get_or now (b - 1) 0)) (b - 1) (get_or now a 0) ≡ (front ++ (v ∷ [])) ++ (m ++ (u ∷ back)) =
-    ap (λ (x : ℕ). set (set now a (get_or now (b - 1) 0)) (b - 1) x) first ∙ ap (λ (x : ℕ). set (set now a x) (b - 1) u) last ∙ both ∙ next in
-    let placed = t.stands (front ++ (v ∷ [])) m (u ∷ back) whole (omega (arith, length-append front (v ∷ []))) (omega (arith, length-append front (v ∷ []))) in
-    let inside : (front ++ (v ∷ [])) ++ (reversed m ++ (u ∷ back)) ≡ front ++ (((v ∷ reversed m) ++ (u ∷ [])) ++ back) = simp append_assoc in
-    placed ∙ inside ∙ ap (λ (l : List ℕ). front ++ (l ++ back)) (sym (reversed-ends u v m))
-
-pub turning-more : (before now : List ℕ) (from to a b : ℕ) → 1 < b - a → Turning before now from to a b
-    → Turning before (set (set now a (get_or now (b - 1) 0)) (b - 1) (get_or now a 0)) from to (a + 1) (b - 1)
-turning-more before now from to a b h t =
-    record {
-      len = length-set (set now a (get_or now (b - 1) 0)) (b - 1) (get_or now a 0) ∙ length-set now a (get_or now (b - 1) 0) ∙ t.len;
-      ordered = omega arith;
-      within = omega (arith, t.within);
-      rest =
-          λ after r.
-          t.rest after
-          (record {
-            stands =
-                λ front bytes back e p q.
-                ends-apart bytes (omega arith)
-                (λ u v m x.
-                step now after front m back a b u v (e ∙ ap (λ (l : List ℕ). front ++ (l ++ back)) x) p (q' front bytes u v m x q) r
-                ∙ ap (λ (l : List ℕ). front ++ (reversed l ++ back)) (sym x));
-          });
-    }
-  where
-    q' : (front bytes : List ℕ) (u v : ℕ) (m : List ℕ) → bytes ≡ u ∷ (m ++ (v ∷ [])) → length front + length bytes ≡ b → length front + length (u ∷ (m ++ (v ∷ []))) ≡ b
-    q' front bytes u v m x q = ap (λ (l : List ℕ). length front + length l) (sym x) ∙ q
+use Rattle.json_sheet.specs.Blocks.{Swapped}
 
 -- Two blocks change places
 
@@ -159,39 +59,41 @@ module _ (l : List ℕ) (from middle end : ℕ) (room : length l ≤ most_place)
   pub swapped-over : length l < end → Swapped l l from middle end
   swapped-over h = swapped-if l l from middle end room refl (λ start head xs ys o fits same p q r e. absurd (omega (arith, length-append xs ys, length-append head (xs ++ ys))))
 
-pub swapped-turned : (before one two after : List ℕ) (from middle end : ℕ) → length before ≤ most_place → length after ≡ length before
-    → Turned before one from middle → Turned one two middle end → Turned two after from end → Swapped before after from middle end
-swapped-turned before one two after from middle end room len u v w =
-    swapped-if before after from middle end room len
+pub swapped-rotated : (before part : List ℕ) (from middle end : ℕ) → length before ≤ most_place → from ≤ middle → middle ≤ end → end ≤ length before
+    → part ≡ drop (middle - from) (take (end - from) (drop from before)) ++ take (middle - from) (take (end - from) (drop from before))
+    → Swapped before (take from before ++ (part ++ drop (end - from) (drop from before))) from middle end
+swapped-rotated before part from middle end room h k fit turned =
+    swapped-if before (take from before ++ (part ++ drop (end - from) (drop from before))) from middle end room size
     (λ start head xs ys o fits same p q r e.
-    let lx = reversed-length xs in
-    let ly = reversed-length ys in
-    let front = take o start ++ head in
     let back = drop (o + length (head ++ (xs ++ ys))) start in
-    let size : length front ≡ from = omega (arith, length-append (take o start) head, length-take o start) in
+    let front = take o start ++ head in
+    let begin : length front ≡ from = omega (arith, length-append (take o start) head, length-take o start, length-append head (xs ++ ys)) in
+    let both : length (xs ++ ys) ≡ end - from = omega (arith, length-append xs ys) in
+    let first : length xs ≡ middle - from = omega arith in
     let total : length (head ++ (xs ++ ys)) ≡ length (head ++ (ys ++ xs)) =
     omega (arith, length-append xs ys, length-append ys xs, length-append head (xs ++ ys), length-append head (ys ++ xs)) in
-    let sides : length (reversed xs ++ reversed ys) ≡ length xs + length ys = omega (arith, length-append (reversed xs) (reversed ys)) in
-    let begun : length (front ++ reversed xs) ≡ middle = omega (arith, length-append front (reversed xs)) in
-    let here : before ≡ front ++ (xs ++ (ys ++ back)) = e ∙ sets-eq (head ++ (xs ++ ys)) start o fits ∙ apart start head xs ys back o in
-    let first = u.stands front xs (ys ++ back) here size (omega arith) in
-    let second = v.stands (front ++ reversed xs) ys back (first ∙ sym (append_assoc front (reversed xs) (ys ++ back))) begun (omega arith) in
-    let third = w.stands front (reversed xs ++ reversed ys) back (second ∙ joined front (reversed xs) (reversed ys) back) size (omega arith) in
-    third
-    ∙ ap (λ (l : List ℕ). front ++ (l ++ back)) (reversed-append (reversed xs) (reversed ys) ∙ ap₂ (λ (x y : List ℕ). x ++ y) (reversed-twice ys) (reversed-twice xs))
-    ∙ sym
+    let here : before ≡ front ++ ((xs ++ ys) ++ back) = e ∙ sets-eq (head ++ (xs ++ ys)) start o fits ∙ apart start head (xs ++ ys) back o in
+    let taken : take from before ≡ front = rw (here, ← begin) (take-append_seam front ((xs ++ ys) ++ back)) in
+    let rest : drop from before ≡ (xs ++ ys) ++ back = rw (here, ← begin) (drop-append_seam front ((xs ++ ys) ++ back)) in
+    let inner : take (end - from) (drop from before) ≡ xs ++ ys = rw (rest, ← both) (take-append_seam (xs ++ ys) back) in
+    let behind : drop (end - from) (drop from before) ≡ back = rw (rest, ← both) (drop-append_seam (xs ++ ys) back) in
+    let moved : part ≡ ys ++ xs = turned ∙ rw (inner, ← first) (ap₂ (λ (u v : List ℕ). u ++ v) (drop-append_seam xs ys) (take-append_seam xs ys)) in
+    rw (taken, behind, moved)
+    (sym
     (sets-eq (head ++ (ys ++ xs)) start o (omega arith)
     ∙ ap (λ (n : ℕ). (take o start ++ (head ++ (ys ++ xs))) ++ drop (o + n) start) (sym total)
-    ∙ together start head xs ys back o))
+    ∙ apart start head (ys ++ xs) back o)))
   where
-    apart : (start head xs ys back : List ℕ) (o : ℕ) → (take o start ++ (head ++ (xs ++ ys))) ++ back ≡ (take o start ++ head) ++ (xs ++ (ys ++ back))
-    apart start head xs ys back o = simp append_assoc
+    size : length (take from before ++ (part ++ drop (end - from) (drop from before))) ≡ length before
+    size =
+        let all = take (end - from) (drop from before) in
+        let one = length-append (drop (middle - from) all) (take (middle - from) all) in
+        let same : length part ≡ end - from =
+        ap length turned ∙ omega (arith, one, length-drop (middle - from) all, length-take (middle - from) all, length-take (end - from) (drop from before), length-drop from before) in
+        omega (arith, same, length-append (take from before) (part ++ drop (end - from) (drop from before)), length-append part (drop (end - from) (drop from before)), length-take from before, length-drop (end - from) (drop from before), length-drop from before)
 
-    together : (start head xs ys back : List ℕ) (o : ℕ) → (take o start ++ (head ++ (ys ++ xs))) ++ back ≡ (take o start ++ head) ++ ((ys ++ xs) ++ back)
-    together start head xs ys back o = simp append_assoc
-
-    joined : (front xs ys back : List ℕ) → (front ++ xs) ++ (ys ++ back) ≡ front ++ ((xs ++ ys) ++ back)
-    joined front xs ys back = simp append_assoc
+    apart : (start head bytes back : List ℕ) (o : ℕ) → (take o start ++ (head ++ bytes)) ++ back ≡ (take o start ++ head) ++ (bytes ++ back)
+    apart start head bytes back o = simp append_assoc
 
 -- A head that is laid in front of other bytes
 

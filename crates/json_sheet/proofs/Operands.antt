@@ -1,4 +1,5 @@
 -- Laws of conditions: what their readers read, and their entries.
+use Rattle.std.specs.Prelude.{Option as Optional, Some, None}
 use Prim.Native.Nat.{ℕ, zero, suc, ◌+◌, ◌-◌, ◌<◌, ◌≤◌}
 use mathlib.Core.Bool.{Bool, true, false, cond}
 use mathlib.Core.List.{List, [], ◌∷◌, ◌++◌, append_assoc}
@@ -36,8 +37,6 @@ use Rattle.json_text.proofs.Separating.{spaces-full}
 use Rattle.json_rule.specs.Shape.{value_of, two_from, conditions_from, condition_of}
 use Rattle.json_rule.specs.Streamed.{asked, literals, flat, deep, streamed}
 use Rattle.json_sheet.specs.Places.{headed, Given, ValueIs, WordIs, operator_start, operand_in, pair_rest, GivenCondition, ConditionIs}
-use Rattle.json_sheet.specs.declared.value.Got.{Got}
-use Rattle.json_sheet.specs.declared.value.Got.TheVariants as got
 use Rattle.json_sheet.proofs.Scalars.{scalar-true, scalar-false}
 use Rattle.json_sheet.proofs.Held.{scalar-bracket, value-other, here}
 use Rattle.json_sheet.proofs.Turns.{Begun, begun-start, begun-unread, begun-never, begun-alone, begun_more, begun-end, elements-turns, elements-none, elements-some}
@@ -80,14 +79,14 @@ counted-head op n others =
 -- What another reader reads further on
 
 module _ (s : List ℕ) (at from : ℕ) (p q : Reader (List ℕ) Condition) (ahead : at ≤ from) (same : p (drop at s) ≡ q (drop from s)) where
-  pub passed_on : (r : Got) (before after : List ℕ) (o : ℕ) → ConditionIs q s from before after o r → ConditionIs p s at before after o r
-  passed_on (got.Good next end) before after o v =
+  pub passed_on : (r : Optional (ℕ × ℕ)) (before after : List ℕ) (o : ℕ) → ConditionIs q s from before after o r → ConditionIs p s at before after o r
+  passed_on (Some (next, end)) before after o v =
       record {
         tree = v.tree;
         read = record { reads = same ∙ v.read.reads; past = omega (arith, v.read.past); within = v.read.within };
         lies = v.lies;
       }
-  passed_on got.Bad before after o v = same ∙ v
+  passed_on None before after o v = same ∙ v
 
 -- Literals
 
@@ -151,21 +150,21 @@ module _ (s : List ℕ) (at : ℕ) (h : at < length s) where
   no-literal k l = ap literals (here s at 0 h) ∙ literals-other (get_or s at 0) (drop (at + 1) s) k l
 
   module _ (b : Bool) (word : List ℕ) (same : literals (drop at s) ≡ (spelled word >> pure (literal 0 b)) (drop (at + 1) s)) where
-    word-literal : (r : Got) (before after : List ℕ) (o : ℕ) → WordIs word (67 ∷ 44 ∷ 49 ∷ 44 ∷ (48 + mark_of b) ∷ 44 ∷ 10 ∷ []) s (at + 1) before after o r → ConditionIs literals s at before after o r
+    word-literal : (r : Optional (ℕ × ℕ)) (before after : List ℕ) (o : ℕ) → WordIs word (67 ∷ 44 ∷ 49 ∷ 44 ∷ (48 + mark_of b) ∷ 44 ∷ 10 ∷ []) s (at + 1) before after o r → ConditionIs literals s at before after o r
     unfolding ◌>>=◌ ◌>>◌ and_then pure
-    word-literal (got.Good next end) before after o w =
+    word-literal (Some (next, end)) before after o w =
         record {
           tree = literal 0 b;
           read = record { reads = same ∙ rw w.read; past = omega (arith, w.forward); within = w.within };
           lies = subst (λ (x : List ℕ). Laid before after o x end) (sym (literal-bytes b)) w.lies;
         }
-    word-literal got.Bad before after o w = same ∙ rw w
+    word-literal None before after o w = same ∙ rw w
 
-  pub is_true : (r : Got) (before after : List ℕ) (o : ℕ) → get_or s at 0 ≡ 0x74 → WordIs (114 ∷ 117 ∷ 101 ∷ []) (67 ∷ 44 ∷ 49 ∷ 44 ∷ 49 ∷ 44 ∷ 10 ∷ []) s (at + 1) before after o r → ConditionIs literals s at before after o r
+  pub is_true : (r : Optional (ℕ × ℕ)) (before after : List ℕ) (o : ℕ) → get_or s at 0 ≡ 0x74 → WordIs (114 ∷ 117 ∷ 101 ∷ []) (67 ∷ 44 ∷ 49 ∷ 44 ∷ 49 ∷ 44 ∷ 10 ∷ []) s (at + 1) before after o r → ConditionIs literals s at before after o r
   unfolding ascii mark_of
   is_true r before after o e w = word-literal true (ascii "rue") (ap literals (here s at 0 h) ∙ literals-true (get_or s at 0) (drop (at + 1) s) e) r before after o w
 
-  pub is_false : (r : Got) (before after : List ℕ) (o : ℕ) → get_or s at 0 ≡ 0x66 → WordIs (97 ∷ 108 ∷ 115 ∷ 101 ∷ []) (67 ∷ 44 ∷ 49 ∷ 44 ∷ 48 ∷ 44 ∷ 10 ∷ []) s (at + 1) before after o r → ConditionIs literals s at before after o r
+  pub is_false : (r : Optional (ℕ × ℕ)) (before after : List ℕ) (o : ℕ) → get_or s at 0 ≡ 0x66 → WordIs (97 ∷ 108 ∷ 115 ∷ 101 ∷ []) (67 ∷ 44 ∷ 49 ∷ 44 ∷ 48 ∷ 44 ∷ 10 ∷ []) s (at + 1) before after o r → ConditionIs literals s at before after o r
   unfolding ascii mark_of
   is_false r before after o e w = word-literal false (ascii "alse") (ap literals (here s at 0 h) ∙ literals-false (get_or s at 0) (drop (at + 1) s) e) r before after o w
 
@@ -180,15 +179,15 @@ one-bytes : (op : ℕ) (v : Value) → write_condition (one 0 op v) ≡ write_op
 unfolding write_condition write_condition_head
 one-bytes op v = refl
 
-pub is-one : (op d : ℕ) (s : List ℕ) (at : ℕ) (r : Got) (before middle after : List ℕ) (o e : ℕ) → length before ≤ most_place → Laid before middle o (write_operator op 0 []) e → ValueIs (value d) s at middle after e r
+pub is-one : (op d : ℕ) (s : List ℕ) (at : ℕ) (r : Optional (ℕ × ℕ)) (before middle after : List ℕ) (o e : ℕ) → length before ≤ most_place → Laid before middle o (write_operator op 0 []) e → ValueIs (value d) s at middle after e r
     → ConditionIs (operand_in Operators.one op d) s at before after o r
-is-one op d s at (got.Good next end) before middle after o e room l v =
+is-one op d s at (Some (next, end)) before middle after o e room l v =
     record {
       tree = one 0 op (value_of v.tree);
       read = subst (λ (p : Reader (List ℕ) Condition). ReadsTo p s at (one 0 op (value_of v.tree)) next) (sym (one_reader op d)) (bind-pure (value d) (λ (x : Json). one 0 op (value_of x)) v.read);
       lies = subst (λ (x : List ℕ). Laid before after o x end) (sym (one-bytes op (value_of v.tree))) (laid_then room l v.lies);
     }
-is-one op d s at got.Bad before middle after o e room l v =
+is-one op d s at None before middle after o e room l v =
     subst (λ (p : Reader (List ℕ) Condition). Refuses p s at) (sym (one_reader op d)) (bind-refused (value d) (λ (x : Json). pure (one 0 op (value_of x))) s at v)
 
 negation-reader : (d : ℕ) → operand_in Operators.negation 4 d ≡ (streamed d >>= λ c. pure (negation 0 c))
@@ -200,15 +199,15 @@ negation-bytes : (c : Condition) → write_condition (negation 0 c) ≡ write_op
 unfolding write_condition write_condition_head
 negation-bytes c = refl
 
-pub is-negation : (d : ℕ) (s : List ℕ) (at : ℕ) (r : Got) (before middle after : List ℕ) (o e : ℕ) → length before ≤ most_place → Laid before middle o (write_operator 4 0 []) e → ConditionIs (streamed d) s at middle after e r
+pub is-negation : (d : ℕ) (s : List ℕ) (at : ℕ) (r : Optional (ℕ × ℕ)) (before middle after : List ℕ) (o e : ℕ) → length before ≤ most_place → Laid before middle o (write_operator 4 0 []) e → ConditionIs (streamed d) s at middle after e r
     → ConditionIs (operand_in Operators.negation 4 d) s at before after o r
-is-negation d s at (got.Good next end) before middle after o e room l v =
+is-negation d s at (Some (next, end)) before middle after o e room l v =
     record {
       tree = negation 0 v.tree;
       read = subst (λ (p : Reader (List ℕ) Condition). ReadsTo p s at (negation 0 v.tree) next) (sym (negation-reader d)) (bind-pure (streamed d) (negation 0) v.read);
       lies = subst (λ (x : List ℕ). Laid before after o x end) (sym (negation-bytes v.tree)) (laid_then room l v.lies);
     }
-is-negation d s at got.Bad before middle after o e room l v =
+is-negation d s at None before middle after o e room l v =
     subst (λ (p : Reader (List ℕ) Condition). Refuses p s at) (sym (negation-reader d)) (bind-refused (streamed d) (λ (x : Condition). pure (negation 0 x)) s at v)
 
 -- Operands in brackets
@@ -249,7 +248,7 @@ module _ (p q : Reader (List ℕ) Condition) (d bracket : ℕ) (flatly : d ≡ 0
       nonzero : eqb d 0 ≡ false → d ≡ 0 → ⊥
       nonzero e z = let clash : ◌≡◌ {A = ℕ} 0 1 = ap (λ (b : Bool). cond b 1 0) (sym e ∙ eq-eqb d 0 z) in omega arith
 
-  pub bracket-opened : (s : List ℕ) (at : ℕ) {u : Unit {0}} (r : Got) (before after : List ℕ) (o : ℕ) → (d ≡ 0 → ⊥) → ReadsTo (byte bracket) s at u (at + 1) → ConditionIs q s (at + 1) before after o r → ConditionIs p s at before after o r
+  pub bracket-opened : (s : List ℕ) (at : ℕ) {u : Unit {0}} (r : Optional (ℕ × ℕ)) (before after : List ℕ) (o : ℕ) → (d ≡ 0 → ⊥) → ReadsTo (byte bracket) s at u (at + 1) → ConditionIs q s (at + 1) before after o r → ConditionIs p s at before after o r
   unfolding ◌>>◌ ◌>>=◌ and_then
   bracket-opened s at r before after o k c v =
       passed_on s at (at + 1) p q (omega arith) (ap (λ (x : Reader (List ℕ) Condition). x (drop at s)) (deeply k) ∙ rw c.reads) r before after o v

@@ -1,4 +1,5 @@
 -- Laws of values that hold no other.
+use Rattle.std.specs.Prelude.{Option, Some, None}
 use Prim.Native.Nat.{ℕ, ◌+◌, ◌-◌, ◌<◌, ◌≤◌}
 use mathlib.Core.Bool.{true, false}
 use mathlib.Core.List.{List, [], ◌∷◌, ◌++◌, append_assoc}
@@ -27,8 +28,6 @@ use Rattle.json_text.specs.Grammar.{number_text, spelled, scalar}
 use Rattle.json_text.specs.TokenAt.{NumberTo, SpelledAt}
 use Rattle.json_rule.specs.Shape.{value_of}
 use Rattle.json_sheet.specs.Places.{string_rest, number_rest, headed, LaysHeaded, Given, ValueIs, Worded, WordIs}
-use Rattle.json_sheet.specs.declared.value.Got.{Got}
-use Rattle.json_sheet.specs.declared.value.Got.TheVariants as got
 
 -- Entries with a text
 
@@ -144,26 +143,26 @@ module _ (s : List ℕ) (at : ℕ) (h : at < length s) where
   first x e = drop-cons s at 0 h ∙ ap (λ (n : ℕ). get_or s at 0 ∷ drop n s) (sym (e ∙ add-one at))
 
   module _ (p : Reader (List ℕ) Json) (tree : Json) (rest : List ℕ) (same : p (drop at s) ≡ (spelled rest >> pure tree) (drop (at + 1) s)) where
-    pub word_value : (r : Got) (head before after : List ℕ) (o : ℕ) → head ≡ write_value (value_of tree) → WordIs rest head s (at + 1) before after o r → ValueIs p s at before after o r
+    pub word_value : (r : Option (ℕ × ℕ)) (head before after : List ℕ) (o : ℕ) → head ≡ write_value (value_of tree) → WordIs rest head s (at + 1) before after o r → ValueIs p s at before after o r
     unfolding ◌>>=◌ ◌>>◌ and_then pure
-    word_value (got.Good next end) head before after o e w =
+    word_value (Some (next, end)) head before after o e w =
         record {
           tree = tree;
           read = record { reads = same ∙ rw w.read; past = omega (arith, w.forward); within = w.within };
           lies = subst (λ (x : List ℕ). Laid before after o x end) e w.lies;
         }
-    word_value got.Bad head before after o e w = same ∙ rw w
+    word_value None head before after o e w = same ∙ rw w
 
   -- what another reader reads further on
   module _ (p q : Reader (List ℕ) Json) (from : ℕ) (ahead : at ≤ from) (same : p (drop at s) ≡ q (drop from s)) where
-    pub handed-on : (r : Got) (before after : List ℕ) (o : ℕ) → ValueIs q s from before after o r → ValueIs p s at before after o r
-    handed-on (got.Good next end) before after o v =
+    pub handed-on : (r : Option (ℕ × ℕ)) (before after : List ℕ) (o : ℕ) → ValueIs q s from before after o r → ValueIs p s at before after o r
+    handed-on (Some (next, end)) before after o v =
         record {
           tree = v.tree;
           read = record { reads = same ∙ v.read.reads; past = omega (arith, v.read.past); within = v.read.within };
           lies = v.lies;
         }
-    handed-on got.Bad before after o v = same ∙ v
+    handed-on None before after o v = same ∙ v
 
 scalar-string : (b : ℕ) (t : List ℕ) → b ≡ 0x22 → scalar (b ∷ t) ≡ string_rest t
 unfolding scalar string_rest
@@ -199,7 +198,7 @@ scalar-nothing = refl
 pub scalar-out : (s : List ℕ) (at : ℕ) → length s ≤ at → Refuses scalar s at
 scalar-out s at h = ap scalar (drop_of_length-le s h) ∙ scalar-nothing
 
-module _ (s : List ℕ) (at : ℕ) (h : at < length s) (r : Got) (before after : List ℕ) (o : ℕ) where
+module _ (s : List ℕ) (at : ℕ) (h : at < length s) (r : Option (ℕ × ℕ)) (before after : List ℕ) (o : ℕ) where
   pub is-string : get_or s at 0 ≡ 0x22 → ValueIs string_rest s (at + 1) before after o r → ValueIs scalar s at before after o r
   is-string e v = handed-on s at h scalar string_rest (at + 1) (omega arith) (ap scalar (first s at h (at + 1) refl) ∙ scalar-string (get_or s at 0) (drop (at + 1) s) e) r before after o v
 

@@ -1,15 +1,6 @@
 -- What blocks of bytes that move in a buffer leave in it.
-use Rattle.std.specs.Prelude.{ℕ, ◌+◌, ◌≤◌, List, [], ◌∷◌, ◌++◌, ◌≡◌, length}
+use Rattle.std.specs.Prelude.{ℕ, ◌+◌, ◌≤◌, List, ◌++◌, ◌≡◌, length}
 use Rattle.buffer.specs.Laid.{Laid}
-
--- the last byte first
-unfoldable pub reversed : List ℕ → List ℕ
-reversed [] = []
-reversed (b ∷ bytes) = reversed bytes ++ (b ∷ [])
-
--- the bytes from `from` up to `to` are reversed
-pub record Turned (before after : List ℕ) (from to : ℕ) : Type 0 where
-  pub stands : (front bytes back : List ℕ) → before ≡ front ++ (bytes ++ back) → length front ≡ from → length front + length bytes ≡ to → after ≡ front ++ (reversed bytes ++ back)
 
 -- whatever was laid last from `from` up to `end` now begins with what lay from `middle` on
 pub record Swapped (before after : List ℕ) (from middle end : ℕ) : Type 0 where

@@ -1,5 +1,5 @@
 -- What the readers of the operand of `compare` answer: of one member, and of all three.
-use Rattle.std.specs.Prelude.{ℕ, ◌+◌, ◌≤◌, List, [], ◌++◌, ◌≡◌, length, drop}
+use Rattle.std.specs.Prelude.{ℕ, ◌+◌, ◌≤◌, List, [], ◌++◌, ◌≡◌, length, drop, Option, Some, None}
 use Rattle.std.proofs.Math.Option.{none}
 use Rattle.text.specs.Reader.{Reader, ◌>>=◌}
 use Rattle.text.specs.ReadAt.{ReadsTo, Refuses}
@@ -13,12 +13,8 @@ use Rattle.json_text.proofs.ShapedMembers.{members_as}
 use Rattle.json_rule.specs.Shape.{Part, left, which, right, which_of, comparison_part, comparison_from}
 use Rattle.json_rule.specs.Streamed.{asked}
 use Rattle.json_sheet.specs.Places.{part_of}
-use Rattle.json_sheet.specs.declared.key.Choice.{Choice}
-use Rattle.json_sheet.specs.declared.key.Choice.TheVariants as choice
-use Rattle.json_sheet.specs.declared.comparison.PartRead.{PartRead}
-use Rattle.json_sheet.specs.declared.comparison.PartRead.TheVariants as part
-use Rattle.json_sheet.specs.declared.comparison.Three.{Three}
-use Rattle.json_sheet.specs.declared.comparison.Three.TheVariants as three
+use Rattle.json_sheet.specs.declared.comparison.Member.{Member}
+use Rattle.json_sheet.specs.declared.comparison.Operand.{Operand}
 
 -- a member, and all of them behind the opening bracket
 abbrev pub compared_member : ℕ → Text → Reader (List ℕ) Part
@@ -28,9 +24,9 @@ abbrev pub compared : ℕ → Reader (List ℕ) Condition
 compared d = members_as (compared_member d) >>= asked comparison_from
 
 -- the string that names a comparison, however deep a value may nest there
-abbrev pub OperatorIs : List ℕ → ℕ → Choice → Type 0
-OperatorIs s at (choice.Is n next) = ((d : ℕ) → ReadsTo (value d >>= asked which_of) s at (which n) next) × (n ≤ 6)
-OperatorIs s at choice.Bad = (d : ℕ) → Refuses (value d >>= asked which_of) s at
+abbrev pub OperatorIs : List ℕ → ℕ → Option (ℕ × ℕ) → Type 0
+OperatorIs s at (Some (n, next)) = ((d : ℕ) → ReadsTo (value d >>= asked which_of) s at (which n) next) × (n ≤ 6)
+OperatorIs s at None = (d : ℕ) → Refuses (value d >>= asked which_of) s at
 
 -- a part, which of the three it is (1, 2 or 4, so that only one of each makes 7), the number of its comparison, and its entries
 pub data Seen : Part → (kind n : ℕ) → List ℕ → Type 0 where
@@ -46,9 +42,9 @@ pub record GivenPart (d : ℕ) (s : List ℕ) (at : ℕ) (before after : List �
   pub read : ReadsTo (part_of (compared_member d)) s at part next
   pub lies : Laid before after o bytes end
 
-abbrev pub PartIs : ℕ → List ℕ → ℕ → List ℕ → List ℕ → ℕ → PartRead → Type 0
-PartIs d s at before after o (part.Good kind n next end) = GivenPart d s at before after o kind n next end
-PartIs d s at before after o part.Bad = Refuses (part_of (compared_member d)) s at
+abbrev pub PartIs : ℕ → List ℕ → ℕ → List ℕ → List ℕ → ℕ → Option Member → Type 0
+PartIs d s at before after o (Some m) = GivenPart d s at before after o m.kind m.op m.next m.end
+PartIs d s at before after o None = Refuses (part_of (compared_member d)) s at
 
 -- a part and what stands behind it
 pub record Followed (behind : List ℕ → ℕ → ℕ → Type 0) (d : ℕ) (s : List ℕ) (at : ℕ) (before after : List ℕ) (o kind n next end : ℕ) : Type 0 where
@@ -62,13 +58,13 @@ pub data Unfollowed (other : List ℕ → ℕ → ℕ → Type 0) (d : ℕ) (s :
   alone : (a : Part) (stop : ℕ) → ReadsTo (part_of (compared_member d)) s at a stop → comma_or 0x7D (unspaced (drop stop s)) ≡ none → Unfollowed other d s at
   instead : (a : Part) (stop next : ℕ) → ReadsTo (part_of (compared_member d)) s at a stop → other s stop next → Unfollowed other d s at
 
-abbrev pub NextIs : ℕ → List ℕ → ℕ → List ℕ → List ℕ → ℕ → PartRead → Type 0
-NextIs d s at before after o (part.Good kind n next end) = Followed (MoreAt 0x7D) d s at before after o kind n next end
-NextIs d s at before after o part.Bad = Unfollowed (EndAt 0x7D) d s at
+abbrev pub NextIs : ℕ → List ℕ → ℕ → List ℕ → List ℕ → ℕ → Option Member → Type 0
+NextIs d s at before after o (Some m) = Followed (MoreAt 0x7D) d s at before after o m.kind m.op m.next m.end
+NextIs d s at before after o None = Unfollowed (EndAt 0x7D) d s at
 
-abbrev pub LastIs : ℕ → List ℕ → ℕ → List ℕ → List ℕ → ℕ → PartRead → Type 0
-LastIs d s at before after o (part.Good kind n next end) = Followed (EndAt 0x7D) d s at before after o kind n next end
-LastIs d s at before after o part.Bad = Unfollowed (MoreAt 0x7D) d s at
+abbrev pub LastIs : ℕ → List ℕ → ℕ → List ℕ → List ℕ → ℕ → Option Member → Type 0
+LastIs d s at before after o (Some m) = Followed (EndAt 0x7D) d s at before after o m.kind m.op m.next m.end
+LastIs d s at before after o None = Unfollowed (MoreAt 0x7D) d s at
 
 -- both values, of which those from `middle` on belong in front
 pub record Compared (d : ℕ) (s : List ℕ) (at : ℕ) (before after : List ℕ) (o next end middle n : ℕ) : Type 0 where
@@ -81,6 +77,6 @@ pub record Compared (d : ℕ) (s : List ℕ) (at : ℕ) (before after : List ℕ
   pub between : o + length (xs ++ ys) ≤ length before → middle ≡ o + length xs
   pub turned : ys ++ xs ≡ write_value lower ++ write_value upper
 
-abbrev pub ThreeIs : ℕ → List ℕ → ℕ → List ℕ → List ℕ → ℕ → Three → Type 0
-ThreeIs d s at before after o (three.Good next end middle n) = Compared d s at before after o next end middle n
-ThreeIs d s at before after o three.Bad = Refuses (compared d) s at
+abbrev pub ThreeIs : ℕ → List ℕ → ℕ → List ℕ → List ℕ → ℕ → Option Operand → Type 0
+ThreeIs d s at before after o (Some r) = Compared d s at before after o r.next r.end r.middle r.op
+ThreeIs d s at before after o None = Refuses (compared d) s at

@@ -1,5 +1,5 @@
 -- What the readers of JSON answer: what the grammar reads from place `at` of the text on, and where its entries lie.
-use Rattle.std.specs.Prelude.{ℕ, zero, suc, ◌+◌, ◌<◌, ◌≤◌, List, [], ◌∷◌, ◌++◌, ◌≡◌, length, take, drop}
+use Rattle.std.specs.Prelude.{ℕ, zero, suc, ◌+◌, ◌<◌, ◌≤◌, List, [], ◌∷◌, ◌++◌, ◌≡◌, length, take, drop, Option, Some, None}
 use Rattle.std.proofs.Math.Option.{none, some}
 use Rattle.text.specs.Numeral.{decimal_of}
 use Rattle.text.specs.Reader.{Reader, ◌>>=◌, ◌>>◌, pure}
@@ -18,14 +18,6 @@ use Rattle.json_text.specs.Shaped.{many_in}
 use Rattle.json_text.proofs.ShapedMembers.{elements_as, members_as}
 use Rattle.json_rule.specs.Shape.{value_of, values_of, pairs_of, operator_of, two_from, the_only, conditions_from}
 use Rattle.json_rule.specs.Streamed.{asked, flat, deep, streamed}
-use Rattle.json_text.specs.declared.between.KeyRead.{KeyRead}
-use Rattle.json_text.specs.declared.between.KeyRead.TheVariants as key
-use Rattle.json_sheet.specs.declared.key.Choice.{Choice}
-use Rattle.json_sheet.specs.declared.key.Choice.TheVariants as choice
-use Rattle.json_sheet.specs.declared.value.Got.{Got}
-use Rattle.json_sheet.specs.declared.value.Got.TheVariants as got
-use Rattle.json_sheet.specs.declared.value.Listed.{Listed}
-use Rattle.json_sheet.specs.declared.value.Listed.TheVariants as listed
 
 -- Parts of the grammar
 
@@ -73,9 +65,9 @@ pub record Given (p : Reader (List ℕ) Json) (s : List ℕ) (at : ℕ) (before 
   pub read : ReadsTo p s at tree next
   pub lies : Laid before after o (write_value (value_of tree)) end
 
-abbrev pub ValueIs : Reader (List ℕ) Json → List ℕ → ℕ → List ℕ → List ℕ → ℕ → Got → Type 0
-ValueIs p s at before after o (got.Good next end) = Given p s at before after o next end
-ValueIs p s at before after o got.Bad = Refuses p s at
+abbrev pub ValueIs : Reader (List ℕ) Json → List ℕ → ℕ → List ℕ → List ℕ → ℕ → Option (ℕ × ℕ) → Type 0
+ValueIs p s at before after o (Some (next, end)) = Given p s at before after o next end
+ValueIs p s at before after o None = Refuses p s at
 
 -- the rest of a word, and an entry
 pub record Worded (rest head s : List ℕ) (at : ℕ) (before after : List ℕ) (o next end : ℕ) : Type 0 where
@@ -84,9 +76,9 @@ pub record Worded (rest head s : List ℕ) (at : ℕ) (before after : List ℕ) 
   pub within : next ≤ length s
   pub lies : Laid before after o head end
 
-abbrev pub WordIs : List ℕ → List ℕ → List ℕ → ℕ → List ℕ → List ℕ → ℕ → Got → Type 0
-WordIs rest head s at before after o (got.Good next end) = Worded rest head s at before after o next end
-WordIs rest head s at before after o got.Bad = Refuses (spelled rest) s at
+abbrev pub WordIs : List ℕ → List ℕ → List ℕ → ℕ → List ℕ → List ℕ → ℕ → Option (ℕ × ℕ) → Type 0
+WordIs rest head s at before after o (Some (next, end)) = Worded rest head s at before after o next end
+WordIs rest head s at before after o None = Refuses (spelled rest) s at
 
 -- a member, and its entries
 pub record GivenMember (p : Reader (List ℕ) Json) (s : List ℕ) (at : ℕ) (before after : List ℕ) (o next end : ℕ) : Type 0 where
@@ -94,9 +86,9 @@ pub record GivenMember (p : Reader (List ℕ) Json) (s : List ℕ) (at : ℕ) (b
   pub read : ReadsTo (member_of p) s at member next
   pub lies : Laid before after o (write_key_head member.0 ++ write_value (value_of member.1)) end
 
-abbrev pub MemberIs : Reader (List ℕ) Json → List ℕ → ℕ → List ℕ → List ℕ → ℕ → Got → Type 0
-MemberIs p s at before after o (got.Good next end) = GivenMember p s at before after o next end
-MemberIs p s at before after o got.Bad = Refuses (member_of p) s at
+abbrev pub MemberIs : Reader (List ℕ) Json → List ℕ → ℕ → List ℕ → List ℕ → ℕ → Option (ℕ × ℕ) → Type 0
+MemberIs p s at before after o (Some (next, end)) = GivenMember p s at before after o next end
+MemberIs p s at before after o None = Refuses (member_of p) s at
 
 -- Siblings, up to the closing bracket: what a reader reads in so many turns, its entries, and how many there are
 
@@ -109,9 +101,9 @@ module _ {T : Type 0} (many : ℕ → Reader (List ℕ) T) (write : T → List �
     pub lies : Laid before after o (write all) end
     pub size : count all ≡ n
 
-  abbrev pub ListIs : ℕ → List ℕ → ℕ → List ℕ → List ℕ → ℕ → Listed → Type 0
-  ListIs turns s at before after o (listed.Good next end n) = Holding turns s at before after o next end n
-  ListIs turns s at before after o listed.Bad = many turns (drop at s) ≡ none
+  abbrev pub ListIs : ℕ → List ℕ → ℕ → List ℕ → List ℕ → ℕ → Option (ℕ × ℕ × ℕ) → Type 0
+  ListIs turns s at before after o (Some (next, end, n)) = Holding turns s at before after o next end n
+  ListIs turns s at before after o None = many turns (drop at s) ≡ none
 
 unfoldable pub entries_of_elements : Elements → List ℕ
 entries_of_elements vs = write_values (values_of vs)
@@ -126,11 +118,11 @@ unfoldable pub count_of_members : Members → ℕ
 count_of_members ms = count_of_pairs (pairs_of ms)
 
 -- in as many turns as are enough
-abbrev pub ElementsAre : Reader (List ℕ) Json → List ℕ → ℕ → List ℕ → List ℕ → ℕ → Listed → Type 0
+abbrev pub ElementsAre : Reader (List ℕ) Json → List ℕ → ℕ → List ℕ → List ℕ → ℕ → Option (ℕ × ℕ × ℕ) → Type 0
 ElementsAre p s at before after o r =
     (turns : ℕ) → length s ≤ at + turns → ListIs (elements_in p) entries_of_elements count_of_elements turns s at before after o r
 
-abbrev pub MembersAre : Reader (List ℕ) Json → List ℕ → ℕ → List ℕ → List ℕ → ℕ → Listed → Type 0
+abbrev pub MembersAre : Reader (List ℕ) Json → List ℕ → ℕ → List ℕ → List ℕ → ℕ → Option (ℕ × ℕ × ℕ) → Type 0
 MembersAre p s at before after o r =
     (turns : ℕ) → length s ≤ at + turns → ListIs (members_in p) entries_of_members count_of_members turns s at before after o r
 
@@ -147,9 +139,9 @@ pub record Named (s : List ℕ) (at : ℕ) (before after : List ℕ) (len next :
   pub size : length name ≡ len
   pub held : len ≤ length before → take len after ≡ name
 
-abbrev pub NameIs : List ℕ → ℕ → List ℕ → List ℕ → KeyRead → Type 0
-NameIs s at before after (key.Is len next) = Named s at before after len next
-NameIs s at before after key.Bad = Refuses key_of s at
+abbrev pub NameIs : List ℕ → ℕ → List ℕ → List ℕ → Option (ℕ × ℕ) → Type 0
+NameIs s at before after (Some (len, next)) = Named s at before after len next
+NameIs s at before after None = Refuses key_of s at
 
 -- the number that stands for a name, and its value at `next`
 pub record Chosen (f : Text → ℕ) (s : List ℕ) (at n next : ℕ) : Type 0 where
@@ -157,9 +149,9 @@ pub record Chosen (f : Text → ℕ) (s : List ℕ) (at n next : ℕ) : Type 0 w
   pub read : ReadsTo key_of s at name next
   pub which : n ≡ f name
 
-abbrev pub ChoiceIs : (Text → ℕ) → List ℕ → ℕ → Choice → Type 0
-ChoiceIs f s at (choice.Is n next) = Chosen f s at n next
-ChoiceIs f s at choice.Bad = Refuses key_of s at
+abbrev pub ChoiceIs : (Text → ℕ) → List ℕ → ℕ → Option (ℕ × ℕ) → Type 0
+ChoiceIs f s at (Some (n, next)) = Chosen f s at n next
+ChoiceIs f s at None = Refuses key_of s at
 
 -- a member in the shape that its name asks for
 unfoldable pub part_of : {C : Type 0} → (Text → Reader (List ℕ) C) → Reader (List ℕ) C
@@ -190,9 +182,9 @@ pub record GivenCondition (p : Reader (List ℕ) Condition) (s : List ℕ) (at :
   pub read : ReadsTo p s at tree next
   pub lies : Laid before after o (write_condition tree) end
 
-abbrev pub ConditionIs : Reader (List ℕ) Condition → List ℕ → ℕ → List ℕ → List ℕ → ℕ → Got → Type 0
-ConditionIs p s at before after o (got.Good next end) = GivenCondition p s at before after o next end
-ConditionIs p s at before after o got.Bad = Refuses p s at
+abbrev pub ConditionIs : Reader (List ℕ) Condition → List ℕ → ℕ → List ℕ → List ℕ → ℕ → Option (ℕ × ℕ) → Type 0
+ConditionIs p s at before after o (Some (next, end)) = GivenCondition p s at before after o next end
+ConditionIs p s at before after o None = Refuses p s at
 
 -- conditions side by side
 unfoldable pub entries_of_conditions : List Condition → List ℕ
@@ -201,6 +193,6 @@ entries_of_conditions cs = write_conditions (conditions_from cs)
 unfoldable pub count_of_conditions_from : List Condition → ℕ
 count_of_conditions_from cs = count_of_conditions (conditions_from cs)
 
-abbrev pub ConditionsAre : Reader (List ℕ) Condition → List ℕ → ℕ → List ℕ → List ℕ → ℕ → Listed → Type 0
+abbrev pub ConditionsAre : Reader (List ℕ) Condition → List ℕ → ℕ → List ℕ → List ℕ → ℕ → Option (ℕ × ℕ × ℕ) → Type 0
 ConditionsAre p s at before after o r =
     (turns : ℕ) → length s ≤ at + turns → ListIs (many_in p) entries_of_conditions count_of_conditions_from turns s at before after o r

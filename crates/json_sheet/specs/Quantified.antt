@@ -1,5 +1,5 @@
 -- What the readers of a quantifier's members answer: of one member, and of all three.
-use Rattle.std.specs.Prelude.{ℕ, ◌+◌, ◌≤◌, Bool, false, cond, List, ◌++◌, ◌≡◌, eqb, length, drop}
+use Rattle.std.specs.Prelude.{ℕ, ◌+◌, ◌≤◌, Bool, false, cond, List, ◌++◌, ◌≡◌, eqb, length, drop, Option, Some, None}
 use Rattle.std.proofs.Math.Option.{none}
 use Rattle.text.specs.Reader.{Reader, ◌>>=◌}
 use Rattle.text.specs.ReadAt.{ReadsTo, Refuses}
@@ -14,10 +14,6 @@ use Rattle.json_text.proofs.ShapedMembers.{members_as}
 use Rattle.json_rule.specs.Shape.{Part, over, bound, body, bound_of, quantifier_from}
 use Rattle.json_rule.specs.Streamed.{asked, streamed, quantifier_member}
 use Rattle.json_sheet.specs.Places.{part_of}
-use Rattle.json_sheet.specs.declared.value.Got.{Got}
-use Rattle.json_sheet.specs.declared.value.Got.TheVariants as got
-use Rattle.json_sheet.specs.declared.condition.PartRead.{PartRead}
-use Rattle.json_sheet.specs.declared.condition.PartRead.TheVariants as part
 
 -- a member, and all of them behind the opening bracket
 abbrev pub quantified_member : ℕ → Text → Reader (List ℕ) Part
@@ -32,9 +28,9 @@ pub record GivenBound (op : ℕ) (s : List ℕ) (at : ℕ) (before after : List 
   pub read : (d : ℕ) → ReadsTo (value d >>= asked bound_of) s at (bound name) next
   pub lies : Laid before after o (write_operator op (length name) name) end
 
-abbrev pub BoundIs : ℕ → List ℕ → ℕ → List ℕ → List ℕ → ℕ → Got → Type 0
-BoundIs op s at before after o (got.Good next end) = GivenBound op s at before after o next end
-BoundIs op s at before after o got.Bad = (d : ℕ) → Refuses (value d >>= asked bound_of) s at
+abbrev pub BoundIs : ℕ → List ℕ → ℕ → List ℕ → List ℕ → ℕ → Option (ℕ × ℕ) → Type 0
+BoundIs op s at before after o (Some (next, end)) = GivenBound op s at before after o next end
+BoundIs op s at before after o None = (d : ℕ) → Refuses (value d >>= asked bound_of) s at
 
 -- a part, which of the three it is (1, 2 or 4, so that only one of each makes 7), and its entries
 pub data Seen (op : ℕ) : Part → ℕ → List ℕ → Type 0 where
@@ -49,9 +45,9 @@ pub record GivenPart (op d : ℕ) (s : List ℕ) (at : ℕ) (before after : List
   pub read : ReadsTo (part_of (quantified_member d)) s at part next
   pub lies : Laid before after o bytes end
 
-abbrev pub PartIs : (op depth : ℕ) → List ℕ → ℕ → List ℕ → List ℕ → ℕ → PartRead → Type 0
-PartIs op d s at before after o (part.Good kind next end) = GivenPart op d s at before after o kind next end
-PartIs op d s at before after o part.Bad = Refuses (part_of (quantified_member d)) s at
+abbrev pub PartIs : (op depth : ℕ) → List ℕ → ℕ → List ℕ → List ℕ → ℕ → Option (ℕ × ℕ × ℕ) → Type 0
+PartIs op d s at before after o (Some (kind, next, end)) = GivenPart op d s at before after o kind next end
+PartIs op d s at before after o None = Refuses (part_of (quantified_member d)) s at
 
 -- a part and what stands behind it
 pub record Followed (behind : List ℕ → ℕ → ℕ → Type 0) (op d : ℕ) (s : List ℕ) (at : ℕ) (before after : List ℕ) (o kind next end : ℕ) : Type 0 where
@@ -65,13 +61,13 @@ pub data Unfollowed (other : List ℕ → ℕ → ℕ → Type 0) (d : ℕ) (s :
   alone : (a : Part) (stop : ℕ) → ReadsTo (part_of (quantified_member d)) s at a stop → comma_or 0x7D (unspaced (drop stop s)) ≡ none → Unfollowed other d s at
   instead : (a : Part) (stop next : ℕ) → ReadsTo (part_of (quantified_member d)) s at a stop → other s stop next → Unfollowed other d s at
 
-abbrev pub NextIs : (op depth : ℕ) → List ℕ → ℕ → List ℕ → List ℕ → ℕ → PartRead → Type 0
-NextIs op d s at before after o (part.Good kind next end) = Followed (MoreAt 0x7D) op d s at before after o kind next end
-NextIs op d s at before after o part.Bad = Unfollowed (EndAt 0x7D) d s at
+abbrev pub NextIs : (op depth : ℕ) → List ℕ → ℕ → List ℕ → List ℕ → ℕ → Option (ℕ × ℕ × ℕ) → Type 0
+NextIs op d s at before after o (Some (kind, next, end)) = Followed (MoreAt 0x7D) op d s at before after o kind next end
+NextIs op d s at before after o None = Unfollowed (EndAt 0x7D) d s at
 
-abbrev pub LastIs : (op depth : ℕ) → List ℕ → ℕ → List ℕ → List ℕ → ℕ → PartRead → Type 0
-LastIs op d s at before after o (part.Good kind next end) = Followed (EndAt 0x7D) op d s at before after o kind next end
-LastIs op d s at before after o part.Bad = Unfollowed (MoreAt 0x7D) d s at
+abbrev pub LastIs : (op depth : ℕ) → List ℕ → ℕ → List ℕ → List ℕ → ℕ → Option (ℕ × ℕ × ℕ) → Type 0
+LastIs op d s at before after o (Some (kind, next, end)) = Followed (EndAt 0x7D) op d s at before after o kind next end
+LastIs op d s at before after o None = Unfollowed (MoreAt 0x7D) d s at
 
 -- whether the second of two parts belongs in front of the first: `as` after `in`, `in` after `that`
 unfoldable pub turns_pair : (first second : ℕ) → Bool

@@ -1,5 +1,5 @@
 -- What the readers of a rule's own object answer.
-use Rattle.std.specs.Prelude.{ℕ, ◌+◌, ◌≤◌, List, ◌≡◌, length}
+use Rattle.std.specs.Prelude.{ℕ, ◌+◌, ◌≤◌, List, ◌≡◌, length, Option as Optional, Some, None}
 use Rattle.std.proofs.Math.Option.{Option, none, some, bind}
 use Rattle.text.specs.Ascii.{ascii}
 use Rattle.text.specs.Reader.{◌>>=◌}
@@ -18,12 +18,8 @@ use Rattle.json_rule.specs.Shape.{optional_of, names, asserts, says, rule_of}
 use Rattle.json_rule.specs.Streamed.{asked}
 use Rattle.json_rule.specs.RuleStreamed.{NamedPart, rule_member, held_depth, rule_rest}
 use Rattle.json_sheet.specs.Places.{part_of}
-use Rattle.json_sheet.specs.declared.rule_text.Optional.{Optional}
-use Rattle.json_sheet.specs.declared.rule_text.Optional.TheVariants as optional
-use Rattle.json_sheet.specs.declared.rule_text.MemberRead.{MemberRead}
-use Rattle.json_sheet.specs.declared.rule_text.MemberRead.TheVariants as member
-use Rattle.json_sheet.specs.declared.rule_text.Parts.{Parts}
-use Rattle.json_sheet.specs.declared.rule_text.Parts.TheVariants as parts
+use Rattle.json_sheet.specs.declared.rule_text.RuleMember.{RuleMember}
+use Rattle.json_sheet.specs.declared.rule_text.RuleMembers.{RuleMembers}
 use Rattle.json_sheet.specs.declared.rule_text.RuleRead.{RuleRead}
 use Rattle.json_sheet.specs.declared.rule_text.RuleRead.TheVariants as result
 
@@ -51,9 +47,9 @@ pub record GivenText (s : List ℕ) (at place len next : ℕ) : Type 0 where
   pub read : (d : ℕ) → ReadsTo (value d >>= asked optional_of) s at text next
 
 -- a string or null, however deep a value may nest there
-abbrev pub OptionalIs : List ℕ → ℕ → Optional → Type 0
-OptionalIs s at (optional.Is place len next) = GivenText s at place len next
-OptionalIs s at optional.Bad = (d : ℕ) → Refuses (value d >>= asked optional_of) s at
+abbrev pub OptionalIs : List ℕ → ℕ → Optional (ℕ × ℕ × ℕ) → Type 0
+OptionalIs s at (Some (place, len, next)) = GivenText s at place len next
+OptionalIs s at None = (d : ℕ) → Refuses (value d >>= asked optional_of) s at
 
 -- whatever text is there, its length or the text itself is laid
 pub record LaysLength (place len : ℕ) (before after : List ℕ) (o r : ℕ) : Type 0 where
@@ -85,9 +81,9 @@ pub record GivenRuleMember (s : List ℕ) (at : ℕ) (before after : List ℕ) (
   pub read : ReadsTo (part_of (rule_member held_depth)) s at part next
   pub seen : RuleSeen s before after part kind a b
 
-abbrev pub RuleMemberIs : List ℕ → ℕ → List ℕ → List ℕ → MemberRead → Type 0
-RuleMemberIs s at before after (member.Is kind a b next) = GivenRuleMember s at before after kind a b next
-RuleMemberIs s at before after member.Bad = Refuses (part_of (rule_member held_depth)) s at
+abbrev pub RuleMemberIs : List ℕ → ℕ → List ℕ → List ℕ → Optional RuleMember → Type 0
+RuleMemberIs s at before after (Some m) = GivenRuleMember s at before after m.kind m.place m.len m.next
+RuleMemberIs s at before after None = Refuses (part_of (rule_member held_depth)) s at
 
 -- All of them
 
@@ -100,9 +96,9 @@ pub record GivenParts (s : List ℕ) (at : ℕ) (before after : List ℕ) (next 
   pub message-at : TextAt s message message_length told
   pub lies : Laid before after front_room (write_condition condition) end
 
-abbrev pub PartsAre : List ℕ → ℕ → List ℕ → List ℕ → Parts → Type 0
-PartsAre s at before after (parts.Good next end name name_length message message_length) = GivenParts s at before after next end name name_length message message_length
-PartsAre s at before after parts.Bad = Refuses rule_rest s at
+abbrev pub PartsAre : List ℕ → ℕ → List ℕ → List ℕ → Optional RuleMembers → Type 0
+PartsAre s at before after (Some r) = GivenParts s at before after r.next r.end r.name r.name_len r.message r.message_len
+PartsAre s at before after None = Refuses rule_rest s at
 
 -- The rule
 

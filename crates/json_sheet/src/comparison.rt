@@ -5,12 +5,12 @@ ghost use Rattle.json_rule.specs.Shape.{comparison_of};
 ghost use Rattle.json_sheet.specs.Places.{operand_in, ConditionIs};
 ghost use Rattle.json_sheet.specs.Compared.{OperatorIs, PartIs, NextIs, LastIs, ThreeIs};
 
-use crate::key::{Choice, read_place};
+use crate::key::read_place;
 use crate::swap::swap;
-use crate::value::{Got, read_value};
+use crate::value::read_value;
 use buffer::lay::{lay, recount};
 use json_text::between::{Separator, read_separator};
-use json_text::string::{StringRead, read_string};
+use json_text::string::read_string;
 use json_text::token::behind_spaces;
 use json_text::unescape::lay_text;
 use text::order::same_bytes;
@@ -28,22 +28,30 @@ const ALL: usize = 7;
 // No name of a comparison is longer.
 const WORD_BYTES: usize = 3;
 
-// What is read of a member.
+// A member of the operand.
 #[derive(Clone, Copy)]
-pub enum PartRead {
-    // Which of the three it is, the number of the comparison (0 for a value), the place after it and the end of its entries.
-    Good(usize, usize, usize, usize),
-    // It is none of them.
-    Bad,
+pub struct Member {
+    // Which of the three it is.
+    pub kind: usize,
+    // The number of the comparison, 0 for a value.
+    pub op: usize,
+    // The place after it.
+    pub next: usize,
+    // The end of its entries.
+    pub end: usize,
 }
 
-// What is read of all three.
+// All three members.
 #[derive(Clone, Copy)]
-pub enum Three {
-    // The place after the bracket, the end of the entries, the place from which on they belong in front, and the number of the comparison.
-    Good(usize, usize, usize, usize),
-    // They are not these three.
-    Bad,
+pub struct Operand {
+    // The place after the bracket.
+    pub next: usize,
+    // The end of the entries.
+    pub end: usize,
+    // The place from which on they belong in front.
+    pub middle: usize,
+    // The number of the comparison.
+    pub op: usize,
 }
 
 fn comparison_of(word: &[u8]) -> usize
@@ -70,77 +78,78 @@ fn comparison_of(word: &[u8]) -> usize
     0
 }
 
-// The string that names a comparison.
-fn read_comparison_name(s: &[u8], at: usize) -> Choice
+// The string that names a comparison: its number, and the place after it.
+fn read_comparison_name(s: &[u8], at: usize) -> Option<(usize, usize)>
     ensures { OperatorIs s.now at result }
 {
     if starts_with(s, at, b'"') {
-        let StringRead::Is(len, next) = read_string(s, at + 1) else {
-            return Choice::Bad;
-        };
+        let (len, next) = read_string(s, at + 1)?;
         if WORD_BYTES < len {
-            return Choice::Bad;
+            return None;
         }
         let mut word = [0u8; WORD_BYTES];
         lay_text(s, at + 1, &mut word, 0);
         let n = comparison_of(&word[0..len]);
         if n == 0 {
-            return Choice::Bad;
+            return None;
         }
-        return Choice::Is(n, next);
+        return Some((n, next));
     }
-    Choice::Bad
+    None
 }
 
-fn read_part(s: &[u8], at: usize, depth: usize, out: &mut [u8], o: usize) -> PartRead
+fn read_part(s: &[u8], at: usize, depth: usize, out: &mut [u8], o: usize) -> Option<Member>
     ensures { PartIs depth s.now at out.old out.new o result }
 {
-    let Choice::Is(place, next) = read_place(s, at, b"left", b"op", b"right") else {
-        return PartRead::Bad;
-    };
+    let (place, next) = read_place(s, at, b"left", b"op", b"right")?;
     if place == 0 {
-        return PartRead::Bad;
+        return None;
     }
     if place == 2 {
-        let Choice::Is(n, behind) = read_comparison_name(s, next) else {
-            return PartRead::Bad;
-        };
-        return PartRead::Good(OP, n, behind, o);
+        let (op, behind) = read_comparison_name(s, next)?;
+        return Some(Member {
+            kind: OP,
+            op,
+            next: behind,
+            end: o,
+        });
     }
-    let Got::Good(behind, end) = read_value(s, next, depth, out, o) else {
-        return PartRead::Bad;
-    };
+    let (behind, end) = read_value(s, next, depth, out, o)?;
     if place == 1 {
-        return PartRead::Good(LEFT, 0, behind, end);
+        return Some(Member {
+            kind: LEFT,
+            op: 0,
+            next: behind,
+            end,
+        });
     }
-    PartRead::Good(RIGHT, 0, behind, end)
+    Some(Member {
+        kind: RIGHT,
+        op: 0,
+        next: behind,
+        end,
+    })
 }
 
 // A member and the comma behind it.
-fn read_next(s: &[u8], at: usize, depth: usize, out: &mut [u8], o: usize) -> PartRead
+fn read_next(s: &[u8], at: usize, depth: usize, out: &mut [u8], o: usize) -> Option<Member>
     ensures { NextIs depth s.now at out.old out.new o result }
 {
-    let PartRead::Good(kind, n, stop, end) = read_part(s, at, depth, out, o) else {
-        return PartRead::Bad;
-    };
-    match read_separator(s, stop, b'}') {
-        Separator::More(next) => PartRead::Good(kind, n, next, end),
-        Separator::End(next) => PartRead::Bad,
-        Separator::Bad => PartRead::Bad,
+    let member = read_part(s, at, depth, out, o)?;
+    match read_separator(s, member.next, b'}')? {
+        Separator::More(next) => Some(Member { next, ..member }),
+        Separator::End(_) => None,
     }
 }
 
 // A member and the bracket behind it.
-fn read_last(s: &[u8], at: usize, depth: usize, out: &mut [u8], o: usize) -> PartRead
+fn read_last(s: &[u8], at: usize, depth: usize, out: &mut [u8], o: usize) -> Option<Member>
     ensures { LastIs depth s.now at out.old out.new o result }
 {
-    let PartRead::Good(kind, n, stop, end) = read_part(s, at, depth, out, o) else {
-        return PartRead::Bad;
-    };
-    match read_separator(s, stop, b'}') {
-        Separator::More(next) => PartRead::Bad,
-        Separator::End(next) => PartRead::Good(kind, n, next, end),
-        Separator::Bad => PartRead::Bad,
+    let member = read_part(s, at, depth, out, o)?;
+    match read_separator(s, member.next, b'}')? {
+        Separator::More(_) => None,
+        Separator::End(next) => Some(Member { next, ..member }),
     }
 }
 
@@ -158,41 +167,44 @@ fn middle_of(first: usize, last: usize, start: usize, second: usize, third: usiz
 }
 
 // All three, from behind the opening bracket on.
-fn read_three(s: &[u8], at: usize, depth: usize, out: &mut [u8], o: usize) -> Three
+fn read_three(s: &[u8], at: usize, depth: usize, out: &mut [u8], o: usize) -> Option<Operand>
     requires { at ≤ length s.now }
     ensures { ThreeIs depth s.now at out.old out.new o result }
 {
     let i = behind_spaces(s, at);
-    let PartRead::Good(a, k, j, e) = read_next(s, i, depth, out, o) else {
-        return Three::Bad;
-    };
-    let PartRead::Good(b, m, l, f) = read_next(s, j, depth, out, e) else {
-        return Three::Bad;
-    };
-    let PartRead::Good(c, n, next, end) = read_last(s, l, depth, out, f) else {
-        return Three::Bad;
-    };
-    if a + b + c == ALL {
-        return Three::Good(next, end, middle_of(a, c, o, e, f), k + m + n);
+    let first = read_next(s, i, depth, out, o)?;
+    let second = read_next(s, first.next, depth, out, first.end)?;
+    let third = read_last(s, second.next, depth, out, second.end)?;
+    if first.kind + second.kind + third.kind == ALL {
+        return Some(Operand {
+            next: third.next,
+            end: third.end,
+            middle: middle_of(first.kind, third.kind, o, first.end, second.end),
+            op: first.op + second.op + third.op,
+        });
     }
-    Three::Bad
+    None
 }
 
-// The left value's entries first, and the number in the head, which is known at last.
-pub fn read_comparison(s: &[u8], at: usize, depth: usize, out: &mut [u8], o: usize) -> Got
+// The left value's entries first, and the number in the head, which is known at last. The place after it, and the end of its entries.
+pub fn read_comparison(
+    s: &[u8],
+    at: usize,
+    depth: usize,
+    out: &mut [u8],
+    o: usize,
+) -> Option<(usize, usize)>
     ensures { ConditionIs (operand_in Operators.comparison 18 depth) s.now at out.old out.new o result }
 {
     if starts_with(s, at, b'{') {
         if depth == 0 {
-            return Got::Bad;
+            return None;
         }
         let count = lay(out, o, b"C,18,");
         let start = lay(out, count, b"0,\n");
-        let Three::Good(next, end, middle, n) = read_three(s, at + 1, depth - 1, out, start) else {
-            return Got::Bad;
-        };
-        swap(out, start, middle, end);
-        return Got::Good(next, recount(out, count, end, n));
+        let operand = read_three(s, at + 1, depth - 1, out, start)?;
+        swap(out, start, operand.middle, operand.end);
+        return Some((operand.next, recount(out, count, operand.end, operand.op)));
     }
-    Got::Bad
+    None
 }

@@ -1,4 +1,4 @@
-// Conditions, each laid as its entries while it is read.
+// Conditions, each laid as its entries while it is read. A reader returns the place after it, and the end of its entries.
 ghost use Rattle.std.specs.Prelude.{◌≡◌, cond, [], ◌≤◌, length, drop};
 ghost use Rattle.sheet.specs.Operators.{shape_of};
 ghost use Rattle.sheet.specs.Operators as Operators;
@@ -10,12 +10,12 @@ ghost use Rattle.json_sheet.specs.Quantified.{quantified, turns_pair, BoundIs, P
 ghost use Rattle.json_sheet.specs.Places.{operator_start, operand_in, pair_rest, operation_rest, ConditionIs, ConditionsAre};
 
 use crate::comparison::read_comparison;
-use crate::key::{Choice, read_operator, read_place};
+use crate::key::{read_operator, read_place};
 use crate::swap::swap;
-use crate::value::{Got, Listed, lay_headed, read_value, read_word};
+use crate::value::{lay_headed, read_value, read_word};
 use buffer::lay::{lay, lay_byte, lay_decimal, recount};
 use json_text::between::{Separator, read_separator};
-use json_text::string::{StringRead, read_string};
+use json_text::string::read_string;
 use json_text::token::behind_spaces;
 use text::starts_with;
 
@@ -27,15 +27,6 @@ const AS: usize = 2;
 const THAT: usize = 4;
 
 const ALL: usize = 7;
-
-// What is read of a quantifier's member.
-#[derive(Clone, Copy)]
-pub enum PartRead {
-    // Which of the three it is, the place after it and the end of its entries.
-    Good(usize, usize, usize),
-    // It is none of them.
-    Bad,
-}
 
 // The head of a condition, up to its last number.
 fn lay_operator(op: usize, out: &mut [u8], o: usize) -> usize
@@ -55,11 +46,11 @@ fn lay_plain(op: usize, out: &mut [u8], o: usize) -> usize
 }
 
 // `true` or `false`.
-fn read_literal(s: &[u8], at: usize, out: &mut [u8], o: usize) -> Got
+fn read_literal(s: &[u8], at: usize, out: &mut [u8], o: usize) -> Option<(usize, usize)>
     ensures { ConditionIs literals s.now at out.old out.new o result }
 {
     if s.len() <= at {
-        return Got::Bad;
+        return None;
     }
     let b = s[at];
     if b == b't' {
@@ -68,11 +59,18 @@ fn read_literal(s: &[u8], at: usize, out: &mut [u8], o: usize) -> Got
     if b == b'f' {
         return read_word(s, at + 1, b"alse", b"C,1,0,\n", out, o);
     }
-    Got::Bad
+    None
 }
 
 // `exists` and `truthy`: any value.
-fn read_one(s: &[u8], at: usize, depth: usize, op: usize, out: &mut [u8], o: usize) -> Got
+fn read_one(
+    s: &[u8],
+    at: usize,
+    depth: usize,
+    op: usize,
+    out: &mut [u8],
+    o: usize,
+) -> Option<(usize, usize)>
     ensures { ConditionIs (operand_in Operators.one op depth) s.now at out.old out.new o result }
 {
     let e = lay_plain(op, out, o);
@@ -80,56 +78,62 @@ fn read_one(s: &[u8], at: usize, depth: usize, op: usize, out: &mut [u8], o: usi
 }
 
 // Exactly two values, from behind the opening bracket on.
-fn read_pair(s: &[u8], at: usize, depth: usize, op: usize, out: &mut [u8], o: usize) -> Got
+fn read_pair(
+    s: &[u8],
+    at: usize,
+    depth: usize,
+    op: usize,
+    out: &mut [u8],
+    o: usize,
+) -> Option<(usize, usize)>
     requires { at ≤ length s.now }
     ensures { ConditionIs (pair_rest op depth) s.now at out.old out.new o result }
 {
     let start = lay_plain(op, out, o);
     let i = behind_spaces(s, at);
-    let Got::Good(next, middle) = read_value(s, i, depth, out, start) else {
-        return Got::Bad;
-    };
-    match read_separator(s, next, b']') {
+    let (next, middle) = read_value(s, i, depth, out, start)?;
+    match read_separator(s, next, b']')? {
         Separator::More(j) => {
-            let Got::Good(behind, end) = read_value(s, j, depth, out, middle) else {
-                return Got::Bad;
-            };
-            match read_separator(s, behind, b']') {
-                Separator::More(k) => Got::Bad,
-                Separator::End(place) => Got::Good(place, end),
-                Separator::Bad => Got::Bad,
+            let (behind, end) = read_value(s, j, depth, out, middle)?;
+            match read_separator(s, behind, b']')? {
+                Separator::More(k) => None,
+                Separator::End(place) => Some((place, end)),
             }
         }
-        Separator::End(place) => Got::Bad,
-        Separator::Bad => Got::Bad,
+        Separator::End(place) => None,
     }
 }
 
 // The operators that take two values.
-fn read_two(s: &[u8], at: usize, depth: usize, op: usize, out: &mut [u8], o: usize) -> Got
+fn read_two(
+    s: &[u8],
+    at: usize,
+    depth: usize,
+    op: usize,
+    out: &mut [u8],
+    o: usize,
+) -> Option<(usize, usize)>
     ensures { ConditionIs (operand_in Operators.two op depth) s.now at out.old out.new o result }
 {
     if starts_with(s, at, b'[') {
         if depth == 0 {
-            return Got::Bad;
+            return None;
         }
         return read_pair(s, at + 1, depth - 1, op, out, o);
     }
-    Got::Bad
+    None
 }
 
 // The string that a quantifier binds, in its head.
-fn read_bound(s: &[u8], at: usize, op: usize, out: &mut [u8], o: usize) -> Got
+fn read_bound(s: &[u8], at: usize, op: usize, out: &mut [u8], o: usize) -> Option<(usize, usize)>
     ensures { BoundIs op s.now at out.old out.new o result }
 {
     if starts_with(s, at, b'"') {
-        let StringRead::Is(len, next) = read_string(s, at + 1) else {
-            return Got::Bad;
-        };
+        let (len, next) = read_string(s, at + 1)?;
         let e = lay_operator(op, out, o);
-        return Got::Good(next, lay_headed(b"", s, at + 1, len, out, e));
+        return Some((next, lay_headed(b"", s, at + 1, len, out, e)));
     }
-    Got::Bad
+    None
 }
 
 // Where the second of two parts begins if it belongs in front of the first one.
@@ -171,15 +175,21 @@ fn arrange(out: &mut [u8], first: usize, last: usize, o: usize, e: usize, f: usi
 
 // A condition. `depth` is how deep arrays and objects may nest.
 #[cycle(read_condition_read_conditions_read_last_read_many_read_negation_read_next_read_operand_read_operation_read_part_read_parts_read_quantifier)]
-pub fn read_condition(s: &[u8], at: usize, depth: usize, out: &mut [u8], o: usize) -> Got
+pub fn read_condition(
+    s: &[u8],
+    at: usize,
+    depth: usize,
+    out: &mut [u8],
+    o: usize,
+) -> Option<(usize, usize)>
     ensures { ConditionIs (streamed depth) s.now at out.old out.new o result }
 {
     if s.len() <= at {
-        return Got::Bad;
+        return None;
     }
     if s[at] == b'{' {
         if depth == 0 {
-            return Got::Bad;
+            return None;
         }
         return read_operation(s, at + 1, depth - 1, out, o);
     }
@@ -188,31 +198,39 @@ pub fn read_condition(s: &[u8], at: usize, depth: usize, out: &mut [u8], o: usiz
 
 // Exactly one operator with its operand, from behind the opening bracket on.
 #[cycle(read_condition_read_conditions_read_last_read_many_read_negation_read_next_read_operand_read_operation_read_part_read_parts_read_quantifier)]
-fn read_operation(s: &[u8], at: usize, depth: usize, out: &mut [u8], o: usize) -> Got
+fn read_operation(
+    s: &[u8],
+    at: usize,
+    depth: usize,
+    out: &mut [u8],
+    o: usize,
+) -> Option<(usize, usize)>
     requires { at ≤ length s.now }
     ensures { ConditionIs (operation_rest depth) s.now at out.old out.new o result }
 {
     let i = behind_spaces(s, at);
-    let Choice::Is(op, next) = read_operator(s, i) else {
-        return Got::Bad;
-    };
-    let Got::Good(behind, end) = read_operand(s, next, depth, op, out, o) else {
-        return Got::Bad;
-    };
-    match read_separator(s, behind, b'}') {
-        Separator::More(j) => Got::Bad,
-        Separator::End(place) => Got::Good(place, end),
-        Separator::Bad => Got::Bad,
+    let (op, next) = read_operator(s, i)?;
+    let (behind, end) = read_operand(s, next, depth, op, out, o)?;
+    match read_separator(s, behind, b'}')? {
+        Separator::More(j) => None,
+        Separator::End(place) => Some((place, end)),
     }
 }
 
 // What follows an operator's name.
 #[cycle(read_condition_read_conditions_read_last_read_many_read_negation_read_next_read_operand_read_operation_read_part_read_parts_read_quantifier)]
-fn read_operand(s: &[u8], at: usize, depth: usize, op: usize, out: &mut [u8], o: usize) -> Got
+fn read_operand(
+    s: &[u8],
+    at: usize,
+    depth: usize,
+    op: usize,
+    out: &mut [u8],
+    o: usize,
+) -> Option<(usize, usize)>
     ensures { ConditionIs (operand_in (shape_of op) op depth) s.now at out.old out.new o result }
 {
     if op <= 1 {
-        return Got::Bad;
+        return None;
     }
     if op <= 3 {
         return read_many(s, at, depth, op, out, o);
@@ -236,7 +254,13 @@ fn read_operand(s: &[u8], at: usize, depth: usize, op: usize, out: &mut [u8], o:
 }
 
 #[cycle(read_condition_read_conditions_read_last_read_many_read_negation_read_next_read_operand_read_operation_read_part_read_parts_read_quantifier)]
-fn read_negation(s: &[u8], at: usize, depth: usize, out: &mut [u8], o: usize) -> Got
+fn read_negation(
+    s: &[u8],
+    at: usize,
+    depth: usize,
+    out: &mut [u8],
+    o: usize,
+) -> Option<(usize, usize)>
     ensures { ConditionIs (operand_in Operators.negation 4 depth) s.now at out.old out.new o result }
 {
     let e = lay_plain(4, out, o);
@@ -245,30 +269,41 @@ fn read_negation(s: &[u8], at: usize, depth: usize, out: &mut [u8], o: usize) ->
 
 // `all` and `any`. Their count is known at last.
 #[cycle(read_condition_read_conditions_read_last_read_many_read_negation_read_next_read_operand_read_operation_read_part_read_parts_read_quantifier)]
-fn read_many(s: &[u8], at: usize, depth: usize, op: usize, out: &mut [u8], o: usize) -> Got
+fn read_many(
+    s: &[u8],
+    at: usize,
+    depth: usize,
+    op: usize,
+    out: &mut [u8],
+    o: usize,
+) -> Option<(usize, usize)>
     ensures { ConditionIs (operand_in Operators.many op depth) s.now at out.old out.new o result }
 {
     if starts_with(s, at, b'[') {
         if depth == 0 {
-            return Got::Bad;
+            return None;
         }
         let count = lay_operator(op, out, o);
         let start = lay(out, count, b"0,\n");
         let i = behind_spaces(s, at + 1);
         if starts_with(s, i, b']') {
-            return Got::Good(i + 1, start);
+            return Some((i + 1, start));
         }
-        let Listed::Good(next, end, n) = read_conditions(s, i, depth - 1, out, start) else {
-            return Got::Bad;
-        };
-        return Got::Good(next, recount(out, count, end, n));
+        let (next, end, n) = read_conditions(s, i, depth - 1, out, start)?;
+        return Some((next, recount(out, count, end, n)));
     }
-    Got::Bad
+    None
 }
 
-// One condition at least.
+// One condition at least: the place after the closing bracket, the end of the entries, and how many there are.
 #[cycle(read_condition_read_conditions_read_last_read_many_read_negation_read_next_read_operand_read_operation_read_part_read_parts_read_quantifier)]
-fn read_conditions(s: &[u8], at: usize, depth: usize, out: &mut [u8], o: usize) -> Listed
+fn read_conditions(
+    s: &[u8],
+    at: usize,
+    depth: usize,
+    out: &mut [u8],
+    o: usize,
+) -> Option<(usize, usize, usize)>
     requires { (at ≤ length s.now) × (unspaced (drop at s.now) ≡ drop at s.now) }
     ensures { ConditionsAre (streamed depth) s.now at out.old out.new o result }
 {
@@ -276,20 +311,15 @@ fn read_conditions(s: &[u8], at: usize, depth: usize, out: &mut [u8], o: usize) 
     let mut e = o;
     let mut n: usize = 0;
     loop {
-        let Got::Good(next, end) = read_condition(s, i, depth, out, e) else {
-            return Listed::Bad;
-        };
+        let (next, end) = read_condition(s, i, depth, out, e)?;
         n += 1;
         e = end;
-        match read_separator(s, next, b']') {
+        match read_separator(s, next, b']')? {
             Separator::More(place) => {
                 i = place;
             }
             Separator::End(place) => {
-                return Listed::Good(place, e, n);
-            }
-            Separator::Bad => {
-                return Listed::Bad;
+                return Some((place, e, n));
             }
         }
     }
@@ -297,96 +327,112 @@ fn read_conditions(s: &[u8], at: usize, depth: usize, out: &mut [u8], o: usize) 
 
 // `for_all` and `for_any`.
 #[cycle(read_condition_read_conditions_read_last_read_many_read_negation_read_next_read_operand_read_operation_read_part_read_parts_read_quantifier)]
-fn read_quantifier(s: &[u8], at: usize, depth: usize, op: usize, out: &mut [u8], o: usize) -> Got
+fn read_quantifier(
+    s: &[u8],
+    at: usize,
+    depth: usize,
+    op: usize,
+    out: &mut [u8],
+    o: usize,
+) -> Option<(usize, usize)>
     ensures { ConditionIs (operand_in Operators.quantifier op depth) s.now at out.old out.new o result }
 {
     if starts_with(s, at, b'{') {
         if depth == 0 {
-            return Got::Bad;
+            return None;
         }
         return read_parts(s, at + 1, depth - 1, op, out, o);
     }
-    Got::Bad
+    None
 }
 
 // All three members, from behind the opening bracket on. The head goes first, then `in`, then `that`.
 #[cycle(read_condition_read_conditions_read_last_read_many_read_negation_read_next_read_operand_read_operation_read_part_read_parts_read_quantifier)]
-fn read_parts(s: &[u8], at: usize, depth: usize, op: usize, out: &mut [u8], o: usize) -> Got
+fn read_parts(
+    s: &[u8],
+    at: usize,
+    depth: usize,
+    op: usize,
+    out: &mut [u8],
+    o: usize,
+) -> Option<(usize, usize)>
     requires { at ≤ length s.now }
     ensures { ConditionIs (quantified op depth) s.now at out.old out.new o result }
 {
     let i = behind_spaces(s, at);
-    let PartRead::Good(a, j, e) = read_next(s, i, depth, op, out, o) else {
-        return Got::Bad;
-    };
-    let PartRead::Good(b, l, f) = read_next(s, j, depth, op, out, e) else {
-        return Got::Bad;
-    };
+    let (a, j, e) = read_next(s, i, depth, op, out, o)?;
+    let (b, l, f) = read_next(s, j, depth, op, out, e)?;
     swap(out, o, middle_of(a, b, o, e), f);
-    let PartRead::Good(c, next, end) = read_last(s, l, depth, op, out, f) else {
-        return Got::Bad;
-    };
+    let (c, next, end) = read_last(s, l, depth, op, out, f)?;
     if a + b + c == ALL {
         arrange(out, a, c, o, e, f, end);
-        return Got::Good(next, end);
+        return Some((next, end));
     }
-    Got::Bad
+    None
 }
 
-// A member and the comma behind it.
+// A member and the comma behind it: which one it is, the place after the comma and the end of its entries.
 #[cycle(read_condition_read_conditions_read_last_read_many_read_negation_read_next_read_operand_read_operation_read_part_read_parts_read_quantifier)]
-fn read_next(s: &[u8], at: usize, depth: usize, op: usize, out: &mut [u8], o: usize) -> PartRead
+fn read_next(
+    s: &[u8],
+    at: usize,
+    depth: usize,
+    op: usize,
+    out: &mut [u8],
+    o: usize,
+) -> Option<(usize, usize, usize)>
     ensures { NextIs op depth s.now at out.old out.new o result }
 {
-    let PartRead::Good(kind, stop, end) = read_part(s, at, depth, op, out, o) else {
-        return PartRead::Bad;
-    };
-    match read_separator(s, stop, b'}') {
-        Separator::More(next) => PartRead::Good(kind, next, end),
-        Separator::End(next) => PartRead::Bad,
-        Separator::Bad => PartRead::Bad,
+    let (kind, stop, end) = read_part(s, at, depth, op, out, o)?;
+    match read_separator(s, stop, b'}')? {
+        Separator::More(next) => Some((kind, next, end)),
+        Separator::End(next) => None,
     }
 }
 
-// A member and the bracket behind it.
+// A member and the bracket behind it, the same way.
 #[cycle(read_condition_read_conditions_read_last_read_many_read_negation_read_next_read_operand_read_operation_read_part_read_parts_read_quantifier)]
-fn read_last(s: &[u8], at: usize, depth: usize, op: usize, out: &mut [u8], o: usize) -> PartRead
+fn read_last(
+    s: &[u8],
+    at: usize,
+    depth: usize,
+    op: usize,
+    out: &mut [u8],
+    o: usize,
+) -> Option<(usize, usize, usize)>
     ensures { LastIs op depth s.now at out.old out.new o result }
 {
-    let PartRead::Good(kind, stop, end) = read_part(s, at, depth, op, out, o) else {
-        return PartRead::Bad;
-    };
-    match read_separator(s, stop, b'}') {
-        Separator::More(next) => PartRead::Bad,
-        Separator::End(next) => PartRead::Good(kind, next, end),
-        Separator::Bad => PartRead::Bad,
+    let (kind, stop, end) = read_part(s, at, depth, op, out, o)?;
+    match read_separator(s, stop, b'}')? {
+        Separator::More(next) => None,
+        Separator::End(next) => Some((kind, next, end)),
     }
 }
 
+// A quantifier's member: which of the three it is, the place after it, and the end of its entries.
 #[cycle(read_condition_read_conditions_read_last_read_many_read_negation_read_next_read_operand_read_operation_read_part_read_parts_read_quantifier)]
-fn read_part(s: &[u8], at: usize, depth: usize, op: usize, out: &mut [u8], o: usize) -> PartRead
+fn read_part(
+    s: &[u8],
+    at: usize,
+    depth: usize,
+    op: usize,
+    out: &mut [u8],
+    o: usize,
+) -> Option<(usize, usize, usize)>
     ensures { PartIs op depth s.now at out.old out.new o result }
 {
-    let Choice::Is(place, next) = read_place(s, at, b"in", b"as", b"that") else {
-        return PartRead::Bad;
-    };
+    let (place, next) = read_place(s, at, b"in", b"as", b"that")?;
     if place == 1 {
-        let Got::Good(behind, end) = read_value(s, next, depth, out, o) else {
-            return PartRead::Bad;
-        };
-        return PartRead::Good(IN, behind, end);
+        let (behind, end) = read_value(s, next, depth, out, o)?;
+        return Some((IN, behind, end));
     }
     if place == 2 {
-        let Got::Good(behind, end) = read_bound(s, next, op, out, o) else {
-            return PartRead::Bad;
-        };
-        return PartRead::Good(AS, behind, end);
+        let (behind, end) = read_bound(s, next, op, out, o)?;
+        return Some((AS, behind, end));
     }
     if place == 3 {
-        let Got::Good(behind, end) = read_condition(s, next, depth, out, o) else {
-            return PartRead::Bad;
-        };
-        return PartRead::Good(THAT, behind, end);
+        let (behind, end) = read_condition(s, next, depth, out, o)?;
+        return Some((THAT, behind, end));
     }
-    PartRead::Bad
+    None
 }

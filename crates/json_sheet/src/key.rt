@@ -3,31 +3,20 @@ ghost use Rattle.std.specs.Prelude.{[], ◌∷◌, ◌≡◌, ◌≤◌, length}
 ghost use Rattle.json_rule.specs.Shape.{operator_of, place_in};
 ghost use Rattle.json_sheet.specs.Places.{word_bytes, NameIs, ChoiceIs};
 
-use json_text::between::{KeyRead, read_key};
+use json_text::between::read_key;
 use json_text::unescape::lay_text;
 use text::order::same_bytes;
 
 // No name that is looked for is longer.
 const WORD_BYTES: usize = 12;
 
-// Which name stands in front of a value.
-#[derive(Clone, Copy)]
-pub enum Choice {
-    // Its number, 0 where it is none that is looked for, and the place of the value.
-    Is(usize, usize),
-    // No name with a colon begins there.
-    Bad,
-}
-
-// A name, laid into a word if it fits.
-fn read_name(s: &[u8], at: usize, word: &mut [u8]) -> KeyRead
+// A name, laid into a word if it fits: how long it is, and the place of its value.
+fn read_name(s: &[u8], at: usize, word: &mut [u8]) -> Option<(usize, usize)>
     ensures { NameIs s.now at word.old word.new result }
 {
-    let KeyRead::Is(len, next) = read_key(s, at) else {
-        return KeyRead::Bad;
-    };
+    let (len, next) = read_key(s, at)?;
     lay_text(s, at + 1, word, 0);
-    KeyRead::Is(len, next)
+    Some((len, next))
 }
 
 fn operator_of_2(word: &[u8]) -> usize
@@ -150,18 +139,16 @@ fn operator_of(word: &[u8]) -> usize
     operator_of_other(word)
 }
 
-// The operator that a member names.
-pub fn read_operator(s: &[u8], at: usize) -> Choice
+// The operator that a member names: its number, 0 where it is none, and the place of the value.
+pub fn read_operator(s: &[u8], at: usize) -> Option<(usize, usize)>
     ensures { ChoiceIs operator_of s.now at result }
 {
     let mut word = [0u8; WORD_BYTES];
-    let KeyRead::Is(len, next) = read_name(s, at, &mut word) else {
-        return Choice::Bad;
-    };
+    let (len, next) = read_name(s, at, &mut word)?;
     if WORD_BYTES < len {
-        return Choice::Is(0, next);
+        return Some((0, next));
     }
-    Choice::Is(operator_of(&word[0..len]), next)
+    Some((operator_of(&word[0..len]), next))
 }
 
 fn place_of(word: &[u8], first: &[u8], second: &[u8], third: &[u8]) -> usize
@@ -179,17 +166,21 @@ fn place_of(word: &[u8], first: &[u8], second: &[u8], third: &[u8]) -> usize
     0
 }
 
-// Which of three names a member has.
-pub fn read_place(s: &[u8], at: usize, first: &[u8], second: &[u8], third: &[u8]) -> Choice
+// Which of three names a member has: its number, 0 where it is none of them, and the place of the value.
+pub fn read_place(
+    s: &[u8],
+    at: usize,
+    first: &[u8],
+    second: &[u8],
+    third: &[u8],
+) -> Option<(usize, usize)>
     requires { (length first.now ≤ word_bytes) × (length second.now ≤ word_bytes) × (length third.now ≤ word_bytes) }
     ensures { ChoiceIs (λ t. place_in 1 t (first.now ∷ second.now ∷ third.now ∷ [])) s.now at result }
 {
     let mut word = [0u8; WORD_BYTES];
-    let KeyRead::Is(len, next) = read_name(s, at, &mut word) else {
-        return Choice::Bad;
-    };
+    let (len, next) = read_name(s, at, &mut word)?;
     if WORD_BYTES < len {
-        return Choice::Is(0, next);
+        return Some((0, next));
     }
-    Choice::Is(place_of(&word[0..len], first, second, third), next)
+    Some((place_of(&word[0..len], first, second, third), next))
 }

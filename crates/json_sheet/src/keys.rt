@@ -4,9 +4,9 @@ ghost use Rattle.json_keys.specs.Repeats.{batch, Falls, IsChained, Ready, NextIs
 ghost use Rattle.json_sheet.specs.Batches.{BatchIs};
 
 use crate::texts::{same_text, slot_of};
-use crate::value::{Got, read_value};
-use json_text::between::{KeyRead, Separator, read_key, read_separator};
-use json_text::string::{StringRead, read_string};
+use crate::value::read_value;
+use json_text::between::{Separator, read_key, read_separator};
+use json_text::string::read_string;
 use json_text::token::behind_spaces;
 use text::starts_with;
 
@@ -17,15 +17,6 @@ const MAX_DEPTH: usize = 1024;
 const BATCH: usize = 16384;
 
 const SLOTS: usize = 16384;
-
-// What is found among the keys of an object.
-#[derive(Clone, Copy)]
-pub enum Looked {
-    // A key that occurs twice.
-    Repeated,
-    // None in the table occurs again. The place of the next member that is not in the table, or 0.
-    Differ(usize),
-}
 
 // Whether the text at a place is in the chain from `from` on.
 fn is_chained(s: &[u8], links: &[u16], places: &[usize], at: usize, from: usize) -> bool
@@ -46,17 +37,17 @@ fn is_chained(s: &[u8], links: &[u16], places: &[usize], at: usize, from: usize)
 fn next_member(s: &[u8], at: usize) -> usize
     ensures { NextIs s.now at result }
 {
-    let KeyRead::Is(_, start) = read_key(s, at) else {
+    let Some((_, start)) = read_key(s, at) else {
         return 0;
     };
     let mut nowhere = [0u8; 1];
-    let Got::Good(behind, _) = read_value(s, start, MAX_DEPTH, &mut nowhere, 1) else {
+    let Some((behind, _)) = read_value(s, start, MAX_DEPTH, &mut nowhere, 1) else {
         return 0;
     };
     match read_separator(s, behind, b'}') {
-        Separator::More(place) => place,
-        Separator::End(_) => 0,
-        Separator::Bad => 0,
+        Some(Separator::More(place)) => place,
+        Some(Separator::End(_)) => 0,
+        None => 0,
     }
 }
 
@@ -79,34 +70,33 @@ fn rest_differs(s: &[u8], heads: &[u16], links: &[u16], places: &[usize], from: 
     }
 }
 
-// The keys from a member on: the first of them go into the table, the others are looked up.
-fn batch_differs(s: &[u8], from: usize, links: &mut [u16], places: &mut [usize]) -> Looked
+// The keys from a member on: the first of them go into the table, the others are looked up. `None` where one in the table occurs twice;
+// else the place of the next member that is not in the table, or 0.
+fn batch_differs(s: &[u8], from: usize, links: &mut [u16], places: &mut [usize]) -> Option<usize>
     requires { (from ≤ length s.now) × (length links.old ≡ batch) × (length places.old ≡ batch) }
     ensures { BatchIs s.now from result }
 {
     let mut heads = [0u16; SLOTS];
     let mut i = from;
-    let mut n: usize = 0;
-    while n < BATCH {
+    for n in 0..BATCH {
         let next = next_member(s, i);
         let slot = slot_of(s, i + 1);
         let head = heads[slot];
         if is_chained(s, links, places, i + 1, head as usize) {
-            return Looked::Repeated;
+            return None;
         }
         if next == 0 {
-            return Looked::Differ(0);
+            return Some(0);
         }
         links[n] = head;
         places[n] = i + 1;
-        n += 1;
-        heads[slot] = n as u16;
+        heads[slot] = (n + 1) as u16;
         i = next;
     }
     if rest_differs(s, &heads, links, places, i) {
-        return Looked::Differ(i);
+        return Some(i);
     }
-    Looked::Repeated
+    None
 }
 
 // Whether no key of an object occurs twice, from behind its opening bracket on.
@@ -123,7 +113,7 @@ fn object_differs(s: &[u8], at: usize, links: &mut [u16], places: &mut [usize]) 
         return true;
     }
     loop {
-        let Looked::Differ(next) = batch_differs(s, i, links, places) else {
+        let Some(next) = batch_differs(s, i, links, places) else {
             return false;
         };
         if next == 0 {
@@ -133,7 +123,7 @@ fn object_differs(s: &[u8], at: usize, links: &mut [u16], places: &mut [usize]) 
     }
 }
 
-// Every object is met at its opening bracket, which is none inside a string.
+// Every object is met at its opening bracket, which is none inside a string. A while: a string is passed as a whole.
 pub fn keys_differ(text: &[u8]) -> bool
     ensures { KeysDiffer text.now result }
 {
@@ -143,14 +133,14 @@ pub fn keys_differ(text: &[u8]) -> bool
     while i < text.len() {
         let b = text[i];
         if b == b'"' {
-            let StringRead::Is(_, next) = read_string(text, i + 1) else {
+            let Some((_, next)) = read_string(text, i + 1) else {
                 return false;
             };
             i = next;
         } else {
             i += 1;
             if b == b'{' {
-                if object_differs(text, i, &mut links, &mut places) {} else {
+                if !object_differs(text, i, &mut links, &mut places) {
                     return false;
                 }
             }

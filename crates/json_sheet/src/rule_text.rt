@@ -3,11 +3,10 @@ ghost use Rattle.std.specs.Prelude.{◌≤◌, length};
 ghost use Rattle.json_sheet.specs.RuleAt.{OptionalIs, LaysLength, LaysOptional, LaysHead, FrontLaid, RuleMemberIs, PartsAre, RuleTextIs};
 
 use crate::condition::read_condition;
-use crate::key::{Choice, read_place};
-use crate::value::Got;
+use crate::key::read_place;
 use buffer::lay::{lay, lay_byte, lay_decimal};
 use json_text::between::{Separator, read_separator};
-use json_text::string::{StringRead, read_string};
+use json_text::string::read_string;
 use json_text::token::{behind_spaces, is_spelled};
 use json_text::unescape::lay_text;
 use text::starts_with;
@@ -21,31 +20,32 @@ const HELD_DEPTH: usize = 1023;
 // No text of a sheet is longer.
 const MAX_TEXT: usize = 512;
 
-// What is read of a text that may be absent.
+// A member of a rule's own object.
 #[derive(Clone, Copy)]
-pub enum Optional {
-    // Where the text begins, behind its quotation mark, and its length, both 0 where it is null; the place after it.
-    Is(usize, usize, usize),
-    // It is neither a string nor null.
-    Bad,
+pub struct RuleMember {
+    // Which one it is: 1 name, 2 assert, 3 message.
+    pub kind: usize,
+    // Where its text begins, 0 where it is null; the end of the entries of a condition.
+    pub place: usize,
+    // How long its text is, 0 where it has none.
+    pub len: usize,
+    // The place after it.
+    pub next: usize,
 }
 
-// What is read of a member.
+// What is kept of all members.
 #[derive(Clone, Copy)]
-pub enum MemberRead {
-    // Which one it is (1 name, 2 assert, 3 message); where its text begins and how long it is, or the end of its entries and 0; the place after it.
-    Is(usize, usize, usize, usize),
-    // It is none of them.
-    Bad,
-}
-
-// What is read of all members.
-#[derive(Clone, Copy)]
-pub enum Parts {
-    // The place after the bracket, the end of the condition's entries, and where name and message begin and how long they are.
-    Good(usize, usize, usize, usize, usize, usize),
-    // They are no rule's.
-    Bad,
+pub struct RuleMembers {
+    // The place after the bracket.
+    pub next: usize,
+    // The end of the condition's entries.
+    pub end: usize,
+    // Where the name begins, 0 where it is absent, and how long it is.
+    pub name: usize,
+    pub name_len: usize,
+    // The same of the message.
+    pub message: usize,
+    pub message_len: usize,
 }
 
 // What is read of a text.
@@ -59,47 +59,50 @@ pub enum RuleRead {
     Bad,
 }
 
-fn read_optional(s: &[u8], at: usize) -> Optional
+// A string or null: where the text begins, behind its quotation mark, and its length, both 0 where it is null; and the place after it.
+fn read_optional(s: &[u8], at: usize) -> Option<(usize, usize, usize)>
     ensures { OptionalIs s.now at result }
 {
     if starts_with(s, at, b'"') {
-        let StringRead::Is(len, next) = read_string(s, at + 1) else {
-            return Optional::Bad;
-        };
-        return Optional::Is(at + 1, len, next);
+        let (len, next) = read_string(s, at + 1)?;
+        return Some((at + 1, len, next));
     }
     if starts_with(s, at, b'n') {
         if is_spelled(s, at + 1, b"ull") {
-            return Optional::Is(0, 0, at + 4);
+            return Some((0, 0, at + 4));
         }
-        return Optional::Bad;
+        return None;
     }
-    Optional::Bad
+    None
 }
 
-fn read_rule_member(s: &[u8], at: usize, out: &mut [u8]) -> MemberRead
+fn read_rule_member(s: &[u8], at: usize, out: &mut [u8]) -> Option<RuleMember>
     ensures { RuleMemberIs s.now at out.old out.new result }
 {
-    let Choice::Is(kind, next) = read_place(s, at, b"name", b"assert", b"message") else {
-        return MemberRead::Bad;
-    };
+    let (kind, next) = read_place(s, at, b"name", b"assert", b"message")?;
     if kind == 0 {
-        return MemberRead::Bad;
+        return None;
     }
     if kind == 2 {
-        let Got::Good(behind, end) = read_condition(s, next, HELD_DEPTH, out, FRONT_ROOM) else {
-            return MemberRead::Bad;
-        };
-        return MemberRead::Is(2, end, 0, behind);
+        let (behind, end) = read_condition(s, next, HELD_DEPTH, out, FRONT_ROOM)?;
+        return Some(RuleMember {
+            kind: 2,
+            place: end,
+            len: 0,
+            next: behind,
+        });
     }
-    let Optional::Is(place, len, behind) = read_optional(s, next) else {
-        return MemberRead::Bad;
-    };
-    MemberRead::Is(kind, place, len, behind)
+    let (place, len, behind) = read_optional(s, next)?;
+    Some(RuleMember {
+        kind,
+        place,
+        len,
+        next: behind,
+    })
 }
 
 // Each member once, from behind the opening bracket on; by its number, what is kept of it.
-fn read_rule_members(s: &[u8], at: usize, out: &mut [u8]) -> Parts
+fn read_rule_members(s: &[u8], at: usize, out: &mut [u8]) -> Option<RuleMembers>
     requires { at ≤ length s.now }
     ensures { PartsAre s.now at out.old out.new result }
 {
@@ -108,27 +111,30 @@ fn read_rule_members(s: &[u8], at: usize, out: &mut [u8]) -> Parts
     let mut second = [0usize; 4];
     let mut i = behind_spaces(s, at);
     loop {
-        let MemberRead::Is(kind, a, b, stop) = read_rule_member(s, i, out) else {
-            return Parts::Bad;
-        };
+        let member = read_rule_member(s, i, out)?;
+        let kind = member.kind;
         if seen[kind] != 0 {
-            return Parts::Bad;
+            return None;
         }
         seen[kind] = 1;
-        first[kind] = a;
-        second[kind] = b;
-        match read_separator(s, stop, b'}') {
+        first[kind] = member.place;
+        second[kind] = member.len;
+        match read_separator(s, member.next, b'}')? {
             Separator::More(place) => {
                 i = place;
             }
             Separator::End(place) => {
                 if seen[2] == 0 {
-                    return Parts::Bad;
+                    return None;
                 }
-                return Parts::Good(place, first[2], first[1], second[1], first[3], second[3]);
-            }
-            Separator::Bad => {
-                return Parts::Bad;
+                return Some(RuleMembers {
+                    next: place,
+                    end: first[2],
+                    name: first[1],
+                    name_len: second[1],
+                    message: first[3],
+                    message_len: second[3],
+                });
             }
         }
     }
@@ -189,19 +195,27 @@ pub fn read_rule_text(s: &[u8], out: &mut [u8]) -> RuleRead
 {
     let i = behind_spaces(s, 0);
     if starts_with(s, i, b'{') {
-        let Parts::Good(next, end, name, n, message, m) = read_rule_members(s, i + 1, out) else {
+        let Some(read) = read_rule_members(s, i + 1, out) else {
             return RuleRead::Bad;
         };
-        if behind_spaces(s, next) < s.len() {
+        if behind_spaces(s, read.next) < s.len() {
             return RuleRead::Bad;
         }
-        if MAX_TEXT < n {
+        if MAX_TEXT < read.name_len {
             return RuleRead::Long;
         }
-        if MAX_TEXT < m {
+        if MAX_TEXT < read.message_len {
             return RuleRead::Long;
         }
-        return RuleRead::Good(lay_front(s, name, n, message, m, out), end);
+        let start = lay_front(
+            s,
+            read.name,
+            read.name_len,
+            read.message,
+            read.message_len,
+            out,
+        );
+        return RuleRead::Good(start, read.end);
     }
     RuleRead::Bad
 }

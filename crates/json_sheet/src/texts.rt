@@ -3,7 +3,7 @@ ghost use Rattle.std.specs.Prelude.{◌≡◌, ◌<◌};
 ghost use Rattle.json_text.specs.Encode.{utf8_of};
 ghost use Rattle.json_keys.specs.Texts.{SameText, stir, stirred, SlotIs};
 
-use json_text::escape::{Point, char};
+use json_text::escape::char;
 use text::starts_with;
 
 pub fn same_text(s: &[u8], a: usize, b: usize) -> bool
@@ -18,10 +18,10 @@ pub fn same_text(s: &[u8], a: usize, b: usize) -> bool
         if starts_with(s, j, b'"') {
             return false;
         }
-        let Point::Is(c, next) = char(s, i) else {
+        let Some((c, next)) = char(s, i) else {
             return false;
         };
-        let Point::Is(d, behind) = char(s, j) else {
+        let Some((d, behind)) = char(s, j) else {
             return false;
         };
         if c != d {
@@ -68,7 +68,7 @@ pub fn slot_of(s: &[u8], at: usize) -> usize
         if starts_with(s, i, b'"') {
             return h as usize / 262144;
         }
-        let Point::Is(c, next) = char(s, i) else {
+        let Some((c, next)) = char(s, i) else {
             return h as usize / 262144;
         };
         h = stir_point(h, c);

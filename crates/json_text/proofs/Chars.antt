@@ -12,8 +12,6 @@ use lib.Dec.{leb, eqb}
 use borrow.Author.Tests.{le-leb, lt-leb, eq-eqb, ne_eqb}
 use Rattle.text.specs.Utf8.{between, utf8-1, utf8-2, utf8-3, utf8-4, or_else, decode_one}
 use Rattle.text.specs.Decodes.{Decodes}
-use Rattle.text.specs.declared.Decoded.{Decoded}
-use Rattle.text.specs.declared.Decoded.TheVariants.{CodePoint, Malformed}
 use Rattle.text.proofs.Bools.{cond-none, cond-some}
 use Rattle.text.specs.ByteReaders.{byte}
 use Rattle.text.specs.Reader.{Reader, ◌>>=◌, ◌>>◌, and_then, pure, ensure, refuse}

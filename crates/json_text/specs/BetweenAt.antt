@@ -1,5 +1,5 @@
 -- What the readers of keys, commas and closing brackets answer. White space around them is passed too.
-use Rattle.std.specs.Prelude.{ℕ, ◌+◌, ◌<◌, ◌≤◌, true, false, List, ◌≡◌, length, drop}
+use Rattle.std.specs.Prelude.{ℕ, ◌+◌, ◌<◌, ◌≤◌, true, false, List, ◌≡◌, length, drop, Option, Some, None}
 use Rattle.std.proofs.Math.Option.{none, some}
 use Rattle.text.specs.Reader.{Reader, ◌>>=◌, ◌>>◌, pure}
 use Rattle.text.specs.ByteReaders.{byte}
@@ -7,8 +7,6 @@ use Rattle.text.specs.ReadAt.{ReadsTo, Refuses}
 use Rattle.json_text.specs.Json.{Text}
 use Rattle.json_text.specs.Strings.{string}
 use Rattle.json_text.specs.Grammar.{unspaced, spaces, comma_or}
-use Rattle.json_text.specs.declared.between.KeyRead.{KeyRead}
-use Rattle.json_text.specs.declared.between.KeyRead.TheVariants as key
 use Rattle.json_text.specs.declared.between.Separator.{Separator}
 use Rattle.json_text.specs.declared.between.Separator.TheVariants as separator
 
@@ -30,9 +28,9 @@ pub record KeyAt (s : List ℕ) (at len next : ℕ) : Type 0 where
   pub read : ReadsTo key_of s at text next
   pub size : length text ≡ len
 
-abbrev pub KeyIs : List ℕ → ℕ → KeyRead → Type 0
-KeyIs s at (key.Is len next) = KeyAt s at len next
-KeyIs s at key.Bad = Refuses key_of s at
+abbrev pub KeyIs : List ℕ → ℕ → Option (ℕ × ℕ) → Type 0
+KeyIs s at (Some (len, next)) = KeyAt s at len next
+KeyIs s at None = Refuses key_of s at
 
 -- a comma, and what comes after it at `next`
 pub record MoreAt (close : ℕ) (s : List ℕ) (at next : ℕ) : Type 0 where
@@ -48,7 +46,7 @@ pub record EndAt (close : ℕ) (s : List ℕ) (at next : ℕ) : Type 0 where
   pub past : at < next
   pub within : next ≤ length s
 
-abbrev pub SeparatorIs : ℕ → List ℕ → ℕ → Separator → Type 0
-SeparatorIs close s at (separator.More next) = MoreAt close s at next
-SeparatorIs close s at (separator.End next) = EndAt close s at next
-SeparatorIs close s at separator.Bad = comma_or close (unspaced (drop at s)) ≡ none
+abbrev pub SeparatorIs : ℕ → List ℕ → ℕ → Option Separator → Type 0
+SeparatorIs close s at (Some (separator.More next)) = MoreAt close s at next
+SeparatorIs close s at (Some (separator.End next)) = EndAt close s at next
+SeparatorIs close s at None = comma_or close (unspaced (drop at s)) ≡ none

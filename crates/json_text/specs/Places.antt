@@ -1,12 +1,10 @@
 -- What the code's readers answer, by cases: what the definitions read from place `at` of the bytes on, and the place after it.
-use Rattle.std.specs.Prelude.{ℕ, ◌+◌, ◌<◌, ◌≤◌, List, ◌≡◌, length, drop}
+use Rattle.std.specs.Prelude.{ℕ, ◌+◌, ◌<◌, ◌≤◌, List, ◌≡◌, length, drop, Option, Some, None}
 use Rattle.std.proofs.Math.Option.{none, some}
 use Rattle.text.specs.Reader.{Reader}
 use Rattle.text.specs.ReadAt.{ReadsTo, Refuses}
 use Rattle.json_text.specs.Encode.{utf8_of}
 use Rattle.json_text.specs.Strings.{hex_value, hex_digit, short_escape}
-use Rattle.json_text.specs.declared.escape.Point.{Point}
-use Rattle.json_text.specs.declared.escape.Point.TheVariants.{Is, Bad}
 
 -- a hexadecimal digit's value, or 16 where it is none
 pub record HexIs (b r : ℕ) : Type 0 where
@@ -30,6 +28,6 @@ pub record PointRead (p : Reader (List ℕ) ℕ) (most : ℕ) (s : List ℕ) (at
   pub within : c ≤ most
   pub size : at + length (utf8_of c) ≤ next
 
-abbrev pub PointIs : Reader (List ℕ) ℕ → (most : ℕ) → List ℕ → ℕ → Point → Type 0
-PointIs p most s at (Is c next) = PointRead p most s at c next
-PointIs p most s at Bad = Refuses p s at
+abbrev pub PointIs : Reader (List ℕ) ℕ → (most : ℕ) → List ℕ → ℕ → Option (ℕ × ℕ) → Type 0
+PointIs p most s at (Some (c, next)) = PointRead p most s at c next
+PointIs p most s at None = Refuses p s at

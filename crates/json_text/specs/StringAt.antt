@@ -1,10 +1,8 @@
 -- What the reader of a string answers: how long its text is, and where it ends.
-use Rattle.std.specs.Prelude.{ℕ, ◌+◌, ◌<◌, ◌≤◌, List, ◌≡◌, length, get_or}
+use Rattle.std.specs.Prelude.{ℕ, ◌+◌, ◌<◌, ◌≤◌, List, ◌≡◌, length, get_or, Option, Some, None}
 use Rattle.text.specs.ReadAt.{ReadsTo, Refuses}
 use Rattle.json_text.specs.Json.{Text}
 use Rattle.json_text.specs.Strings.{string}
-use Rattle.json_text.specs.declared.string.StringRead.{StringRead}
-use Rattle.json_text.specs.declared.string.StringRead.TheVariants.{Is, Bad}
 
 -- a byte that is a char and stands for itself
 pub record PlainByte (b : ℕ) : Type 0 where
@@ -29,6 +27,6 @@ pub record StringAt (s : List ℕ) (at len next : ℕ) : Type 0 where
   pub read : ReadsTo string s at text next
   pub size : length text ≡ len
 
-abbrev pub StringIs : List ℕ → ℕ → StringRead → Type 0
-StringIs s at (Is len next) = StringAt s at len next
-StringIs s at Bad = Refuses string s at
+abbrev pub StringIs : List ℕ → ℕ → Option (ℕ × ℕ) → Type 0
+StringIs s at (Some (len, next)) = StringAt s at len next
+StringIs s at None = Refuses string s at

@@ -4,16 +4,7 @@ ghost use Rattle.json_text.specs.Encode.{utf8_of};
 ghost use Rattle.json_text.specs.Strings.{hex4, paired, unicode, escape, is_unescaped, char};
 ghost use Rattle.json_text.specs.Places.{HexIs, DigitIs, ShortIs, PointIs};
 
-use text::{Decoded, decode_one, starts_with};
-
-// What is read at a place.
-#[derive(Clone, Copy)]
-pub enum Point {
-    // A code point, and the place after what stands for it.
-    Is(u32, usize),
-    // There is none.
-    Bad,
-}
+use text::{decode_one, starts_with};
 
 // The value of a hexadecimal digit, or 16 where it is none.
 fn hex_value(b: u8) -> u32
@@ -50,70 +41,67 @@ fn hex_digit(s: &[u8], at: usize) -> u32
     hex_value(s[at])
 }
 
-fn hex4(s: &[u8], at: usize) -> Point
+// Four hexadecimal digits: their number, and the place after them.
+fn hex4(s: &[u8], at: usize) -> Option<(u32, usize)>
     ensures { PointIs hex4 65535 s.now at result }
 {
     let a = hex_digit(s, at);
     if 16 <= a {
-        return Point::Bad;
+        return None;
     }
     let b = hex_digit(s, at + 1);
     if 16 <= b {
-        return Point::Bad;
+        return None;
     }
     let c = hex_digit(s, at + 2);
     if 16 <= c {
-        return Point::Bad;
+        return None;
     }
     let d = hex_digit(s, at + 3);
     if 16 <= d {
-        return Point::Bad;
+        return None;
     }
-    Point::Is(a * 4096 + b * 256 + c * 16 + d, at + 4)
+    Some((a * 4096 + b * 256 + c * 16 + d, at + 4))
 }
 
 // A low surrogate, written after its high one.
-fn low_of(s: &[u8], at: usize, high: u32) -> Point
+fn low_of(s: &[u8], at: usize, high: u32) -> Option<(u32, usize)>
     requires { (0xD800 ≤ high) × (high ≤ 0xDBFF) }
     ensures { PointIs (paired high) 0x10FFFF s.now at result }
 {
     if starts_with(s, at, b'\\') {
         if starts_with(s, at + 1, b'u') {
-            let Point::Is(low, next) = hex4(s, at + 2) else {
-                return Point::Bad;
-            };
+            let (low, next) = hex4(s, at + 2)?;
             if low < 0xDC00 {
-                return Point::Bad;
+                return None;
             }
             if 0xDFFF < low {
-                return Point::Bad;
+                return None;
             }
-            return Point::Is(0x10000 + (high - 0xD800) * 1024 + (low - 0xDC00), next);
+            return Some((0x10000 + (high - 0xD800) * 1024 + (low - 0xDC00), next));
         }
-        return Point::Bad;
+        return None;
     }
-    Point::Bad
+    None
 }
 
 // After the backslash and the `u`.
-fn unicode(s: &[u8], at: usize) -> Point
+fn unicode(s: &[u8], at: usize) -> Option<(u32, usize)>
     ensures { PointIs unicode 0x10FFFF s.now at result }
 {
-    let Point::Is(n, next) = hex4(s, at) else {
-        return Point::Bad;
-    };
+    let (n, next) = hex4(s, at)?;
     if n < 0xD800 {
-        return Point::Is(n, next);
+        return Some((n, next));
     }
     if 0xDFFF < n {
-        return Point::Is(n, next);
+        return Some((n, next));
     }
     if 0xDBFF < n {
-        return Point::Bad;
+        return None;
     }
     match low_of(s, next, n) {
-        Point::Is(c, end) => Point::Is(c, end),
-        Point::Bad => Point::Bad,
+        Some((c, end)) => Some((c, end)),
+        None => None,
     }
 }
 
@@ -149,24 +137,24 @@ fn short_escape(b: u8) -> u32
 }
 
 // After the backslash.
-fn escape(s: &[u8], at: usize) -> Point
+fn escape(s: &[u8], at: usize) -> Option<(u32, usize)>
     ensures { PointIs escape 0x10FFFF s.now at result }
 {
     if s.len() <= at {
-        return Point::Bad;
+        return None;
     }
     let b = s[at];
     if b == b'u' {
         return match unicode(s, at + 1) {
-            Point::Is(c, next) => Point::Is(c, next),
-            Point::Bad => Point::Bad,
+            Some((c, next)) => Some((c, next)),
+            None => None,
         };
     }
     let c = short_escape(b);
     if c == 0 {
-        return Point::Bad;
+        return None;
     }
-    Point::Is(c, at + 1)
+    Some((c, at + 1))
 }
 
 fn is_unescaped(c: u32) -> bool
@@ -181,22 +169,21 @@ fn is_unescaped(c: u32) -> bool
     c != 0x5C
 }
 
-pub fn char(s: &[u8], at: usize) -> Point
+// One code point of a string, written as it is or as an escape, and the place after what stands for it.
+pub fn char(s: &[u8], at: usize) -> Option<(u32, usize)>
     ensures { PointIs char 0x1FFFFF s.now at result }
 {
     if starts_with(s, at, b'\\') {
         return match escape(s, at + 1) {
-            Point::Is(c, next) => Point::Is(c, next),
-            Point::Bad => Point::Bad,
+            Some((c, next)) => Some((c, next)),
+            None => None,
         };
     }
-    let Decoded::CodePoint(c, next) = decode_one(s, at) else {
-        return Point::Bad;
-    };
+    let (c, next) = decode_one(s, at)?;
     if is_unescaped(c) {
-        return Point::Is(c, next);
+        return Some((c, next));
     }
-    Point::Bad
+    None
 }
 
 // How many bytes the UTF-8 of a code point has.

@@ -2,16 +2,7 @@
 ghost use Rattle.std.specs.Prelude.{true, ◌≡◌, ◌+◌, ◌≤◌, length};
 ghost use Rattle.json_text.specs.StringAt.{PlainByte, PlainAt, PlainTo, StringIs};
 
-use crate::escape::{Point, char, size_of};
-
-// What is read at a place.
-#[derive(Clone, Copy)]
-pub enum StringRead {
-    // How long the text is, and the place after the closing quotation mark.
-    Is(usize, usize),
-    // No string begins there.
-    Bad,
-}
+use crate::escape::{char, size_of};
 
 // Whether a byte is a char that stands for itself. `&` leaves no test out, so that the compiler makes those of many bytes at once.
 fn is_plain(b: u8) -> bool
@@ -78,19 +69,16 @@ pub fn plain_end(s: &[u8], at: usize) -> usize
     requires { at ≤ length s.now }
     ensures { PlainTo s.now at result }
 {
-    let mut i = after_plain_8(s, at);
-    while i < s.len() {
-        if is_plain(s[i]) {
-            i += 1;
-        } else {
+    for i in after_plain_8(s, at)..s.len() {
+        if !is_plain(s[i]) {
             return i;
         }
     }
-    i
+    s.len()
 }
 
-// A string, from behind its first quotation mark on.
-pub fn read_string(s: &[u8], at: usize) -> StringRead
+// A string, from behind its first quotation mark on. How long the text is, and the place after the closing one.
+pub fn read_string(s: &[u8], at: usize) -> Option<(usize, usize)>
     requires { at ≤ length s.now }
     ensures { StringIs s.now at result }
 {
@@ -98,14 +86,12 @@ pub fn read_string(s: &[u8], at: usize) -> StringRead
     let mut len = i - at;
     while i < s.len() {
         if s[i] == b'"' {
-            return StringRead::Is(len, i + 1);
+            return Some((len, i + 1));
         }
-        let Point::Is(c, next) = char(s, i) else {
-            return StringRead::Bad;
-        };
+        let (c, next) = char(s, i)?;
         let end = plain_end(s, next);
         len = len + size_of(c) + (end - next);
         i = end;
     }
-    StringRead::Bad
+    None
 }

@@ -26,15 +26,12 @@ pub fn behind_spaces(s: &[u8], at: usize) -> usize
     requires { at ≤ length s.now }
     ensures { SpacesTo s.now at result }
 {
-    let mut i = at;
-    while i < s.len() {
-        if is_space(s[i]) {
-            i += 1;
-        } else {
+    for i in at..s.len() {
+        if !is_space(s[i]) {
             return i;
         }
     }
-    i
+    s.len()
 }
 
 // Whether a byte is one of numbers.
@@ -64,15 +61,12 @@ fn run_end(s: &[u8], at: usize) -> usize
     requires { at ≤ length s.now }
     ensures { RunTo s.now at result }
 {
-    let mut i = at;
-    while i < s.len() {
-        if is_of_number(s[i]) {
-            i += 1;
-        } else {
+    for i in at..s.len() {
+        if !is_of_number(s[i]) {
             return i;
         }
     }
-    i
+    s.len()
 }
 
 // The place after a number, or `at` where there is none.
@@ -92,11 +86,8 @@ pub fn is_spelled(s: &[u8], at: usize, word: &[u8]) -> bool
     requires { at ≤ length s.now }
     ensures { SpelledAt word.now s.now at result }
 {
-    let mut i = 0;
-    while i < word.len() {
-        if starts_with(s, at + i, word[i]) {
-            i += 1;
-        } else {
+    for i in 0..word.len() {
+        if !starts_with(s, at + i, word[i]) {
             return false;
         }
     }

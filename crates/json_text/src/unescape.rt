@@ -4,7 +4,7 @@ ghost use Rattle.buffer.specs.Laid.{Laid};
 ghost use Rattle.json_text.specs.Encode.{utf8_of};
 ghost use Rattle.json_text.specs.Unescaped.{LaysText};
 
-use crate::escape::{Point, char};
+use crate::escape::char;
 use crate::string::plain_end;
 use buffer::lay::{lay, lay_byte};
 
@@ -47,7 +47,7 @@ pub fn lay_text(s: &[u8], at: usize, out: &mut [u8], o: usize) -> usize
         if s[end] == b'"' {
             return p;
         }
-        let Point::Is(c, next) = char(s, end) else {
+        let Some((c, next)) = char(s, end) else {
             return p;
         };
         e = lay_point(out, p, c);

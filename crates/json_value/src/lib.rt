@@ -11,7 +11,7 @@ use buffer::lay::{lay, lay_byte};
 use json_text::quote::{Escapes, lay_quoted};
 use rule::index::{end_of, start_of};
 use rule::node::behind;
-use sheet::rule_heads::{KeyRead, ValueHead, ValueRead, key_head, value_head};
+use sheet::rule_heads::{ValueHead, key_head, value_head};
 use text::part::bytes_of;
 
 // A constant by its type: 1 null, 2 false, 3 true.
@@ -34,7 +34,7 @@ fn lay_key(rule: &[u8], words: &[u32], keys: usize, i: usize, out: &mut [u8], at
     if keys == 0 {
         return at;
     }
-    let KeyRead::Is(key, _) = key_head(rule, start_of(words, i)) else {
+    let Some((key, _)) = key_head(rule, start_of(words, i)) else {
         return at;
     };
     let colon = lay_quoted(out, at, bytes_of(rule, key), Escapes::Short);
@@ -88,7 +88,7 @@ fn lay_within(rule: &[u8], words: &[u32], i: usize, end: usize, out: &mut [u8], 
     if end <= i {
         return at;
     }
-    let ValueRead::Is(head, _) = value_head(rule, start_of(words, i)) else {
+    let Some((head, _)) = value_head(rule, start_of(words, i)) else {
         return at;
     };
     match head {

@@ -1,4 +1,5 @@
 -- The call that checks one path, way by way.
+use Rattle.std.specs.Prelude.{Option, Some, None, Result, Ok, Err}
 use Prim.Native.Nat.{ℕ, ◌≤◌, ◌<◌}
 use native.Mathlib.Omega.{arith}
 use mathlib.Core.Bool.{Bool, true, false, not, ◌&&◌, false≢true}
@@ -18,14 +19,10 @@ use Rattle.reference.specs.Reference.{key_walk}
 use Rattle.schema.specs.Index.{index_end}
 use Rattle.schema.specs.Read.{SchemaAt, SchemaAnswer}
 use Rattle.schema.specs.declared.read.Schema.{Schema}
-use Rattle.schema.specs.declared.read.SchemaRead.{SchemaRead}
-use Rattle.schema.specs.declared.read.SchemaRead.TheVariants.{Good, Bad}
 use Rattle.walk.specs.Answers.{reader_is, reference_detail, IsReached, ReadableIs}
 use Rattle.walk.specs.declared.answer.Reader.{Reader}
 use Rattle.walk.specs.declared.answer.Reader.TheVariants.{Kernel, Projection}
 use Rattle.walk.specs.declared.answer.ReferenceFault.{ReferenceFault}
-use Rattle.walk.specs.declared.answer.Readable.{Readable}
-use Rattle.walk.specs.declared.answer.Readable.TheVariants.{Yes, No}
 use Rattle.scope.specs.Names.{may_read_by}
 use Rattle.scope.specs.Scopes.{SettingAt, Unbound}
 use Rattle.scope.specs.References.{RootWalks}
@@ -119,14 +116,14 @@ unfolding numbers_of key_defect
 unreadable-is fault e = rw e
 
 -- the scope says which reader the walk is for
-pub fields_read : (sheet words path : List ℕ) (scope : Scope) (r : Readable)
+pub fields_read : (sheet words path : List ℕ) (scope : Scope) (r : Result Unit (ReferenceFault × ℕ))
     → RootWalks sheet words 1 scope.schema.fields path (reader_is scope.reader) scope.service r
     → FieldsRead sheet words scope path r
 unfolding key_walk
 fields_read sheet words path scope r walks =
     record { leads = λ setting t set at. rw (set.reader, set.service) at (walks.leads t.fields at.fields) }
 
-module _ (semantics reader : ℕ) (path schema : List ℕ) (s : Schema) (words : List ℕ) {x : Row} {y : Reader} {scope : Scope} {z : Readable}
+module _ (semantics reader : ℕ) (path schema : List ℕ) (s : Schema) (words : List ℕ) {x : Row} {y : Reader} {scope : Scope} {z : Result Unit (ReferenceFault × ℕ)}
     (same : reader_is y ≡ reader_of reader)
     (bare : Unbound x (not (eqb semantics 1)) y s scope)
     (reads : FieldsRead schema words scope path z)
@@ -147,7 +144,7 @@ module _ (semantics reader : ℕ) (path schema : List ℕ) (s : Schema) (words :
     walked : (t : Tree.Schema) → SchemaAt schema words s t → ReadableIs z (key_walk (reader_of reader) (not (eqb semantics 1)) t path)
     walked t at = reads.leads setting t set (rw bare.schema at)
 
-    pub told-readable : {r : Outcome} → z ≡ Yes → numbers_by r ≡ numbers_of (accepted 1) → KeyTold semantics reader path schema s words r
+    pub told-readable : {r : Outcome} → z ≡ (Ok tt) → numbers_by r ≡ numbers_of (accepted 1) → KeyTold semantics reader path schema s words r
     unfolding key_checked
     told-readable e q =
         record {
@@ -157,7 +154,7 @@ module _ (semantics reader : ℕ) (path schema : List ℕ) (s : Schema) (words :
         }
 
     pub told-unreadable : {fault : ReferenceFault} {at : ℕ} {r : Outcome}
-        → z ≡ No fault at
+        → z ≡ Err (fault, at)
         → numbers_by r ≡ numbers_of (defect (key_defect (reference_detail fault)))
         → KeyTold semantics reader path schema s words r
     unfolding key_checked
@@ -204,11 +201,11 @@ module _ (semantics reader : ℕ) (path schema before : List ℕ) where
       ))
       q (record { size = refl; kept = refl })
 
-  module _ {n : ℕ} (e : n ≡ early semantics reader path (length before)) (z : n ≡ 0) {after : List ℕ} {q : SchemaRead} (post : SchemaAnswer schema before after q) where
+  module _ {n : ℕ} (e : n ≡ early semantics reader path (length before)) (z : n ≡ 0) {after : List ℕ} {q : Option Schema} (post : SchemaAnswer schema before after q) where
     front : FrontOnly before after
     front = front-schema post.kept
 
-    pub meets-bad : {r : Outcome} → q ≡ Bad → numbers_by r ≡ numbers_of (Result.refused 4) → MeetsKey (key_run_of semantics reader path schema before r after)
+    pub meets-bad : {r : Outcome} → q ≡ None → numbers_by r ≡ numbers_of (Result.refused 4) → MeetsKey (key_run_of semantics reader path schema before r after)
     unfolding kept_scratch is_of_sheets key_result_of key_refusals first_refusal is_none refused_or or_else
     meets-bad f g =
         let bad : decode_schema schema ≡ none = rw f at post.answer in
@@ -217,7 +214,7 @@ module _ (semantics reader : ℕ) (path schema before : List ℕ) where
         g (front-scratch (Result.refused 4) front refl)
 
     pub meets-good : {s : Schema} {r : Outcome}
-        → q ≡ Good s
+        → q ≡ Some s
         → KeyTold semantics reader path schema s after r
         → MeetsKey (key_run_of semantics reader path schema before r after)
     unfolding key_result_of key_refusals first_refusal is_none refused_or or_else key_judged key_checked

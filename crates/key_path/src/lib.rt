@@ -10,7 +10,7 @@ ghost use Rattle.single_check.specs.Outcomes.{numbers_by};
 ghost use Rattle.key_path.specs.Keys.{FieldsRead, KeyTold, key_run_of};
 
 use definition::limits::{MAX_KEY_BYTES, SCRATCH_WORDS};
-use schema::read::{Schema, SchemaRead, read_schema};
+use schema::read::{Schema, read_schema};
 use scope::binder::{Scope, unbound};
 use scope::name::stock_row;
 use scope::references::validate_reference_path;
@@ -90,8 +90,8 @@ fn check_key(
 {
     let scope = unbound(stock_row(1), semantics != 1, reader_of(reader), s);
     match read_fields(schema, words, scope, path) {
-        Readable::Yes => accepted(1),
-        Readable::No(fault, _) => unreadable(fault),
+        Ok(()) => accepted(1),
+        Err((fault, _)) => unreadable(fault),
     }
 }
 
@@ -109,7 +109,7 @@ pub fn validate_path(
     if number != 0 {
         return refused(number);
     }
-    let SchemaRead::Good(s) = read_schema(schema, scratch) else {
+    let Some(s) = read_schema(schema, scratch) else {
         return refused(4);
     };
     check_key(semantics, reader, path, schema, s, scratch)

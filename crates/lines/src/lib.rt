@@ -3,7 +3,7 @@
 #![tactic(auto)]
 
 ghost use Rattle.std.specs.Prelude.{◌≡◌};
-ghost use Rattle.lines.specs.Ends.{EndIs};
+ghost use Rattle.lines.specs.Ends.{end_after, EndIs};
 
 pub mod schema_sheet; // schema_sheet.rt: the entries H and F
 pub mod rule_sheet; // rule_sheet.rt: the entries R, T, C, V and K
@@ -20,6 +20,16 @@ pub fn new<'a>(sheet: &'a [u8], at: usize) -> Lines<'a>
     ensures { (result.sheet ≡ sheet.entry) × (result.at ≡ at) }
 {
     Lines { sheet, at }
+}
+
+// Where the entry after the one that was read starts, whatever its head; a reader that finds none stays where it is.
+fn end_after<H: Copy>(read: Option<(H, usize)>, at: usize) -> usize
+    ensures { result ≡ end_after read at }
+{
+    match read {
+        Some((_, next)) => next,
+        None => at,
+    }
 }
 
 // Whether there is no byte at `at` or after it.

@@ -4,56 +4,37 @@ ghost use Rattle.sheet.specs.Places.{RuleIs, ConditionIs, PlainIs, ValueIs, Leaf
 ghost use Rattle.lines.specs.Ends.{rule_end, condition_end, plain_stop, value_end, leaf_stop, key_end};
 ghost use Rattle.lines.specs.Passed.{Passed, BothRead};
 
-use crate::{Lines, new};
-use sheet::rule_heads::{ConditionRead, KeyRead, RuleHeadRead, ValueRead};
+use crate::{Lines, end_after, new};
+use sheet::rule_heads::{ConditionHead, RuleHead, ValueHead};
+use text::part::Part;
 
 // The heads of the sheet's first entry and of a condition after it.
 #[derive(Clone, Copy)]
 pub struct OpeningRead {
-    pub head: RuleHeadRead,
-    pub condition: ConditionRead,
-}
-
-// Where the entry after the sheet's first entry starts; a reader that finds none stays where it is.
-fn rule_end(read: RuleHeadRead, at: usize) -> usize
-    ensures { result ≡ rule_end read at }
-{
-    match read {
-        RuleHeadRead::Is(_, next) => next,
-        RuleHeadRead::Bad => at,
-    }
+    pub head: Option<(RuleHead, usize)>,
+    pub condition: Option<(ConditionHead, usize)>,
 }
 
 // The next entry's head, with the reader moved past it.
-pub fn next_rule<'s, 'a>(lines: &'s mut Lines<'a>) -> RuleHeadRead
+pub fn next_rule<'s, 'a>(lines: &'s mut Lines<'a>) -> Option<(RuleHead, usize)>
     ensures { Passed RuleIs rule_end lines.old lines.new result }
 {
     let read = sheet::rule_heads::rule_head(lines.sheet, lines.at);
-    lines.at = rule_end(read, lines.at);
+    lines.at = end_after(read, lines.at);
     read
 }
 
-// Where the entry after a condition's entry starts; a reader that finds none stays where it is.
-fn condition_end(read: ConditionRead, at: usize) -> usize
-    ensures { result ≡ condition_end read at }
-{
-    match read {
-        ConditionRead::Is(_, next) => next,
-        ConditionRead::Bad => at,
-    }
-}
-
 // The next entry's head, with the reader moved past it.
-pub fn next_condition<'s, 'a>(lines: &'s mut Lines<'a>) -> ConditionRead
+pub fn next_condition<'s, 'a>(lines: &'s mut Lines<'a>) -> Option<(ConditionHead, usize)>
     ensures { Passed ConditionIs condition_end lines.old lines.new result }
 {
     let read = sheet::rule_heads::condition_head(lines.sheet, lines.at);
-    lines.at = condition_end(read, lines.at);
+    lines.at = end_after(read, lines.at);
     read
 }
 
 // The head of the entry that starts at `at`, for callers without a reader.
-pub fn condition_head(sheet: &[u8], at: usize) -> ConditionRead
+pub fn condition_head(sheet: &[u8], at: usize) -> Option<(ConditionHead, usize)>
     ensures { ConditionIs sheet.now at result }
 {
     let mut lines = new(sheet, at);
@@ -84,27 +65,17 @@ pub fn plain_condition(sheet: &[u8], at: usize) -> usize
     next_plain(&mut lines)
 }
 
-// Where the entry after a value's entry starts; a reader that finds none stays where it is.
-fn value_end(read: ValueRead, at: usize) -> usize
-    ensures { result ≡ value_end read at }
-{
-    match read {
-        ValueRead::Is(_, next) => next,
-        ValueRead::Bad => at,
-    }
-}
-
 // The next entry's head, with the reader moved past it.
-pub fn next_value<'s, 'a>(lines: &'s mut Lines<'a>) -> ValueRead
+pub fn next_value<'s, 'a>(lines: &'s mut Lines<'a>) -> Option<(ValueHead, usize)>
     ensures { Passed ValueIs value_end lines.old lines.new result }
 {
     let read = sheet::rule_heads::value_head(lines.sheet, lines.at);
-    lines.at = value_end(read, lines.at);
+    lines.at = end_after(read, lines.at);
     read
 }
 
 // The head of the entry that starts at `at`, for callers without a reader.
-pub fn value_head(sheet: &[u8], at: usize) -> ValueRead
+pub fn value_head(sheet: &[u8], at: usize) -> Option<(ValueHead, usize)>
     ensures { ValueIs sheet.now at result }
 {
     let mut lines = new(sheet, at);
@@ -135,27 +106,17 @@ pub fn leaf_end(sheet: &[u8], at: usize) -> usize
     next_leaf(&mut lines)
 }
 
-// Where the entry after a key's entry starts; a reader that finds none stays where it is.
-fn key_end(read: KeyRead, at: usize) -> usize
-    ensures { result ≡ key_end read at }
-{
-    match read {
-        KeyRead::Is(_, next) => next,
-        KeyRead::Bad => at,
-    }
-}
-
 // The next entry's head, with the reader moved past it.
-pub fn next_key<'s, 'a>(lines: &'s mut Lines<'a>) -> KeyRead
+pub fn next_key<'s, 'a>(lines: &'s mut Lines<'a>) -> Option<(Part, usize)>
     ensures { Passed KeyIs key_end lines.old lines.new result }
 {
     let read = sheet::rule_heads::key_head(lines.sheet, lines.at);
-    lines.at = key_end(read, lines.at);
+    lines.at = end_after(read, lines.at);
     read
 }
 
 // The head of the entry that starts at `at`, for callers without a reader.
-pub fn key_head(sheet: &[u8], at: usize) -> KeyRead
+pub fn key_head(sheet: &[u8], at: usize) -> Option<(Part, usize)>
     ensures { KeyIs sheet.now at result }
 {
     let mut lines = new(sheet, at);

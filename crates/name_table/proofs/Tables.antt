@@ -1,4 +1,5 @@
 -- The loop over a table's entries: what has been read so far, and what follows for the whole.
+use Rattle.std.specs.Prelude.{Option as Optional}
 use Prim.Native.Nat.{ℕ, zero, suc, ◌+◌, ◌-◌, ◌<◌, ◌≤◌}
 use native.Mathlib.Omega.{arith}
 use mathlib.Core.Bool.{Bool, true, false, cond, ◌&&◌, and_assoc, and-true}
@@ -23,7 +24,6 @@ use Rattle.validation.specs.Check.{is_none}
 use Rattle.validation.specs.Result.{first_refusal, number_in}
 use Rattle.validation.specs.Loading.{load_refusals, load_number, load_after}
 use Rattle.name_table.specs.Tables.{HasRow, TableOr, TableIs, LentIs}
-use Rattle.name_table.specs.declared.read.TableRead.{TableRead}
 
 -- Lists with one more element at their end.
 
@@ -164,7 +164,7 @@ unfolding table_in are_sound is_sound stock_table stock_row stock one_of
 lent_none [] kind row e same = record { table = stock_table; reads = refl; row = same ∙ sym (stock-row kind); is_sound = refl }
 lent_none (b ∷ s) kind row e same = absurd (omega arith)
 
-module _ (s : List ℕ) (kind : ℕ) (r : TableRead) (some_bytes : length s ≡ 0 → ⊥) where
+module _ (s : List ℕ) (kind : ℕ) (r : Optional (Row × Bool)) (some_bytes : length s ≡ 0 → ⊥) where
   by_front : (front : List ℕ) → front ≡ take table_bytes s → TableIs front kind r → LentIs s kind r
   by_front front e is =
       subst (λ (o : Option (List Table.Row)). TableOr o kind r) (ap decode_table e ∙ sym (table-in s (omega (arith, some_bytes)))) is

@@ -2,7 +2,7 @@
 ghost use Rattle.std.specs.Prelude.{◌≡◌, length};
 ghost use Rattle.validation.specs.Loading.{load_number, load_after};
 
-use crate::read::{TABLE_BYTES, TableRead, read_table};
+use crate::read::{TABLE_BYTES, read_table};
 use buffer::put;
 
 // 37 where the table is malformed or the buffer is too short, 38 where a mark breaks a condition; else 0, and the table lies at the
@@ -10,7 +10,7 @@ use buffer::put;
 pub fn load(table: &[u8], buffer: &mut [u8]) -> u32
     ensures { (result ≡ load_number table.now (length buffer.old)) × (buffer.new ≡ load_after table.now buffer.old) }
 {
-    let TableRead::Is(_, sound) = read_table(table, 1) else {
+    let Some((_, sound)) = read_table(table, 1) else {
         return 37;
     };
     if buffer.len() < TABLE_BYTES {

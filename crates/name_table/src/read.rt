@@ -6,8 +6,6 @@ ghost use Rattle.name_table.specs.Tables.{MarksAre, RowIs, TableIs, LentIs};
 
 use scope::name::{Row, stock_row};
 use sheet::entry;
-use sheet::entry::MarkRead;
-use text::numeral::NumeralRead;
 
 // How long a table is.
 pub const TABLE_BYTES: usize = 176;
@@ -15,52 +13,19 @@ pub const TABLE_BYTES: usize = 176;
 // How many kinds of rules and templates there are.
 pub const KINDS: u32 = 8;
 
-#[derive(Clone, Copy)]
-pub enum RowRead {
-    // The row, and the place after its entry.
-    Is(Row, usize),
-    Bad,
-}
-
-#[derive(Clone, Copy)]
-pub enum TableRead {
-    // The row of the kind that is asked for, and whether both conditions hold of every row.
-    Is(Row, bool),
-    // It is malformed.
-    Bad,
-}
-
-// Nine marks, in the order of the names.
-fn row_marks(s: &[u8], at: usize) -> RowRead
+// Nine marks, in the order of the names: the row, and the place after them.
+fn row_marks(s: &[u8], at: usize) -> Option<(Row, usize)>
     ensures { MarksAre s.now at result }
 {
-    let MarkRead::Is(id, a) = entry::mark(s, at) else {
-        return RowRead::Bad;
-    };
-    let MarkRead::Is(entity, b) = entry::mark(s, a) else {
-        return RowRead::Bad;
-    };
-    let MarkRead::Is(version, c) = entry::mark(s, b) else {
-        return RowRead::Bad;
-    };
-    let MarkRead::Is(fields, d) = entry::mark(s, c) else {
-        return RowRead::Bad;
-    };
-    let MarkRead::Is(state, e) = entry::mark(s, d) else {
-        return RowRead::Bad;
-    };
-    let MarkRead::Is(target, f) = entry::mark(s, e) else {
-        return RowRead::Bad;
-    };
-    let MarkRead::Is(source, g) = entry::mark(s, f) else {
-        return RowRead::Bad;
-    };
-    let MarkRead::Is(args, h) = entry::mark(s, g) else {
-        return RowRead::Bad;
-    };
-    let MarkRead::Is(old, end) = entry::mark(s, h) else {
-        return RowRead::Bad;
-    };
+    let (id, a) = entry::mark(s, at)?;
+    let (entity, b) = entry::mark(s, a)?;
+    let (version, c) = entry::mark(s, b)?;
+    let (fields, d) = entry::mark(s, c)?;
+    let (state, e) = entry::mark(s, d)?;
+    let (target, f) = entry::mark(s, e)?;
+    let (source, g) = entry::mark(s, f)?;
+    let (args, h) = entry::mark(s, g)?;
+    let (old, end) = entry::mark(s, h)?;
     let row = Row {
         id,
         entity,
@@ -72,25 +37,21 @@ fn row_marks(s: &[u8], at: usize) -> RowRead
         args,
         old,
     };
-    RowRead::Is(row, end)
+    Some((row, end))
 }
 
-// The entry of a kind: `N`, its number and its marks.
-fn table_entry(s: &[u8], at: usize, kind: u32) -> RowRead
+// The entry of a kind: `N`, its number and its marks. The row, and the place after the entry.
+fn table_entry(s: &[u8], at: usize, kind: u32) -> Option<(Row, usize)>
     ensures { RowIs s.now at kind result }
 {
     if text::starts_with(s, at, b'N') {
-        let NumeralRead::Is(_, behind) = entry::item(s, at + 1, kind, kind) else {
-            return RowRead::Bad;
-        };
-        let RowRead::Is(row, end) = row_marks(s, behind) else {
-            return RowRead::Bad;
-        };
+        let (_, behind) = entry::item(s, at + 1, kind, kind)?;
+        let (row, end) = row_marks(s, behind)?;
         if text::starts_with(s, end, b'\n') {
-            return RowRead::Is(row, end + 1);
+            return Some((row, end + 1));
         }
     }
-    RowRead::Bad
+    None
 }
 
 // `$id`, `$entity` and `$version` may be read, and `$old_fields` only where `$fields` may.
@@ -119,35 +80,31 @@ fn both(a: bool, b: bool) -> bool
     a && b
 }
 
-// A table of that form and nothing after it, with the row of a kind.
-pub fn read_table(s: &[u8], kind: u32) -> TableRead
+// A table of that form and nothing after it: the row of a kind, and whether both conditions hold of every row.
+pub fn read_table(s: &[u8], kind: u32) -> Option<(Row, bool)>
     ensures { TableIs s.now kind result }
 {
     let mut row = stock_row(kind as usize);
     let mut sound = true;
     let mut at = 0;
-    let mut next: u32 = 1;
-    while next <= KINDS {
-        let RowRead::Is(read, end) = table_entry(s, at, next) else {
-            return TableRead::Bad;
-        };
+    for next in 1..KINDS + 1 {
+        let (read, end) = table_entry(s, at, next)?;
         row = pick(next == kind, read, row);
         sound = both(sound, is_sound(read));
         at = end;
-        next += 1;
     }
     if at == s.len() {
-        return TableRead::Is(row, sound);
+        return Some((row, sound));
     }
-    TableRead::Bad
+    None
 }
 
 // The table that a call is lent: the stock table where there are no bytes, else what the first 176 hold.
-pub fn lent_table(s: &[u8], kind: u32) -> TableRead
+pub fn lent_table(s: &[u8], kind: u32) -> Option<(Row, bool)>
     ensures { LentIs s.now kind result }
 {
     if s.len() == 0 {
-        return TableRead::Is(stock_row(kind as usize), true);
+        return Some((stock_row(kind as usize), true));
     }
     if s.len() < TABLE_BYTES {
         return read_table(s, kind);

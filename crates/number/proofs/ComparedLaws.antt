@@ -5,8 +5,8 @@ use Rattle.std.proofs.Common.{arith}
 use Rattle.number.specs.Bound.{bound}
 use Rattle.number.specs.Grammar.{number}
 use Rattle.number.specs.FirstDigit.{digits_in, level_in, matched, compared_at, compared_in, compared}
-use Rattle.number.specs.declared.magnitude.Level.{Level}
-use Rattle.number.specs.declared.magnitude.Level.TheVariants.{Below, Even, Above}
+use Rattle.std.specs.declared.cmp.Ordering.TheVariants.{Equal, Greater, Less}
+use Rattle.std.specs.declared.cmp.Ordering.{Ordering}
 
 matched-within : (ds bs : List ℕ) → matched ds bs ≤ length bs
 unfolding matched
@@ -17,11 +17,11 @@ matched-within ds (b ∷ bs) = go (eqb (get_or ds 0 0) b) (matched-within (drop 
     go true h = omega (arith, h)
     go false h = omega arith
 
-within-at : (l : Level) (ds : List ℕ) → compared_at l ds ≤ 309
+within-at : (l : Ordering) (ds : List ℕ) → compared_at l ds ≤ 309
 unfolding compared_at bound
-within-at Below ds = omega arith
-within-at Even ds = matched-within ds bound
-within-at Above ds = omega arith
+within-at Less ds = omega arith
+within-at Equal ds = matched-within ds bound
+within-at Greater ds = omega arith
 
 within : (n : Option _) → compared_in n ≤ 309
 unfolding compared_in

@@ -13,19 +13,19 @@ use Rattle.number.specs.Finite.{digit, value}
 use Rattle.number.specs.FirstDigit.{largest, zeros, significant, order, level_of, level_by, digits_in, level_in, decided, compared_at}
 use Rattle.number.specs.Tests.{Tests, TestsNumber}
 use Rattle.number.specs.declared.magnitude.Tested.{Tested}
-use Rattle.number.specs.declared.magnitude.Level.TheVariants.{Below, Even, Above}
 use Rattle.number.proofs.Digits.{map-drop, significant-whole, significant-fraction}
+use Rattle.std.specs.declared.cmp.Ordering.TheVariants.{Equal, Greater, Less}
 
 module _ (a b : ℕ) where
-  pub order_below : a < b → order a b ≡ Below
+  pub order_below : a < b → order a b ≡ Less
   unfolding order
   order_below h = rw (lt-ltb a b h)
 
-  pub order-above : b < a → order a b ≡ Above
+  pub order-above : b < a → order a b ≡ Greater
   unfolding order
   order-above h = rw (le-ltb a b (omega (arith, h)), lt-ltb b a h)
 
-  pub order-even : b ≤ a → a ≤ b → order a b ≡ Even
+  pub order-even : b ≤ a → a ≤ b → order a b ≡ Equal
   unfolding order
   order-even h k = rw (le-ltb a b h, le-ltb b a k)
 
@@ -41,7 +41,7 @@ order_same a b c d e = go (ltb a b) refl (ltb b a) refl
         ∙ sym (order-even c d (omega (arith, ltb-false a b p, ltb-false b a q, e)) (omega (arith, ltb-false a b p, ltb-false b a q, e)))
 
 module _ (n f e : ℕ) where
-  pub level-behind : n ≤ f → level_of true n f e ≡ Below
+  pub level-behind : n ≤ f → level_of true n f e ≡ Less
   unfolding level_of
   level-behind h = order_below n (309 + (f + e)) (omega (arith, h))
 
@@ -49,7 +49,7 @@ module _ (n f e : ℕ) where
   unfolding level_of
   level_before h = order_same (n - f) (309 + e) n (309 + (f + e)) (omega (arith, h))
 
-  pub level-high : 309 + f < e → level_of false n f e ≡ Above
+  pub level-high : 309 + f < e → level_of false n f e ≡ Greater
   unfolding level_of
   level-high h = order-above (n + e) (309 + f) (omega (arith, h))
 

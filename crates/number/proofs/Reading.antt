@@ -1,4 +1,5 @@
 -- Laws of the grammar's rules at a place of a text: each way through the code's readers, as an equation of the rule.
+use Rattle.std.specs.Prelude.{Some}
 use Prim.Native.Nat.{ℕ, zero, suc, ◌+◌, ◌-◌, ◌<◌, ◌≤◌, suc-le-suc, zero-le}
 use mathlib.Core.Path.{◌≡◌, refl, sym, ap, ap₂, ◌∙◌}
 use mathlib.Core.Bool.{Bool, true, false, cond}
@@ -13,7 +14,6 @@ use borrow.Author.Tests.{eq-eqb, ne_eqb}
 use Rattle.text.specs.Decimal.{is_digit}
 use Rattle.number.specs.Grammar.{Read, run, past, some_digits, digits, leads, int, frac, is_empty, last, power, exp, unsigned, number}
 use Rattle.number.specs.Parts.{part, Ends}
-use Rattle.number.specs.declared.grammar.Run.TheVariants.{To}
 
 -- the digits that a text begins with are its first bytes, and what follows them is what is left
 take-run : (s : List ℕ) → take (length (run s)) s ≡ run s
@@ -122,8 +122,8 @@ pub int-none : (s : List ℕ) → digits s ≡ none → int s ≡ none
 unfolding int bind
 int-none s e = rw e
 
-module _ (s : List ℕ) (at e : ℕ) (d : Ends (digits (drop at s)) s at (To e)) where
-  int-leads : leads (part s at e) ≡ true → Ends (int (drop at s)) s at (To e)
+module _ (s : List ℕ) (at e : ℕ) (d : Ends (digits (drop at s)) s at (Some e)) where
+  int-leads : leads (part s at e) ≡ true → Ends (int (drop at s)) s at (Some e)
   unfolding int bind
   int-leads l = (rw (d.0, l), d.1, d.2)
 
@@ -131,10 +131,10 @@ module _ (s : List ℕ) (at e : ℕ) (d : Ends (digits (drop at s)) s at (To e))
   unfolding int bind
   int-zero z h = rw (d.0, part-cons s at e d.1 d.2, leads-zero (get_or s at 0) (e - suc at) (drop (suc at) s) z (omega (arith, h)) (omega (arith, d.2, length-drop (suc at) s)))
 
-  pub int-one : e ≤ at + 1 → Ends (int (drop at s)) s at (To e)
+  pub int-one : e ≤ at + 1 → Ends (int (drop at s)) s at (Some e)
   int-one h = int-leads (rw (part-cons s at e d.1 d.2) (leads_one (get_or s at 0) (e - suc at) (drop (suc at) s) (omega (arith, h))))
 
-  pub int-other : (get_or s at 0 ≡ 0x30 → ⊥) → Ends (int (drop at s)) s at (To e)
+  pub int-other : (get_or s at 0 ≡ 0x30 → ⊥) → Ends (int (drop at s)) s at (Some e)
   int-other z = int-leads (rw (part-cons s at e d.1 d.2) (leads-other (get_or s at 0) (e - suc at) (drop (suc at) s) z))
 
   -- digits to the end of the text are what is left of it

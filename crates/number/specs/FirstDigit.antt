@@ -5,8 +5,8 @@ use Rattle.std.proofs.Math.Option.{Option, none, some}
 use Rattle.number.specs.Bound.{bound}
 use Rattle.number.specs.Grammar.{Number, number}
 use Rattle.number.specs.Finite.{digit, value}
-use Rattle.number.specs.declared.magnitude.Level.{Level}
-use Rattle.number.specs.declared.magnitude.Level.TheVariants.{Below, Even, Above}
+use Rattle.std.specs.declared.cmp.Ordering.TheVariants.{Equal, Greater, Less}
+use Rattle.std.specs.declared.cmp.Ordering.{Ordering}
 
 -- an exponent from here on counts as this one: no text is long enough for them to differ
 abbrev pub largest : ℕ
@@ -21,24 +21,24 @@ zeros (d ∷ ds) = cond (eqb d 0) (suc (zeros ds)) 0
 unfoldable pub significant : List ℕ → List ℕ
 significant ds = drop (zeros ds) ds
 
-unfoldable pub order : ℕ → ℕ → Level
-order a b = cond (ltb a b) Below (cond (ltb b a) Above Even)
+unfoldable pub order : ℕ → ℕ → Ordering
+order a b = cond (ltb a b) Less (cond (ltb b a) Greater Equal)
 
 -- of n digits f are after the point: the first is at 10^(n - f - 1), times 10^e or, lowered, by 10^e. Here that place against 10^308
-unfoldable pub level_of : Bool → ℕ → ℕ → ℕ → Level
+unfoldable pub level_of : Bool → ℕ → ℕ → ℕ → Ordering
 level_of false n f e = order (n + e) (309 + f)
 level_of true n f e = order n (309 + (f + e))
 
 -- of digits whose first is not zero. Zero has none
-unfoldable pub level_by : Bool → List ℕ → ℕ → ℕ → Level
-level_by lowered [] f e = Below
+unfoldable pub level_by : Bool → List ℕ → ℕ → ℕ → Ordering
+level_by lowered [] f e = Less
 level_by lowered (d ∷ ds) f e = level_of lowered (suc (length ds)) f e
 
 -- a number's digits from the first nonzero one on, and their level
 unfoldable pub digits_in : Number → List ℕ
 digits_in n = significant (map digit (n.whole ++ n.fraction))
 
-unfoldable pub level_in : Number → Level
+unfoldable pub level_in : Number → Ordering
 level_in n = level_by n.lowered (digits_in n) (length n.fraction) (value n.exponent)
 
 -- digit by digit, the first that differs decides. Missing digits are 0; the bound itself is not less
@@ -51,15 +51,15 @@ unfoldable pub matched : List ℕ → List ℕ → ℕ
 matched ds [] = 0
 matched ds (b ∷ bs) = let more = matched (drop 1 ds) bs in cond (eqb (get_or ds 0 0) b) (suc more) 1
 
-unfoldable pub decided : Level → Bool → Bool
-decided Below less = true
-decided Even less = less
-decided Above less = false
+unfoldable pub decided : Ordering → Bool → Bool
+decided Less less = true
+decided Equal less = less
+decided Greater less = false
 
-unfoldable pub compared_at : Level → List ℕ → ℕ
-compared_at Below ds = 0
-compared_at Even ds = matched ds bound
-compared_at Above ds = 0
+unfoldable pub compared_at : Ordering → List ℕ → ℕ
+compared_at Less ds = 0
+compared_at Equal ds = matched ds bound
+compared_at Greater ds = 0
 
 unfoldable pub compared_in : Option Number → ℕ
 compared_in none = 0

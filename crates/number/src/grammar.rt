@@ -5,30 +5,6 @@ ghost use Rattle.number.specs.Parts.{Ends, Spans, Raises, Splits};
 
 use text::is_digit;
 
-// Where a run of digits ends.
-#[derive(Clone, Copy)]
-pub enum Run {
-    To(usize),
-    // There is none.
-    Nothing,
-}
-
-// Where the digits after the point begin and end.
-#[derive(Clone, Copy)]
-pub enum Span {
-    Over(usize, usize),
-    // A point without digits.
-    NoDigits,
-}
-
-// Where the exponent's digits begin, which go to the end of the text; lowered if a minus precedes them.
-#[derive(Clone, Copy)]
-pub enum Exponent {
-    From { lowered: bool, at: usize },
-    // No exponent, or something follows it.
-    Broken,
-}
-
 // The parts of a number text, as places in it. What is left out has no digits.
 #[derive(Clone, Copy)]
 pub struct Parts {
@@ -40,82 +16,70 @@ pub struct Parts {
     pub exponent: usize,
 }
 
-#[derive(Clone, Copy)]
-pub enum Found {
-    Number(Parts),
-    // Not a number text.
-    Other,
-}
-
 fn run_end(s: &[u8], at: usize) -> usize
     ensures { result ≡ at + length (run (drop at s.now)) }
 {
-    let mut i = at;
-    while i < s.len() {
-        if is_digit(s[i]) {
-            i += 1;
-        } else {
+    for i in at..s.len() {
+        if !is_digit(s[i]) {
             return i;
         }
     }
-    i
+    at.max(s.len())
 }
 
-fn digits(s: &[u8], at: usize) -> Run
+// Where a run of digits ends, if there is one.
+fn digits(s: &[u8], at: usize) -> Option<usize>
     ensures { Ends (digits (drop at s.now)) s.now at result }
 {
     let end = run_end(s, at);
-    if at < end { Run::To(end) } else { Run::Nothing }
+    if at < end { Some(end) } else { None }
 }
 
-// No zero leads, unless it is the only digit.
-fn int(s: &[u8], at: usize) -> Run
+// Where the digits before the point end. No zero leads, unless it is the only digit.
+fn int(s: &[u8], at: usize) -> Option<usize>
     ensures { Ends (int (drop at s.now)) s.now at result }
 {
-    let Run::To(end) = digits(s, at) else {
-        return Run::Nothing;
-    };
+    let end = digits(s, at)?;
     if s[at] == b'0' {
         if at + 1 < end {
-            return Run::Nothing;
+            return None;
         }
     }
-    Run::To(end)
+    Some(end)
 }
 
-fn frac(s: &[u8], at: usize) -> Span
+// Where the digits after the point begin and end: both at `at` where there is no point. A point has digits.
+fn frac(s: &[u8], at: usize) -> Option<(usize, usize)>
     requires { at ≤ length s.now }
     ensures { Spans (frac (drop at s.now)) s.now result }
 {
     if at < s.len() {
         if s[at] == b'.' {
-            let Run::To(end) = digits(s, at + 1) else {
-                return Span::NoDigits;
-            };
-            return Span::Over(at + 1, end);
+            let end = digits(s, at + 1)?;
+            return Some((at + 1, end));
         }
     }
-    Span::Over(at, at)
+    Some((at, at))
 }
 
-fn last(s: &[u8], lowered: bool, at: usize) -> Exponent
+// Whether a minus precedes the exponent, and where its digits begin, which go to the end of the text.
+fn last(s: &[u8], lowered: bool, at: usize) -> Option<(bool, usize)>
     ensures { Raises (last lowered (drop at s.now)) s.now result }
 {
-    let Run::To(end) = digits(s, at) else {
-        return Exponent::Broken;
-    };
+    let end = digits(s, at)?;
     if end < s.len() {
-        Exponent::Broken
+        None
     } else {
-        Exponent::From { lowered, at }
+        Some((lowered, at))
     }
 }
 
-fn power(s: &[u8], at: usize) -> Exponent
+// The same, behind the letter.
+fn power(s: &[u8], at: usize) -> Option<(bool, usize)>
     ensures { Raises (power (drop at s.now)) s.now result }
 {
     if s.len() <= at {
-        return Exponent::Broken;
+        return None;
     }
     if s[at] == b'-' {
         return last(s, true, at + 1);
@@ -126,12 +90,13 @@ fn power(s: &[u8], at: usize) -> Exponent
     last(s, false, at)
 }
 
-fn exp(s: &[u8], at: usize) -> Exponent
+// The same, from the letter on; without an exponent, the end of the text.
+fn exp(s: &[u8], at: usize) -> Option<(bool, usize)>
     requires { at ≤ length s.now }
     ensures { Raises (exp (drop at s.now)) s.now result }
 {
     if s.len() <= at {
-        return Exponent::From { lowered: false, at };
+        return Some((false, at));
     }
     if s[at] == b'e' {
         return power(s, at + 1);
@@ -139,26 +104,17 @@ fn exp(s: &[u8], at: usize) -> Exponent
     if s[at] == b'E' {
         return power(s, at + 1);
     }
-    Exponent::Broken
+    None
 }
 
-fn unsigned(s: &[u8], at: usize) -> Found
+// The parts of a number text behind its sign.
+fn unsigned(s: &[u8], at: usize) -> Option<Parts>
     ensures { Splits (unsigned (drop at s.now)) s.now result }
 {
-    let Run::To(point) = int(s, at) else {
-        return Found::Other;
-    };
-    let Span::Over(fraction, end) = frac(s, point) else {
-        return Found::Other;
-    };
-    let Exponent::From {
-        lowered,
-        at: exponent,
-    } = exp(s, end)
-    else {
-        return Found::Other;
-    };
-    Found::Number(Parts {
+    let point = int(s, at)?;
+    let (fraction, end) = frac(s, point)?;
+    let (lowered, exponent) = exp(s, end)?;
+    Some(Parts {
         whole: at,
         point,
         fraction,
@@ -168,11 +124,12 @@ fn unsigned(s: &[u8], at: usize) -> Found
     })
 }
 
-pub fn split(s: &[u8]) -> Found
+// The parts of a number text.
+pub fn split(s: &[u8]) -> Option<Parts>
     ensures { Splits (number s.now) s.now result }
 {
     if s.len() == 0 {
-        return Found::Other;
+        return None;
     }
     if s[0] == b'-' {
         return unsigned(s, 1);

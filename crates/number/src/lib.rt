@@ -10,14 +10,13 @@ ghost use Rattle.number.specs.Grammar.{is_number};
 ghost use Rattle.number.specs.Finite.{is_finite};
 ghost use Rattle.number.specs.FirstDigit.{compared};
 
-use grammar::Found;
 use magnitude::Tested;
 
 // Whether `s` is a number text, all of it.
 pub fn is_number(s: &[u8]) -> bool
     ensures { result ≡ is_number s.now }
 {
-    let Found::Number(_) = grammar::split(s) else {
+    let Some(_) = grammar::split(s) else {
         return false;
     };
     true
@@ -27,7 +26,7 @@ pub fn is_number(s: &[u8]) -> bool
 pub fn test(s: &[u8]) -> Tested
     ensures { (result.finite ≡ is_finite s.now) × (result.compared ≡ compared s.now) }
 {
-    let Found::Number(p) = grammar::split(s) else {
+    let Some(p) = grammar::split(s) else {
         return Tested {
             finite: false,
             compared: 0,

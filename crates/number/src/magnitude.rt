@@ -6,14 +6,7 @@ ghost use Rattle.number.specs.FirstDigit.{largest, zeros, order, level_of, is_le
 ghost use Rattle.number.specs.Tests.{Tests, TestsNumber};
 
 use crate::bound::BOUND;
-
-// A place against 10^308, the place of the bound's first digit.
-#[derive(Clone, Copy)]
-pub enum Level {
-    Below,
-    Even,
-    Above,
-}
+use std::cmp::Ordering;
 
 // What was found out about a number: whether its magnitude is below the bound, and how many of its digits were compared with the bound's.
 #[derive(Clone, Copy)]
@@ -36,58 +29,47 @@ fn capped(s: &[u8]) -> usize
     ensures { result ≡ min (value s.now) largest }
 {
     let mut v: usize = 0;
-    let mut i = 0;
-    while i < s.len() {
+    for &b in s {
         if LARGEST / 10 <= v {
             return LARGEST;
         }
-        let d = digit(s[i]);
+        let d = digit(b);
         v = v * 10 + d as usize;
-        i += 1;
     }
-    if v < LARGEST { v } else { LARGEST }
+    v.min(LARGEST)
 }
 
 // How many zeros `s` begins with.
 fn zeros(s: &[u8]) -> usize
     ensures { result ≡ zeros (map digit s.now) }
 {
-    let mut i = 0;
-    while i < s.len() {
-        if digit(s[i]) == 0 {
-            i += 1;
-        } else {
+    for i in 0..s.len() {
+        if digit(s[i]) != 0 {
             return i;
         }
     }
-    i
+    s.len()
 }
 
-fn order(a: usize, b: usize) -> Level
+fn order(a: usize, b: usize) -> Ordering
     ensures { result ≡ order a b }
 {
-    if a < b {
-        return Level::Below;
-    }
-    if b < a {
-        return Level::Above;
-    }
-    Level::Even
+    a.cmp(&b)
 }
 
-// The first nonzero digit is the first of `places` before the point, or comes after the point and `zeros` zeros.
-fn level_of(places: usize, zeros: usize, lowered: bool, exponent: usize) -> Level
+// The place of the first nonzero digit against 10^308, the place of the bound's. That digit is the first of `places` before the point, or comes after the point and `zeros` zeros.
+fn level_of(places: usize, zeros: usize, lowered: bool, exponent: usize) -> Ordering
     requires { (places + zeros < 2 ^ 63) × (exponent ≤ largest) }
     ensures { result ≡ level_of lowered places zeros exponent }
 {
     if lowered {
         if places <= zeros {
-            return Level::Below;
+            return Ordering::Less;
         }
         return order(places - zeros, 309 + exponent);
     }
     if 309 + zeros < exponent {
-        return Level::Above;
+        return Ordering::Greater;
     }
     order(places + exponent, 309 + zeros)
 }
@@ -110,8 +92,7 @@ fn digit_at(high: &[u8], low: &[u8], i: usize) -> u8
 fn compare(high: &[u8], low: &[u8]) -> Tested
     ensures { (result.finite ≡ is_less (map digit (high.now ++ low.now)) bound) × (result.compared ≡ matched (map digit (high.now ++ low.now)) bound) }
 {
-    let mut i = 0;
-    while i < 309 {
+    for i in 0..BOUND.len() {
         let d = digit_at(high, low, i);
         let b = BOUND[i];
         if d != b {
@@ -120,24 +101,23 @@ fn compare(high: &[u8], low: &[u8]) -> Tested
                 compared: i + 1,
             };
         }
-        i += 1;
     }
     Tested {
         finite: false,
-        compared: i,
+        compared: BOUND.len(),
     }
 }
 
-fn by_level(l: Level, high: &[u8], low: &[u8]) -> Tested
+fn by_level(l: Ordering, high: &[u8], low: &[u8]) -> Tested
     ensures { Tests l (map digit (high.now ++ low.now)) result }
 {
     match l {
-        Level::Below => Tested {
+        Ordering::Less => Tested {
             finite: true,
             compared: 0,
         },
-        Level::Even => compare(high, low),
-        Level::Above => Tested {
+        Ordering::Equal => compare(high, low),
+        Ordering::Greater => Tested {
             finite: false,
             compared: 0,
         },

@@ -1,4 +1,5 @@
 -- The mark of a field: each way through `field_mark`, as a law.
+use Rattle.std.specs.Prelude.{Option, Some, None}
 use Prim.Native.Nat.{ℕ, ◌+◌, ◌/◌, ◌≤◌, ◌<◌}
 use mathlib.Core.Bool.{Bool, true, or-true}
 use mathlib.Core.List.{List, [], ◌∷◌, ◌++◌, append_assoc}
@@ -16,8 +17,6 @@ use Rattle.sheet.specs.Write.{mark_of, write_item, write_mark, write_length, wri
 use Rattle.sheet.proofs.HeadLaws.{field_head-exact}
 use Rattle.sheet.specs.Places.{field_of, KnownTo, Unread, KnownFieldIs}
 use Rattle.sheet.specs.declared.schema_heads.FieldHead.{FieldHead as CodeHead}
-use Rattle.sheet.specs.declared.schema_heads.FieldRead.{FieldRead}
-use Rattle.sheet.specs.declared.schema_heads.FieldRead.TheVariants.{Is, Bad}
 use Rattle.open_marks.specs.Places.{opened_head, Opens, ended, entered, FieldMarkAt}
 use Rattle.open_marks.proofs.Entered.{head-other, opens-past}
 use Rattle.open_marks.proofs.Bytes.{mark-written, front_length, set-mark, nothing-set}
@@ -144,11 +143,11 @@ pub record Sought (s : List ℕ) (start entry at number : ℕ) : Type 0 where
 pub sought-start : {s : List ℕ} {start entry number : ℕ} → number ≡ 2 → 2 ≤ entry → Sought s start entry start number
 sought-start e l = rw e (record { reached = l; leads = λ place m. m })
 
-module _ {s : List ℕ} {start entry at number : ℕ} (before : Sought s start entry at number) {r : FieldRead} (read : KnownFieldIs s at r) where
-  pub sought-unread : r ≡ Bad → FieldMarkAt s start 2 entry (length s)
+module _ {s : List ℕ} {start entry at number : ℕ} (before : Sought s start entry at number) {r : Option (CodeHead × ℕ)} (read : KnownFieldIs s at r) where
+  pub sought-unread : r ≡ None → FieldMarkAt s start 2 entry (length s)
   sought-unread e = before.leads (length s) (mark-unread (rw e at read))
 
-  module _ {h : CodeHead} {next : ℕ} (e : r ≡ Is h next) where
+  module _ {h : CodeHead} {next : ℕ} (e : r ≡ Some (h, next)) where
     known : KnownTo s at h next
     known = rw e at read
 

@@ -1,4 +1,5 @@
 -- The two marks of the sheet's head: each way through `arguments_mark` and `mark_place`, as a law.
+use Rattle.std.specs.Prelude.{Option as Optional, Some, None}
 use Prim.Native.Nat.{ℕ, ◌+◌, ◌≤◌}
 use mathlib.Core.Bool.{Bool, true, false, or-true, or-false}
 use mathlib.Core.List.{List, [], ◌∷◌, ◌++◌, append_assoc}
@@ -12,8 +13,6 @@ use Rattle.text.specs.Reader.{◌>>=◌, ◌>>◌, and_then}
 use Rattle.text.specs.NumeralLaws.{begins_without_digit, comma-begins}
 use Rattle.text.specs.ByteReaders.{byte}
 use Rattle.text.specs.ReadAt.{ReadsTo, Refuses, NumeralIs}
-use Rattle.text.specs.declared.numeral.NumeralRead.{NumeralRead}
-use Rattle.text.specs.declared.numeral.NumeralRead.TheVariants.{Is, Bad}
 use Rattle.sheet.specs.Entries.{max_count, item, HolderHead, SchemaHead, schema_head}
 use Rattle.sheet.specs.Pieces.{dashed}
 use Rattle.sheet.specs.Write.{mark_of, write_item, write_mark, write_end, write_holder_head, write_arguments_head, write_schema_head}
@@ -21,8 +20,6 @@ use Rattle.sheet.proofs.ItemLaws.{anything, item-complete}
 use Rattle.sheet.proofs.HeadLaws.{SchemaHeadFits, schema_head-exact}
 use Rattle.sheet.specs.Places.{IsDashed, SchemaIs}
 use Rattle.sheet.specs.declared.schema_heads.SchemaHead.{SchemaHead as CodeHead}
-use Rattle.sheet.specs.declared.schema_heads.SchemaHeadRead.{SchemaHeadRead}
-use Rattle.sheet.specs.declared.schema_heads.SchemaHeadRead.TheVariants as schema
 use Rattle.open_marks.specs.Places.{Opens, MarkAt, FieldMarkAt}
 use Rattle.open_marks.proofs.Entered.{opens-past}
 use Rattle.open_marks.proofs.Sheets.{opened_arguments_head, opened_schema_head, SheetMarkAt, mark-at}
@@ -166,11 +163,11 @@ module _ {s : List ℕ} {n behind : ℕ} (r : ReadsTo (item 0 max_count) s 3 n b
   mark-present : {place : ℕ} → Refuses dashed s behind → place ≡ behind + 1 → MarkAt s 0 place
   mark-present d is = rw is (mark-at (λ h rest after fits e o. present-opens d h.fields h.arguments rest after fits e o))
 
-module _ {s : List ℕ} {c : NumeralRead} (count : NumeralIs (item 0 max_count) 0 max_count s 3 c) where
-  pub arguments-uncounted : c ≡ Bad → MarkAt s 0 (length s)
+module _ {s : List ℕ} {c : Optional (ℕ × ℕ)} (count : NumeralIs (item 0 max_count) 0 max_count s 3 c) where
+  pub arguments-uncounted : c ≡ None → MarkAt s 0 (length s)
   arguments-uncounted e = mark-unnumbered (rw e at count)
 
-  module _ {n behind : ℕ} (e : c ≡ Is n behind) where
+  module _ {n behind : ℕ} (e : c ≡ Some (n, behind)) where
     pub arguments-absent : (at : ℕ) {d : Bool} → IsDashed s at d → d ≡ true → at ≡ behind → MarkAt s 0 (length s)
     arguments-absent at dash q is = mark-absent (rw e at count).0 (rw (q, is) at dash)
 
@@ -193,11 +190,11 @@ field-opens {s} {x} {entry} {start} r l m h rest after fits e o =
     (some-injective (x, drop start s) (h, rest) (sym r.reads ∙ ap schema_head e ∙ schema_head-exact.complete h rest fits refl)) in
     rw (head-other entry h l) (m.opens (write_schema_head h) rest after e (front_length s (write_schema_head h) rest start e d r.within) o)
 
-module _ {s : List ℕ} {entry : ℕ} {r : SchemaHeadRead} (read : SchemaIs s 0 r) where
-  pub place-headless : r ≡ schema.Bad → MarkAt s entry (length s)
+module _ {s : List ℕ} {entry : ℕ} {r : Optional (CodeHead × ℕ)} (read : SchemaIs s 0 r) where
+  pub place-headless : r ≡ None → MarkAt s entry (length s)
   place-headless e = mark-headless (rw e at read)
 
-  pub place-field : {h : CodeHead} {start place : ℕ} → r ≡ schema.Is h start → (entry ≡ 0 → ⊥) → (entry ≡ 1 → ⊥) → FieldMarkAt s start 2 entry place → MarkAt s entry place
+  pub place-field : {h : CodeHead} {start place : ℕ} → r ≡ Some (h, start) → (entry ≡ 0 → ⊥) → (entry ≡ 1 → ⊥) → FieldMarkAt s start 2 entry place → MarkAt s entry place
   place-field e no_arguments no_record m = mark-at (field-opens (rw e at read).0 (omega arith) m)
 
 pub place-arguments : {s : List ℕ} {entry place : ℕ} → entry ≡ 0 → MarkAt s 0 place → MarkAt s entry place

@@ -7,14 +7,13 @@ ghost use Rattle.open_marks.specs.Places.{MarkAt, FieldMarkAt};
 
 use buffer::push;
 use sheet::entry::{MAX_COUNT, is_dashed, item};
-use sheet::schema_heads::{FieldRead, SchemaHeadRead, known_field, schema_head};
-use text::numeral::NumeralRead;
+use sheet::schema_heads::{known_field, schema_head};
 
 // The place of the arguments' mark: behind the record's count.
 fn arguments_mark(s: &[u8]) -> usize
     ensures { MarkAt s.now 0 result }
 {
-    let NumeralRead::Is(_, behind) = item(s, 3, 0, MAX_COUNT) else {
+    let Some((_, behind)) = item(s, 3, 0, MAX_COUNT) else {
         return s.len();
     };
     if is_dashed(s, behind) {
@@ -29,15 +28,13 @@ fn field_mark(s: &[u8], start: usize, entry: usize) -> usize
     ensures { FieldMarkAt s.now start 2 entry result }
 {
     let mut at = start;
-    let mut number: usize = 2;
-    while number < entry {
-        let FieldRead::Is(_, next) = known_field(s, at) else {
+    for _ in 2..entry {
+        let Some((_, next)) = known_field(s, at) else {
             return s.len();
         };
         at = next;
-        number += 1;
     }
-    let FieldRead::Is(head, _) = known_field(s, at) else {
+    let Some((head, _)) = known_field(s, at) else {
         return s.len();
     };
     if head.kind < 10 { at + 4 } else { at + 5 }
@@ -47,7 +44,7 @@ fn field_mark(s: &[u8], start: usize, entry: usize) -> usize
 fn mark_place(s: &[u8], entry: usize) -> usize
     ensures { MarkAt s.now entry result }
 {
-    let SchemaHeadRead::Is(_, start) = schema_head(s, 0) else {
+    let Some((_, start)) = schema_head(s, 0) else {
         return s.len();
     };
     if entry == 0 {

@@ -1,4 +1,5 @@
 -- The whole call: each way to its end gives what the definitions say of it.
+use Rattle.std.specs.Prelude.{Ok, Err}
 use Prim.Native.Nat.{ℕ, ◌≤◌, ◌<◌}
 use mathlib.Core.Bool.{false, not}
 use mathlib.Core.List.{List, []}
@@ -15,7 +16,6 @@ use Rattle.validation.proofs.RefusalLaws.{number-some, every, of-first, settings
 use Rattle.single_check.specs.Settings.{setting_by, asked_by, widths_by, EarlyIs, SettledIs}
 use Rattle.single_check.specs.SheetLaws.{Roomy, roomy, front-scratch}
 use Rattle.single_check.specs.declared.settings.Setting.{Setting as CodeSetting}
-use Rattle.single_check.specs.declared.settings.Settled.TheVariants.{Set, Refused}
 use Rattle.openings.specs.Call.{OpenCall, check_of, list_bytes, scratch_left, open_answer, open_numbers, MeetsOpen}
 use Rattle.openings.proofs.CallLaws.{setting_refusal, settings-first, list-refused, table-refused, sheets-decide}
 use Rattle.openings.specs.Runs.{searched, SheetsOpened, open_run_of}
@@ -78,11 +78,11 @@ module _ (kind semantics : ℕ) (table schema rule path_before list_before befor
     meets-list short q = meets-early (list-refused call settings-pass short) refl q
 
     module _ (long : list_bytes ≤ length list_before) where
-      pub meets-table : {m : ℕ} {r : List ℕ} → SettledIs kind semantics table (Refused m) → r ≡ open_numbers (refused_by m)
+      pub meets-table : {m : ℕ} {r : List ℕ} → SettledIs kind semantics table (Err m) → r ≡ open_numbers (refused_by m)
           → MeetsOpen (open_run_of kind semantics table schema rule path_before list_before before r path_before list_before before)
       meets-table {m} t q = meets-early (table-refused call settings-pass long m t) (of-table table m t) q
 
-      pub meets-sheets : (s : CodeSetting) → SettledIs kind semantics table (Set s)
+      pub meets-sheets : (s : CodeSetting) → SettledIs kind semantics table (Ok s)
           → {path list after r : List ℕ}
           → SheetsOpened (setting_by s) schema rule path_before path list_before list before after r
           → MeetsOpen (open_run_of kind semantics table schema rule path_before list_before before r path list after)

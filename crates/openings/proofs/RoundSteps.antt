@@ -1,4 +1,5 @@
 -- A round, and the search: each way through them.
+use Rattle.std.specs.Prelude.{Option as Optional, Some, None, Ok, Err}
 use Prim.Native.Nat.{ℕ, suc, ◌+◌, ◌-◌, ◌≤◌, ◌<◌}
 use native.Mathlib.Omega.{arith}
 use mathlib.Core.Bool.{Bool, true, false, ◌||◌}
@@ -18,8 +19,6 @@ use Rattle.definition.specs.Within.{rule_entries}
 use Rattle.reference.specs.Setting.{Setting}
 use Rattle.schema.specs.Read.{SchemaAt, SchemaAnswer}
 use Rattle.schema.specs.declared.read.Schema.{Schema}
-use Rattle.schema.specs.declared.read.SchemaRead.{SchemaRead}
-use Rattle.schema.specs.declared.read.SchemaRead.TheVariants as SchemaRead
 use Rattle.rule.specs.Index.{RuleAt}
 use Rattle.rule.specs.IndexLaws.{Agree, agree-within, entry_frame, value_frame, condition-frame}
 use Rattle.walk.specs.declared.answer.Reader.TheVariants.{Kernel}
@@ -35,8 +34,6 @@ use Rattle.validation.proofs.RoundLaws.{round-passes, round-opens, round-ends, r
 use Rattle.value_checks.specs.Shown.{passes, fails, shown_of}
 use Rattle.value_checks.specs.Verdicts.{refused_at, failure_of, shown_with, shown_by}
 use Rattle.value_checks.specs.declared.verdict.Fault.{Fault}
-use Rattle.value_checks.specs.declared.verdict.Over.{Over}
-use Rattle.value_checks.specs.declared.verdict.Verdict.TheVariants.{Pass, Defect}
 use Rattle.value_checks.specs.declared.verdict.Progress.{Progress}
 use Rattle.condition_checks.specs.Rules.{RuleJudged}
 use Rattle.single_check.specs.Settings.{setting_by}
@@ -45,16 +42,15 @@ use Rattle.single_check.specs.SheetLaws.{front-schema, front-both}
 use Rattle.single_check.specs.declared.settings.Setting as Code
 use Rattle.open_marks.specs.Marks.{MarkOpened}
 use Rattle.openings.specs.Rounds.{RoundIs, RoundJudged, is_marked, Stands, MarksFound}
-use Rattle.openings.specs.declared.rounds.Round.TheVariants.{Passed, Refused}
 
 -- What a verdict shows is what the round finds of it.
 
-passes-found : (v : Verdict) (n : ℕ) → passes n ≡ shown_of v → RoundIs Passed v
+passes-found : (v : Verdict) (n : ℕ) → passes n ≡ shown_of v → RoundIs (Ok tt) v
 unfolding shown_of
 passes-found (all_pass m) n e = tt
 passes-found (fails_at m c why) n e = zero-not-one cc
 
-fails-found : (v : Verdict) (n number place : ℕ) (over : Option ℕ) (why : Failure) → fails n number place over why ≡ shown_of v → RoundIs (Refused why.at) v
+fails-found : (v : Verdict) (n number place : ℕ) (over : Option ℕ) (why : Failure) → fails n number place over why ≡ shown_of v → RoundIs (Err why.at) v
 unfolding shown_of
 fails-found (all_pass m) n number place over why e = zero-not-one cc
 fails-found (fails_at m c why') n number place over why e = let same : why' ≡ why = cc in ap (λ (x : Failure). x.at) same
@@ -66,13 +62,13 @@ module _ (set : Code.Setting) {s : Schema} {scope : Scope} {sheet rule words : L
   shows t x at rat small =
       j.shows (setting_by set) t x (scope-unbound sheet rule words set.row set.service Kernel s scope (setting_by set) t small u refl refl refl at) rat
 
-  pub passes-round : a.verdict ≡ Pass → RoundJudged (setting_by set) s rule sheet words Passed
+  pub passes-round : a.verdict ≡ (Ok tt) → RoundJudged (setting_by set) s rule sheet words (Ok tt)
   unfolding shown_by shown_with
   passes-round v =
       record { finds = λ t x at rat small. let e : shown_by a ≡ passes a.passed = rw v in passes-found _ a.passed (sym e ∙ shows t x at rat small) }
 
-  pub refuses-round : {fault : Fault} {place at : ℕ} {over : Over} → a.verdict ≡ Defect fault place over → at ≡ refused_at fault
-      → RoundJudged (setting_by set) s rule sheet words (Refused at)
+  pub refuses-round : {fault : Fault} {place at : ℕ} {over : Optional ℕ} → a.verdict ≡ Err (fault, place, over) → at ≡ refused_at fault
+      → RoundJudged (setting_by set) s rule sheet words (Err at)
   unfolding shown_by shown_with failure_of
   refuses-round {fault} {place} {at} {over} v e =
       record {
@@ -110,19 +106,19 @@ no-mark marks e h = rw h
 -- The rounds, by what a round finds.
 
 module _ (setting : Setting) (t : Tree.Schema) (cs : List Check) (k : ℕ) (found : List ℕ) where
-  rounds-pass : (v : Verdict) → RoundIs Passed v → judged_open setting t cs found ≡ v → rounds setting t cs (suc k) found ≡ some found
+  rounds-pass : (v : Verdict) → RoundIs (Ok tt) v → judged_open setting t cs found ≡ v → rounds setting t cs (suc k) found ≡ some found
   rounds-pass (fails_at passed c why) r e = elim r [ ]
   rounds-pass (all_pass n) r e = round-passes setting t cs k found n e
 
-  rounds-far : (at : ℕ) (v : Verdict) → RoundIs (Refused at) v → judged_open setting t cs found ≡ v → max_schema_entries < at → rounds setting t cs (suc k) found ≡ none
+  rounds-far : (at : ℕ) (v : Verdict) → RoundIs (Err at) v → judged_open setting t cs found ≡ v → max_schema_entries < at → rounds setting t cs (suc k) found ≡ none
   rounds-far at (all_pass passed) r e h = elim r [ ]
   rounds-far at (fails_at n c why) r e h = round-ends-past setting t cs k found n c why e (rw r h)
 
-  rounds-vain : (at : ℕ) (v : Verdict) → RoundIs (Refused at) v → judged_open setting t cs found ≡ v → is_in found at ≡ true → rounds setting t cs (suc k) found ≡ none
+  rounds-vain : (at : ℕ) (v : Verdict) → RoundIs (Err at) v → judged_open setting t cs found ≡ v → is_in found at ≡ true → rounds setting t cs (suc k) found ≡ none
   rounds-vain at (all_pass passed) r e h = elim r [ ]
   rounds-vain at (fails_at n c why) r e h = round-ends setting t cs k found n c why e (rw r h)
 
-  rounds-more : (at : ℕ) (v : Verdict) → RoundIs (Refused at) v → judged_open setting t cs found ≡ v → at ≤ max_schema_entries → is_in found at ≡ false
+  rounds-more : (at : ℕ) (v : Verdict) → RoundIs (Err at) v → judged_open setting t cs found ≡ v → at ≤ max_schema_entries → is_in found at ≡ false
       → rounds setting t cs (suc k) found ≡ rounds setting t cs k (at ∷ found)
   rounds-more at (all_pass passed) r e low new = elim r [ ]
   rounds-more at (fails_at n c why) r e low new =
@@ -169,7 +165,7 @@ module _ {setting : Setting} {rule : List ℕ} {first s : Schema} {sheet₀ mark
         → rounds setting t (checks setting x) (max_marks + 1) start ≡ rounds setting t (checks setting x) (suc (left - 1)) l.found
     round-left t x start l = l.same ∙ ap (λ (n : ℕ). rounds setting t (checks setting x) n l.found) (suc-left left more)
 
-    pub search-passes : RoundJudged setting s rule sheet words Passed → MarksFound setting first rule sheet₀ marks₀ marks words₀ words true
+    pub search-passes : RoundJudged setting s rule sheet words (Ok tt) → MarksFound setting first rule sheet₀ marks₀ marks words₀ words true
     unfolding judged_open
     search-passes r =
         record {
@@ -183,9 +179,9 @@ module _ {setting : Setting} {rule : List ℕ} {first s : Schema} {sheet₀ mark
               );
         }
 
-    module _ {at : ℕ} (r : RoundJudged setting s rule sheet words (Refused at)) where
+    module _ {at : ℕ} (r : RoundJudged setting s rule sheet words (Err at)) where
       found_of : (t : Tree.Schema) (x : Rule) (start : List ℕ) (l : Leads setting rule t x start s sheet marks words left)
-          → RoundIs (Refused at) (judge setting (opened (is_in l.found) t) (checks setting x))
+          → RoundIs (Err at) (judge setting (opened (is_in l.found) t) (checks setting x))
       found_of t x start l = r.finds _ x l.stands.indexed l.stands.ruled l.stands.small
 
       pub search-too-far : max_schema_entries < at → MarksFound setting first rule sheet₀ marks₀ marks words₀ words false
@@ -211,14 +207,14 @@ module _ {setting : Setting} {rule : List ℕ} {first s : Schema} {sheet₀ mark
             }
 
         -- one mark more
-        module _ (new : get_or marks at 0 ≡ 0) (room : length marks ≡ max_marks) {sheet' words' : List ℕ} (o : MarkOpened sheet at sheet') {q : SchemaRead} (read : SchemaAnswer sheet' words words' q) where
+        module _ (new : get_or marks at 0 ≡ 0) (room : length marks ≡ max_marks) {sheet' words' : List ℕ} (o : MarkOpened sheet at sheet') {q : Optional Schema} (read : SchemaAnswer sheet' words words' q) where
           now-reads : (found : List ℕ) (t : Tree.Schema) → decode_schema sheet ≡ some (opened (is_in found) t) → decode_schema sheet' ≡ some (opened (is_in (at ∷ found)) t)
           now-reads found t e = o.opens (opened (is_in found) t) e ∙ ap some (opened-once at found t)
 
           front-on : FrontOnly words₀ words'
           front-on = front-both c.front (front-schema read.kept)
 
-          pub search-unread : q ≡ SchemaRead.Bad → MarksFound setting first rule sheet₀ marks₀ (set marks at 1) words₀ words' false
+          pub search-unread : q ≡ None → MarksFound setting first rule sheet₀ marks₀ (set marks at 1) words₀ words' false
           search-unread b =
               record {
                 front = front-on;
@@ -236,7 +232,7 @@ module _ {setting : Setting} {rule : List ℕ} {first s : Schema} {sheet₀ mark
               by true p = let same : at ≡ e = eqb-true at e p in rw (← same) (marked-same marks at (omega arith))
               by false p = marked_other marks at e (λ q. eqb-false at e p (sym q)) ∙ marked e low
 
-          pub search-on : {next : Schema} → q ≡ SchemaRead.Good next → Searching setting rule first sheet₀ marks₀ words₀ next sheet' (set marks at 1) words' (left - 1)
+          pub search-on : {next : Schema} → q ≡ Some next → Searching setting rule first sheet₀ marks₀ words₀ next sheet' (set marks at 1) words' (left - 1)
           unfolding judged_open
           search-on {next} g =
               record {

@@ -1,4 +1,5 @@
 -- Two sheets: each way to the end of the search gives what the definitions say of it.
+use Rattle.std.specs.Prelude.{Option, Some, None}
 use Prim.Native.Nat.{ℕ, ◌+◌, ◌-◌, ◌≤◌, ◌<◌}
 use native.Mathlib.Omega.{arith}
 use mathlib.Core.Bool.{true, false}
@@ -17,12 +18,8 @@ use Rattle.definition.proofs.RoundTrip.{schema-round-trip, rule-round-trip}
 use Rattle.reference.specs.Setting.{Setting}
 use Rattle.schema.specs.Read.{SchemaAnswer}
 use Rattle.schema.specs.declared.read.Schema as Code
-use Rattle.schema.specs.declared.read.SchemaRead.{SchemaRead}
-use Rattle.schema.specs.declared.read.SchemaRead.TheVariants as SchemaRead
 use Rattle.rule.specs.Rule.{RuleIndexed, RuleAnswer}
 use Rattle.rule.specs.declared.RuleSheet.{RuleSheet}
-use Rattle.rule.specs.declared.RuleRead.{RuleRead}
-use Rattle.rule.specs.declared.RuleRead.TheVariants as RuleRead
 use Rattle.widening.specs.Opening.{is_in}
 use Rattle.widening.proofs.OpeningLaws.{opened-none}
 use Rattle.validation.specs.Openings.{max_marks, rising_to}
@@ -86,9 +83,9 @@ replaced sheet path_before end same low room =
     let written : sets path_before 0 sheet ≡ sheet ++ drop end path_before = rw place at (sets-eq sheet path_before 0 (omega arith)) in
     rw written at (sets-kept path_bytes path_before sheet (omega arith) room)
 
-module _ {setting : Setting} {schema rule path_before list before middle : List ℕ} {q : SchemaRead} (read : SchemaAnswer schema before middle q) where
+module _ {setting : Setting} {schema rule path_before list before middle : List ℕ} {q : Option Code.Schema} (read : SchemaAnswer schema before middle q) where
   pub no-schema : {r : List ℕ}
-      → q ≡ SchemaRead.Bad
+      → q ≡ None
       → r ≡ open_numbers (refused_by 4)
       → SheetsOpened setting schema rule path_before path_before list list before middle r
   unfolding searched if_told
@@ -100,9 +97,9 @@ module _ {setting : Setting} {schema rule path_before list before middle : List 
         kept = rw bad refl;
       }
 
-  module _ {s : Code.Schema} (g : q ≡ SchemaRead.Good s) {after : List ℕ} {a : RuleRead} (ruled : RuleAnswer rule middle after a) where
+  module _ {s : Code.Schema} (g : q ≡ Some s) {after : List ℕ} {a : Option RuleSheet} (ruled : RuleAnswer rule middle after a) where
     pub no-rule : {r : List ℕ}
-        → a ≡ RuleRead.Bad
+        → a ≡ None
         → r ≡ open_numbers (refused_by 5)
         → SheetsOpened setting schema rule path_before path_before list list before after r
     unfolding searched if_told
@@ -115,7 +112,7 @@ module _ {setting : Setting} {schema rule path_before list before middle : List 
           kept = rw (good.reads, bad.0) refl;
         }
 
-    module _ {x : RuleSheet} (h : a ≡ RuleRead.Good x) where
+    module _ {x : RuleSheet} (h : a ≡ Some x) where
       pub sheets-listed : {path sheet rest list' after' r : List ℕ} {end : ℕ} (sheet' : List ℕ)
           → path_bytes ≤ length path_before
           → Wrote path_before path 0 schema end
@@ -126,7 +123,7 @@ module _ {setting : Setting} {schema rule path_before list before middle : List 
           → SheetsOpened setting schema rule path_before (sheet' ++ rest) list list' before after' r
       unfolding searched if_told
       sheets-listed {path} {sheet} {rest} {list'} {after'} {r} {end} sheet' room w part behind size l =
-          let good = still_read schema (SchemaRead.Good s) ruled-at.kept (rw g at read.answer) in
+          let good = still_read schema (Some s) ruled-at.kept (rw g at read.answer) in
           let written = (schema-round-trip schema good.tree).0 good.reads in
           let short : length schema ≤ max_sheet_bytes = rw written.0 written.1.bytes in
           let rule-written = (rule-round-trip rule ruled-at.tree).0 ruled-at.reads in

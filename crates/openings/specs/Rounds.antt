@@ -1,5 +1,5 @@
 -- The search as the code goes: what is known before a round, and what the marks stand for that it keeps.
-use Rattle.std.specs.Prelude.{ℕ, ◌+◌, ◌≤◌, ◌<◌, Bool, true, false, not, List, ◌≡◌, eqb, length, get_or}
+use Rattle.std.specs.Prelude.{ℕ, ◌+◌, ◌≤◌, ◌<◌, Bool, true, false, not, List, ◌≡◌, eqb, length, get_or, Result, Ok, Err}
 use Rattle.std.proofs.Math.Option.{Option, none, some}
 use Rattle.std.proofs.lemmas.List.Edits.{sets}
 use Rattle.buffer.specs.Bytes.{bytes_of}
@@ -17,17 +17,15 @@ use Rattle.validation.specs.Check.{checks}
 use Rattle.validation.specs.Judge.{Verdict, all_pass, fails_at, judge}
 use Rattle.validation.specs.Openings.{max_marks, rounds, rising_to}
 use Rattle.single_check.specs.Sheets.{FrontOnly}
-use Rattle.openings.specs.declared.rounds.Round.{Round}
-use Rattle.openings.specs.declared.rounds.Round.TheVariants.{Passed, Refused}
 
 -- what a round finds of the check list's verdict
-abbrev pub RoundIs : Round → Verdict → Type 0
-RoundIs Passed (all_pass n) = Unit {0}
-RoundIs Passed (fails_at n c why) = ⊥
-RoundIs (Refused at) (all_pass n) = ⊥
-RoundIs (Refused at) (fails_at n c why) = why.at ≡ at
+abbrev pub RoundIs : Result Unit ℕ → Verdict → Type 0
+RoundIs (Ok tt) (all_pass n) = Unit {0}
+RoundIs (Ok tt) (fails_at n c why) = ⊥
+RoundIs (Err at) (all_pass n) = ⊥
+RoundIs (Err at) (fails_at n c why) = why.at ≡ at
 
-pub record RoundJudged (setting : Setting) (s : Schema) (rule sheet words : List ℕ) (r : Round) : Type 0 where
+pub record RoundJudged (setting : Setting) (s : Schema) (rule sheet words : List ℕ) (r : Result Unit ℕ) : Type 0 where
   pub finds : (t : Tree.Schema) (x : Rule)
       → SchemaAt sheet words s t
       → RuleAt rule words x

@@ -10,7 +10,7 @@ ghost use Rattle.openings.specs.Runs.{open_run_of};
 
 use crate::list::LIST_BYTES;
 use crate::search::{open_sheets, refused};
-use single_check::settings::{Settled, refused_settings, settle};
+use single_check::settings::{refused_settings, settle};
 
 // How many numbers a result has.
 pub const OPEN_NUMBERS: usize = 3;
@@ -37,7 +37,7 @@ pub fn fewest_marks(
         return refused(36);
     }
     match settle(kind, semantics, table) {
-        Settled::Refused(number) => refused(number),
-        Settled::Set(setting) => open_sheets(setting, schema, rule, path, list, scratch),
+        Err(number) => refused(number),
+        Ok(setting) => open_sheets(setting, schema, rule, path, list, scratch),
     }
 }

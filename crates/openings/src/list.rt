@@ -16,14 +16,10 @@ pub fn put_marks(marks: &[u8], list: &mut [u8]) -> u32
 {
     let mut count: u32 = 0;
     let mut at: usize = 0;
-    let mut e: u32 = 0;
-    while e < MAX_MARKS as u32 {
+    for e in 0..MAX_MARKS as u32 {
         if marks[e as usize] != 0 {
             at = put_u32(list, at, e);
             count += 1;
-            e += 1;
-        } else {
-            e += 1;
         }
     }
     count

@@ -9,23 +9,14 @@ ghost use Rattle.openings.specs.Rounds.{RoundJudged, MarksFound};
 use condition_checks::rules::judge;
 use definition::limits::MAX_SCHEMA_ENTRIES;
 use open_marks::open_mark;
-use schema::read::{Schema, SchemaRead, read_schema};
+use schema::read::{Schema, read_schema};
 use scope::binder::unbound;
 use single_check::settings::Setting;
-use value_checks::verdict::{Fault, Verdict};
+use value_checks::verdict::Fault;
 use walk::answer::Reader;
 
 // Those of the entries, and that of the arguments.
 pub const MAX_MARKS: usize = MAX_SCHEMA_ENTRIES + 1;
-
-// What a round finds.
-#[derive(Clone, Copy)]
-pub enum Round {
-    // All checks pass.
-    Passed,
-    // The entry of the field that refused; 1 is the record, 0 the arguments or no field at all.
-    Refused(usize),
-}
 
 fn refused_at(fault: Fault) -> usize
     ensures { result ≡ refused_at fault }
@@ -46,17 +37,23 @@ fn refused_at(fault: Fault) -> usize
     }
 }
 
-// Checks the rule under the schema as it is now.
-fn check_round(setting: Setting, s: Schema, rule: &[u8], sheet: &[u8], words: &[u32]) -> Round
+// Checks the rule under the schema as it is now. A refusal is the entry of the field that refused; 1 is the record, 0 the arguments or no field at all.
+fn check_round(
+    setting: Setting,
+    s: Schema,
+    rule: &[u8],
+    sheet: &[u8],
+    words: &[u32],
+) -> Result<(), usize>
     ensures { RoundJudged (setting_by setting) s rule.now sheet.now words.now result }
 {
     let scope = unbound(setting.row, setting.service, Reader::Kernel, s);
     let a = judge(sheet, rule, words, scope);
     let verdict = a.verdict;
-    let Verdict::Defect(fault, _, _) = verdict else {
-        return Round::Passed;
+    let Err((fault, _, _)) = verdict else {
+        return Ok(());
     };
-    Round::Refused(refused_at(fault))
+    Err(refused_at(fault))
 }
 
 // Opens marks of the schema until the rule is accepted, and marks their entries; false where no marks help. A mark that is opened in vain is found again in the next
@@ -73,9 +70,8 @@ pub fn find_marks(
     ensures { MarksFound (setting_by setting) first rule.now sheet.old marks.old marks.new words.old words.new result }
 {
     let mut s = first;
-    let mut left: usize = MAX_MARKS + 1;
-    while 0 < left {
-        let Round::Refused(at) = check_round(setting, s, rule, sheet, words) else {
+    for _ in 0..MAX_MARKS + 1 {
+        let Err(at) = check_round(setting, s, rule, sheet, words) else {
             return true;
         };
         if MAX_SCHEMA_ENTRIES < at {
@@ -86,11 +82,10 @@ pub fn find_marks(
         }
         marks[at] = 1;
         open_mark(sheet, at);
-        let SchemaRead::Good(next) = read_schema(sheet, words) else {
+        let Some(next) = read_schema(sheet, words) else {
             return false;
         };
         s = next;
-        left -= 1;
     }
     false
 }

@@ -11,8 +11,8 @@ use crate::OPEN_NUMBERS;
 use crate::list::put_marks;
 use crate::rounds::{MAX_MARKS, find_marks};
 use buffer::put;
-use rule::{RuleRead, read_rule};
-use schema::read::{Schema, SchemaRead, read_schema};
+use rule::read_rule;
+use schema::read::{Schema, read_schema};
 use single_check::settings::Setting;
 
 pub fn refused(number: u32) -> [u32; OPEN_NUMBERS]
@@ -52,10 +52,10 @@ pub fn open_sheets(
     requires { (path_bytes ≤ length path.old) × (scratch_words ≤ length scratch.old) }
     ensures { SheetsOpened (setting_by setting) schema.now rule.now path.old path.new list.old list.new scratch.old scratch.new result }
 {
-    let SchemaRead::Good(s) = read_schema(schema, scratch) else {
+    let Some(s) = read_schema(schema, scratch) else {
         return refused(4);
     };
-    let RuleRead::Good(_) = read_rule(rule, scratch) else {
+    let Some(_) = read_rule(rule, scratch) else {
         return refused(5);
     };
     let end = put(path, 0, schema);

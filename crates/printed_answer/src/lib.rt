@@ -5,7 +5,7 @@ ghost use Rattle.validation.specs.Result.{result_of};
 ghost use Rattle.check_file.specs.Output.{call_for, answered, output_of};
 ghost use Rattle.printed_answer.specs.Printed.{Printed};
 
-use check_file::file::{Taken, take_apart};
+use check_file::file::take_apart;
 use check_file::line::write_line;
 use definition::limits::{PATH_BYTES, SCRATCH_WORDS};
 use single_check::validate;
@@ -54,7 +54,7 @@ fn answer(
 pub fn output(file: &[u8], out: &mut [u8]) -> usize
     ensures { Printed (output_of file.now) out.old out.new result }
 {
-    let Taken::Apart(p) = take_apart(file) else {
+    let Some(p) = take_apart(file) else {
         return 0;
     };
     answer(

@@ -1,4 +1,5 @@
 -- The order of an object's keys, by the comparison of two of them: keys that rise differ.
+use Rattle.std.specs.Prelude.{Option as Optional, Some}
 use Prim.Native.Nat.{ℕ}
 use mathlib.Core.Bool.{Bool, true, false, ◌&&◌, false≢true}
 use mathlib.Core.List.{List}
@@ -10,13 +11,11 @@ use Rattle.text.specs.CaseLaws.{by-test}
 use Rattle.text.specs.Parts.{part_of, optional_of}
 use Rattle.text.specs.Compares.{Stand}
 use Rattle.text.specs.declared.part.Part.{Part}
-use Rattle.text.specs.declared.part.OptionalPart.{OptionalPart}
-use Rattle.text.specs.declared.part.OptionalPart.TheVariants.{Is}
 use Rattle.definition.specs.Tree.{Text, Value, Pairs, no_pairs, pair}
 use Rattle.definition.specs.Decode.{keys_of}
 
-pub key-follows : (s : List ℕ) (key : Part) {previous : OptionalPart} {p : Part} {a b : List ℕ} {less same greater : Bool}
-    → previous ≡ Is p
+pub key-follows : (s : List ℕ) (key : Part) {previous : Optional Part} {p : Part} {a b : List ℕ} {less same greater : Bool}
+    → previous ≡ Some p
     → a ≡ part_of s p
     → b ≡ part_of s key
     → Stand a b less same greater

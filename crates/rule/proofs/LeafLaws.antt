@@ -1,4 +1,5 @@
 -- A value that holds no others is read once its head is.
+use Rattle.std.specs.Prelude.{Some, None}
 use Prim.Native.Nat.{ℕ, ◌+◌, ◌*◌, ◌-◌}
 use mathlib.Core.Bool.{true}
 use mathlib.Core.List.{List}
@@ -7,14 +8,12 @@ use mathlib.Core.Path.{◌≡◌, refl, sym}
 use native.Mathlib.Omega.{arith}
 use lib.ListN.{set}
 use Rattle.text.specs.Parts.{optional_of}
-use Rattle.text.specs.declared.part.OptionalPart.TheVariants.{Absent}
 use Rattle.sheet.specs.Places.{LeafRead, value_count}
 use Rattle.sheet.specs.declared.rule_heads.ValueHead.{ValueHead}
 use Rattle.sheet.specs.declared.rule_heads.ValueHead.TheVariants as head
 use Rattle.definition.specs.Decode.{value_in}
 use Rattle.definition.specs.Within.{value_entries}
 use Rattle.rule.specs.declared.cursor.Cursor.{Cursor}
-use Rattle.rule.specs.declared.cursor.TreeRead.TheVariants as tree
 use Rattle.rule.specs.declared.value.Held.{Held}
 use Rattle.rule.specs.declared.value.Held.TheVariants as held
 use Rattle.rule.specs.Index.{ValueAt}
@@ -24,10 +23,10 @@ use Rattle.rule.proofs.SiblingLaws.{siblings-begin, siblings-end}
 use Rattle.rule.proofs.SiblingKinds.{values-kind, pairs-kind, object-rises}
 use Rattle.rule.proofs.ValueAnswers.{held-answer}
 
-nothing-held : (s words : List ℕ) (depth : ℕ) (what : Held) (c : Cursor) → cost_of what ≡ 0 → Ready s words (cost_of what) c → HeldAnswer s words words depth what c (tree.Good c)
+nothing-held : (s words : List ℕ) (depth : ℕ) (what : Held) (c : Cursor) → cost_of what ≡ 0 → Ready s words (cost_of what) c → HeldAnswer s words words depth what c (Some c)
 unfolding optional_of
 nothing-held s words depth (held.Values n) c e ready = siblings-end (siblings-begin (values-kind s depth) tt n ready) e e
-nothing-held s words depth (held.Pairs n) c e ready = object-rises depth Absent (siblings-begin (pairs-kind s depth) (true, none) n ready) (omega arith) refl
+nothing-held s words depth (held.Pairs n) c e ready = object-rises depth None (siblings-begin (pairs-kind s depth) (true, none) n ready) (omega arith) refl
 
 bare-cost : (h : ValueHead) → value_count h ≡ 0 → cost_of (held_by h) ≡ 0
 unfolding value_count

@@ -1,4 +1,5 @@
 -- Each way through the reader of a whole sheet, on the decoder's side.
+use Rattle.std.specs.Prelude.{Some, None}
 use Prim.Native.Nat.{ℕ, ◌+◌, ◌*◌, ◌≤◌, ◌<◌}
 use mathlib.Core.Bool.{Bool, true, false}
 use mathlib.Core.List.{List}
@@ -20,7 +21,6 @@ use Rattle.definition.specs.Decode.{Ahead, entered, entry, announce, at_end, who
 use Rattle.definition.specs.Decode as decode
 use Rattle.definition.specs.Within.{condition_entries, value_entries, rule_entries}
 use Rattle.rule.specs.declared.cursor.Cursor.{Cursor}
-use Rattle.rule.specs.declared.cursor.TreeRead.TheVariants as tree
 use Rattle.rule.specs.Index.{ValueAt, ConditionAt}
 use Rattle.rule.specs.IndexLaws.{value_frame, condition-frame}
 use Rattle.rule.specs.Read.{ahead_of, Kept, Ready, Indexed}
@@ -124,7 +124,7 @@ rule-ready short room inside = record { small = short; room = room; inside = ins
 module _ (s words mid : List ℕ) (behind : ℕ) (short : length s ≤ max_sheet_bytes) where
   pub rule-treeless-answer : (h : RuleHead)
       → rule_head s ≡ some (rule_of s h, drop behind s)
-      → TreeAnswer s words mid (is_template_head h) (tree-at behind) tree.Bad
+      → TreeAnswer s words mid (is_template_head h) (tree-at behind) None
       → Bad s words mid
   unfolding rule_of
   rule-treeless-answer (head.Rule name message) reads bad =
@@ -133,7 +133,7 @@ module _ (s words mid : List ℕ) (behind : ℕ) (short : length s ≤ max_sheet
 
   pub rule-unended-answer : (h : RuleHead) (next : Cursor)
       → rule_head s ≡ some (rule_of s h, drop behind s)
-      → TreeAnswer s words mid (is_template_head h) (tree-at behind) (tree.Good next)
+      → TreeAnswer s words mid (is_template_head h) (tree-at behind) (Some next)
       → next.at < length s
       → Bad s words mid
   unfolding rule_of
@@ -141,14 +141,14 @@ module _ (s words mid : List ℕ) (behind : ℕ) (short : length s ≤ max_sheet
       unended (condition_in max_condition_nesting) (ConditionAt s) condition_entries (rule (optional_of s name) (optional_of s message)) s behind (entries.rule (optional_of s name) (optional_of s message)) short reads (condition-holds s behind (optional_of s name) (optional_of s message)) inner q
   rule-unended-answer head.Template next reads inner q = unended any_value (ValueAt s) value_entries template s behind entries.template short reads (value-holds s behind) inner q
 
-  pub tree-limit : (t : Bool) (next : Cursor) → TreeAnswer s words mid t (tree-at behind) (tree.Good next) → next.word ≤ max_rule_entries
+  pub tree-limit : (t : Bool) (next : Cursor) → TreeAnswer s words mid t (tree-at behind) (Some next) → next.word ≤ max_rule_entries
   tree-limit true next inner = omega (arith, inner.budget)
   tree-limit false next inner = omega (arith, inner.budget)
 
   pub rule-answer : (h : RuleHead) (next : Cursor) {x : ℕ}
       → rule_head s ≡ some (rule_of s h, drop behind s)
       → max_rule_entries ≤ length mid
-      → TreeAnswer s words mid (is_template_head h) (tree-at behind) (tree.Good next)
+      → TreeAnswer s words mid (is_template_head h) (tree-at behind) (Some next)
       → length s ≤ next.at
       → x ≡ 0 * 4096 + next.word
       → RuleIndexed s words (set mid 0 x) (record { is_template = is_template_head h; entries = next.word })

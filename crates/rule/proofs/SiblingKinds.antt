@@ -1,4 +1,5 @@
 -- The kinds of siblings: values, conditions, keys with their values.
+use Rattle.std.specs.Prelude.{Option, Some, None}
 use Prim.Native.Nat.{ℕ, suc, ◌+◌, ◌*◌, ◌-◌, ◌<◌}
 use mathlib.Core.List.{List}
 use mathlib.Core.Bool.{Bool, true, false, ◌&&◌}
@@ -9,8 +10,6 @@ use Rattle.text.specs.Reader.{Reader, pure, ◌>>=◌}
 use Rattle.text.specs.Order.{follows, none_twice}
 use Rattle.text.specs.Parts.{part_of, optional_of}
 use Rattle.text.specs.declared.part.Part.{Part}
-use Rattle.text.specs.declared.part.OptionalPart.{OptionalPart}
-use Rattle.text.specs.declared.part.OptionalPart.TheVariants.{Is}
 use Rattle.definition.specs.Limits.{max_rule_entries}
 use Rattle.definition.specs.Tree.{Text, Value, Values, Pairs, no_pairs, pair, Condition, Conditions}
 use Rattle.definition.specs.Decode.{Ahead, value_in, pairs_of, keys_of, condition_in}
@@ -18,7 +17,6 @@ use Rattle.definition.specs.Within.{pairs_entries}
 use Rattle.definition.specs.Write.{count_of_pairs}
 use Rattle.definition.proofs.SiblingLaws.{Siblings, values-of, conditions-of}
 use Rattle.rule.specs.declared.cursor.Cursor.{Cursor}
-use Rattle.rule.specs.declared.cursor.TreeRead.TheVariants as tree
 use Rattle.rule.specs.Index.{ValueAt, ValuesAt, PairsAt, ConditionAt, ConditionsAt}
 use Rattle.rule.specs.IndexLaws.{Agree, agree-within, entry_frame, value_frame, condition-frame}
 use Rattle.rule.specs.Read.{ahead_of, pair_in, PairAt, size_of_pair, Kept, Indexed, PairsAnswer}
@@ -118,21 +116,21 @@ module _ (s : List ℕ) where
       }
 
 -- whether the keys rise up to `previous`
-abbrev pub sofar : List ℕ → Bool → OptionalPart → Risen
+abbrev pub sofar : List ℕ → Bool → Option Part → Risen
 sofar s rise previous = (rise, optional_of s previous)
 
 -- one key more
-pub pairs_next : {s before words later : List ℕ} (depth : ℕ) {count cost n : ℕ} {first : Risen} (rise : Bool) (previous : OptionalPart) {still : Bool} {c here next : Cursor} (key : Part)
+pub pairs_next : {s before words later : List ℕ} (depth : ℕ) {count cost n : ℕ} {first : Risen} (rise : Bool) (previous : Option Part) {still : Bool} {c here next : Cursor} (key : Part)
     → Passing (pairs-kind s depth) s before words first (sofar s rise previous) count cost n (2 * n) c here
     → 0 < n
     → (item : Indexed (pair_in (value_in depth)) (PairAt s) size_of_pair s words later 2 here next) × (item.tree.0 ≡ part_of s key)
     → still ≡ (rise && follows (optional_of s previous) (part_of s key))
-    → Passing (pairs-kind s depth) s before later first (sofar s still (Is key)) count cost (n - 1) (2 * (n - 1)) c next
+    → Passing (pairs-kind s depth) s before later first (sofar s still (Some key)) count cost (n - 1) (2 * (n - 1)) c next
 unfolding optional_of risen_by
 pairs_next depth {n} rise previous key passing h item e = rw (e, ← item.1) (siblings-next passing (2 * (n - 1)) h (omega arith) item.0)
 
 -- All keys have been read.
-module _ {s before words : List ℕ} (depth : ℕ) {count : ℕ} {rise : Bool} (previous : OptionalPart) {n : ℕ} {c here : Cursor}
+module _ {s before words : List ℕ} (depth : ℕ) {count : ℕ} {rise : Bool} (previous : Option Part) {n : ℕ} {c here : Cursor}
     (passing : Passing (pairs-kind s depth) s before words (true, none) (sofar s rise previous) count (2 * count) n (2 * n) c here) (e : n ≡ 0)
   where
     abbrev all_read : (i : Indexed (pairs_of count (value_in depth)) (PairsAt s) pairs_entries s before words (2 * count) c here) × (risen (true, none) i.tree ≡ sofar s rise previous)
@@ -141,7 +139,7 @@ module _ {s before words : List ℕ} (depth : ℕ) {count : ℕ} {rise : Bool} (
     all-count : count_of_pairs all_read.0.tree ≡ count
     all-count = pairs-count count (value_in depth) (ahead_of s c) (ahead_of s here) all_read.0.tree all_read.0.reads
 
-    object-good : none_twice (keys_of all_read.0.tree) ≡ true → PairsAnswer s before words depth count c (tree.Good here)
+    object-good : none_twice (keys_of all_read.0.tree) ≡ true → PairsAnswer s before words depth count c (Some here)
     object-good e =
         let i = all_read.0 in
         record {
@@ -154,13 +152,13 @@ module _ {s before words : List ℕ} (depth : ℕ) {count : ℕ} {rise : Bool} (
           budget = i.budget;
         }
 
-    pub object-rises : rise ≡ true → PairsAnswer s before words depth count c (tree.Good here)
+    pub object-rises : rise ≡ true → PairsAnswer s before words depth count c (Some here)
     object-rises q = object-good (risen-differ all_read.0.tree (ap (λ (k : Risen). k.0) all_read.1 ∙ q))
 
-    pub object-differs : {r : Bool} → NoneTwice s words c.word count r → r ≡ true → PairsAnswer s before words depth count c (tree.Good here)
+    pub object-differs : {r : Bool} → NoneTwice s words c.word count r → r ≡ true → PairsAnswer s before words depth count c (Some here)
     object-differs none-twice q = object-good (sym (none-twice.told all_read.0.tree all_read.0.indexed all-count) ∙ q)
 
-    pub object-repeats : {r : Bool} → NoneTwice s words c.word count r → r ≡ false → PairsAnswer s before words depth count c tree.Bad
+    pub object-repeats : {r : Bool} → NoneTwice s words c.word count r → r ≡ false → PairsAnswer s before words depth count c None
     object-repeats none-twice q =
         let i = all_read.0 in
         (object-twice count (value_in depth) (ahead_of s c) i.tree (ahead_of s here) i.reads (sym (none-twice.told i.tree i.indexed all-count) ∙ q), kept-wider i.kept (omega arith) (omega (arith, passing.ready.budget)))
@@ -170,7 +168,7 @@ pub object-bad : {s before words later : List ℕ} (depth : ℕ) {count : ℕ} {
     → Passing (pairs-kind s depth) s before words first k count (2 * count) n (2 * n) c here
     → 0 < n
     → (pair_in (value_in depth) (ahead_of s here) ≡ none) × Kept words later here.word max_rule_entries
-    → PairsAnswer s before later depth count c tree.Bad
+    → PairsAnswer s before later depth count c None
 object-bad {s} depth {count} {c} passing h bad =
     let all = siblings-bad passing h bad in
     (object-unread count (value_in depth) (ahead_of s c) all.0, all.1)

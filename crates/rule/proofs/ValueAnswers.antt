@@ -1,4 +1,5 @@
 -- What the reader of a value answers, by what its head holds.
+use Rattle.std.specs.Prelude.{Some, None}
 use Prim.Native.Nat.{ℕ, suc, ◌+◌, ◌*◌, ◌-◌, ◌≤◌, ◌<◌}
 use mathlib.Core.List.{List}
 use mathlib.Core.Option.{none, some}
@@ -16,7 +17,6 @@ use Rattle.definition.specs.Decode.{Ahead, value_in, values_of, object_of}
 use Rattle.definition.specs.Decode as decode
 use Rattle.definition.specs.Within.{pairs_entries, value_entries, values_entries}
 use Rattle.rule.specs.declared.cursor.Cursor.{Cursor}
-use Rattle.rule.specs.declared.cursor.TreeRead.TheVariants as tree
 use Rattle.rule.specs.declared.value.Held.{Held}
 use Rattle.rule.specs.declared.value.Held.TheVariants as held
 use Rattle.rule.specs.Index.{ValueAt, ValuesAt, PairsAt}
@@ -90,7 +90,7 @@ module _ (s words : List ℕ) (depth behind : ℕ) (c : Cursor) (h : ValueHead) 
     pub held-bad-answer : (what : Held)
         → what ≡ held_by h
         → cost ≡ cost_of what
-        → HeldAnswer s words mid (depth - 1) what (inside c behind cost) tree.Bad
+        → HeldAnswer s words mid (depth - 1) what (inside c behind cost) None
         → Bad s words mid depth c
     held-bad-answer (held.Values n) e f bad =
         let inner = rw f at bad in
@@ -102,7 +102,7 @@ module _ (s words : List ℕ) (depth behind : ℕ) (c : Cursor) (h : ValueHead) 
     pub held-limit : (next : Cursor) (what : Held)
         → Ready s words 1 c
         → cost ≡ cost_of what
-        → HeldAnswer s words mid (depth - 1) what (inside c behind cost) (tree.Good next)
+        → HeldAnswer s words mid (depth - 1) what (inside c behind cost) (Some next)
         → next.word ≤ max_rule_entries
     held-limit next (held.Values n) ready f inner = omega (arith, inner.budget, ready.budget)
     held-limit next (held.Pairs n) ready f inner = omega (arith, inner.budget, ready.budget)
@@ -112,7 +112,7 @@ module _ (s words : List ℕ) (depth behind : ℕ) (c : Cursor) (h : ValueHead) 
         → cost ≡ cost_of what
         → Ready s words 1 c
         → x ≡ c.at * 4096 + next.word
-        → HeldAnswer s words mid (depth - 1) what (inside c behind cost) (tree.Good next)
+        → HeldAnswer s words mid (depth - 1) what (inside c behind cost) (Some next)
         → Indexed (value_in depth) (ValueAt s) value_entries s words (set mid c.word x) 1 c next
     held-answer next {x} (held.Values n) e f ready word inner =
         let within = rw f at inner in

@@ -1,5 +1,5 @@
 -- What the readers of subtrees answer: what the decoder answers on the same bytes, and where it gives a tree, the tree's index.
-use Rattle.std.specs.Prelude.{ℕ, ◌+◌, ◌*◌, ◌≤◌, ◌<◌, List, ◌≡◌, length, get_or, drop}
+use Rattle.std.specs.Prelude.{ℕ, ◌+◌, ◌*◌, ◌≤◌, ◌<◌, List, ◌≡◌, length, get_or, drop, Option, Some, None}
 use Rattle.std.proofs.Math.Option.{none, some}
 use Rattle.text.specs.Reader.{Reader, ◌>>=◌, pure}
 use Rattle.text.specs.Parts.{part_of}
@@ -13,14 +13,11 @@ use Rattle.definition.specs.Tree.{Text, Value, Values, Pairs}
 use Rattle.definition.specs.Decode.{Ahead, entry, value_in, values_of, object_of, condition_in, conditions_of}
 use Rattle.definition.specs.Within.{condition_entries, conditions_entries, pairs_entries, value_entries, values_entries}
 use Rattle.rule.specs.declared.cursor.Cursor.{Cursor}
-use Rattle.rule.specs.declared.cursor.TreeRead.{TreeRead}
-use Rattle.rule.specs.declared.cursor.TreeRead.TheVariants.{Good, Bad}
 use Rattle.rule.specs.declared.condition.Operands.{Operands}
 use Rattle.rule.specs.declared.value.Held.{Held}
 use Rattle.rule.specs.declared.value.Held.TheVariants as held
-use Rattle.rule.specs.declared.value.PairRead.{PairRead}
-use Rattle.rule.specs.declared.value.PairRead.TheVariants as pair
 use Rattle.rule.specs.Index.{EntryAt, ValueAt, ValuesAt, PairsAt, ConditionAt, ConditionsAt}
+use Rattle.text.specs.declared.part.Part.{Part}
 
 -- what lies ahead of the decoder where the code is: the entry of word i has the number i + 1
 abbrev pub ahead_of : List ℕ → Cursor → Ahead
@@ -92,31 +89,31 @@ pub record Indexed {T : Type 0} (reader : Reader Ahead T) (At : List ℕ → ℕ
 
 -- the decoder's answer: a tree with its index, or none, and then no word outside the rule's own has changed
 abbrev pub Answers : {T : Type 0} (reader : Reader Ahead T) (At : List ℕ → ℕ → T → Type 0) (size_of : T → ℕ)
-    (s before after : List ℕ) (n : ℕ) (c : Cursor) → TreeRead → Type 0
-Answers reader At size_of s before after n c (Good next) = Indexed reader At size_of s before after n c next
-Answers reader At size_of s before after n c Bad = (reader (ahead_of s c) ≡ none) × Kept before after c.word max_rule_entries
+    (s before after : List ℕ) (n : ℕ) (c : Cursor) → Option Cursor → Type 0
+Answers reader At size_of s before after n c (Some next) = Indexed reader At size_of s before after n c next
+Answers reader At size_of s before after n c None = (reader (ahead_of s c) ≡ none) × Kept before after c.word max_rule_entries
 
-abbrev pub ValueAnswer : (s before after : List ℕ) (depth : ℕ) (c : Cursor) → TreeRead → Type 0
+abbrev pub ValueAnswer : (s before after : List ℕ) (depth : ℕ) (c : Cursor) → Option Cursor → Type 0
 ValueAnswer s before after depth c r = Answers (value_in depth) (ValueAt s) value_entries s before after 1 c r
 
-abbrev pub ValuesAnswer : (s before after : List ℕ) (depth n : ℕ) (c : Cursor) → TreeRead → Type 0
+abbrev pub ValuesAnswer : (s before after : List ℕ) (depth n : ℕ) (c : Cursor) → Option Cursor → Type 0
 ValuesAnswer s before after depth n c r = Answers (values_of n (value_in depth)) (ValuesAt s) values_entries s before after n c r
 
-abbrev pub PairAnswer : (s before after : List ℕ) (depth : ℕ) (c : Cursor) → PairRead → Type 0
-PairAnswer s before after depth c (pair.Good key next) =
+abbrev pub PairAnswer : (s before after : List ℕ) (depth : ℕ) (c : Cursor) → Option (Part × Cursor) → Type 0
+PairAnswer s before after depth c (Some (key, next)) =
     (i : Indexed (pair_in (value_in depth)) (PairAt s) size_of_pair s before after 2 c next) × (i.tree.0 ≡ part_of s key)
-PairAnswer s before after depth c pair.Bad = (pair_in (value_in depth) (ahead_of s c) ≡ none) × Kept before after c.word max_rule_entries
+PairAnswer s before after depth c None = (pair_in (value_in depth) (ahead_of s c) ≡ none) × Kept before after c.word max_rule_entries
 
-abbrev pub PairsAnswer : (s before after : List ℕ) (depth n : ℕ) (c : Cursor) → TreeRead → Type 0
+abbrev pub PairsAnswer : (s before after : List ℕ) (depth n : ℕ) (c : Cursor) → Option Cursor → Type 0
 PairsAnswer s before after depth n c r = Answers (object_of n (value_in depth)) (PairsAt s) pairs_entries s before after (2 * n) c r
 
-abbrev pub HeldAnswer : (s before after : List ℕ) (depth : ℕ) (what : Held) (c : Cursor) → TreeRead → Type 0
+abbrev pub HeldAnswer : (s before after : List ℕ) (depth : ℕ) (what : Held) (c : Cursor) → Option Cursor → Type 0
 HeldAnswer s before after depth (held.Values n) c r = ValuesAnswer s before after depth n c r
 HeldAnswer s before after depth (held.Pairs n) c r = PairsAnswer s before after depth n c r
 
-abbrev pub ConditionAnswer : (s before after : List ℕ) (depth : ℕ) (c : Cursor) → TreeRead → Type 0
+abbrev pub ConditionAnswer : (s before after : List ℕ) (depth : ℕ) (c : Cursor) → Option Cursor → Type 0
 ConditionAnswer s before after depth c r = Answers (condition_in depth) (ConditionAt s) condition_entries s before after 1 c r
 
-abbrev pub ConditionsAnswer : (s before after : List ℕ) (depth n : ℕ) (c : Cursor) → TreeRead → Type 0
+abbrev pub ConditionsAnswer : (s before after : List ℕ) (depth n : ℕ) (c : Cursor) → Option Cursor → Type 0
 ConditionsAnswer s before after depth n c r =
     Answers (conditions_of n (condition_in depth)) (ConditionsAt s) conditions_entries s before after n c r

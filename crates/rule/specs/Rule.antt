@@ -1,5 +1,5 @@
 -- What reading a whole rule sheet answers: what the decoder answers on the same bytes, and the index of its tree.
-use Rattle.std.specs.Prelude.{ℕ, ◌≤◌, Bool, true, false, List, ◌≡◌}
+use Rattle.std.specs.Prelude.{ℕ, ◌≤◌, Bool, true, false, List, ◌≡◌, Option, Some, None}
 use Rattle.std.proofs.Math.Option.{none, some}
 use Rattle.sheet.specs.declared.rule_heads.RuleHead.{RuleHead}
 use Rattle.sheet.specs.declared.rule_heads.RuleHead.TheVariants as rule-head
@@ -8,10 +8,7 @@ use Rattle.definition.specs.Tree.{Rule, rule, template}
 use Rattle.definition.specs.Decode.{decode_rule}
 use Rattle.definition.specs.Within.{rule_entries}
 use Rattle.rule.specs.declared.cursor.Cursor.{Cursor}
-use Rattle.rule.specs.declared.cursor.TreeRead.{TreeRead}
 use Rattle.rule.specs.declared.RuleSheet.{RuleSheet}
-use Rattle.rule.specs.declared.RuleRead.{RuleRead}
-use Rattle.rule.specs.declared.RuleRead.TheVariants.{Good, Bad}
 use Rattle.rule.specs.Index.{RuleAt}
 use Rattle.rule.specs.Read.{Kept, ConditionAnswer, ValueAnswer}
 
@@ -24,7 +21,7 @@ is_template_head (rule-head.Rule name message) = false
 is_template_head rule-head.Template = true
 
 -- after the first entry
-abbrev pub TreeAnswer : (s before after : List ℕ) (is_template : Bool) (c : Cursor) → TreeRead → Type 0
+abbrev pub TreeAnswer : (s before after : List ℕ) (is_template : Bool) (c : Cursor) → Option Cursor → Type 0
 TreeAnswer s before after true c r = ValueAnswer s before after max_value_nesting c r
 TreeAnswer s before after false c r = ConditionAnswer s before after max_condition_nesting c r
 
@@ -37,6 +34,6 @@ pub record RuleIndexed (s before after : List ℕ) (r : RuleSheet) : Type 0 wher
   pub within : r.entries ≤ max_rule_entries
   pub kept : Kept before after 0 max_rule_entries
 
-abbrev pub RuleAnswer : (s before after : List ℕ) → RuleRead → Type 0
-RuleAnswer s before after (Good r) = RuleIndexed s before after r
-RuleAnswer s before after Bad = (decode_rule s ≡ none) × Kept before after 0 max_rule_entries
+abbrev pub RuleAnswer : (s before after : List ℕ) → Option RuleSheet → Type 0
+RuleAnswer s before after (Some r) = RuleIndexed s before after r
+RuleAnswer s before after None = (decode_rule s ≡ none) × Kept before after 0 max_rule_entries

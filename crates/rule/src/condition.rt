@@ -3,11 +3,11 @@ ghost use Rattle.std.specs.Prelude.{◌≡◌};
 ghost use Rattle.sheet.specs.Places.{ConditionIs};
 ghost use Rattle.rule.specs.Read.{Ready, operands_of, ConditionAnswer, ConditionsAnswer};
 
-use crate::cursor::{Cursor, TreeRead, word_of};
+use crate::cursor::{Cursor, word_of};
 use crate::value::read_values;
 use definition::limits::MAX_VALUE_NESTING;
 use lines::rule_sheet::{condition_head, plain_condition};
-use sheet::rule_heads::{ConditionHead, ConditionRead};
+use sheet::rule_heads::ConditionHead;
 
 // What follows a condition's head: so many values, then so many conditions.
 #[derive(Clone, Copy)]
@@ -51,57 +51,49 @@ fn operands_of(h: ConditionHead) -> Operands
     }
 }
 
-// A condition whose head is read. `depth` is how deep it may nest.
+// A condition whose head is read. `depth` is how deep it may nest. The place after it, as by each reader here.
 #[cycle(read_conditions_read_headed_read_sibling)]
 pub fn read_headed(
     s: &[u8],
     words: &mut [u32],
     depth: usize,
     c: Cursor,
-    read: ConditionRead,
-) -> TreeRead
+    read: Option<(ConditionHead, usize)>,
+) -> Option<Cursor>
     requires { Ready s.now words.old 1 c × ConditionIs s.now c.at read }
     ensures { ConditionAnswer s.now words.old words.new depth c result }
 {
     if depth == 0 {
-        return TreeRead::Bad;
+        return None;
     }
     let at = c.at;
     let word = c.word;
     let left = c.left;
-    let ConditionRead::Is(head, behind) = read else {
-        return TreeRead::Bad;
-    };
+    let (head, behind) = read?;
     let operands = operands_of(head);
     let cost = operands.values + operands.conditions;
     if left < cost {
-        return TreeRead::Bad;
+        return None;
     }
     let inner = Cursor {
         at: behind,
         word: word + 1,
         left: left - cost,
     };
-    let TreeRead::Good(middle) = read_values(s, words, MAX_VALUE_NESTING, operands.values, inner)
-    else {
-        return TreeRead::Bad;
-    };
-    let TreeRead::Good(next) = read_conditions(s, words, depth - 1, operands.conditions, middle)
-    else {
-        return TreeRead::Bad;
-    };
+    let middle = read_values(s, words, MAX_VALUE_NESTING, operands.values, inner)?;
+    let next = read_conditions(s, words, depth - 1, operands.conditions, middle)?;
     words[word] = word_of(at, next.word);
-    TreeRead::Good(next)
+    Some(next)
 }
 
 // A condition among others. Most are followed by values alone: these need no call, and no head that goes through memory.
 #[cycle(read_conditions_read_headed_read_sibling)]
-fn read_sibling(s: &[u8], words: &mut [u32], depth: usize, c: Cursor) -> TreeRead
+fn read_sibling(s: &[u8], words: &mut [u32], depth: usize, c: Cursor) -> Option<Cursor>
     requires { Ready s.now words.old 1 c }
     ensures { ConditionAnswer s.now words.old words.new depth c result }
 {
     if depth == 0 {
-        return TreeRead::Bad;
+        return None;
     }
     let at = c.at;
     let word = c.word;
@@ -113,39 +105,39 @@ fn read_sibling(s: &[u8], words: &mut [u32], depth: usize, c: Cursor) -> TreeRea
     }
     let values = plain % 4;
     if left < values {
-        return TreeRead::Bad;
+        return None;
     }
     let inner = Cursor {
         at: plain / 4,
         word: word + 1,
         left: left - values,
     };
-    let TreeRead::Good(end) = read_values(s, words, MAX_VALUE_NESTING, values, inner) else {
-        return TreeRead::Bad;
-    };
+    let end = read_values(s, words, MAX_VALUE_NESTING, values, inner)?;
     words[word] = word_of(at, end.word);
-    TreeRead::Good(end)
+    Some(end)
 }
 
 // `count` conditions, side by side.
 #[cycle(read_conditions_read_headed_read_sibling)]
-fn read_conditions(s: &[u8], words: &mut [u32], depth: usize, count: usize, c: Cursor) -> TreeRead
+fn read_conditions(
+    s: &[u8],
+    words: &mut [u32],
+    depth: usize,
+    count: usize,
+    c: Cursor,
+) -> Option<Cursor>
     requires { Ready s.now words.old count c }
     ensures { ConditionsAnswer s.now words.old words.new depth count c result }
 {
     let mut here = c;
-    let mut n = count;
-    while 0 < n {
-        let TreeRead::Good(next) = read_sibling(s, words, depth, here) else {
-            return TreeRead::Bad;
-        };
+    for _ in 0..count {
+        let next = read_sibling(s, words, depth, here)?;
         // Field by field: a copy of the whole waits for what was just stored.
         here = Cursor {
             at: next.at,
             word: next.word,
             left: next.left,
         };
-        n -= 1;
     }
-    TreeRead::Good(here)
+    Some(here)
 }

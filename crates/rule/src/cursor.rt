@@ -12,15 +12,6 @@ pub struct Cursor {
     pub left: usize,
 }
 
-// What reading a subtree, or several side by side, finds.
-#[derive(Clone, Copy)]
-pub enum TreeRead {
-    // The place after them.
-    Good(Cursor),
-    // They are not well formed.
-    Bad,
-}
-
 // The word of an entry that starts there, with the word after its subtree.
 pub fn word_of(start: usize, end: usize) -> u32
     requires { (start ≤ max_sheet_bytes) × (end ≤ max_rule_entries) }

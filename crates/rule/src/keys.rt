@@ -9,7 +9,6 @@ ghost use Rattle.rule.specs.Table.{slots, slot_of, Falls, IsChained};
 use crate::index::{end_of, start_of};
 use definition::limits::MAX_RULE_ENTRIES;
 use lines::rule_sheet::key_head;
-use sheet::rule_heads::KeyRead;
 use text::order::same_bytes;
 use text::part::{Part, bytes_of};
 
@@ -38,13 +37,11 @@ fn stands_among(s: &[u8], words: &[u32], entry: Part, first: usize, count: usize
     ensures { StandsAmong s.now words.now entry first count result }
 {
     let mut i = first;
-    let mut n = count;
-    while 0 < n {
+    for _ in 0..count {
         if stands_at(s, entry, start_of(words, i)) {
             return true;
         }
         i = end_of(words, i);
-        n -= 1;
     }
     false
 }
@@ -54,10 +51,9 @@ fn few_differ(s: &[u8], words: &[u32], first: usize, count: usize) -> bool
     ensures { NoneTwice s.now words.now first count result }
 {
     let mut i = first;
-    let mut n = count;
-    while 0 < n {
+    for seen in 0..count {
         let start = start_of(words, i);
-        let KeyRead::Is(_, behind) = key_head(s, start) else {
+        let Some((_, behind)) = key_head(s, start) else {
             return false;
         };
         let entry = Part {
@@ -65,8 +61,7 @@ fn few_differ(s: &[u8], words: &[u32], first: usize, count: usize) -> bool
             len: behind - start,
         };
         i = end_of(words, i);
-        n -= 1;
-        if stands_among(s, words, entry, i, n) {
+        if stands_among(s, words, entry, i, count - seen - 1) {
             return false;
         }
     }
@@ -78,10 +73,8 @@ fn slot_of(key: &[u8]) -> usize
     ensures { (result ≡ slot_of key.now) × (result < slots) }
 {
     let mut mixed: usize = 0;
-    let mut i = 0;
-    while i < key.len() {
-        mixed = (mixed + key[i] as usize) * 2654435761 % 4294967296;
-        i += 1;
+    for &b in key {
+        mixed = (mixed + b as usize) * 2654435761 % 4294967296;
     }
     mixed / 8388608
 }
@@ -120,29 +113,26 @@ fn many_differ(s: &[u8], words: &[u32], first: usize, count: usize) -> bool
     let mut heads = [0u16; SLOTS];
     let mut links = [0u16; LINKS];
     let mut i = first;
-    let mut n = count;
-    while 0 < n {
+    for _ in 0..count {
         let start = start_of(words, i);
-        let KeyRead::Is(key, behind) = key_head(s, start) else {
+        let Some((key, behind)) = key_head(s, start) else {
             return false;
         };
         let next = end_of(words, i);
-        if is_further(i, next) {
-            let entry = Part {
-                start,
-                len: behind - start,
-            };
-            let slot = slot_of(bytes_of(s, key));
-            if is_chained(s, words, &links, entry, heads[slot] as usize) {
-                return false;
-            }
-            links[i / 2] = heads[slot];
-            heads[slot] = (i + 1) as u16;
-            i = next;
-            n -= 1;
-        } else {
+        if !is_further(i, next) {
             return few_differ(s, words, first, count);
         }
+        let entry = Part {
+            start,
+            len: behind - start,
+        };
+        let slot = slot_of(bytes_of(s, key));
+        if is_chained(s, words, &links, entry, heads[slot] as usize) {
+            return false;
+        }
+        links[i / 2] = heads[slot];
+        heads[slot] = (i + 1) as u16;
+        i = next;
     }
     true
 }

@@ -3,7 +3,6 @@ ghost use Rattle.std.specs.Prelude.{◌≡◌, ◌+◌, get_or};
 ghost use Rattle.rule.specs.Kinds.{OperatorAt, TypeAt, HasType, TextAt};
 
 use sheet::entry::{MAX_TEXT, item};
-use text::numeral::NumeralRead;
 use text::part::Part;
 
 // The type's digits that the checks tell apart (docs/FORMAT.md, "The rule sheet").
@@ -60,7 +59,7 @@ pub fn text_at(rule: &[u8], at: usize) -> Part
     if rule.len() <= at {
         return Part { start: 0, len: 0 };
     }
-    let NumeralRead::Is(len, end) = item(rule, at + 3, 0, MAX_TEXT) else {
+    let Some((len, end)) = item(rule, at + 3, 0, MAX_TEXT) else {
         return Part { start: 0, len: 0 };
     };
     Part {

@@ -15,12 +15,12 @@ ghost use Rattle.sheet.specs.Places.{ConditionIs};
 ghost use Rattle.rule.specs.Read.{Ready};
 ghost use Rattle.rule.specs.Rule.{is_template_head, TreeAnswer, RuleAnswer};
 
-use cursor::{Cursor, TreeRead, word_of};
+use cursor::{Cursor, word_of};
 use definition::limits::{
     MAX_CONDITION_NESTING, MAX_RULE_ENTRIES, MAX_SHEET_BYTES, MAX_VALUE_NESTING,
 };
 use lines::rule_sheet::opening;
-use sheet::rule_heads::{ConditionRead, RuleHead, RuleHeadRead};
+use sheet::rule_heads::{ConditionHead, RuleHead};
 use value::read_value;
 
 // A well-formed sheet: `R` or `T`, and how many entries it has.
@@ -28,13 +28,6 @@ use value::read_value;
 pub struct RuleSheet {
     pub is_template: bool,
     pub entries: usize,
-}
-
-#[derive(Clone, Copy)]
-pub enum RuleRead {
-    Good(RuleSheet),
-    // The sheet is not well formed.
-    Bad,
 }
 
 fn is_template(h: RuleHead) -> bool
@@ -46,14 +39,14 @@ fn is_template(h: RuleHead) -> bool
     }
 }
 
-// What follows the first entry: a value under `T`, a condition under `R`. The condition's head is read, if there is one.
+// What follows the first entry: a value under `T`, a condition under `R`. The condition's head is read, if there is one. The place after it.
 fn read_tree(
     s: &[u8],
     words: &mut [u32],
     is_template: bool,
     c: Cursor,
-    read: ConditionRead,
-) -> TreeRead
+    read: Option<(ConditionHead, usize)>,
+) -> Option<Cursor>
     requires { Ready s.now words.old 1 c × ConditionIs s.now c.at read }
     ensures { TreeAnswer s.now words.old words.new is_template c result }
 {
@@ -63,19 +56,17 @@ fn read_tree(
     condition::read_headed(s, words, MAX_CONDITION_NESTING, c, read)
 }
 
-// The words of the index are written, and no others.
-pub fn read_rule(s: &[u8], scratch: &mut [u32]) -> RuleRead
+// A rule sheet that is well formed, with its index in the scratch: the words of the index are written, and no others.
+pub fn read_rule(s: &[u8], scratch: &mut [u32]) -> Option<RuleSheet>
     requires { max_rule_entries ≤ length scratch.old }
     ensures { RuleAnswer s.now scratch.old scratch.new result }
 {
     if MAX_SHEET_BYTES < s.len() {
-        return RuleRead::Bad;
+        return None;
     }
     let heads = opening(s, 0);
     let first = heads.head;
-    let RuleHeadRead::Is(head, behind) = first else {
-        return RuleRead::Bad;
-    };
+    let (head, behind) = first?;
     let template = is_template(head);
     // The first entry announces itself and its tree.
     let inner = Cursor {
@@ -84,17 +75,15 @@ pub fn read_rule(s: &[u8], scratch: &mut [u32]) -> RuleRead
         left: MAX_RULE_ENTRIES - 2,
     };
     let condition = heads.condition;
-    let TreeRead::Good(next) = read_tree(s, scratch, template, inner, condition) else {
-        return RuleRead::Bad;
-    };
+    let next = read_tree(s, scratch, template, inner, condition)?;
     let end = next.at;
     let entries = next.word;
     if lines::ends_at(s, end) {
         scratch[0] = word_of(0, entries);
-        return RuleRead::Good(RuleSheet {
+        return Some(RuleSheet {
             is_template: template,
             entries,
         });
     }
-    RuleRead::Bad
+    None
 }

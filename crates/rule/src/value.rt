@@ -5,29 +5,20 @@ ghost use Rattle.text.specs.Parts.{part_of, optional_of};
 ghost use Rattle.sheet.specs.Entries.{max_count};
 ghost use Rattle.rule.specs.Read.{Ready, held_by, held_count, cost_of, HeldAnswer, ValueAnswer, ValuesAnswer, PairAnswer, PairsAnswer};
 
-use crate::cursor::{Cursor, TreeRead, word_of};
+use crate::cursor::{Cursor, word_of};
 use crate::keys::none_twice;
 use lines::rule_sheet::{key_head, leaf_end, value_head};
-use sheet::rule_heads::{KeyRead, ValueHead, ValueRead};
-use text::order::ByteOrder;
-use text::part::{OptionalPart, Part, bytes_of};
+use sheet::rule_heads::ValueHead;
+use std::cmp::Ordering;
+use text::part::{Part, bytes_of};
 
-// What a value holds.
+// What a value holds. Neither case is an absence, so this is no Option.
 #[derive(Clone, Copy)]
 pub enum Held {
     // So many values.
     Values(usize),
     // So many keys, each with its value.
     Pairs(usize),
-}
-
-// What reading a key with its value finds.
-#[derive(Clone, Copy)]
-pub enum PairRead {
-    // The key, and the place after the value.
-    Good(Part, Cursor),
-    // They are not well formed.
-    Bad,
 }
 
 fn held_by(h: ValueHead) -> Held
@@ -54,21 +45,21 @@ fn cost_of(held: Held) -> usize
 }
 
 // Whether a key comes after the one before it in the order of bytes, if there is one.
-fn is_next_key(s: &[u8], previous: OptionalPart, key: Part) -> bool
+fn is_next_key(s: &[u8], previous: Option<Part>, key: Part) -> bool
     ensures { result ≡ follows (optional_of s.now previous) (part_of s.now key) }
 {
-    let OptionalPart::Is(earlier) = previous else {
+    let Some(earlier) = previous else {
         return true;
     };
     match text::order::compare(bytes_of(s, earlier), bytes_of(s, key)) {
-        ByteOrder::Less => true,
-        ByteOrder::Same => false,
-        ByteOrder::Greater => false,
+        Ordering::Less => true,
+        Ordering::Equal => false,
+        Ordering::Greater => false,
     }
 }
 
 // Whether keys that rose up to the one before still do.
-fn still_rise(s: &[u8], rise: bool, previous: OptionalPart, key: Part) -> bool
+fn still_rise(s: &[u8], rise: bool, previous: Option<Part>, key: Part) -> bool
     ensures { result ≡ (rise && follows (optional_of s.now previous) (part_of s.now key)) }
 {
     if rise {
@@ -77,46 +68,42 @@ fn still_rise(s: &[u8], rise: bool, previous: OptionalPart, key: Part) -> bool
     false
 }
 
-// One value. `depth` is how deep it may nest.
+// One value. `depth` is how deep it may nest. The place after it, as by each reader here.
 #[cycle(read_held_read_pair_read_pairs_read_sibling_read_value_read_values)]
-pub fn read_value(s: &[u8], words: &mut [u32], depth: usize, c: Cursor) -> TreeRead
+pub fn read_value(s: &[u8], words: &mut [u32], depth: usize, c: Cursor) -> Option<Cursor>
     requires { Ready s.now words.old 1 c }
     ensures { ValueAnswer s.now words.old words.new depth c result }
 {
     if depth == 0 {
-        return TreeRead::Bad;
+        return None;
     }
     let at = c.at;
     let word = c.word;
     let left = c.left;
-    let ValueRead::Is(head, behind) = value_head(s, at) else {
-        return TreeRead::Bad;
-    };
+    let (head, behind) = value_head(s, at)?;
     let held = held_by(head);
     let cost = cost_of(held);
     if left < cost {
-        return TreeRead::Bad;
+        return None;
     }
     let inner = Cursor {
         at: behind,
         word: word + 1,
         left: left - cost,
     };
-    let TreeRead::Good(next) = read_held(s, words, depth - 1, held, inner) else {
-        return TreeRead::Bad;
-    };
+    let next = read_held(s, words, depth - 1, held, inner)?;
     words[word] = word_of(at, next.word);
-    TreeRead::Good(next)
+    Some(next)
 }
 
 // A value among others. Most hold nothing: these need no call, and no head that goes through memory.
 #[cycle(read_held_read_pair_read_pairs_read_sibling_read_value_read_values)]
-fn read_sibling(s: &[u8], words: &mut [u32], depth: usize, c: Cursor) -> TreeRead
+fn read_sibling(s: &[u8], words: &mut [u32], depth: usize, c: Cursor) -> Option<Cursor>
     requires { Ready s.now words.old 1 c }
     ensures { ValueAnswer s.now words.old words.new depth c result }
 {
     if depth == 0 {
-        return TreeRead::Bad;
+        return None;
     }
     let at = c.at;
     let word = c.word;
@@ -125,7 +112,7 @@ fn read_sibling(s: &[u8], words: &mut [u32], depth: usize, c: Cursor) -> TreeRea
         return read_value(s, words, depth, c);
     }
     words[word] = word_of(at, word + 1);
-    TreeRead::Good(Cursor {
+    Some(Cursor {
         at: end,
         word: word + 1,
         left: c.left,
@@ -134,7 +121,7 @@ fn read_sibling(s: &[u8], words: &mut [u32], depth: usize, c: Cursor) -> TreeRea
 
 // What a value holds, its entries announced.
 #[cycle(read_held_read_pair_read_pairs_read_sibling_read_value_read_values)]
-fn read_held(s: &[u8], words: &mut [u32], depth: usize, held: Held, c: Cursor) -> TreeRead
+fn read_held(s: &[u8], words: &mut [u32], depth: usize, held: Held, c: Cursor) -> Option<Cursor>
     requires { Ready s.now words.old (cost_of held) c }
     ensures { HeldAnswer s.now words.old words.new depth held c result }
 {
@@ -146,64 +133,59 @@ fn read_held(s: &[u8], words: &mut [u32], depth: usize, held: Held, c: Cursor) -
 
 // `count` values, side by side.
 #[cycle(read_held_read_pair_read_pairs_read_sibling_read_value_read_values)]
-pub fn read_values(s: &[u8], words: &mut [u32], depth: usize, count: usize, c: Cursor) -> TreeRead
+pub fn read_values(
+    s: &[u8],
+    words: &mut [u32],
+    depth: usize,
+    count: usize,
+    c: Cursor,
+) -> Option<Cursor>
     requires { Ready s.now words.old count c }
     ensures { ValuesAnswer s.now words.old words.new depth count c result }
 {
     let mut here = c;
-    let mut n = count;
-    while 0 < n {
-        let TreeRead::Good(next) = read_sibling(s, words, depth, here) else {
-            return TreeRead::Bad;
-        };
+    for _ in 0..count {
+        let next = read_sibling(s, words, depth, here)?;
         // Field by field: a copy of the whole waits for what was just stored.
         here = Cursor {
             at: next.at,
             word: next.word,
             left: next.left,
         };
-        n -= 1;
     }
-    TreeRead::Good(here)
+    Some(here)
 }
 
-// A key and its value.
+// A key and its value: the key, and the place after the value.
 #[cycle(read_held_read_pair_read_pairs_read_sibling_read_value_read_values)]
-fn read_pair(s: &[u8], words: &mut [u32], depth: usize, c: Cursor) -> PairRead
+fn read_pair(s: &[u8], words: &mut [u32], depth: usize, c: Cursor) -> Option<(Part, Cursor)>
     requires { Ready s.now words.old 2 c }
     ensures { PairAnswer s.now words.old words.new depth c result }
 {
     let at = c.at;
     let word = c.word;
-    let KeyRead::Is(key, behind) = key_head(s, at) else {
-        return PairRead::Bad;
-    };
+    let (key, behind) = key_head(s, at)?;
     let inner = Cursor {
         at: behind,
         word: word + 1,
         left: c.left,
     };
-    let TreeRead::Good(next) = read_sibling(s, words, depth, inner) else {
-        return PairRead::Bad;
-    };
+    let next = read_sibling(s, words, depth, inner)?;
     words[word] = word_of(at, next.word);
-    PairRead::Good(key, next)
+    Some((key, next))
 }
 
 // `count` keys, each with its value, no key twice. Keys that rise differ; where they do not, all are compared once they are read.
 #[cycle(read_held_read_pair_read_pairs_read_sibling_read_value_read_values)]
-fn read_pairs(s: &[u8], words: &mut [u32], depth: usize, count: usize, c: Cursor) -> TreeRead
+fn read_pairs(s: &[u8], words: &mut [u32], depth: usize, count: usize, c: Cursor) -> Option<Cursor>
     requires { Ready s.now words.old (2 * count) c }
     ensures { PairsAnswer s.now words.old words.new depth count c result }
 {
     let mut here = c;
     let mut rise = true;
-    let mut previous = OptionalPart::Absent;
-    let mut n = count;
-    while 0 < n {
-        let PairRead::Good(key, next) = read_pair(s, words, depth, here) else {
-            return TreeRead::Bad;
-        };
+    let mut previous = None;
+    for _ in 0..count {
+        let (key, next) = read_pair(s, words, depth, here)?;
         // Field by field: a copy of the whole waits for what was just stored.
         here = Cursor {
             at: next.at,
@@ -211,14 +193,13 @@ fn read_pairs(s: &[u8], words: &mut [u32], depth: usize, count: usize, c: Cursor
             left: next.left,
         };
         rise = still_rise(s, rise, previous, key);
-        previous = OptionalPart::Is(key);
-        n -= 1;
+        previous = Some(key);
     }
     if rise {
-        return TreeRead::Good(here);
+        return Some(here);
     }
     if none_twice(s, words, c.word, count) {
-        return TreeRead::Good(here);
+        return Some(here);
     }
-    TreeRead::Bad
+    None
 }

@@ -1,4 +1,5 @@
 -- The whole call: each way to its end gives what the definitions say of it.
+use Rattle.std.specs.Prelude.{Option as Optional, Ok, Err}
 use Prim.Native.Nat.{ℕ}
 use native.Mathlib.Omega.{arith}
 use mathlib.Core.List.{List, [], map}
@@ -7,20 +8,19 @@ use mathlib.Core.Option.{Option, none, some, none-ne-some}
 use mathlib.Core.Path.{◌≡◌, refl, sym, ap, ◌∙◌}
 use lib.ListN.{length}
 use Rattle.schema.specs.Read.{SchemaAnswer}
-use Rattle.schema.specs.declared.read.SchemaRead.{SchemaRead}
 use Rattle.validation.specs.Result.{any, Answer, accepted, of_settings, first_refusal, kept_scratch, result_of}
 use Rattle.validation.proofs.RefusalLaws.{number-some, settings-none, table-decides}
 use Rattle.single_check.specs.Settings.{setting_by, asked_by, widths_by, EarlyIs, SettledIs}
 use Rattle.single_check.specs.Sheets.{sheet_answer}
 use Rattle.single_check.specs.SheetLaws.{roomy, front-schema, front-both, front-scratch, sheets-decide}
 use Rattle.single_check.specs.declared.settings.Setting.{Setting as CodeSetting}
-use Rattle.single_check.specs.declared.settings.Settled.TheVariants.{Set, Refused}
 use Rattle.call.specs.Call.{refused_by, told, if_told}
 use Rattle.rule_book.specs.Book.{sheets_of}
 use Rattle.rule_book.specs.Places.{sheet_count}
 use Rattle.rule_book.specs.Tally.{BookCall, asked_of, single, answers_of, tally_of, book_answer, tally_numbers, MeetsBook, setting_refusal}
 use Rattle.rule_book.proofs.TallyLaws.{settings-first, form-refused, table-refused, book-tallied}
 use Rattle.rule_book.specs.Tallying.{answers_in, Ready, SheetsTallied, book_run_of}
+use Rattle.schema.specs.declared.read.Schema.{Schema}
 
 pub counted-some : (o : Option (List (List ℕ))) (n : ℕ) → Option.map length o ≡ some n → (sheets : List (List ℕ)) × (o ≡ some sheets)
 counted-some none n e = absurd (none-ne-some n e)
@@ -67,11 +67,11 @@ module _ (kind semantics : ℕ) (label table schema book path_before before : Li
       unfolding sheet_count
       all = counted-some (sheets_of book) k count
 
-      pub meets-table : {m : ℕ} {r : List ℕ} → SettledIs kind semantics table (Refused m) → r ≡ tally_numbers (refused_by m)
+      pub meets-table : {m : ℕ} {r : List ℕ} → SettledIs kind semantics table (Err m) → r ≡ tally_numbers (refused_by m)
           → MeetsBook (book_run_of kind semantics label table schema book path_before before r path_before before)
       meets-table {m} t q = meets-refused (table-refused call settings-pass all.0 all.1 m t) q
 
-      pub ready : {middle : List ℕ} {q : SchemaRead} → SchemaAnswer schema before middle q → Ready label schema q book path_before middle
+      pub ready : {middle : List ℕ} {q : Optional Schema} → SchemaAnswer schema before middle q → Ready label schema q book path_before middle
       ready p =
           let room = roomy _ _ (not-due []) in
           record {
@@ -83,7 +83,7 @@ module _ (kind semantics : ℕ) (label table schema book path_before before : Li
             enough = omega (arith, room.words, p.kept.size);
           }
 
-      module _ (s : CodeSetting) (t : SettledIs kind semantics table (Set s)) where
+      module _ (s : CodeSetting) (t : SettledIs kind semantics table (Ok s)) where
         same_answer : (sheet : List ℕ) → result_of (single call sheet) ≡ sheet_answer any (setting_by s) label schema sheet
         unfolding single asked_of
         same_answer sheet =
@@ -93,7 +93,7 @@ module _ (kind semantics : ℕ) (label table schema book path_before before : Li
         unfolding answers_of answers_in
         same-answers sheets = ap (λ (f : List ℕ → Answer). map f sheets) (λ i sheet. same_answer sheet i)
 
-        pub meets-tally : {middle after path r : List ℕ} {q : SchemaRead} → SchemaAnswer schema before middle q
+        pub meets-tally : {middle after path r : List ℕ} {q : Optional Schema} → SchemaAnswer schema before middle q
             → SheetsTallied (setting_by s) label schema book path_before path middle after r
             → MeetsBook (book_run_of kind semantics label table schema book path_before before r path after)
         unfolding if_told kept_scratch

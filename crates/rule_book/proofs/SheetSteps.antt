@@ -1,4 +1,5 @@
 -- Each way through the code's readers of a book, as an equation of the definitions.
+use Rattle.std.specs.Prelude.{None}
 use Prim.Native.Nat.{ℕ, ◌+◌, ◌-◌, ◌<◌, ◌≤◌}
 use native.Mathlib.Omega.{arith}
 use mathlib.Core.List.{List, ◌∷◌}
@@ -12,7 +13,6 @@ use Rattle.text.specs.Numeral.{decimal}
 use Rattle.text.specs.ByteReaders.{byte, bytes}
 use Rattle.text.specs.Parts.{part_of}
 use Rattle.text.specs.ReadAt.{ReadsTo, Refuses, DecimalIs}
-use Rattle.text.specs.declared.numeral.NumeralRead.TheVariants.{Bad}
 use Rattle.rule_book.specs.Book.{sheet_in, sheets_of}
 use Rattle.rule_book.proofs.BookLaws.{sheet-bytes, sheet-length, sheets-end, sheets-more, sheets-none}
 use Rattle.rule_book.specs.Places.{sheet_count}
@@ -20,7 +20,7 @@ use Rattle.rule_book.specs.Places.{sheet_count}
 -- One sheet.
 
 -- no length, or one beyond the file's
-pub sheet-no-length : (s : List ℕ) (at : ℕ) → DecimalIs (length s) s at Bad → Refuses sheet_in s at
+pub sheet-no-length : (s : List ℕ) (at : ℕ) → DecimalIs (length s) s at None → Refuses sheet_in s at
 sheet-no-length s at bad = go (sheet_in (drop at s)) refl
   where
     go : (o : Option (List ℕ × List ℕ)) → sheet_in (drop at s) ≡ o → Refuses sheet_in s at

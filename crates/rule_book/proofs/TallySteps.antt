@@ -1,4 +1,5 @@
 -- The tally, sheet by sheet: what is counted and what is left to count make the whole.
+use Rattle.std.specs.Prelude.{Option as Optional}
 use Prim.Native.Nat.{ℕ, zero, suc, ◌+◌, ◌*◌, ◌<◌, ◌≤◌}
 use native.Mathlib.Omega.{arith}
 use mathlib.Core.Bool.{cond}
@@ -14,7 +15,6 @@ use Rattle.text.specs.CaseLaws.{by-test}
 use Rattle.text.specs.ReadAt.{ReadsTo, Refuses}
 use Rattle.reference.specs.Setting.{Setting}
 use Rattle.schema.specs.Read.{SchemaIs}
-use Rattle.schema.specs.declared.read.SchemaRead.{SchemaRead}
 use Rattle.validation.specs.Result.{any, Answer, max_label_bytes, path_bytes, Numbers, numbers_of, KeptFrom}
 use Rattle.validation.proofs.KeptLaws.{kept-both}
 use Rattle.single_check.specs.Answers.{Tells}
@@ -29,6 +29,7 @@ use Rattle.rule_book.specs.Tally.{count_of, passed_in, sum, tally_of, tally_numb
 use Rattle.rule_book.proofs.TallyLaws.{counts-within, tally-bytes}
 use Rattle.rule_book.proofs.AnswerLaws.{sheet-number, sheet-passed, sheet-path}
 use Rattle.rule_book.specs.Tallying.{answers_in, numbers_in, Ready, SheetsTallied}
+use Rattle.schema.specs.declared.read.Schema.{Schema}
 
 -- The numbers. The sheets before place `at` are counted.
 pub record Counting (f : List ℕ → Answer) (book counts : List ℕ) (read passed at : ℕ) : Type 0 where
@@ -171,7 +172,7 @@ module _ {f : List ℕ → Answer} {book counts : List ℕ} {read passed at : �
 
 -- The numbers and the buffers. The schema's index stays.
 
-pub record Tallying (setting : Setting) (label schema : List ℕ) (read : SchemaRead) (book path_before before path words counts : List ℕ) (sheets passed at : ℕ) : Type 0 where
+pub record Tallying (setting : Setting) (label schema : List ℕ) (read : Optional Schema) (book path_before before path words counts : List ℕ) (sheets passed at : ℕ) : Type 0 where
   pub numbers : Counting (sheet_answer any setting label schema) book counts sheets passed at
   pub size : length counts ≡ 23
   pub place : at ≤ length book
@@ -179,7 +180,7 @@ pub record Tallying (setting : Setting) (label schema : List ℕ) (read : Schema
   pub kept : KeptFrom path_bytes path_before path
   pub front : FrontOnly before words
 
-pub tallying-start : {label schema : List ℕ} {read : SchemaRead} {book path words : List ℕ} (setting : Setting) → Ready label schema read book path words
+pub tallying-start : {label schema : List ℕ} {read : Optional Schema} {book path words : List ℕ} (setting : Setting) → Ready label schema read book path words
     → Tallying setting label schema read book path words path words (replicate 23 0) 0 0 0
 tallying-start {label} {schema} {read} {book} setting r =
     record {
@@ -191,7 +192,7 @@ tallying-start {label} {schema} {read} {book} setting r =
       front = record { size = refl; kept = λ i h. refl };
     }
 
-module _ {setting : Setting} {label schema : List ℕ} {read : SchemaRead} {book path_before before path words counts : List ℕ} {sheets passed at : ℕ}
+module _ {setting : Setting} {label schema : List ℕ} {read : Optional Schema} {book path_before before path words counts : List ℕ} {sheets passed at : ℕ}
     (t : Tallying setting label schema read book path_before before path words counts sheets passed at) where
   module _ (small : length label ≤ max_label_bytes) (room : path_bytes ≤ length path_before) {sheet x path' words' : List ℕ} {next : ℕ} {o : Outcome}
       (r : ReadsTo sheet_in book at x next) (e : sheet ≡ x) (k : SheetChecked Any setting label schema read sheet path path' words words' o) where

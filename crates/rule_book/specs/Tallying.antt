@@ -1,14 +1,14 @@
 -- The tally as the code takes it: what it may rely on before the first sheet, and what it has after the last.
-use Rattle.std.specs.Prelude.{ℕ, ◌≤◌, List, [], ◌∷◌, map, ◌≡◌, length, get_or}
+use Rattle.std.specs.Prelude.{ℕ, ◌≤◌, List, [], ◌∷◌, map, ◌≡◌, length, get_or, Option}
 use Rattle.std.proofs.Math.Option.{some}
 use Rattle.reference.specs.Setting.{Setting}
 use Rattle.schema.specs.Read.{SchemaIs}
-use Rattle.schema.specs.declared.read.SchemaRead.{SchemaRead}
 use Rattle.validation.specs.Result.{any, Answer, max_label_bytes, path_bytes, scratch_words, KeptFrom}
 use Rattle.call.specs.Call.{told, Run}
 use Rattle.single_check.specs.Sheets.{sheet_answer, FrontOnly}
 use Rattle.rule_book.specs.Book.{sheets_of}
 use Rattle.rule_book.specs.Tally.{BookCall, tally_of, tally_numbers}
+use Rattle.schema.specs.declared.read.Schema.{Schema}
 
 -- what the check list says of each sheet, under a setting
 unfoldable pub answers_in : Setting → (label schema : List ℕ) → List (List ℕ) → List Answer
@@ -38,7 +38,7 @@ numbers_in counts read passed =
     ∷ []
 
 -- the file is of the form, the schema has been read, and there is room
-pub record Ready (label schema : List ℕ) (read : SchemaRead) (book path words : List ℕ) : Type 0 where
+pub record Ready (label schema : List ℕ) (read : Option Schema) (book path words : List ℕ) : Type 0 where
   pub sheets : List (List ℕ)
   pub form : sheets_of book ≡ some sheets
   pub indexed : SchemaIs schema words read

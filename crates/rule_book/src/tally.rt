@@ -5,9 +5,9 @@ ghost use Rattle.single_check.specs.Settings.{setting_by};
 ghost use Rattle.rule_book.specs.Tally.{tally_numbers, MeetsBook};
 ghost use Rattle.rule_book.specs.Tallying.{numbers_in, Ready, SheetsTallied, book_run_of};
 
-use crate::sheets::{Counted, NextSheet, count_sheets, next_sheet};
-use schema::read::{SchemaRead, read_schema};
-use single_check::settings::{Setting, Settled, refused_settings, settle};
+use crate::sheets::{count_sheets, next_sheet};
+use schema::read::{Schema, read_schema};
+use single_check::settings::{Setting, refused_settings, settle};
 use single_check::sheets::{Takes, check_sheet};
 use text::part::bytes_of;
 
@@ -41,7 +41,7 @@ fn tally_sheets(
     setting: Setting,
     label: &[u8],
     schema: &[u8],
-    read: SchemaRead,
+    read: Option<Schema>,
     book: &[u8],
     path: &mut [u8],
     scratch: &mut [u32],
@@ -54,7 +54,7 @@ fn tally_sheets(
     let mut passed: u64 = 0;
     let mut at: usize = 0;
     while at < book.len() {
-        let NextSheet::Is(part, next) = next_sheet(book, at) else {
+        let Some((part, next)) = next_sheet(book, at) else {
             return result(counts, sheets, passed);
         };
         let sheet = bytes_of(book, part);
@@ -94,12 +94,12 @@ pub fn tally(
     if number != 0 {
         return refused(number);
     }
-    let Counted::Sheets(_) = count_sheets(book) else {
+    let Some(_) = count_sheets(book) else {
         return refused(34);
     };
     match settle(kind, semantics, table) {
-        Settled::Refused(number) => refused(number),
-        Settled::Set(setting) => {
+        Err(number) => refused(number),
+        Ok(setting) => {
             let read = read_schema(schema, scratch);
             tally_sheets(setting, label, schema, read, book, path, scratch)
         }

@@ -1,4 +1,5 @@
 -- Members by their places, from 0, and the search that halves.
+use Rattle.std.specs.Prelude.{Some, None}
 use Prim.Native.Nat.{ℕ, zero, suc, ◌+◌, ◌≤◌, ◌<◌}
 use mathlib.Core.Bool.{Bool, true, false}
 use mathlib.Core.List.{List}
@@ -24,7 +25,6 @@ use Rattle.schema.specs.IndexLaws.{slot-named}
 use Rattle.schema.specs.Slot.{HolderAt}
 use Rattle.schema.specs.Lookup.{FoundAt, LookedUp}
 use Rattle.schema.specs.declared.index.Holder.{Holder}
-use Rattle.schema.specs.declared.lookup.Found.TheVariants.{At, Missing}
 
 -- the `i`-th member
 abbrev pub IsMember : ℕ → Members → Text → Field → Type 0
@@ -171,11 +171,11 @@ narrowed_none s w first count name =
     record { ordered = omega arith; within = omega arith; between = λ o t h. rw (← h.counted) (between-all t.members name) }
 
 -- what would reach past the last slot is no holder
-pub holder-past : (s w : List ℕ) (h : Holder) (name : Text) → max_slots < h.first + h.count → LookedUp s w h name Missing
+pub holder-past : (s w : List ℕ) (h : Holder) (name : Text) → max_slots < h.first + h.count → LookedUp s w h name None
 holder-past s w h name past t here = absurd (omega arith)
 
 module _ (s w : List ℕ) (first count : ℕ) (name : Text) (low high : ℕ) (narrowed : Narrowed s w first count name low high) where
-  pub narrowed-all : (o : Bool) → high ≤ low → LookedUp s w (record { opened = o; first = first; count = count }) name Missing
+  pub narrowed-all : (o : Bool) → high ≤ low → LookedUp s w (record { opened = o; first = first; count = count }) name None
   narrowed-all o e t h = between_none t.members name low high (narrowed.between o t h) e
 
   module _ (middle : ℕ) (lower : low ≤ middle) (upper : middle < high) where
@@ -211,7 +211,7 @@ module _ (s w : List ℕ) (first count : ℕ) (name : Text) (low high : ℕ) (na
         }
 
     pub narrowed-found : (o : Bool) → same_bytes (part_of s (slot_name w (first + middle))) name ≡ true
-        → LookedUp s w (record { opened = o; first = first; count = count }) name (At (first + middle))
+        → LookedUp s w (record { opened = o; first = first; count = count }) name (Some (first + middle))
     narrowed-found o e t h =
         let slots = h.slots in
         let within = narrowed.within in

@@ -1,4 +1,5 @@
 -- The parts of the field that a slot holds.
+use Rattle.std.specs.Prelude.{Option}
 use Prim.Native.Nat.{ℕ, ◌+◌, ◌/◌, ◌%◌, ◌≤◌}
 use mathlib.Core.List.{List, []}
 use mathlib.Core.Path.{◌≡◌, sym, ap, ◌∙◌}
@@ -13,7 +14,6 @@ use Rattle.schema.specs.IndexLaws.{elements-marked}
 use Rattle.schema.specs.Slot.{ElementAt, element_from, IndexedIs}
 use Rattle.sheet.specs.Places.{field_of, KnownTo, Unread}
 use Rattle.sheet.specs.declared.schema_heads.FieldHead.{FieldHead}
-use Rattle.schema.specs.declared.index.ElementSlot.{ElementSlot}
 use Rattle.schema.specs.declared.index.IndexedField.{IndexedField}
 
 -- a slot that holds a field has a head
@@ -27,7 +27,7 @@ unfolding element_from has_items elements below_items
 items-element s w k low absent at rises slot room = tt
 items-element s w k low (element f) at rises slot room = record { name = []; low = low; indexed = at; rises = rises; slot = omega arith; room = room }
 
-pub indexed-parts : (s w : List ℕ) (k : ℕ) (head : FieldHead) (next place child elems : ℕ) (el : ElementSlot)
+pub indexed-parts : (s w : List ℕ) (k : ℕ) (head : FieldHead) (next place child elems : ℕ) (el : Option ℕ)
     → KnownTo s (place_word w k / 4096) head next → place ≡ place_word w k → child ≡ child_slot w k
     → elems ≡ to_count head.items → el ≡ element_from head.items child
     → IndexedIs s w k

@@ -1,4 +1,5 @@
 -- A whole sheet: how each way through its readers answers what the decoder does.
+use Rattle.std.specs.Prelude.{Option as Optional, Some, None}
 use Prim.Native.Nat.{ℕ, ◌+◌, ◌-◌, ◌≤◌, ◌<◌}
 use mathlib.Core.List.{List}
 use mathlib.Core.Option.{Option, none, some, map}
@@ -21,8 +22,6 @@ use Rattle.schema.specs.Slot.{HolderAt}
 use Rattle.schema.specs.Read.{ArgumentsAt, SchemaGood, HolderPlaced, HolderGood, ArgumentsGood}
 use Rattle.schema.specs.declared.field.Cursor.{Cursor}
 use Rattle.schema.specs.declared.index.Holder.{Holder}
-use Rattle.schema.specs.declared.read.Arguments.{Arguments}
-use Rattle.schema.specs.declared.read.Arguments.TheVariants.{Are, Absent}
 use Rattle.schema.proofs.Slots.{slot_kept-all}
 
 -- The record or the arguments
@@ -61,7 +60,7 @@ module _ (s : List ℕ) (from : Cursor) (h : HolderHead) where
           moved = record { at = moved.at; used = omega arith; room = moved.room; entries = omega arith };
         }
 
-pub arguments-absent : (s a : List ℕ) (from : Cursor) (h : Option HolderHead) → h ≡ none → from.at ≤ length s → ArgumentsGood s a a h from Absent from
+pub arguments-absent : (s a : List ℕ) (from : Cursor) (h : Option HolderHead) → h ≡ none → from.at ≤ length s → ArgumentsGood s a a h from None from
 unfolding arguments_of pure
 arguments-absent s a from h e at =
     rw e (record { tree = none; reads = refl; indexed = tt; others = λ k p q. slot_kept-all a k; within = at })
@@ -71,7 +70,7 @@ module _ (s : List ℕ) (from : Cursor) (h : Option HolderHead) (g : HolderHead)
   unfolding arguments_of ◌>>=◌ and_then
   arguments-none n = rw (e, n)
 
-  pub arguments-good : (a b : List ℕ) (holder : Holder) (to : Cursor) → HolderGood s a b g from holder to → ArgumentsGood s a b h from (Are holder) to
+  pub arguments-good : (a b : List ℕ) (holder : Holder) (to : Cursor) → HolderGood s a b g from holder to → ArgumentsGood s a b h from (Some holder) to
   unfolding arguments_of ◌>>=◌ and_then pure
   arguments-good a b holder to good =
       rw e
@@ -96,11 +95,11 @@ holder-at s w h t p rises =
       room = omega arith;
     }
 
-arguments-at : (s w : List ℕ) (a : Arguments) (t : Option Tree.Holder) → ArgumentsAt (HolderPlaced s w) a t → ArgumentsRise t → ArgumentsAt (HolderAt s w) a t
-arguments-at s w Absent none p rises = tt
-arguments-at s w Absent (some t) p rises = absurd p
-arguments-at s w (Are h) none p rises = absurd p
-arguments-at s w (Are h) (some t) p rises = holder-at s w h t p rises
+arguments-at : (s w : List ℕ) (a : Optional Holder) (t : Option Tree.Holder) → ArgumentsAt (HolderPlaced s w) a t → ArgumentsRise t → ArgumentsAt (HolderAt s w) a t
+arguments-at s w None none p rises = tt
+arguments-at s w None (some t) p rises = absurd p
+arguments-at s w (Some h) none p rises = absurd p
+arguments-at s w (Some h) (some t) p rises = holder-at s w h t p rises
 
 -- The sheet
 
@@ -129,7 +128,7 @@ module _ (s : List ℕ) (short : length s ≤ max_sheet_bytes) where
           let moved = one.moved in
           record { sheet = short; scratch = omega arith; at = moved.at; used = moved.room; slots = omega arith; entries = omega arith }
 
-      module _ (c : List ℕ) (arguments : Arguments) (to : Cursor) (other : ArgumentsGood s b c h.arguments behind arguments to) where
+      module _ (c : List ℕ) (arguments : Optional Holder) (to : Cursor) (other : ArgumentsGood s b c h.arguments behind arguments to) where
         schema-end : decode_schema s ≡ map (λ r. r.0) (and_then (at_end (ahead s to)) λ u. pure (record { fields = one.tree; arguments = other.tree }))
         unfolding decode_schema whole schema ◌>>=◌ ◌>>◌ and_then ensure announce entry entered pure
         schema-end = rw (le-leb (length s) max_sheet_bytes short, head, one.reads, other.reads)

@@ -1,5 +1,5 @@
 -- What the readers of fields answer, and what they leave in the scratch.
-use Rattle.std.specs.Prelude.{ℕ, zero, suc, ◌+◌, ◌-◌, ◌*◌, ◌≤◌, ◌<◌, Bool, List, ◌≡◌, length, drop}
+use Rattle.std.specs.Prelude.{ℕ, zero, suc, ◌+◌, ◌-◌, ◌*◌, ◌≤◌, ◌<◌, Bool, List, ◌≡◌, length, drop, Option as Optional, Some, None}
 use Rattle.std.proofs.Math.Option.{Option, none, some}
 use Rattle.text.specs.Parts.{part_of}
 use Rattle.text.specs.declared.part.Part.{Part}
@@ -11,10 +11,6 @@ use Rattle.schema.specs.Index.{index_end, max_slots, place_word, child_slot, slo
 use Rattle.schema.specs.Kept.{Kept, OthersKept}
 use Rattle.sheet.specs.Places.{NamePlaced, max_prefix}
 use Rattle.schema.specs.declared.field.Cursor.{Cursor}
-use Rattle.schema.specs.declared.field.OneRead.{OneRead}
-use Rattle.schema.specs.declared.field.OneRead.TheVariants as One
-use Rattle.schema.specs.declared.field.ManyRead.{ManyRead}
-use Rattle.schema.specs.declared.field.ManyRead.TheVariants as Many
 
 -- One slot written
 
@@ -65,11 +61,11 @@ pub record FieldGood (s before after : List ℕ) (depth slot : ℕ) (from : Curs
   pub others : OthersKept before after slot 1 from.used to.used
   pub moved : Moved s from to 1 (below f)
 
-abbrev pub FieldIs : (s before after : List ℕ) (depth slot : ℕ) (from : Cursor) → OneRead → Type 0
-FieldIs s before after depth slot from One.Bad = field_in depth (ahead s from) ≡ none
-FieldIs s before after depth slot from (One.Good name to) = FieldGood s before after depth slot from (part_of s name) to
+abbrev pub FieldIs : (s before after : List ℕ) (depth slot : ℕ) (from : Cursor) → Optional (Part × Cursor) → Type 0
+FieldIs s before after depth slot from None = field_in depth (ahead s from) ≡ none
+FieldIs s before after depth slot from (Some (name, to)) = FieldGood s before after depth slot from (part_of s name) to
 
-pub record FieldAnswer (s before after : List ℕ) (depth slot : ℕ) (from : Cursor) (r : OneRead) : Type 0 where
+pub record FieldAnswer (s before after : List ℕ) (depth slot : ℕ) (from : Cursor) (r : Optional (Part × Cursor)) : Type 0 where
   pub kept : Kept before after
   pub answer : FieldIs s before after depth slot from r
 
@@ -83,11 +79,11 @@ pub record ItemsGood (s before after : List ℕ) (depth : ℕ) (has : Bool) (slo
   pub others : OthersKept before after slot (to_count has) from.used to.used
   pub moved : Moved s from to (to_count has) (below_items items)
 
-abbrev pub ItemsIs : (s before after : List ℕ) (depth : ℕ) (has : Bool) (slot : ℕ) (from : Cursor) → ManyRead → Type 0
-ItemsIs s before after depth has slot from Many.Bad = element_of has (field_in depth) (ahead s from) ≡ none
-ItemsIs s before after depth has slot from (Many.Good to) = ItemsGood s before after depth has slot from to
+abbrev pub ItemsIs : (s before after : List ℕ) (depth : ℕ) (has : Bool) (slot : ℕ) (from : Cursor) → Optional Cursor → Type 0
+ItemsIs s before after depth has slot from None = element_of has (field_in depth) (ahead s from) ≡ none
+ItemsIs s before after depth has slot from (Some to) = ItemsGood s before after depth has slot from to
 
-pub record ItemsAnswer (s before after : List ℕ) (depth : ℕ) (has : Bool) (slot : ℕ) (from : Cursor) (r : ManyRead) : Type 0 where
+pub record ItemsAnswer (s before after : List ℕ) (depth : ℕ) (has : Bool) (slot : ℕ) (from : Cursor) (r : Optional Cursor) : Type 0 where
   pub kept : Kept before after
   pub answer : ItemsIs s before after depth has slot from r
 
@@ -106,10 +102,10 @@ pub record MembersGood (s before after : List ℕ) (depth first count : ℕ) (fr
   pub others : OthersKept before after first count from.used to.used
   pub moved : Moved s from to count (below_members members)
 
-abbrev pub MembersIs : (s before after : List ℕ) (depth first count : ℕ) (from : Cursor) → ManyRead → Type 0
-MembersIs s before after depth first count from Many.Bad = members_of count none (field_in depth) (ahead s from) ≡ none
-MembersIs s before after depth first count from (Many.Good to) = MembersGood s before after depth first count from to
+abbrev pub MembersIs : (s before after : List ℕ) (depth first count : ℕ) (from : Cursor) → Optional Cursor → Type 0
+MembersIs s before after depth first count from None = members_of count none (field_in depth) (ahead s from) ≡ none
+MembersIs s before after depth first count from (Some to) = MembersGood s before after depth first count from to
 
-pub record MembersAnswer (s before after : List ℕ) (depth first count : ℕ) (from : Cursor) (r : ManyRead) : Type 0 where
+pub record MembersAnswer (s before after : List ℕ) (depth first count : ℕ) (from : Cursor) (r : Optional Cursor) : Type 0 where
   pub kept : Kept before after
   pub answer : MembersIs s before after depth first count from r

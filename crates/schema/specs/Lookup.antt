@@ -1,13 +1,11 @@
 -- What a lookup finds, whichever holder it looks in.
-use Rattle.std.specs.Prelude.{ℕ, List, ◌≡◌}
+use Rattle.std.specs.Prelude.{ℕ, List, ◌≡◌, Option, Some, None}
 use Rattle.std.proofs.Math.Option.{none, some}
 use Rattle.definition.specs.Tree as Tree
 use Rattle.definition.specs.Tree.{Text, Field, Members}
 use Rattle.reference.specs.Walk.{lookup}
 use Rattle.schema.specs.Slot.{SlotHolds, HolderAt}
 use Rattle.schema.specs.declared.index.Holder.{Holder}
-use Rattle.schema.specs.declared.lookup.Found.{Found}
-use Rattle.schema.specs.declared.lookup.Found.TheVariants as Found
 
 -- slot `k` holds the member of that name
 pub record FoundAt (sheet words : List ℕ) (name : Text) (members : Members) (k : ℕ) : Type 0 where
@@ -15,9 +13,9 @@ pub record FoundAt (sheet words : List ℕ) (name : Text) (members : Members) (k
   pub found : lookup name members ≡ some f
   pub holds : SlotHolds sheet words k f
 
-abbrev pub FoundIs : (sheet words : List ℕ) (name : Text) (members : Members) → Found → Type 0
-FoundIs sheet words name ms (Found.At k) = FoundAt sheet words name ms k
-FoundIs sheet words name ms Found.Missing = lookup name ms ≡ none
+abbrev pub FoundIs : (sheet words : List ℕ) (name : Text) (members : Members) → Option ℕ → Type 0
+FoundIs sheet words name ms (Some k) = FoundAt sheet words name ms k
+FoundIs sheet words name ms None = lookup name ms ≡ none
 
-abbrev pub LookedUp : (sheet words : List ℕ) → Holder → Text → Found → Type 0
+abbrev pub LookedUp : (sheet words : List ℕ) → Holder → Text → Option ℕ → Type 0
 LookedUp sheet words h name r = (t : Tree.Holder) → HolderAt sheet words h t → FoundIs sheet words name t.members r

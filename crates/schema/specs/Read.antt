@@ -1,5 +1,5 @@
 -- What reading a schema sheet answers, and what it leaves in the scratch.
-use Rattle.std.specs.Prelude.{ℕ, ◌+◌, ◌≤◌, List, ◌≡◌, length}
+use Rattle.std.specs.Prelude.{ℕ, ◌+◌, ◌≤◌, List, ◌≡◌, length, Option as Optional, Some, None}
 use Rattle.std.proofs.Math.Option.{Option, none, some}
 use Rattle.sheet.specs.Entries.{HolderHead}
 use Rattle.definition.specs.Tree as Tree
@@ -11,22 +11,14 @@ use Rattle.schema.specs.Slot.{HolderAt}
 use Rattle.schema.specs.Fields.{ahead, Moved}
 use Rattle.schema.specs.declared.index.Holder.{Holder}
 use Rattle.schema.specs.declared.field.Cursor.{Cursor}
-use Rattle.schema.specs.declared.read.Arguments.{Arguments}
-use Rattle.schema.specs.declared.read.Arguments.TheVariants as Arguments
 use Rattle.schema.specs.declared.read.Schema.{Schema}
-use Rattle.schema.specs.declared.read.HolderRead.{HolderRead}
-use Rattle.schema.specs.declared.read.HolderRead.TheVariants as HolderRead
-use Rattle.schema.specs.declared.read.ArgumentsRead.{ArgumentsRead}
-use Rattle.schema.specs.declared.read.ArgumentsRead.TheVariants as ArgumentsRead
-use Rattle.schema.specs.declared.read.SchemaRead.{SchemaRead}
-use Rattle.schema.specs.declared.read.SchemaRead.TheVariants as SchemaRead
 
 -- there are arguments in the index exactly if there are some in the tree
-abbrev pub ArgumentsAt : (Holder → Tree.Holder → Type 0) → Arguments → Option Tree.Holder → Type 0
-ArgumentsAt Here Arguments.Absent none = Unit {0}
-ArgumentsAt Here Arguments.Absent (some t) = ⊥
-ArgumentsAt Here (Arguments.Are h) none = ⊥
-ArgumentsAt Here (Arguments.Are h) (some t) = Here h t
+abbrev pub ArgumentsAt : (Holder → Tree.Holder → Type 0) → Optional Holder → Option Tree.Holder → Type 0
+ArgumentsAt Here None none = Unit {0}
+ArgumentsAt Here None (some t) = ⊥
+ArgumentsAt Here (Some h) none = ⊥
+ArgumentsAt Here (Some h) (some t) = Here h t
 
 -- the index of a schema
 pub record SchemaAt (sheet words : List ℕ) (s : Schema) (t : Tree.Schema) : Type 0 where
@@ -40,11 +32,11 @@ pub record SchemaGood (sheet words : List ℕ) (s : Schema) : Type 0 where
 
 -- A schema: refused exactly if it is not well formed
 
-abbrev pub SchemaIs : (sheet after : List ℕ) → SchemaRead → Type 0
-SchemaIs sheet after SchemaRead.Bad = decode_schema sheet ≡ none
-SchemaIs sheet after (SchemaRead.Good s) = SchemaGood sheet after s
+abbrev pub SchemaIs : (sheet after : List ℕ) → Optional Schema → Type 0
+SchemaIs sheet after None = decode_schema sheet ≡ none
+SchemaIs sheet after (Some s) = SchemaGood sheet after s
 
-pub record SchemaAnswer (sheet before after : List ℕ) (r : SchemaRead) : Type 0 where
+pub record SchemaAnswer (sheet before after : List ℕ) (r : Optional Schema) : Type 0 where
   pub kept : Kept before after
   pub answer : SchemaIs sheet after r
 
@@ -64,25 +56,25 @@ pub record HolderGood (s before after : List ℕ) (h : HolderHead) (from : Curso
   pub others : OthersKept before after 0 0 from.used to.used
   pub moved : Moved s from to 0 (holder.count + below_members tree.members)
 
-abbrev pub HolderIs : (s before after : List ℕ) (h : HolderHead) (from : Cursor) → HolderRead → Type 0
-HolderIs s before after h from HolderRead.Bad = holder_of h (ahead s from) ≡ none
-HolderIs s before after h from (HolderRead.Good holder to) = HolderGood s before after h from holder to
+abbrev pub HolderIs : (s before after : List ℕ) (h : HolderHead) (from : Cursor) → Optional (Holder × Cursor) → Type 0
+HolderIs s before after h from None = holder_of h (ahead s from) ≡ none
+HolderIs s before after h from (Some (holder, to)) = HolderGood s before after h from holder to
 
-pub record HolderAnswer (s before after : List ℕ) (h : HolderHead) (from : Cursor) (r : HolderRead) : Type 0 where
+pub record HolderAnswer (s before after : List ℕ) (h : HolderHead) (from : Cursor) (r : Optional (Holder × Cursor)) : Type 0 where
   pub kept : Kept before after
   pub answer : HolderIs s before after h from r
 
-pub record ArgumentsGood (s before after : List ℕ) (h : Option HolderHead) (from : Cursor) (arguments : Arguments) (to : Cursor) : Type 0 where
+pub record ArgumentsGood (s before after : List ℕ) (h : Option HolderHead) (from : Cursor) (arguments : Optional Holder) (to : Cursor) : Type 0 where
   pub tree : Option Tree.Holder
   pub reads : arguments_of h (ahead s from) ≡ some (tree, ahead s to)
   pub indexed : ArgumentsAt (HolderPlaced s after) arguments tree
   pub others : OthersKept before after 0 0 from.used to.used
   pub within : to.at ≤ length s
 
-abbrev pub ArgumentsIs : (s before after : List ℕ) (h : Option HolderHead) (from : Cursor) → ArgumentsRead → Type 0
-ArgumentsIs s before after h from ArgumentsRead.Bad = arguments_of h (ahead s from) ≡ none
-ArgumentsIs s before after h from (ArgumentsRead.Good arguments to) = ArgumentsGood s before after h from arguments to
+abbrev pub ArgumentsIs : (s before after : List ℕ) (h : Option HolderHead) (from : Cursor) → Optional (Optional Holder × Cursor) → Type 0
+ArgumentsIs s before after h from None = arguments_of h (ahead s from) ≡ none
+ArgumentsIs s before after h from (Some (arguments, to)) = ArgumentsGood s before after h from arguments to
 
-pub record ArgumentsAnswer (s before after : List ℕ) (h : Option HolderHead) (from : Cursor) (r : ArgumentsRead) : Type 0 where
+pub record ArgumentsAnswer (s before after : List ℕ) (h : Option HolderHead) (from : Cursor) (r : Optional (Optional Holder × Cursor)) : Type 0 where
   pub kept : Kept before after
   pub answer : ArgumentsIs s before after h from r

@@ -1,5 +1,5 @@
 -- The index of a schema stays what it is while its own words do, whatever is written elsewhere in the scratch.
-use Rattle.std.specs.Prelude.{ℕ, ◌+◌, ◌*◌, ◌≤◌, ◌<◌, List, ◌≡◌, get_or}
+use Rattle.std.specs.Prelude.{ℕ, ◌+◌, ◌*◌, ◌≤◌, ◌<◌, List, ◌≡◌, get_or, Option as Optional, Some, None}
 use Rattle.std.proofs.Math.Option.{Option, none, some}
 use Rattle.std.proofs.Common.{arith}
 use Rattle.definition.specs.Tree as Tree
@@ -9,8 +9,6 @@ use Rattle.schema.specs.IndexLaws.{MembersAt-kept}
 use Rattle.schema.specs.Slot.{HolderAt}
 use Rattle.schema.specs.Read.{ArgumentsAt, SchemaAt}
 use Rattle.schema.specs.declared.index.Holder.{Holder}
-use Rattle.schema.specs.declared.read.Arguments.{Arguments}
-use Rattle.schema.specs.declared.read.Arguments.TheVariants.{Are, Absent}
 use Rattle.schema.specs.declared.read.Schema.{Schema}
 
 abbrev pub IndexKept : (before after : List ℕ) → Type 0
@@ -41,11 +39,11 @@ module _ (s a b : List ℕ) (kept : IndexKept a b) where
         room = room;
       }
 
-  ArgumentsAt-kept : (r : Arguments) (t : Option Tree.Holder) → ArgumentsAt (HolderAt s a) r t → ArgumentsAt (HolderAt s b) r t
-  ArgumentsAt-kept Absent none at = tt
-  ArgumentsAt-kept Absent (some t) at = absurd at
-  ArgumentsAt-kept (Are h) none at = absurd at
-  ArgumentsAt-kept (Are h) (some t) at = HolderAt-kept h t at
+  ArgumentsAt-kept : (r : Optional Holder) (t : Option Tree.Holder) → ArgumentsAt (HolderAt s a) r t → ArgumentsAt (HolderAt s b) r t
+  ArgumentsAt-kept None none at = tt
+  ArgumentsAt-kept None (some t) at = absurd at
+  ArgumentsAt-kept (Some h) none at = absurd at
+  ArgumentsAt-kept (Some h) (some t) at = HolderAt-kept h t at
 
   pub SchemaAt-kept : (r : Schema) (t : Tree.Schema) → SchemaAt s a r t → SchemaAt s b r t
   SchemaAt-kept r t at =

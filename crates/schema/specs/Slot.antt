@@ -1,5 +1,5 @@
 -- What a slot of the index holds, in terms of the tree.
-use Rattle.std.specs.Prelude.{ℕ, ◌+◌, ◌<◌, ◌≤◌, Bool, true, false, List, ◌≡◌}
+use Rattle.std.specs.Prelude.{ℕ, ◌+◌, ◌<◌, ◌≤◌, Bool, true, false, List, ◌≡◌, Option as Optional, Some, None}
 use Rattle.std.proofs.Math.Option.{Option, none}
 use Rattle.text.specs.Parts.{optional_of}
 use Rattle.definition.specs.Tree as Tree
@@ -8,8 +8,6 @@ use Rattle.definition.specs.Within.{FieldRises, MembersRise}
 use Rattle.definition.specs.Write.{count_of_members}
 use Rattle.schema.specs.Index.{max_slots, below, below_members, FieldAt, MembersAt}
 use Rattle.schema.specs.declared.index.Holder.{Holder}
-use Rattle.schema.specs.declared.index.ElementSlot.{ElementSlot}
-use Rattle.schema.specs.declared.index.ElementSlot.TheVariants as ElementSlot
 use Rattle.schema.specs.declared.index.IndexedField.{IndexedField}
 
 -- slot `k` holds a field, in which sibling names rise; all slots of what lies below it are slots of the index
@@ -31,16 +29,16 @@ pub record HolderAt (sheet words : List ℕ) (h : Holder) (t : Tree.Holder) : Ty
   pub slots : h.first + h.count ≤ max_slots
   pub room : low + below_members t.members ≤ max_slots
 
-abbrev pub ElementAt : (sheet words : List ℕ) → ElementSlot → Items → Type 0
-ElementAt sheet words ElementSlot.Absent absent = Unit {0}
-ElementAt sheet words ElementSlot.Absent (element f) = ⊥
-ElementAt sheet words (ElementSlot.At k) absent = ⊥
-ElementAt sheet words (ElementSlot.At k) (element f) = SlotHolds sheet words k f
+abbrev pub ElementAt : (sheet words : List ℕ) → Optional ℕ → Items → Type 0
+ElementAt sheet words None absent = Unit {0}
+ElementAt sheet words None (element f) = ⊥
+ElementAt sheet words (Some k) absent = ⊥
+ElementAt sheet words (Some k) (element f) = SlotHolds sheet words k f
 
 -- where an element is, if there is one
-unfoldable pub element_from : Bool → ℕ → ElementSlot
-element_from true k = ElementSlot.At k
-element_from false k = ElementSlot.Absent
+unfoldable pub element_from : Bool → ℕ → Optional ℕ
+element_from true k = Some k
+element_from false k = None
 
 pub record FieldParts (sheet words : List ℕ) (e kind : ℕ) (tag : Option Text) (items : Items) (holder : Tree.Holder) (r : IndexedField) : Type 0 where
   pub numbered : r.entry ≡ e

@@ -6,8 +6,7 @@ ghost use Rattle.definition.specs.Decode.{to_count};
 ghost use Rattle.schema.specs.Fields.{Ready, FieldAnswer, ItemsAnswer, MembersAnswer, cursor_of, name_before};
 
 use crate::index::{MAX_SLOTS, name_of_slot, put_slot, to_count};
-use sheet::schema_heads::FieldRead;
-use text::order::ByteOrder;
+use std::cmp::Ordering;
 use text::part::Part;
 
 // Where reading is: the next entry's number, how many slots are in use, and the next byte.
@@ -18,38 +17,29 @@ pub struct Cursor {
     pub at: usize,
 }
 
-#[derive(Clone, Copy)]
-pub enum OneRead {
-    // The field's name, and where its last entry ends.
-    Good(Part, Cursor),
-    Bad,
-}
-
-#[derive(Clone, Copy)]
-pub enum ManyRead {
-    // Where the last entry ends.
-    Good(Cursor),
-    Bad,
-}
-
 // A field, with all that lies below it, into `slot`. What lies below it takes the slots that follow those in use.
+// Its name, and where its last entry ends.
 #[cycle(read_element_read_field_read_members)]
-fn read_field(sheet: &[u8], words: &mut [u32], depth: usize, slot: usize, from: Cursor) -> OneRead
+fn read_field(
+    sheet: &[u8],
+    words: &mut [u32],
+    depth: usize,
+    slot: usize,
+    from: Cursor,
+) -> Option<(Part, Cursor)>
     requires { Ready sheet.now words.old from slot 1 }
     ensures { FieldAnswer sheet.now words.old words.new depth slot from result }
 {
     if depth == 0 {
-        return OneRead::Bad;
+        return None;
     }
     let at = from.at;
     let low = from.used;
-    let FieldRead::Is(head, end) = lines::schema_sheet::field_head(sheet, at) else {
-        return OneRead::Bad;
-    };
+    let (head, end) = lines::schema_sheet::field_head(sheet, at)?;
     let elements = to_count(head.items);
     let announced = elements + head.count;
     if MAX_SLOTS - low < announced {
-        return OneRead::Bad;
+        return None;
     }
     let name = head.name;
     put_slot(words, slot, at, from.next, low, name);
@@ -60,13 +50,10 @@ fn read_field(sheet: &[u8], words: &mut [u32], depth: usize, slot: usize, from: 
     };
     // Most fields have nothing below them: these need no call.
     if announced == 0 {
-        return OneRead::Good(name, inner);
+        return Some((name, inner));
     }
-    let ManyRead::Good(behind) = read_element(sheet, words, depth - 1, head.items, low, inner)
-    else {
-        return OneRead::Bad;
-    };
-    let ManyRead::Good(to) = read_members(
+    let behind = read_element(sheet, words, depth - 1, head.items, low, inner)?;
+    let to = read_members(
         sheet,
         words,
         depth - 1,
@@ -75,13 +62,11 @@ fn read_field(sheet: &[u8], words: &mut [u32], depth: usize, slot: usize, from: 
         behind.next,
         behind.used,
         behind.at,
-    ) else {
-        return OneRead::Bad;
-    };
-    OneRead::Good(name, to)
+    )?;
+    Some((name, to))
 }
 
-// The element, if there is one: it has no name. It is read as one sibling, so that `read_field` has one caller and is built into it.
+// The element, if there is one: it has no name. It is read as one sibling, so that `read_field` has one caller and is built into it. Where its last entry ends.
 #[cycle(read_element_read_field_read_members)]
 fn read_element(
     sheet: &[u8],
@@ -90,23 +75,19 @@ fn read_element(
     has: bool,
     slot: usize,
     from: Cursor,
-) -> ManyRead
+) -> Option<Cursor>
     requires { Ready sheet.now words.old from slot (to_count has) }
     ensures { ItemsAnswer sheet.now words.old words.new depth has slot from result }
 {
     if has {
-        let ManyRead::Good(to) = read_members(
-            sheet, words, depth, slot, 1, from.next, from.used, from.at,
-        ) else {
-            return ManyRead::Bad;
-        };
+        let to = read_members(sheet, words, depth, slot, 1, from.next, from.used, from.at)?;
         let name = name_of_slot(words, slot);
         if text::part::bytes_of(sheet, name).len() == 0 {
-            return ManyRead::Good(to);
+            return Some(to);
         }
-        return ManyRead::Bad;
+        return None;
     }
-    ManyRead::Good(from)
+    Some(from)
 }
 
 // Whether a name may come after that of the sibling before it, if there is one.
@@ -120,14 +101,14 @@ fn rises(sheet: &[u8], i: usize, before: Part, name: Part) -> bool
         text::part::bytes_of(sheet, before),
         text::part::bytes_of(sheet, name),
     ) {
-        ByteOrder::Less => true,
-        ByteOrder::Same => false,
-        ByteOrder::Greater => false,
+        Ordering::Less => true,
+        Ordering::Equal => false,
+        Ordering::Greater => false,
     }
 }
 
 // Siblings, as many as announced: their names rise. The place goes by three numbers: a structure would be copied by sixteen bytes, which waits for
-// what was just stored by eights.
+// what was just stored by eights. Where the last entry ends.
 #[cycle(read_element_read_field_read_members)]
 pub fn read_members(
     sheet: &[u8],
@@ -138,32 +119,27 @@ pub fn read_members(
     next: usize,
     used: usize,
     at: usize,
-) -> ManyRead
+) -> Option<Cursor>
     requires { Ready sheet.now words.old (cursor_of next used at) first count }
     ensures { MembersAnswer sheet.now words.old words.new depth first count (cursor_of next used at) result }
 {
     let mut to = Cursor { next, used, at };
     let mut before = Part { start: 0, len: 0 };
-    let mut i = 0;
-    while i < count {
-        let OneRead::Good(name, behind) = read_field(sheet, words, depth, first + i, to) else {
-            return ManyRead::Bad;
-        };
-        if rises(sheet, i, before, name) {
-            // Field by field: a copy of the whole waits for what was just stored.
-            before = Part {
-                start: name.start,
-                len: name.len,
-            };
-            to = Cursor {
-                next: behind.next,
-                used: behind.used,
-                at: behind.at,
-            };
-            i += 1;
-        } else {
-            return ManyRead::Bad;
+    for i in 0..count {
+        let (name, behind) = read_field(sheet, words, depth, first + i, to)?;
+        if !rises(sheet, i, before, name) {
+            return None;
         }
+        // Field by field: a copy of the whole waits for what was just stored.
+        before = Part {
+            start: name.start,
+            len: name.len,
+        };
+        to = Cursor {
+            next: behind.next,
+            used: behind.used,
+            at: behind.at,
+        };
     }
-    ManyRead::Good(to)
+    Some(to)
 }

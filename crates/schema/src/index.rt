@@ -8,8 +8,8 @@ ghost use Rattle.schema.specs.Slot.{element_from, IndexedIs};
 ghost use Rattle.sheet.specs.Places.{KnownFieldIs};
 
 use definition::limits::{MAX_RULE_ENTRIES, MAX_SCHEMA_ENTRIES, WORD_ENTRIES};
-use sheet::schema_heads::FieldRead;
-use text::part::{OptionalPart, Part};
+use sheet::schema_heads::FieldHead;
+use text::part::Part;
 
 // Every entry but the sheet's head has a slot.
 pub const MAX_SLOTS: usize = MAX_SCHEMA_ENTRIES - 1;
@@ -31,20 +31,14 @@ pub struct Holder {
     pub count: usize,
 }
 
-// The slot of a field's element.
-#[derive(Clone, Copy)]
-pub enum ElementSlot {
-    At(usize),
-    Absent,
-}
-
 // What a slot says of its field.
 #[derive(Clone, Copy)]
 pub struct IndexedField {
     pub entry: usize,
     pub kind: usize,
-    pub tag: OptionalPart,
-    pub element: ElementSlot,
+    pub tag: Option<Part>,
+    // The slot of its element.
+    pub element: Option<usize>,
     pub members: Holder,
 }
 
@@ -98,8 +92,8 @@ pub fn put_slot(words: &mut [u32], k: usize, start: usize, entry: usize, child: 
     words[i + 1] = (name.len * LENGTH_UNIT + prefix * WORD_ENTRIES + child) as u32;
 }
 
-// The entry of slot `k`, read again.
-fn head_of(sheet: &[u8], words: &[u32], k: usize) -> FieldRead
+// The entry of slot `k`, read again: the head, and the place after the entry.
+fn head_of(sheet: &[u8], words: &[u32], k: usize) -> Option<(FieldHead, usize)>
     ensures { KnownFieldIs sheet.now (place_word words.now k / word_entries) result }
 {
     let start = place_word(words, k) as usize / WORD_ENTRIES;
@@ -112,14 +106,11 @@ pub fn to_count(is: bool) -> usize
     if is { 1 } else { 0 }
 }
 
-fn element_at(has: bool, k: usize) -> ElementSlot
+// The slot of a field's element, if it has one.
+fn element_at(has: bool, k: usize) -> Option<usize>
     ensures { result ≡ element_from has k }
 {
-    if has {
-        ElementSlot::At(k)
-    } else {
-        ElementSlot::Absent
-    }
+    if has { Some(k) } else { None }
 }
 
 // A field of no kind and without members, for a slot that holds none.
@@ -129,8 +120,8 @@ fn no_field() -> IndexedField {
         first: 0,
         count: 0,
     };
-    let tag = OptionalPart::Absent;
-    let element = ElementSlot::Absent;
+    let tag = None;
+    let element = None;
     IndexedField {
         entry: 0,
         kind: 0,
@@ -144,7 +135,7 @@ fn no_field() -> IndexedField {
 pub fn indexed_field(sheet: &[u8], words: &[u32], k: usize) -> IndexedField
     ensures { IndexedIs sheet.now words.now k result }
 {
-    let FieldRead::Is(head, _) = head_of(sheet, words, k) else {
+    let Some((head, _)) = head_of(sheet, words, k) else {
         return no_field();
     };
     let first = name_word(words, k) as usize % WORD_ENTRIES;

@@ -1,4 +1,5 @@
 -- What two entries say is what they say in the trees.
+use Rattle.std.specs.Prelude.{Option, Some, None}
 use Prim.Native.Nat.{ℕ}
 use mathlib.Core.Bool.{Bool, true, false, not}
 use mathlib.Core.List.{List, ◌++◌}
@@ -7,8 +8,6 @@ use lib.Dec.{eqb}
 use Rattle.text.specs.Order.{same_bytes}
 use Rattle.text.specs.Parts.{part_of, optional_of}
 use Rattle.text.specs.declared.part.Part.{Part}
-use Rattle.text.specs.declared.part.OptionalPart.{OptionalPart}
-use Rattle.text.specs.declared.part.OptionalPart.TheVariants as Optional
 use Rattle.definition.specs.Tree.{Items, absent, element, Members, field}
 use Rattle.definition.specs.Write.{has_items}
 use Rattle.widening.specs.Decision.{kind_differs, items_differ, tag_differs, mark_closes, Difference, breach_if, same_tag, same_items_mark, closes, own_differences}
@@ -20,21 +19,21 @@ use Rattle.schema_change.proofs.Joins.{goes-both, Breachless, open-found, open-b
 
 -- tags
 
-module _ (first second : List ℕ) {x y : OptionalPart} where
-  pub tags-both : {p q : Part} {r : Bool} {a b : List ℕ} → x ≡ Optional.Is p → y ≡ Optional.Is q → a ≡ part_of first p → b ≡ part_of second q → r ≡ same_bytes a b
+module _ (first second : List ℕ) {x y : Option Part} where
+  pub tags-both : {p q : Part} {r : Bool} {a b : List ℕ} → x ≡ Some p → y ≡ Some q → a ≡ part_of first p → b ≡ part_of second q → r ≡ same_bytes a b
       → r ≡ same_tag (optional_of first x) (optional_of second y)
   unfolding same_tag optional_of
   tags-both h g e f s = rw (h, g, ← e, ← f) s
 
-  pub tags-first : {p : Part} → x ≡ Optional.Is p → y ≡ Optional.Absent → false ≡ same_tag (optional_of first x) (optional_of second y)
+  pub tags-first : {p : Part} → x ≡ Some p → y ≡ None → false ≡ same_tag (optional_of first x) (optional_of second y)
   unfolding same_tag optional_of
   tags-first h g = rw (h, g)
 
-  pub tags-second : {q : Part} → x ≡ Optional.Absent → y ≡ Optional.Is q → false ≡ same_tag (optional_of first x) (optional_of second y)
+  pub tags-second : {q : Part} → x ≡ None → y ≡ Some q → false ≡ same_tag (optional_of first x) (optional_of second y)
   unfolding same_tag optional_of
   tags-second h g = rw (h, g)
 
-  pub tags-neither : x ≡ Optional.Absent → y ≡ Optional.Absent → true ≡ same_tag (optional_of first x) (optional_of second y)
+  pub tags-neither : x ≡ None → y ≡ None → true ≡ same_tag (optional_of first x) (optional_of second y)
   unfolding same_tag optional_of
   tags-neither h g = rw (h, g)
 

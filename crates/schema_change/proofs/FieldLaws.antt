@@ -1,4 +1,5 @@
 -- Fields and elements side by side: what each way through the code finds, and where it arrives.
+use Rattle.std.specs.Prelude.{Option, Some, None}
 use Prim.Native.Nat.{ℕ, zero, suc, ◌-◌}
 use mathlib.Core.Bool.{Bool, true, false}
 use mathlib.Core.List.{List, ◌++◌}
@@ -17,8 +18,6 @@ use Rattle.reference.specs.Walk.{entry_of}
 use Rattle.schema_change.specs.declared.answer.Change.{Change}
 use Rattle.schema_change.specs.declared.place.Place.{Place}
 use Rattle.schema_change.specs.declared.place.FieldEntry.{FieldEntry}
-use Rattle.schema_change.specs.declared.place.Entered.{Entered}
-use Rattle.schema_change.specs.declared.place.Entered.TheVariants.{Is, Bad}
 use Rattle.schema_change.specs.declared.field.Going.{Going}
 use Rattle.schema_change.specs.Answers.{Goes, is_open_yet}
 use Rattle.schema_change.specs.Places.{Within, Arrived, Enters, EnteredIs, behind_head, Reads}
@@ -47,7 +46,7 @@ module _ {first second : List ℕ} {x y : Place} {has : Bool} {depth : ℕ} {fou
             nothing-found first second items items' at at' (element-absent (field_in depth) a (rw n at e)) (element-absent (field_in depth) a' (rw n at e'));
       }
 
-  pub elements-first : {e₁ : Entered} → has ≡ true → EnteredIs first x e₁ → e₁ ≡ Bad → ElementsGo first x second y has depth found (record { found = found; x = x; y = y })
+  pub elements-first : {e₁ : Option FieldEntry} → has ≡ true → EnteredIs first x e₁ → e₁ ≡ None → ElementsGo first x second y has depth found (record { found = found; x = x; y = y })
   elements-first n entered q =
       record {
         first-within = w;
@@ -57,7 +56,7 @@ module _ {first second : List ℕ} {x y : Place} {has : Bool} {depth : ℕ} {fou
             absurd (field-none first x a depth at (rw q at entered) i.reads);
       }
 
-  pub elements-second : {e₂ : Entered} → has ≡ true → EnteredIs second y e₂ → e₂ ≡ Bad → ElementsGo first x second y has depth found (record { found = found; x = x; y = y })
+  pub elements-second : {e₂ : Option FieldEntry} → has ≡ true → EnteredIs second y e₂ → e₂ ≡ None → ElementsGo first x second y has depth found (record { found = found; x = x; y = y })
   elements-second n entered q =
       record {
         first-within = w;
@@ -67,7 +66,7 @@ module _ {first second : List ℕ} {x y : Place} {has : Bool} {depth : ℕ} {fou
             absurd (field-none second y a' depth at' (rw q at entered) i.reads);
       }
 
-  pub elements-both : {e₁ e₂ : Entered} {g h : FieldEntry} {r : Going} → has ≡ true → EnteredIs first x e₁ → e₁ ≡ Is g → EnteredIs second y e₂ → e₂ ≡ Is h → FieldsGo first g second h depth found r
+  pub elements-both : {e₁ e₂ : Option FieldEntry} {g h : FieldEntry} {r : Going} → has ≡ true → EnteredIs first x e₁ → e₁ ≡ Some g → EnteredIs second y e₂ → e₂ ≡ Some h → FieldsGo first g second h depth found r
       → ElementsGo first x second y has depth found r
   unfolding items_differences
   elements-both {g = g} {h = h} n entered q entered' q' fields =

@@ -1,4 +1,5 @@
 -- Members side by side, by which of the two comes next.
+use Rattle.std.specs.Prelude.{Option as Optional, Some, None}
 use Prim.Native.Nat.{ℕ, zero, suc, ◌+◌, ◌-◌, ◌≤◌, ◌<◌}
 use mathlib.Core.Bool.{Bool, true, false, cond}
 use mathlib.Core.List.{List, [], ◌∷◌, ◌++◌}
@@ -16,8 +17,6 @@ use Rattle.widening.specs.Decision.{field_missing, field_added, Difference, grow
 use Rattle.schema_change.specs.declared.answer.Change.{Change}
 use Rattle.schema_change.specs.declared.place.Place.{Place}
 use Rattle.schema_change.specs.declared.place.FieldEntry.{FieldEntry}
-use Rattle.schema_change.specs.declared.place.Entered.{Entered}
-use Rattle.schema_change.specs.declared.place.Entered.TheVariants.{Is, Bad}
 use Rattle.schema_change.specs.declared.pairing.Members as Left
 use Rattle.schema_change.specs.declared.pairing.Pairing.{Pairing}
 use Rattle.schema_change.specs.declared.pairing.Pairing.TheVariants.{Neither, Missing, Added, Both}
@@ -55,11 +54,11 @@ module _ (g h : FieldEntry) where
   tests-both false false e = zero-not-one cc
 
 -- what is there is the first of the members, if there is one
-abbrev Named : List ℕ → Entered → Members → Type 0
-Named s Bad no_members = Unit {0}
-Named s Bad (member name f others) = ⊥
-Named s (Is x) no_members = ⊥
-Named s (Is x) (member name f others) = name ≡ part_of s x.head.name
+abbrev Named : List ℕ → Optional FieldEntry → Members → Type 0
+Named s None no_members = Unit {0}
+Named s None (member name f others) = ⊥
+Named s (Some x) no_members = ⊥
+Named s (Some x) (member name f others) = name ≡ part_of s x.head.name
 
 module _ (first second : List ℕ) (o : Bool) where
   abbrev before : FieldEntry → FieldEntry → Bool
@@ -68,57 +67,57 @@ module _ (first second : List ℕ) (o : Bool) where
   abbrev same : FieldEntry → FieldEntry → Bool
   same g h = same_bytes (part_of first g.head.name) (part_of second h.head.name)
 
-  is-neither : (e e' : Entered) → Neither ≡ pairing_of first e second e' → (e ≡ Bad) × (e' ≡ Bad)
+  is-neither : (e e' : Optional FieldEntry) → Neither ≡ pairing_of first e second e' → (e ≡ None) × (e' ≡ None)
   unfolding pairing_of pair_of
-  is-neither Bad Bad q = (refl, refl)
-  is-neither Bad (Is h) q = zero-not-one cc
-  is-neither (Is g) Bad q = zero-not-one cc
-  is-neither (Is g) (Is h) q = absurd (unlike g h (before g h) (same g h) q)
+  is-neither None None q = (refl, refl)
+  is-neither None (Some h) q = zero-not-one cc
+  is-neither (Some g) None q = zero-not-one cc
+  is-neither (Some g) (Some h) q = absurd (unlike g h (before g h) (same g h) q)
 
-  is-missing : (e e' : Entered) {x : FieldEntry} → Missing x ≡ pairing_of first e second e' → e ≡ Is x
+  is-missing : (e e' : Optional FieldEntry) {x : FieldEntry} → Missing x ≡ pairing_of first e second e' → e ≡ Some x
   unfolding pairing_of pair_of
-  is-missing Bad Bad q = zero-not-one cc
-  is-missing Bad (Is h) q = zero-not-one cc
-  is-missing (Is g) Bad q = cc
-  is-missing (Is g) (Is h) q = ap Is (tests-missing g h (before g h) (same g h) q).0
+  is-missing None None q = zero-not-one cc
+  is-missing None (Some h) q = zero-not-one cc
+  is-missing (Some g) None q = cc
+  is-missing (Some g) (Some h) q = ap Some (tests-missing g h (before g h) (same g h) q).0
 
-  is-added : (e e' : Entered) {y : FieldEntry} → Added y ≡ pairing_of first e second e' → e' ≡ Is y
+  is-added : (e e' : Optional FieldEntry) {y : FieldEntry} → Added y ≡ pairing_of first e second e' → e' ≡ Some y
   unfolding pairing_of pair_of
-  is-added Bad Bad q = zero-not-one cc
-  is-added Bad (Is h) q = cc
-  is-added (Is g) Bad q = zero-not-one cc
-  is-added (Is g) (Is h) q = ap Is (tests-added g h (before g h) (same g h) q).0
+  is-added None None q = zero-not-one cc
+  is-added None (Some h) q = cc
+  is-added (Some g) None q = zero-not-one cc
+  is-added (Some g) (Some h) q = ap Some (tests-added g h (before g h) (same g h) q).0
 
-  is-both : (e e' : Entered) {x y : FieldEntry} → Both x y ≡ pairing_of first e second e' → (e ≡ Is x) × (e' ≡ Is y)
+  is-both : (e e' : Optional FieldEntry) {x y : FieldEntry} → Both x y ≡ pairing_of first e second e' → (e ≡ Some x) × (e' ≡ Some y)
   unfolding pairing_of pair_of
-  is-both Bad Bad q = zero-not-one cc
-  is-both Bad (Is h) q = zero-not-one cc
-  is-both (Is g) Bad q = zero-not-one cc
-  is-both (Is g) (Is h) q = let t = tests-both g h (before g h) (same g h) q in (ap Is t.0, ap Is t.1)
+  is-both None None q = zero-not-one cc
+  is-both None (Some h) q = zero-not-one cc
+  is-both (Some g) None q = zero-not-one cc
+  is-both (Some g) (Some h) q = let t = tests-both g h (before g h) (same g h) q in (ap Some t.0, ap Some t.1)
 
   -- and what differs then
-  differs-missing : (e e' : Entered) {x : FieldEntry} (name : Text) (f : Field) (others m' : Members) → Missing x ≡ pairing_of first e second e' → Named first e (member name f others) → Named second e' m'
+  differs-missing : (e e' : Optional FieldEntry) {x : FieldEntry} (name : Text) (f : Field) (others m' : Members) → Missing x ≡ pairing_of first e second e' → Named first e (member name f others) → Named second e' m'
       → (ds : List Difference) × (members_differences o (member name f others) m' ≡ missing f ∷ ds)
   unfolding pairing_of pair_of members_differences sought
-  differs-missing Bad e' name f others m' q n n' = absurd n
-  differs-missing (Is g) Bad name f others no_members q n n' = (_, refl)
-  differs-missing (Is g) Bad name f others (member name' f' others') q n n' = absurd n'
-  differs-missing (Is g) (Is h) name f others no_members q n n' = absurd n'
-  differs-missing (Is g) (Is h) name f others (member name' f' others') q n n' =
+  differs-missing None e' name f others m' q n n' = absurd n
+  differs-missing (Some g) None name f others no_members q n n' = (_, refl)
+  differs-missing (Some g) None name f others (member name' f' others') q n n' = absurd n'
+  differs-missing (Some g) (Some h) name f others no_members q n n' = absurd n'
+  differs-missing (Some g) (Some h) name f others (member name' f' others') q n n' =
       let t = tests-missing g h (before g h) (same g h) q in
       (members_differences o others (member name' f' others'), rw (n, n', t.1, t.2) refl)
 
-  differs-added : (e e' : Entered) {y : FieldEntry} (m : Members) (name' : Text) (f' : Field) (others' : Members) → Added y ≡ pairing_of first e second e' → Named first e m → Named second e' (member name' f' others')
+  differs-added : (e e' : Optional FieldEntry) {y : FieldEntry} (m : Members) (name' : Text) (f' : Field) (others' : Members) → Added y ≡ pairing_of first e second e' → Named first e m → Named second e' (member name' f' others')
       → members_differences o m (member name' f' others') ≡ added o f' ∷ members_differences o m others'
   unfolding pairing_of pair_of members_differences sought all_added
-  differs-added e Bad m name' f' others' q n n' = absurd n'
-  differs-added Bad (Is h) no_members name' f' others' q n n' = refl
-  differs-added Bad (Is h) (member name f others) name' f' others' q n n' = absurd n
-  differs-added (Is g) (Is h) no_members name' f' others' q n n' = absurd n
-  differs-added (Is g) (Is h) (member name f others) name' f' others' q n n' =
+  differs-added e None m name' f' others' q n n' = absurd n'
+  differs-added None (Some h) no_members name' f' others' q n n' = refl
+  differs-added None (Some h) (member name f others) name' f' others' q n n' = absurd n
+  differs-added (Some g) (Some h) no_members name' f' others' q n n' = absurd n
+  differs-added (Some g) (Some h) (member name f others) name' f' others' q n n' =
       let first_of : precedes name' name ≡ true = rw (n, n') (tests-added g h (before g h) (same g h) q).1 in rw first_of
 
-  differs-both : (g h : FieldEntry) {x y : FieldEntry} (name : Text) (f : Field) (others : Members) (name' : Text) (f' : Field) (others' : Members) → Both x y ≡ pairing_of first (Is g) second (Is h)
+  differs-both : (g h : FieldEntry) {x y : FieldEntry} (name : Text) (f : Field) (others : Members) (name' : Text) (f' : Field) (others' : Members) → Both x y ≡ pairing_of first (Some g) second (Some h)
       → name ≡ part_of first g.head.name
       → name' ≡ part_of second h.head.name
       → members_differences o (member name f others) (member name' f' others') ≡ field_differences f f' ++ members_differences o others others'
@@ -140,7 +139,7 @@ module _ (s : List ℕ) (p : Place) (depth : ℕ) (before : Option Text) (a : Ah
     pub reads : Reads s x depth f behind
     pub rest : members_of (n - 1) (some name) (field_in depth) behind ≡ some (others, b)
 
-  begins : (n : ℕ) (x : FieldEntry) → NextIs s p n (Is x) → members_of n before (field_in depth) a ≡ some (m, b) → Begins n x
+  begins : (n : ℕ) (x : FieldEntry) → NextIs s p n (Some x) → members_of n before (field_in depth) a ≡ some (m, b) → Begins n x
   begins n x next e =
       let i = members-first n before (field_in depth) a m b next.0 e in
       let f = field-behind s p x a depth i.r i.behind at next.1 i.reads in
@@ -155,19 +154,19 @@ module _ (s : List ℕ) (p : Place) (depth : ℕ) (before : Option Text) (a : Ah
         rest = i.rest;
       }
 
-  ended : (n : ℕ) → NextIs s p n Bad → members_of n before (field_in depth) a ≡ some (m, b) → (m ≡ no_members) × (a ≡ b)
+  ended : (n : ℕ) → NextIs s p n None → members_of n before (field_in depth) a ≡ some (m, b) → (m ≡ no_members) × (a ≡ b)
   ended n next e = by n next e (members-none n before (field_in depth) a)
     where
-      by : (n : ℕ) → NextIs s p n Bad → members_of n before (field_in depth) a ≡ some (m, b) → (n ≡ 0 → members_of n before (field_in depth) a ≡ some (m, b) → (m ≡ no_members) × (a ≡ b))
+      by : (n : ℕ) → NextIs s p n None → members_of n before (field_in depth) a ≡ some (m, b) → (n ≡ 0 → members_of n before (field_in depth) a ≡ some (m, b) → (m ≡ no_members) × (a ≡ b))
           → (m ≡ no_members) × (a ≡ b)
       by zero next e none_left = none_left refl e
       by (suc n) next e none_left =
           let i = members-first (suc n) before (field_in depth) a m b (omega arith) e in
           absurd (field-none s p a depth at (next (omega arith)) i.reads)
 
-  named : (n : ℕ) (e : Entered) → NextIs s p n e → members_of n before (field_in depth) a ≡ some (m, b) → Named s e m
-  named n Bad next e = rw (ended n next e).0 tt
-  named n (Is x) next e = let i = begins n x next e in rw i.shape i.named
+  named : (n : ℕ) (e : Optional FieldEntry) → NextIs s p n e → members_of n before (field_in depth) a ≡ some (m, b) → Named s e m
+  named n None next e = rw (ended n next e).0 tt
+  named n (Some x) next e = let i = begins n x next e in rw i.shape i.named
 
 -- What is left of both
 
@@ -210,7 +209,7 @@ module _ {first : List ℕ} {o : Bool} {xs : Left.Members} {second : List ℕ} {
         → LeftGo first o xs second ys depth now (going_at r xs ys)
     unfolding missing
     left-missing {x} {r} q g =
-        let there : xs.next ≡ Is x = is-missing first second o xs.next ys.next q in
+        let there : xs.next ≡ Some x = is-missing first second o xs.next ys.next q in
         record {
           first-within = here.within;
           second-within = here'.within;
@@ -233,7 +232,7 @@ module _ {first : List ℕ} {o : Bool} {xs : Left.Members} {second : List ℕ} {
         → LeftGo first o xs second ys depth now r
     unfolding added
     left-added {y} {p} {ys'} {now'} q g skips from rest =
-        let there : ys.next ≡ Is y = is-added first second o xs.next ys.next q in
+        let there : ys.next ≡ Some y = is-added first second o xs.next ys.next q in
         record {
           first-within = rest.first-within;
           second-within = rest.second-within;
@@ -291,10 +290,10 @@ leads-start from from' = record { here = from-here from; here' = from-here from'
 -- which entry comes next, and what is read behind it
 module _ {first : List ℕ} {x : HolderHead} {second : List ℕ} {depth : ℕ} {now₀ : Change} {xs₀ ys₀ : Left.Members} {now : Change} {xs ys : Left.Members}
     (before : Leads first x second depth now₀ xs₀ ys₀ now xs ys) {p : Pairing} (paired : p ≡ pairing_of first xs.next second ys.next) where
-  next-added : {y : FieldEntry} → p ≡ Added y → NextIs second ys.place ys.left (Is y)
+  next-added : {y : FieldEntry} → p ≡ Added y → NextIs second ys.place ys.left (Some y)
   next-added e = rw (is-added first second x.opened xs.next ys.next (sym e ∙ paired)) at before.here'.next
 
-  next_both : {g h : FieldEntry} → p ≡ Both g h → NextIs first xs.place xs.left (Is g) × NextIs second ys.place ys.left (Is h)
+  next_both : {g h : FieldEntry} → p ≡ Both g h → NextIs first xs.place xs.left (Some g) × NextIs second ys.place ys.left (Some h)
   next_both e =
       let there = is-both first second x.opened xs.next ys.next (sym e ∙ paired) in
       (rw there.0 at before.here.next, rw there.1 at before.here'.next)

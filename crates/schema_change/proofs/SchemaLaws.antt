@@ -1,4 +1,5 @@
 -- Two schemas side by side, and what is answered about two sheets.
+use Rattle.std.specs.Prelude.{Option as Optional, Some, None}
 use Prim.Native.Nat.{ℕ, ◌+◌, ◌≤◌}
 use mathlib.Core.Bool.{Bool}
 use mathlib.Core.List.{List, [], ◌∷◌}
@@ -14,11 +15,7 @@ use Rattle.sheet.specs.Entries as Entries
 use Rattle.sheet.specs.Places.{SchemaIs, schema_of}
 use Rattle.sheet.specs.Places as heads
 use Rattle.sheet.specs.declared.schema_heads.HolderHead.{HolderHead}
-use Rattle.sheet.specs.declared.schema_heads.ArgumentsHead.{ArgumentsHead}
-use Rattle.sheet.specs.declared.schema_heads.ArgumentsHead.TheVariants.{Are, Absent}
 use Rattle.sheet.specs.declared.schema_heads.SchemaHead.{SchemaHead}
-use Rattle.sheet.specs.declared.schema_heads.SchemaHeadRead.{SchemaHeadRead}
-use Rattle.sheet.specs.declared.schema_heads.SchemaHeadRead.TheVariants as Head
 use Rattle.definition.specs.Tree.{Holder, Schema}
 use Rattle.definition.specs.Limits.{max_sheet_bytes, max_field_nesting}
 use Rattle.definition.specs.Decode.{Ahead, entered, entry, whole, members_of, field_in, holder_of, arguments_of, schema, decode_schema}
@@ -28,8 +25,6 @@ use Rattle.widening.specs.Decision.{mark_closes, arguments_go, growth, breach, b
 use Rattle.widening.specs.SheetDecision.{malformed, decision, answer_for, widens_sheets}
 use Rattle.schema.specs.Read.{SchemaGood, SchemaAnswer}
 use Rattle.schema.specs.declared.read.Schema as Index
-use Rattle.schema.specs.declared.read.SchemaRead.{SchemaRead}
-use Rattle.schema.specs.declared.read.SchemaRead.TheVariants.{Good, Bad}
 use Rattle.schema_change.specs.declared.answer.Change.{Change}
 use Rattle.schema_change.specs.declared.answer.Change.TheVariants.{Marks}
 use Rattle.schema_change.specs.declared.place.Place.{Place}
@@ -42,21 +37,21 @@ use Rattle.schema_change.proofs.Joins.{goes-both, goes-nothing}
 
 -- What the heads say of the arguments
 
-module _ {x y : ArgumentsHead} {found : Change} where
-  pub arguments-both : (h g : HolderHead) {b : Bool} {r : Change} → x ≡ Are h → y ≡ Are g → b ≡ closes h.opened g.opened → Goes found (breach_if b mark_closes 1 1) r
+module _ {x y : Optional HolderHead} {found : Change} where
+  pub arguments-both : (h g : HolderHead) {b : Bool} {r : Change} → x ≡ Some h → y ≡ Some g → b ≡ closes h.opened g.opened → Goes found (breach_if b mark_closes 1 1) r
       → Goes found (arguments_head_marks x y) r
   unfolding arguments_head_marks
   arguments-both h g e e' c k = rw (e, e', ← c) k
 
-  pub arguments-gone : {h : HolderHead} {r : Change} → x ≡ Are h → y ≡ Absent → Goes found (breach arguments_go 1 0 ∷ []) r → Goes found (arguments_head_marks x y) r
+  pub arguments-gone : {h : HolderHead} {r : Change} → x ≡ Some h → y ≡ None → Goes found (breach arguments_go 1 0 ∷ []) r → Goes found (arguments_head_marks x y) r
   unfolding arguments_head_marks
   arguments-gone e e' k = rw (e, e') k
 
-  pub arguments-appear : {g : HolderHead} {r : Change} → x ≡ Absent → y ≡ Are g → Goes found (growth ∷ []) r → Goes found (arguments_head_marks x y) r
+  pub arguments-appear : {g : HolderHead} {r : Change} → x ≡ None → y ≡ Some g → Goes found (growth ∷ []) r → Goes found (arguments_head_marks x y) r
   unfolding arguments_head_marks
   arguments-appear e e' k = rw (e, e') k
 
-  pub arguments-neither : x ≡ Absent → y ≡ Absent → Goes found (arguments_head_marks x y) found
+  pub arguments-neither : x ≡ None → y ≡ None → Goes found (arguments_head_marks x y) found
   unfolding arguments_head_marks
   arguments-neither e e' = rw (e, e') goes-nothing
 
@@ -95,7 +90,7 @@ holders-go {x = x} {y = y} g a a' t t' b b' at e e' =
 
 -- there are arguments in the tree exactly if there are some in the head
 
-absent-inv : (a : Ahead) (t : Option Holder) (b : Ahead) → arguments_of (heads.arguments_of Absent) a ≡ some (t, b) → t ≡ none
+absent-inv : (a : Ahead) (t : Option Holder) (b : Ahead) → arguments_of (heads.arguments_of None) a ≡ some (t, b) → t ≡ none
 unfolding arguments_of heads.arguments_of
 absent-inv a t b e = sym (pure-inv _ _ e).0
 
@@ -104,20 +99,20 @@ record ArgumentsRead (h : HolderHead) (a : Ahead) (t : Option Holder) (b : Ahead
   pub shape : t ≡ some holder
   pub reads : holder_of (heads.holder_of h) a ≡ some (holder, b)
 
-arguments-inv : (h : HolderHead) (a : Ahead) (t : Option Holder) (b : Ahead) → arguments_of (heads.arguments_of (Are h)) a ≡ some (t, b) → ArgumentsRead h a t b
+arguments-inv : (h : HolderHead) (a : Ahead) (t : Option Holder) (b : Ahead) → arguments_of (heads.arguments_of (Some h)) a ≡ some (t, b) → ArgumentsRead h a t b
 unfolding arguments_of heads.arguments_of
 arguments-inv h a t b e =
     bind_inv _ _ _ e λ holder a₁ e₁ e.
     let q = pure-inv _ _ e in
     record { holder = holder; shape = sym q.0; reads = rw (← q.1) e₁ }
 
-marks-agree : (x y : ArgumentsHead) (a a' : Ahead) (t t' : Option Holder) (b b' : Ahead) → arguments_of (heads.arguments_of x) a ≡ some (t, b) → arguments_of (heads.arguments_of y) a' ≡ some (t', b')
+marks-agree : (x y : Optional HolderHead) (a a' : Ahead) (t t' : Option Holder) (b b' : Ahead) → arguments_of (heads.arguments_of x) a ≡ some (t, b) → arguments_of (heads.arguments_of y) a' ≡ some (t', b')
     → arguments_head_marks x y ≡ arguments_marks t t'
 unfolding arguments_head_marks arguments_marks
-marks-agree Absent Absent a a' t t' b b' e e' = rw (absent-inv a t b e, absent-inv a' t' b' e')
-marks-agree Absent (Are h) a a' t t' b b' e e' = rw (absent-inv a t b e, (arguments-inv h a' t' b' e').shape)
-marks-agree (Are g) Absent a a' t t' b b' e e' = rw ((arguments-inv g a t b e).shape, absent-inv a' t' b' e')
-marks-agree (Are g) (Are h) a a' t t' b b' e e' =
+marks-agree None None a a' t t' b b' e e' = rw (absent-inv a t b e, absent-inv a' t' b' e')
+marks-agree None (Some h) a a' t t' b b' e e' = rw (absent-inv a t b e, (arguments-inv h a' t' b' e').shape)
+marks-agree (Some g) None a a' t t' b b' e e' = rw ((arguments-inv g a t b e).shape, absent-inv a' t' b' e')
+marks-agree (Some g) (Some h) a a' t t' b b' e e' =
     let p = arguments-inv g a t b e in
     let q = arguments-inv h a' t' b' e' in
     rw (p.shape, q.shape, (holder-inv g a p.holder b p.reads).opened, (holder-inv h a' q.holder b' q.reads).opened)
@@ -127,15 +122,15 @@ unfolding arguments_differences
 none-second none = goes-nothing
 none-second (some h) = goes-nothing
 
-module _ {first second : List ℕ} {x y : ArgumentsHead} {from : Going} where
-  pub arguments-first : x ≡ Absent → ArgumentsGo first x second y from from.found
+module _ {first second : List ℕ} {x y : Optional HolderHead} {from : Going} where
+  pub arguments-first : x ≡ None → ArgumentsGo first x second y from from.found
   unfolding arguments_differences
   arguments-first n = record { go = λ a a' t t' b b' at e e'. rw (absent-inv a t b (rw n at e)) goes-nothing }
 
-  pub arguments-second : y ≡ Absent → ArgumentsGo first x second y from from.found
+  pub arguments-second : y ≡ None → ArgumentsGo first x second y from from.found
   arguments-second n = record { go = λ a a' t t' b b' at e e'. rw (absent-inv a' t' b' (rw n at e')) (none-second t) }
 
-  pub arguments-fields : {g h : HolderHead} {r : Going} → x ≡ Are g → y ≡ Are h → MembersGo first g second h max_field_nesting from r → ArgumentsGo first x second y from r.found
+  pub arguments-fields : {g h : HolderHead} {r : Going} → x ≡ Some g → y ≡ Some h → MembersGo first g second h max_field_nesting from r → ArgumentsGo first x second y from r.found
   unfolding arguments_differences
   arguments-fields {g} {h} n n' m =
       record {
@@ -217,22 +212,22 @@ schema-headless : (s : List ℕ) (t : Schema) → schema_head s ≡ none → dec
 unfolding schema
 schema-headless s t q e = let r = begins s t e in headless _ r.a (ap schema_head r.rest ∙ q) r.reads
 
-pub head-within : (s : List ℕ) {q : SchemaHeadRead} {g : SchemaHead} {at : ℕ} → length s ≤ max_sheet_bytes → SchemaIs s 0 q → q ≡ Head.Is g at → Within s (record { entry = 2; at = at })
+pub head-within : (s : List ℕ) {q : Optional (SchemaHead × ℕ)} {g : SchemaHead} {at : ℕ} → length s ≤ max_sheet_bytes → SchemaIs s 0 q → q ≡ Some (g, at) → Within s (record { entry = 2; at = at })
 head-within s short read e =
     let h = (rw e at read).0 in
     let past = h.past in
     record { sheet = short; at = h.within; entry = omega arith }
 
 module _ {first second : List ℕ} where
-  pub first-headless : {p : SchemaHeadRead} → SchemaIs first 0 p → p ≡ Head.Bad → SchemasGo first second Marks
+  pub first-headless : {p : Optional (SchemaHead × ℕ)} → SchemaIs first 0 p → p ≡ None → SchemasGo first second Marks
   first-headless read n = record { is = λ t t' e e'. absurd (schema-headless first t (rw n at read) e) }
 
-  pub second-headless : {q : SchemaHeadRead} → SchemaIs second 0 q → q ≡ Head.Bad → SchemasGo first second Marks
+  pub second-headless : {q : Optional (SchemaHead × ℕ)} → SchemaIs second 0 q → q ≡ None → SchemasGo first second Marks
   second-headless read n = record { is = λ t t' e e'. absurd (schema-headless second t' (rw n at read) e') }
 
-  pub schemas-go : {p q : SchemaHeadRead} {g h : SchemaHead} {at next : ℕ} {b : Bool} {mark found : Change} {fields : Going} {r : Change}
-      → SchemaIs first 0 p → p ≡ Head.Is g at
-      → SchemaIs second 0 q → q ≡ Head.Is h next
+  pub schemas-go : {p q : Optional (SchemaHead × ℕ)} {g h : SchemaHead} {at next : ℕ} {b : Bool} {mark found : Change} {fields : Going} {r : Change}
+      → SchemaIs first 0 p → p ≡ Some (g, at)
+      → SchemaIs second 0 q → q ≡ Some (h, next)
       → b ≡ closes g.fields.opened h.fields.opened
       → Goes Marks (breach_if b mark_closes 1 1) mark
       → Goes mark (arguments_head_marks g.arguments h.arguments) found
@@ -257,28 +252,28 @@ module _ {first second : List ℕ} where
 
 -- The two sheets
 
-pub good-short : (s : List ℕ) {b a : List ℕ} {x : SchemaRead} {i : Index.Schema} → SchemaAnswer s b a x → x ≡ Good i → length s ≤ max_sheet_bytes
+pub good-short : (s : List ℕ) {b a : List ℕ} {x : Optional Index.Schema} {i : Index.Schema} → SchemaAnswer s b a x → x ≡ Some i → length s ≤ max_sheet_bytes
 good-short s {a = a} {i = i} read e =
     let g : SchemaGood s a i = rw e at read.answer in
     let w = (schema-round-trip s g.tree).0 g.reads in
     rw w.0 w.1.bytes
 
-module _ (first second : List ℕ) {b₁ a₁ : List ℕ} {x : SchemaRead} (read : SchemaAnswer first b₁ a₁ x) where
-  pub first-malformed : x ≡ Bad → malformed 1 ≡ widens_sheets first second
+module _ (first second : List ℕ) {b₁ a₁ : List ℕ} {x : Optional Index.Schema} (read : SchemaAnswer first b₁ a₁ x) where
+  pub first-malformed : x ≡ None → malformed 1 ≡ widens_sheets first second
   unfolding widens_sheets answer_for
   first-malformed e = let q : decode_schema first ≡ none = rw e at read.answer in rw q refl
 
-  module _ {b₂ a₂ : List ℕ} {y : SchemaRead} {s : Index.Schema} (good : x ≡ Good s) (read' : SchemaAnswer second b₂ a₂ y) where
+  module _ {b₂ a₂ : List ℕ} {y : Optional Index.Schema} {s : Index.Schema} (good : x ≡ Some s) (read' : SchemaAnswer second b₂ a₂ y) where
     is-good : SchemaGood first a₁ s
     is-good = rw good at read.answer
 
-    pub second-malformed : y ≡ Bad → malformed 2 ≡ widens_sheets first second
+    pub second-malformed : y ≡ None → malformed 2 ≡ widens_sheets first second
     unfolding widens_sheets answer_for
     second-malformed e =
         let q : decode_schema second ≡ none = rw e at read'.answer in
         rw (is-good.reads, q) refl
 
-    pub both-decided : {s' : Index.Schema} {change : Change} → y ≡ Good s' → SchemasGo first second change → decision (decision_of change) ≡ widens_sheets first second
+    pub both-decided : {s' : Index.Schema} {change : Change} → y ≡ Some s' → SchemasGo first second change → decision (decision_of change) ≡ widens_sheets first second
     unfolding widens_sheets answer_for
     both-decided {s'} e g =
         let p = is-good in

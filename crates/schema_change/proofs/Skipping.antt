@@ -1,4 +1,5 @@
 -- Entries that are passed over: those that a head announces lie behind it, one after the other.
+use Rattle.std.specs.Prelude.{Option as Optional, Some, None}
 use Prim.Native.Nat.{ℕ, zero, suc, ◌+◌, ◌-◌, ◌*◌, ◌≤◌, ◌<◌}
 use mathlib.Core.Bool.{Bool, true, false}
 use mathlib.Core.List.{List}
@@ -15,8 +16,6 @@ use Rattle.definition.specs.Decode.{Ahead, to_count, element_of, members_of, fie
 use Rattle.definition.proofs.TreeLaws.{announcing}
 use Rattle.schema_change.specs.declared.place.Place.{Place}
 use Rattle.schema_change.specs.declared.place.FieldEntry.{FieldEntry}
-use Rattle.schema_change.specs.declared.place.Entered.{Entered}
-use Rattle.schema_change.specs.declared.place.Entered.TheVariants.{Is, Bad}
 use Rattle.schema_change.specs.Places.{Within, Arrived, Enters, EnteredIs, behind_head, Reads, SkipsTo}
 use Rattle.schema_change.proofs.Behind.{entry-inv, element-absent, element-inv}
 
@@ -136,16 +135,16 @@ module _ {s : List ℕ} (x : FieldEntry) {all : ℕ} {here : Place} {left : ℕ}
   pub skipping-done : left ≡ 0 → SkipsTo s x here
   skipping-done z = record { skips = λ depth f b r. passes-done s here z refl refl (whole depth f b r) }
 
-  pub skipping-bad : {e : Entered} → (left ≡ 0 → ⊥) → EnteredIs s here e → e ≡ Bad → SkipsTo s x here
+  pub skipping-bad : {e : Optional FieldEntry} → (left ≡ 0 → ⊥) → EnteredIs s here e → e ≡ None → SkipsTo s x here
   skipping-bad n entered q = record { skips = λ depth f b r. absurd (passes-bad s here n (rw q at entered) refl (whole depth f b r)) }
 
-pub skipping-enters : {s : List ℕ} {here : Place} {e : Entered} {y : FieldEntry} → EnteredIs s here e → e ≡ Is y → Enters s here y
+pub skipping-enters : {s : List ℕ} {here : Place} {e : Optional FieldEntry} {y : FieldEntry} → EnteredIs s here e → e ≡ Some y → Enters s here y
 skipping-enters entered q = rw q at entered
 
-pub enters-within : (s : List ℕ) (here : Place) {e : Entered} {y : FieldEntry} → EnteredIs s here e → e ≡ Is y → Within s y.next
+pub enters-within : (s : List ℕ) (here : Place) {e : Optional FieldEntry} {y : FieldEntry} → EnteredIs s here e → e ≡ Some y → Within s y.next
 enters-within s here entered q = (rw q at entered).within
 
-pub enters-count : (s : List ℕ) (here : Place) {e : Entered} {y : FieldEntry} → EnteredIs s here e → e ≡ Is y → y.head.count ≤ max_count
+pub enters-count : (s : List ℕ) (here : Place) {e : Optional FieldEntry} {y : FieldEntry} → EnteredIs s here e → e ≡ Some y → y.head.count ≤ max_count
 enters-count s here entered q = (rw q at entered).known.count
 
 -- neither the count nor the place wraps

@@ -1,5 +1,5 @@
 -- What the code answers, beside the decision on trees.
-use Rattle.std.specs.Prelude.{Bool, true, false, List, ◌≡◌}
+use Rattle.std.specs.Prelude.{Bool, true, false, List, ◌≡◌, ℕ, Result, Ok, Err}
 use Rattle.widening.specs.Widening.{only, anything, marks}
 use Rattle.widening.specs.Decision.{field_missing, kind_differs, items_differ, tag_differs, mark_closes, field_added, arguments_go, Difference, Decision, widening, refuted, with_growth, decided}
 use Rattle.widening.specs.Decision as Decision
@@ -8,8 +8,6 @@ use Rattle.schema_change.specs.declared.answer.Reason.{Reason}
 use Rattle.schema_change.specs.declared.answer.Reason.TheVariants.{FieldMissing, KindDiffers, ItemsDiffer, TagDiffers, MarkCloses, FieldAdded, ArgumentsGo}
 use Rattle.schema_change.specs.declared.answer.Change.{Change}
 use Rattle.schema_change.specs.declared.answer.Change.TheVariants.{Marks, Anything, Refuted}
-use Rattle.schema_change.specs.declared.answer.WidensAnswer.{WidensAnswer}
-use Rattle.schema_change.specs.declared.answer.WidensAnswer.TheVariants.{Malformed, Is}
 
 abbrev pub reason_of : Reason → Decision.Reason
 reason_of FieldMissing = field_missing
@@ -25,9 +23,9 @@ decision_of Marks = widening marks
 decision_of Anything = widening anything
 decision_of (Refuted why e e') = refuted (reason_of why) e e'
 
-abbrev pub widens_answer_of : WidensAnswer → DecisionAnswer
-widens_answer_of (Malformed which) = malformed which
-widens_answer_of (Is change) = decision (decision_of change)
+abbrev pub widens_answer_of : Result Change ℕ → DecisionAnswer
+widens_answer_of (Err which) = malformed which
+widens_answer_of (Ok change) = decision (decision_of change)
 
 -- what two parts of the list decide together
 unfoldable pub joined : Decision → Decision → Decision

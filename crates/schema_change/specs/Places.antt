@@ -1,5 +1,5 @@
 -- Places in a sheet, and what is read there.
-use Rattle.std.specs.Prelude.{ℕ, zero, suc, ◌+◌, ◌≤◌, List, ◌≡◌, length, drop}
+use Rattle.std.specs.Prelude.{ℕ, zero, suc, ◌+◌, ◌≤◌, List, ◌≡◌, length, drop, Option, Some, None}
 use Rattle.std.proofs.Math.Option.{none, some}
 use Rattle.text.specs.Reader.{Reader, ◌>>=◌, pure, refuse}
 use Rattle.sheet.specs.Entries.{FieldHead}
@@ -9,8 +9,6 @@ use Rattle.definition.specs.Limits.{max_sheet_bytes}
 use Rattle.definition.specs.Decode.{Ahead, element_of, members_of, field_in}
 use Rattle.schema_change.specs.declared.place.Place.{Place}
 use Rattle.schema_change.specs.declared.place.FieldEntry.{FieldEntry}
-use Rattle.schema_change.specs.declared.place.Entered.{Entered}
-use Rattle.schema_change.specs.declared.place.Entered.TheVariants.{Is, Bad}
 
 -- a place in a sheet that is not too long: each entry in front of it has a byte at least
 pub record Within (s : List ℕ) (p : Place) : Type 0 where
@@ -30,9 +28,9 @@ pub record Enters (s : List ℕ) (p : Place) (x : FieldEntry) : Type 0 where
   pub next : x.next.entry ≡ p.entry + 1
   pub within : Within s x.next
 
-abbrev pub EnteredIs : List ℕ → Place → Entered → Type 0
-EnteredIs s p (Is x) = Enters s p x
-EnteredIs s p Bad = Unread s p.at
+abbrev pub EnteredIs : List ℕ → Place → Option FieldEntry → Type 0
+EnteredIs s p (Some x) = Enters s p x
+EnteredIs s p None = Unread s p.at
 
 -- a field as `field_in` reads it, once its head is read
 unfoldable pub behind_head : ℕ → (entry : ℕ) → FieldHead → Reader Ahead Field

@@ -26,13 +26,6 @@ pub enum Change {
     Refuted(Reason, u32, u32),
 }
 
-#[derive(Clone, Copy)]
-pub enum WidensAnswer {
-    // The first sheet (1) or the second (2) is not well formed.
-    Malformed(u32),
-    Is(Change),
-}
-
 pub fn refute(found: Change, reason: Reason, first: u32, second: u32) -> Change
     ensures { Goes found (breach (reason_of reason) first second ∷ []) result }
 {

@@ -8,7 +8,7 @@ ghost use Rattle.schema_change.specs.Entries.{same_mark, entry_differences};
 use crate::answer::{Change, Reason, refute_if};
 use crate::place::FieldEntry;
 use text::order::same_bytes;
-use text::part::{OptionalPart, bytes_of};
+use text::part::{Part, bytes_of};
 
 // Whether an open mark goes from 1 to 0.
 pub fn mark_closes(first: bool, second: bool) -> bool
@@ -25,17 +25,17 @@ fn is_same_mark(first: bool, second: bool) -> bool
 }
 
 // An absent tag and one without bytes are not the same.
-fn is_same_tag(first: &[u8], x: OptionalPart, second: &[u8], y: OptionalPart) -> bool
+fn is_same_tag(first: &[u8], x: Option<Part>, second: &[u8], y: Option<Part>) -> bool
     ensures { result ≡ same_tag (optional_of first.now x) (optional_of second.now y) }
 {
     match x {
-        OptionalPart::Is(p) => match y {
-            OptionalPart::Is(q) => same_bytes(bytes_of(first, p), bytes_of(second, q)),
-            OptionalPart::Absent => false,
+        Some(p) => match y {
+            Some(q) => same_bytes(bytes_of(first, p), bytes_of(second, q)),
+            None => false,
         },
-        OptionalPart::Absent => match y {
-            OptionalPart::Is(_) => false,
-            OptionalPart::Absent => true,
+        None => match y {
+            Some(_) => false,
+            None => true,
         },
     }
 }

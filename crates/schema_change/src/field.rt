@@ -9,7 +9,7 @@ ghost use Rattle.schema_change.specs.Fields.{going_at, FieldsGo, ElementsGo, Mem
 use crate::answer::{Change, Reason, grow, is_open_yet, refute};
 use crate::entry::compare_entries;
 use crate::pairing::{Members, Pairing, members_from, pair};
-use crate::place::{Entered, FieldEntry, Place, enter, skip_below};
+use crate::place::{FieldEntry, Place, enter, skip_below};
 use sheet::schema_heads::HolderHead;
 
 // What was found, and where reading is in each sheet. After a breach nothing is read any more: the places count only as long as there is none.
@@ -94,10 +94,10 @@ fn compare_elements(
     ensures { ElementsGo first.now x second.now y has depth found result }
 {
     if has {
-        let Entered::Is(g) = enter(first, x) else {
+        let Some(g) = enter(first, x) else {
             return Going { found, x, y };
         };
-        let Entered::Is(h) = enter(second, y) else {
+        let Some(h) = enter(second, y) else {
             return Going { found, x, y };
         };
         return compare_fields(first, g, second, h, depth, found);

@@ -13,22 +13,22 @@ ghost use Rattle.std.specs.Prelude.{◌≡◌};
 ghost use Rattle.widening.specs.SheetDecision.{widens_sheets};
 ghost use Rattle.schema_change.specs.Answers.{widens_answer_of};
 
-use crate::answer::WidensAnswer;
+use crate::answer::Change;
 use crate::schema_sheets::compare_schemas;
 use definition::limits::SCRATCH_WORDS;
-use schema::read::{SchemaRead, read_schema};
+use schema::read::read_schema;
 
-// Brings a scratch, which reading needs; what it leaves there is not looked at.
-pub fn widens(first: &[u8], second: &[u8]) -> WidensAnswer
+// Refused with the number of the first sheet that is not well formed, 1 or 2. Brings a scratch, which reading needs; what it leaves there is not looked at.
+pub fn widens(first: &[u8], second: &[u8]) -> Result<Change, u32>
     ensures { widens_answer_of result ≡ widens_sheets first.now second.now }
 {
     let mut scratch = [0u32; SCRATCH_WORDS];
-    let SchemaRead::Good(_) = read_schema(first, &mut scratch) else {
-        return WidensAnswer::Malformed(1);
+    let Some(_) = read_schema(first, &mut scratch) else {
+        return Err(1);
     };
-    let SchemaRead::Good(_) = read_schema(second, &mut scratch) else {
-        return WidensAnswer::Malformed(2);
+    let Some(_) = read_schema(second, &mut scratch) else {
+        return Err(2);
     };
     let change = compare_schemas(first, second);
-    WidensAnswer::Is(change)
+    Ok(change)
 }

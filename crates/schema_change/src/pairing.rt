@@ -3,8 +3,9 @@ ghost use Rattle.std.specs.Prelude.{◌≡◌};
 ghost use Rattle.schema_change.specs.Places.{Within};
 ghost use Rattle.schema_change.specs.Pairs.{MembersFrom, pair_of, pairing_of};
 
-use crate::place::{Entered, FieldEntry, Place, enter};
-use text::order::{ByteOrder, compare};
+use crate::place::{FieldEntry, Place, enter};
+use std::cmp::Ordering;
+use text::order::compare;
 use text::part::bytes_of;
 
 // The members of a holder that are left.
@@ -13,7 +14,7 @@ pub struct Members {
     pub left: usize,
     // The place of the first of them, and what is there.
     pub place: Place,
-    pub next: Entered,
+    pub next: Option<FieldEntry>,
 }
 
 // An entry is read only where a member is left.
@@ -22,7 +23,7 @@ pub fn members_from(s: &[u8], place: Place, left: usize) -> Members
     ensures { MembersFrom s.now place left result }
 {
     if left == 0 {
-        let next = Entered::Bad;
+        let next = None;
         return Members { left, place, next };
     }
     let next = enter(s, place);
@@ -49,23 +50,23 @@ fn pair_entries(first: &[u8], x: FieldEntry, second: &[u8], y: FieldEntry) -> Pa
     let name = g.name;
     let next = h.name;
     match compare(bytes_of(first, name), bytes_of(second, next)) {
-        ByteOrder::Less => Pairing::Missing(x),
-        ByteOrder::Same => Pairing::Both(x, y),
-        ByteOrder::Greater => Pairing::Added(y),
+        Ordering::Less => Pairing::Missing(x),
+        Ordering::Equal => Pairing::Both(x, y),
+        Ordering::Greater => Pairing::Added(y),
     }
 }
 
-pub fn pair(first: &[u8], x: Entered, second: &[u8], y: Entered) -> Pairing
+pub fn pair(first: &[u8], x: Option<FieldEntry>, second: &[u8], y: Option<FieldEntry>) -> Pairing
     ensures { result ≡ pairing_of first.now x second.now y }
 {
     match x {
-        Entered::Is(g) => match y {
-            Entered::Is(h) => pair_entries(first, g, second, h),
-            Entered::Bad => Pairing::Missing(g),
+        Some(g) => match y {
+            Some(h) => pair_entries(first, g, second, h),
+            None => Pairing::Missing(g),
         },
-        Entered::Bad => match y {
-            Entered::Is(h) => Pairing::Added(h),
-            Entered::Bad => Pairing::Neither,
+        None => match y {
+            Some(h) => Pairing::Added(h),
+            None => Pairing::Neither,
         },
     }
 }

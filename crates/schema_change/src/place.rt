@@ -4,7 +4,7 @@ ghost use Rattle.sheet.specs.Entries.{max_count};
 ghost use Rattle.definition.specs.Decode.{to_count};
 ghost use Rattle.schema_change.specs.Places.{Within, EnteredIs, SkipsTo};
 
-use sheet::schema_heads::{FieldHead, FieldRead, known_field};
+use sheet::schema_heads::{FieldHead, known_field};
 
 // Where reading is in a sheet: the next entry's number, and its first byte.
 #[derive(Clone, Copy)]
@@ -21,24 +21,16 @@ pub struct FieldEntry {
     pub next: Place,
 }
 
-#[derive(Clone, Copy)]
-pub enum Entered {
-    Is(FieldEntry),
-    // No field's entry is there.
-    Bad,
-}
-
-pub fn enter(s: &[u8], p: Place) -> Entered
+// The field's entry at a place, if one is there.
+pub fn enter(s: &[u8], p: Place) -> Option<FieldEntry>
     requires { Within s.now p }
     ensures { EnteredIs s.now p result }
 {
-    let FieldRead::Is(head, at) = known_field(s, p.at) else {
-        return Entered::Bad;
-    };
+    let (head, at) = known_field(s, p.at)?;
     let number = p.entry;
     let entry = number + 1;
     let next = Place { entry, at };
-    Entered::Is(FieldEntry { number, head, next })
+    Some(FieldEntry { number, head, next })
 }
 
 // How many entries a head announces.
@@ -62,7 +54,7 @@ pub fn skip_below(s: &[u8], x: FieldEntry) -> Place
     let mut here = x.next;
     let mut left = announced(head);
     while left != 0 {
-        let Entered::Is(below) = enter(s, here) else {
+        let Some(below) = enter(s, here) else {
             return here;
         };
         let more = below.head;

@@ -10,44 +10,44 @@ use crate::entry::mark_closes;
 use crate::field::{Going, compare_members};
 use crate::place::Place;
 use definition::limits::MAX_FIELD_NESTING;
-use sheet::schema_heads::{ArgumentsHead, SchemaHeadRead, schema_head};
+use sheet::schema_heads::{HolderHead, schema_head};
 
-fn compare_arguments_marks(x: ArgumentsHead, y: ArgumentsHead, found: Change) -> Change
+fn compare_arguments_marks(x: Option<HolderHead>, y: Option<HolderHead>, found: Change) -> Change
     ensures { Goes found (arguments_head_marks x y) result }
 {
     match x {
-        ArgumentsHead::Are(h) => match y {
-            ArgumentsHead::Are(g) => refute_if(
+        Some(h) => match y {
+            Some(g) => refute_if(
                 found,
                 mark_closes(h.opened, g.opened),
                 Reason::MarkCloses,
                 1,
                 1,
             ),
-            ArgumentsHead::Absent => refute(found, Reason::ArgumentsGo, 1, 0),
+            None => refute(found, Reason::ArgumentsGo, 1, 0),
         },
-        ArgumentsHead::Absent => match y {
-            ArgumentsHead::Are(_) => grow(found),
-            ArgumentsHead::Absent => found,
+        None => match y {
+            Some(_) => grow(found),
+            None => found,
         },
     }
 }
 
 fn compare_arguments(
     first: &[u8],
-    x: ArgumentsHead,
+    x: Option<HolderHead>,
     second: &[u8],
-    y: ArgumentsHead,
+    y: Option<HolderHead>,
     from: Going,
 ) -> Change
     requires { Within first.now from.x × Within second.now from.y }
     ensures { ArgumentsGo first.now x second.now y from result }
 {
     let found = from.found;
-    let ArgumentsHead::Are(h) = x else {
+    let Some(h) = x else {
         return found;
     };
-    let ArgumentsHead::Are(g) = y else {
+    let Some(g) = y else {
         return found;
     };
     let going = compare_members(first, h, second, g, MAX_FIELD_NESTING, from);
@@ -59,10 +59,10 @@ pub fn compare_schemas(first: &[u8], second: &[u8]) -> Change
     ensures { SchemasGo first.now second.now result }
 {
     let start = Change::Marks;
-    let SchemaHeadRead::Is(g, at) = schema_head(first, 0) else {
+    let Some((g, at)) = schema_head(first, 0) else {
         return start;
     };
-    let SchemaHeadRead::Is(h, next) = schema_head(second, 0) else {
+    let Some((h, next)) = schema_head(second, 0) else {
         return start;
     };
     let xs = g.fields;

@@ -1,4 +1,5 @@
 -- Entries one after another: each way through `count_entries`, as a law.
+use Rattle.std.specs.Prelude.{Option, Some, None}
 use Prim.Native.Nat.{ℕ, ◌+◌, ◌/◌, ◌≤◌, ◌<◌}
 use native.Mathlib.Omega.{arith}
 use mathlib.Core.List.{List, []}
@@ -13,8 +14,6 @@ use Rattle.sheet.specs.Write.{write_field_head}
 use Rattle.sheet.proofs.HeadLaws.{field_head-exact}
 use Rattle.sheet.specs.Places.{KnownTo, Unread, KnownFieldIs}
 use Rattle.sheet.specs.declared.schema_heads.FieldHead.{FieldHead as CodeHead}
-use Rattle.sheet.specs.declared.schema_heads.FieldRead.{FieldRead}
-use Rattle.sheet.specs.declared.schema_heads.FieldRead.TheVariants.{Is, Bad}
 use Rattle.definition.specs.Decode.{to_count}
 use Rattle.schema_edits.specs.Forest.{Fields, passed, entered, EntriesAre}
 
@@ -63,10 +62,10 @@ module _ (s : List ℕ) (at : ℕ) (less : at < length s) where
       (q + (to_count g.has_items + g.count), j, omega arith, rw same.1 more)
 
 module _ {s : List ℕ} {start at n : ℕ} (c : Counting s start at n) (less : at < length s) where
-  pub counting-unread : {r : FieldRead} → KnownFieldIs s at r → r ≡ Bad → EntriesAre s start n
+  pub counting-unread : {r : Option (CodeHead × ℕ)} → KnownFieldIs s at r → r ≡ None → EntriesAre s start n
   counting-unread read is = record { counts = λ p m h. unread-left s at less (rw is at read) refl refl (c.leads p m h).3; few = c.few }
 
-  pub counting_more : {r : FieldRead} {h : CodeHead} {end next : ℕ} → KnownFieldIs s at r → r ≡ Is h end → next ≡ n + 1 → Counting s start end next
+  pub counting_more : {r : Option (CodeHead × ℕ)} {h : CodeHead} {end next : ℕ} → KnownFieldIs s at r → r ≡ Some (h, end) → next ≡ n + 1 → Counting s start end next
   counting_more {h = h} {end = end} read is one =
       let known : KnownTo s at h end = rw is at read in
       let past = known.past in

@@ -1,4 +1,5 @@
 -- The new sheet from parts of the old one: each way through the functions of `edit`, as a law.
+use Rattle.std.specs.Prelude.{Option, Some, None}
 use Prim.Native.Nat.{ℕ, ◌+◌, ◌-◌, ◌≤◌, ◌<◌}
 use native.Mathlib.Omega.{arith}
 use mathlib.Core.List.{List, [], ◌++◌, append_assoc}
@@ -10,8 +11,6 @@ use Rattle.text.specs.Numeral.{decimal_of}
 use Rattle.text.specs.Parts.{part_of}
 use Rattle.sheet.specs.Places.{SchemaIs}
 use Rattle.sheet.specs.declared.schema_heads.SchemaHead.{SchemaHead as CodeHead}
-use Rattle.sheet.specs.declared.schema_heads.SchemaHeadRead.{SchemaHeadRead}
-use Rattle.sheet.specs.declared.schema_heads.SchemaHeadRead.TheVariants as schema
 use Rattle.definition.specs.Tree.{Text, Field, Members, no_members, member, Schema}
 use Rattle.definition.specs.Decode.{decode_schema}
 use Rattle.definition.specs.Write.{count_of_members, write_members, head_of_arguments, write_arguments, write_schema}
@@ -167,14 +166,14 @@ puts-laid {before} {after} {bytes} {t} {next} room e l fits =
       ends = omega (arith, l.ends);
     }
 
-module _ (s : List ℕ) (r : SchemaHeadRead) (read : SchemaIs s 0 r) where
-  pub adds-headless : {b field : List ℕ} {at : ℕ} → r ≡ schema.Bad → Adds b b s at field 0
+module _ (s : List ℕ) (r : Option (CodeHead × ℕ)) (read : SchemaIs s 0 r) where
+  pub adds-headless : {b field : List ℕ} {at : ℕ} → r ≡ None → Adds b b s at field 0
   adds-headless is = record { len = refl; puts = λ t e. headed s r read t e is }
 
-  pub removes-headless : {b : List ℕ} {at end : ℕ} → r ≡ schema.Bad → Removes b b s at end 0
+  pub removes-headless : {b : List ℕ} {at end : ℕ} → r ≡ None → Removes b b s at end 0
   removes-headless is = record { len = refl; puts = λ t e. headed s r read t e is }
 
-  module _ {h : CodeHead} {start d : ℕ} (is : r ≡ schema.Is h start) (digits : d ≡ length (decimal_of h.fields.count)) where
+  module _ {h : CodeHead} {start d : ℕ} (is : r ≡ Some (h, start)) (digits : d ≡ length (decimal_of h.fields.count)) where
     counted : (t : Schema) → decode_schema s ≡ some t → d ≡ length (decimal_of (count_of_members t.fields.members))
     counted t e = digits ∙ ap (λ (n : ℕ). length (decimal_of n)) (head-count s r read t e is)
 
@@ -214,6 +213,6 @@ module _ (s : List ℕ) (r : SchemaHeadRead) (read : SchemaIs s 0 r) where
               l fits;
         }
 
-  pub removes-none : {h : CodeHead} {start : ℕ} {b : List ℕ} {at end : ℕ} → r ≡ schema.Is h start → h.fields.count ≡ 0 → Removes b b s at end 0
+  pub removes-none : {h : CodeHead} {start : ℕ} {b : List ℕ} {at end : ℕ} → r ≡ Some (h, start) → h.fields.count ≡ 0 → Removes b b s at end 0
   removes-none {at = at} {end = end} is zero-count =
       record { len = refl; puts = λ t e name c fits. absurd (omega (arith, gone-count s t e (length (decimal_of (count_of_members t.fields.members))) refl name at end c, head-count s r read t e is)) }

@@ -1,4 +1,5 @@
 -- The search for a place: each way through `find_place`, as a law.
+use Rattle.std.specs.Prelude.{Option, Some, None}
 use Prim.Native.Nat.{ℕ, ◌+◌, ◌≤◌, ◌<◌}
 use native.Mathlib.Omega.{arith}
 use mathlib.Core.Bool.{false}
@@ -16,11 +17,7 @@ use Rattle.sheet.proofs.ItemLaws.{anything}
 use Rattle.sheet.proofs.HeadLaws.{field_head-exact}
 use Rattle.text.specs.Parts.{part_of}
 use Rattle.sheet.specs.Places.{field_of, KnownTo, Unread, KnownFieldIs}
-use Rattle.text.specs.declared.order.ByteOrder.{ByteOrder}
-use Rattle.text.specs.declared.order.ByteOrder.TheVariants.{Less, Same, Greater}
 use Rattle.sheet.specs.declared.schema_heads.FieldHead.{FieldHead as CodeHead}
-use Rattle.sheet.specs.declared.schema_heads.FieldRead.{FieldRead}
-use Rattle.sheet.specs.declared.schema_heads.FieldRead.TheVariants.{Is, Bad}
 use Rattle.definition.specs.Tree.{Text, Field, field, Members, no_members, member}
 use Rattle.definition.specs.Write.{has_items, count_of_members, write_field, write_items, write_members}
 use Rattle.definition.specs.Within.{field_entries, members_entries, FieldFits, MembersFit}
@@ -31,6 +28,8 @@ use Rattle.field_changes.specs.Place.{joined}
 use Rattle.schema_edits.specs.Forest.{passed, SkippedTo}
 use Rattle.schema_edits.specs.ForestLaws.{field_row}
 use Rattle.schema_edits.specs.Place.{Holds, AllBefore, PartedAt, MissingAt, FoundAt, NameOf}
+use Rattle.std.specs.declared.cmp.Ordering.TheVariants.{Equal, Greater, Less}
+use Rattle.std.specs.declared.cmp.Ordering.{Ordering}
 
 -- the first entry of a field has its name
 record Heads (name : Text) (bytes : List ℕ) : Type 0 where
@@ -192,21 +191,21 @@ module _ {s : List ℕ} {start count : ℕ} {name : Text} {at i : ℕ} (k : Find
   pub finding-end : count ≤ i → (m : Members) (rest : List ℕ) → Holds s start count m rest → MissingAt s at name m rest
   finding-end l m rest h = let x = k.leads m rest h in end-left x.0 x.1 l x.2
 
-  module _ {r : FieldRead} (read : KnownFieldIs s at r) (less : i < count) where
-    pub finding-unread : r ≡ Bad → (m : Members) (rest : List ℕ) → Holds s start count m rest → MissingAt s at name m rest
+  module _ {r : Option (CodeHead × ℕ)} (read : KnownFieldIs s at r) (less : i < count) where
+    pub finding-unread : r ≡ None → (m : Members) (rest : List ℕ) → Holds s start count m rest → MissingAt s at name m rest
     finding-unread e m rest h =
         let x = next_of m rest h less in
         let l = x.left in
         absurd (not-unread s at x.n x.f x.others rest l.parted.bytes l.fits l.few (rw e at read))
 
-    module _ {h : CodeHead} {behind : ℕ} (e : r ≡ Is h behind) where
+    module _ {h : CodeHead} {behind : ℕ} (e : r ≡ Some (h, behind)) where
       name_of : (m : Members) (rest : List ℕ) (held : Holds s start count m rest) → part_of s h.name ≡ (next_of m rest held less).n
       name_of m rest held =
           let x = next_of m rest held less in
           let l = x.left in
           known-name s at x.n x.f x.others rest l.parted.bytes l.fits l.few h behind (rw e at read)
 
-      pub finding-more : (o : ByteOrder) {next more : ℕ} → Compares (part_of s h.name) name o → o ≡ Less → SkippedTo s at next → more ≡ i + 1 → Finding s start count name next more
+      pub finding-more : (o : Ordering) {next more : ℕ} → Compares (part_of s h.name) name o → o ≡ Less → SkippedTo s at next → more ≡ i + 1 → Finding s start count name next more
       finding-more o {next} c is skip one =
           let stand = rw is at c in
           rw one
@@ -218,12 +217,12 @@ module _ {s : List ℕ} {start count : ℕ} {name : Text} {at i : ℕ} (k : Find
                 (ap (λ (n : Text). same_bytes n name) (sym (name_of m rest held)) ∙ stand.same-is);
           })
 
-      pub finding-found : (o : ByteOrder) {end : ℕ} → Compares (part_of s h.name) name o → o ≡ Same → SkippedTo s at end → (m : Members) (rest : List ℕ) → Holds s start count m rest → FoundAt s at end name m rest
+      pub finding-found : (o : Ordering) {end : ℕ} → Compares (part_of s h.name) name o → o ≡ Equal → SkippedTo s at end → (m : Members) (rest : List ℕ) → Holds s start count m rest → FoundAt s at end name m rest
       finding-found o {end} c is skip m rest held =
           let stand = rw is at c in
           found_left end (next_of m rest held less) skip (sym (name_of m rest held) ∙ same_bytes-equal (part_of s h.name) name stand.same-is)
 
-      pub finding-before : (o : ByteOrder) → Compares (part_of s h.name) name o → o ≡ Greater → (m : Members) (rest : List ℕ) → Holds s start count m rest → MissingAt s at name m rest
+      pub finding-before : (o : Ordering) → Compares (part_of s h.name) name o → o ≡ Greater → (m : Members) (rest : List ℕ) → Holds s start count m rest → MissingAt s at name m rest
       finding-before o c is m rest held =
           let stand = rw is at c in
           let x = next_of m rest held less in
@@ -242,11 +241,11 @@ lent-heads text name f e =
     rw (w.0 ∙ sym (append-nil (write_field name f)))
     (field-heads name f [] w.1.named w.1.fits (omega (arith, (field-limits text name f e).0)))
 
-module _ (text : List ℕ) (r : FieldRead) (read : KnownFieldIs text 0 r) where
-  pub name-unread : {n : List ℕ} → r ≡ Bad → NameOf text n
+module _ (text : List ℕ) (r : Option (CodeHead × ℕ)) (read : KnownFieldIs text 0 r) where
+  pub name-unread : {n : List ℕ} → r ≡ None → NameOf text n
   name-unread is name f e = let x = lent-heads text name f e in absurd ((rw is at read) x.h x.others x.reads)
 
-  pub name-known : {h : CodeHead} {end : ℕ} {n : List ℕ} → r ≡ Is h end → n ≡ part_of text h.name → NameOf text n
+  pub name-known : {h : CodeHead} {end : ℕ} {n : List ℕ} → r ≡ Some (h, end) → n ≡ part_of text h.name → NameOf text n
   unfolding field_of
   name-known {h} {end} is same name f e =
       let x = lent-heads text name f e in

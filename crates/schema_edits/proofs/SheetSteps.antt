@@ -1,4 +1,5 @@
 -- A schema sheet that is well formed, by its head: where its fields begin, how many there are, and which names they have.
+use Rattle.std.specs.Prelude.{Option as Optional, Some, None, Result, Ok, Err}
 use Prim.Native.Nat.{ℕ, ◌≤◌, ◌<◌}
 use native.Mathlib.Omega.{arith}
 use mathlib.Core.Bool.{false}
@@ -11,8 +12,6 @@ use Rattle.sheet.proofs.ItemLaws.{anything}
 use Rattle.sheet.proofs.HeadLaws.{SchemaHeadFits, ArgumentsFit, schema_head-exact}
 use Rattle.sheet.specs.Places.{holder_of, schema_of, SchemaIs}
 use Rattle.sheet.specs.declared.schema_heads.SchemaHead.{SchemaHead as CodeHead}
-use Rattle.sheet.specs.declared.schema_heads.SchemaHeadRead.{SchemaHeadRead}
-use Rattle.sheet.specs.declared.schema_heads.SchemaHeadRead.TheVariants as schema
 use Rattle.definition.specs.Tree.{Text, Field, field, absent, Members, no_members, member, Holder, Schema}
 use Rattle.definition.specs.Limits.{max_sheet_bytes}
 use Rattle.definition.specs.Decode.{decode_schema}
@@ -25,8 +24,6 @@ use Rattle.field_changes.specs.Change.{is_there}
 use Rattle.field_changes.specs.Place.{joined, Starts}
 use Rattle.field_changes.proofs.ThereLaws.{none-there, there-joined}
 use Rattle.schema_edits.specs.Place.{Holds, AllBefore, PlaceIs, ComesAt, GoesFrom, PlaceOf}
-use Rattle.schema_edits.specs.declared.place.Place.{Place}
-use Rattle.schema_edits.specs.declared.place.Place.TheVariants.{Found, Missing}
 
 -- The head
 
@@ -56,11 +53,11 @@ head-reads : (s : List ℕ) (t : Schema) → decode_schema s ≡ some t
 unfolding write_schema anything head_in
 head-reads s t e = ap schema_head (written_of s t e) ∙ schema_head-exact.complete (head_in t) _ (head-fits t (within_of s t e)) refl
 
-module _ (s : List ℕ) (r : SchemaHeadRead) (read : SchemaIs s 0 r) (t : Schema) (e : decode_schema s ≡ some t) where
-  pub headed : {C : Type 0} → r ≡ schema.Bad → C
+module _ (s : List ℕ) (r : Optional (CodeHead × ℕ)) (read : SchemaIs s 0 r) (t : Schema) (e : decode_schema s ≡ some t) where
+  pub headed : {C : Type 0} → r ≡ None → C
   headed is = absurd (none-ne-some _ (sym (rw is at read) ∙ head-reads s t e))
 
-  module _ {h : CodeHead} {start : ℕ} (is : r ≡ schema.Is h start) where
+  module _ {h : CodeHead} {start : ℕ} (is : r ≡ Some (h, start)) where
     both : ◌≡◌ {A = SchemaHead × List ℕ} (schema_of h, drop start s) (head_in t, write_members t.fields.members ++ write_arguments t.arguments)
     both = let k = rw is at read in some-injective _ _ (sym k.0.reads ∙ head-reads s t e)
 
@@ -99,12 +96,12 @@ none-joined name (member n g a) b h s r = (h.0.1, none-joined name a b h.1 s (ri
 
 -- The place, by the sheet's head
 
-module _ (s : List ℕ) (r : SchemaHeadRead) (name : Text) (read : SchemaIs s 0 r) where
-  pub place-headless : r ≡ schema.Bad → (t : Schema) → decode_schema s ≡ some t → ComesAt s 0 name t
+module _ (s : List ℕ) (r : Optional (CodeHead × ℕ)) (name : Text) (read : SchemaIs s 0 r) where
+  pub place-headless : r ≡ None → (t : Schema) → decode_schema s ≡ some t → ComesAt s 0 name t
   place-headless is t e = headed s r read t e is
 
-  module _ {h : CodeHead} {start : ℕ} (is : r ≡ schema.Is h start) where
-    comes : (at : ℕ) → PlaceIs s start h.fields.count name (Missing at) → (t : Schema) → decode_schema s ≡ some t → ComesAt s at name t
+  module _ {h : CodeHead} {start : ℕ} (is : r ≡ Some (h, start)) where
+    comes : (at : ℕ) → PlaceIs s start h.fields.count name (Err at) → (t : Schema) → decode_schema s ≡ some t → ComesAt s at name t
     comes at k t e =
         let m = k t.fields.members (write_arguments t.arguments) (sheet-holds s r read t e is) in
         let parts = m.parted.parts in
@@ -114,14 +111,14 @@ module _ (s : List ℕ) (r : SchemaHeadRead) (name : Text) (read : SchemaIs s 0 
           place = m;
         }
 
-    goes : (at end : ℕ) → PlaceIs s start h.fields.count name (Found at end) → (t : Schema) → decode_schema s ≡ some t → GoesFrom s at end name t
+    goes : (at end : ℕ) → PlaceIs s start h.fields.count name (Ok (at, end)) → (t : Schema) → decode_schema s ≡ some t → GoesFrom s at end name t
     goes at end k t e =
         let m = k t.fields.members (write_arguments t.arguments) (sheet-holds s r read t e is) in
         record { there = ap (is_there name) m.parted.parts ∙ there-joined name m.f m.a m.b; place = m }
 
-    pub placed : (p : Place) → PlaceIs s start h.fields.count name p → PlaceOf s name p
-    placed (Missing at) k = comes at k
-    placed (Found at end) k = goes at end k
+    pub placed : (p : Result (ℕ × ℕ) ℕ) → PlaceIs s start h.fields.count name p → PlaceOf s name p
+    placed (Err at) k = comes at k
+    placed (Ok (at, end)) k = goes at end k
 
 pub place-long : (s : List ℕ) (name : Text) → max_sheet_bytes < length s → (t : Schema) → decode_schema s ≡ some t → ComesAt s 0 name t
 place-long s name l t e = let b = short-of s t e in absurd (omega arith)

@@ -1,4 +1,5 @@
 -- How large the sheet is with one field more: each way through `is_too_large`, as a law.
+use Rattle.std.specs.Prelude.{Option as Optional, Some, None}
 use Prim.Native.Nat.{ℕ, ◌+◌, ◌≤◌, ◌<◌}
 use native.Mathlib.Omega.{arith}
 use mathlib.Core.Bool.{true, not}
@@ -13,8 +14,6 @@ use Rattle.text.specs.CaseLaws.{by-test}
 use Rattle.sheet.specs.Entries.{max_count}
 use Rattle.sheet.specs.Places.{SchemaIs}
 use Rattle.sheet.specs.declared.schema_heads.SchemaHead.{SchemaHead as CodeHead}
-use Rattle.sheet.specs.declared.schema_heads.SchemaHeadRead.{SchemaHeadRead}
-use Rattle.sheet.specs.declared.schema_heads.SchemaHeadRead.TheVariants as schema
 use Rattle.definition.specs.Tree.{Text, Field, Members, Holder, Schema}
 use Rattle.definition.specs.Limits.{max_sheet_bytes, max_schema_entries}
 use Rattle.definition.specs.Decode.{decode_schema}
@@ -83,7 +82,7 @@ arguments-row none fits few = (0, passed)
 arguments-row (some h) fits few =
     (0 + count_of_members h.members, rw (sym (append-nil (write_members h.members))) (members-row 0 0 h.members [] [] fits few passed))
 
-module _ (s : List ℕ) (r : SchemaHeadRead) (read : SchemaIs s 0 r) {h : CodeHead} {start : ℕ} (is : r ≡ schema.Is h start) where
+module _ (s : List ℕ) (r : Optional (CodeHead × ℕ)) (read : SchemaIs s 0 r) {h : CodeHead} {start : ℕ} (is : r ≡ Some (h, start)) where
   sheet-entries : (n : ℕ) (t : Schema) → decode_schema s ≡ some t → EntriesAre s start n → 1 + n ≡ schema_entries t
   unfolding schema_entries
   sheet-entries n t e c =
@@ -134,5 +133,5 @@ large-sheet s field more t e name f g = let b = short-of s t e in absurd (omega 
 pub large-field : (s field : List ℕ) → max_sheet_bytes < length field → SizeIs s field true
 large-field s field more t e name f g = let b = (field-limits field name f g).1 in absurd (omega arith)
 
-pub headless : (s field : List ℕ) (r : SchemaHeadRead) → SchemaIs s 0 r → r ≡ schema.Bad → SizeIs s field true
+pub headless : (s field : List ℕ) (r : Optional (CodeHead × ℕ)) → SchemaIs s 0 r → r ≡ None → SizeIs s field true
 headless s field r read is t e name f g = headed s r read t e is

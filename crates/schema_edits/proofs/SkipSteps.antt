@@ -1,4 +1,5 @@
 -- Over a field: each way through `skip_field`, as a law.
+use Rattle.std.specs.Prelude.{Option, Some, None}
 use Prim.Native.Nat.{ℕ, suc, ◌+◌, ◌-◌, ◌*◌, ◌≤◌, ◌<◌}
 use native.Mathlib.Omega.{arith}
 use mathlib.Core.Bool.{Bool, true, false}
@@ -8,8 +9,6 @@ use lib.ListN.{length, drop}
 use Rattle.sheet.specs.Entries.{FieldHead, field_head}
 use Rattle.sheet.specs.Places.{field_of, KnownTo, Unread, KnownFieldIs}
 use Rattle.sheet.specs.declared.schema_heads.FieldHead.{FieldHead as CodeHead}
-use Rattle.sheet.specs.declared.schema_heads.FieldRead.{FieldRead}
-use Rattle.sheet.specs.declared.schema_heads.FieldRead.TheVariants.{Is, Bad}
 use Rattle.definition.specs.Decode.{to_count}
 use Rattle.schema_edits.specs.Forest.{Fields, passed, entered, SkippedTo}
 
@@ -36,7 +35,7 @@ unread-fields s next u l e passed = omega arith
 unread-fields s next u l e (entered h others reads more) = u h others (ap field_head (sym e) ∙ reads)
 
 -- where no entry is read, there was no field
-pub skip-unread : {s : List ℕ} {at pending next : ℕ} {r : FieldRead} → Skipping s at pending next → KnownFieldIs s next r → r ≡ Bad → 0 < pending
+pub skip-unread : {s : List ℕ} {at pending next : ℕ} {r : Option (CodeHead × ℕ)} → Skipping s at pending next → KnownFieldIs s next r → r ≡ None → 0 < pending
     → SkippedTo s at (length s)
 skip-unread {s} {next = next} k read e l = record { skips = λ n rest h. absurd (unread-fields s next (rw e at read) l refl (k.leads n rest h).1); within = omega arith }
 
@@ -61,10 +60,10 @@ known-fields s next end h k l e (entered {pending = p} {n = m} g others reads mo
     let as_many : p + (to_count g.has_items + g.count) ≡ suc p - 1 + to_count h.items + h.count = rw (items, count) (omega arith) in
     (m, rw (← as_many, same.1) more)
 
-pub skip-more : {s : List ℕ} {at pending next more end : ℕ} {r : FieldRead} {h : CodeHead}
+pub skip-more : {s : List ℕ} {at pending next more end : ℕ} {r : Option (CodeHead × ℕ)} {h : CodeHead}
     → Skipping s at pending next
     → KnownFieldIs s next r
-    → r ≡ Is h end
+    → r ≡ Some (h, end)
     → 0 < pending
     → more ≡ pending - 1 + to_count h.items + h.count
     → Skipping s at more end

@@ -1,5 +1,5 @@
 -- Where a field is in a schema sheet, or belongs, by its name.
-use Rattle.std.specs.Prelude.{ℕ, ◌≤◌, true, false, List, ◌++◌, ◌≡◌, length, drop}
+use Rattle.std.specs.Prelude.{ℕ, ◌≤◌, true, false, List, ◌++◌, ◌≡◌, length, drop, Result, Ok, Err}
 use Rattle.std.proofs.Math.Option.{some}
 use Rattle.sheet.specs.Entries.{max_count}
 use Rattle.text.specs.Order.{precedes, same_bytes}
@@ -10,8 +10,6 @@ use Rattle.definition.specs.Within.{members_entries, MembersFit}
 use Rattle.field_changes.specs.Change.{is_there}
 use Rattle.field_changes.specs.FieldText.{decode_field}
 use Rattle.field_changes.specs.Place.{joined, Starts}
-use Rattle.schema_edits.specs.declared.place.Place.{Place}
-use Rattle.schema_edits.specs.declared.place.Place.TheVariants.{Found, Missing}
 
 -- from `start` on the sheet holds these members, and `rest` follows
 pub record Holds (s : List ℕ) (start count : ℕ) (m : Members) (rest : List ℕ) : Type 0 where
@@ -49,9 +47,9 @@ pub record FoundAt (s : List ℕ) (at end : ℕ) (name : Text) (m : Members) (re
   pub ends_within : end ≤ length s
   pub behind : drop end s ≡ write_members b ++ rest
 
-abbrev pub PlaceIs : (s : List ℕ) (start count : ℕ) → Text → Place → Type 0
-PlaceIs s start count name (Missing at) = (m : Members) (rest : List ℕ) → Holds s start count m rest → MissingAt s at name m rest
-PlaceIs s start count name (Found at end) = (m : Members) (rest : List ℕ) → Holds s start count m rest → FoundAt s at end name m rest
+abbrev pub PlaceIs : (s : List ℕ) (start count : ℕ) → Text → Result (ℕ × ℕ) ℕ → Type 0
+PlaceIs s start count name (Err at) = (m : Members) (rest : List ℕ) → Holds s start count m rest → MissingAt s at name m rest
+PlaceIs s start count name (Ok (at, end)) = (m : Members) (rest : List ℕ) → Holds s start count m rest → FoundAt s at end name m rest
 
 -- in the sheet of a schema: the record has no field of that name, and one belongs at `at`
 pub record ComesAt (s : List ℕ) (at : ℕ) (name : Text) (t : Schema) : Type 0 where
@@ -63,9 +61,9 @@ pub record GoesFrom (s : List ℕ) (at end : ℕ) (name : Text) (t : Schema) : T
   pub there : is_there name t.fields.members ≡ true
   pub place : FoundAt s at end name t.fields.members (write_arguments t.arguments)
 
-abbrev pub PlaceOf : List ℕ → Text → Place → Type 0
-PlaceOf s name (Missing at) = (t : Schema) → decode_schema s ≡ some t → ComesAt s at name t
-PlaceOf s name (Found at end) = (t : Schema) → decode_schema s ≡ some t → GoesFrom s at end name t
+abbrev pub PlaceOf : List ℕ → Text → Result (ℕ × ℕ) ℕ → Type 0
+PlaceOf s name (Err at) = (t : Schema) → decode_schema s ≡ some t → ComesAt s at name t
+PlaceOf s name (Ok (at, end)) = (t : Schema) → decode_schema s ≡ some t → GoesFrom s at end name t
 
 -- the name of a field that is lent well formed
 abbrev pub NameOf : (text name : List ℕ) → Type 0

@@ -3,7 +3,7 @@ ghost use Rattle.std.specs.Prelude.{◌≡◌, ◌+◌, ◌≤◌, length};
 ghost use Rattle.text.specs.Numeral.{decimal_of};
 ghost use Rattle.schema_edits.specs.Forest.{EntriesAre};
 
-use sheet::schema_heads::{FieldRead, known_field};
+use sheet::schema_heads::known_field;
 
 // The entries of fields from `start` on, up to the end of the bytes.
 pub fn count_entries(s: &[u8], start: usize) -> usize
@@ -12,7 +12,7 @@ pub fn count_entries(s: &[u8], start: usize) -> usize
     let mut at = start;
     let mut n: usize = 0;
     while at < s.len() {
-        let FieldRead::Is(_, end) = known_field(s, at) else {
+        let Some((_, end)) = known_field(s, at) else {
             return n;
         };
         at = end;

@@ -5,7 +5,7 @@ ghost use Rattle.schema_edits.specs.Edit.{edited, Adds, Removes};
 
 use crate::count::digits;
 use buffer::lay::{lay, lay_decimal};
-use sheet::schema_heads::{SchemaHeadRead, schema_head};
+use sheet::schema_heads::schema_head;
 use text::part::{Part, bytes_of};
 
 // Where the head's count begins, behind `H`, the open mark and two commas.
@@ -51,7 +51,7 @@ fn lay_edited(
 pub fn add_field(out: &mut [u8], s: &[u8], at: usize, field: &[u8]) -> usize
     ensures { Adds out.old out.new s.now at field.now result }
 {
-    let SchemaHeadRead::Is(head, _) = schema_head(s, 0) else {
+    let Some((head, _)) = schema_head(s, 0) else {
         return 0;
     };
     let count = head.fields.count;
@@ -62,7 +62,7 @@ pub fn add_field(out: &mut [u8], s: &[u8], at: usize, field: &[u8]) -> usize
 pub fn remove_field(out: &mut [u8], s: &[u8], at: usize, end: usize) -> usize
     ensures { Removes out.old out.new s.now at end result }
 {
-    let SchemaHeadRead::Is(head, _) = schema_head(s, 0) else {
+    let Some((head, _)) = schema_head(s, 0) else {
         return 0;
     };
     let count = head.fields.count;

@@ -3,7 +3,7 @@ ghost use Rattle.schema_edits.specs.Size.{SizeIs};
 
 use crate::count::{count_entries, digits};
 use definition::limits::{MAX_SCHEMA_ENTRIES, MAX_SHEET_BYTES};
-use sheet::schema_heads::{SchemaHeadRead, schema_head};
+use sheet::schema_heads::schema_head;
 
 // The head's count may get a digit more.
 pub fn is_too_large(s: &[u8], field: &[u8]) -> bool
@@ -15,7 +15,7 @@ pub fn is_too_large(s: &[u8], field: &[u8]) -> bool
     if MAX_SHEET_BYTES < field.len() {
         return true;
     }
-    let SchemaHeadRead::Is(head, start) = schema_head(s, 0) else {
+    let Some((head, start)) = schema_head(s, 0) else {
         return true;
     };
     let count = head.fields.count;

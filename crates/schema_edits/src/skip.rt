@@ -4,7 +4,7 @@ ghost use Rattle.definition.specs.Decode.{to_count};
 ghost use Rattle.definition.specs.Limits.{max_sheet_bytes};
 ghost use Rattle.schema_edits.specs.Forest.{SkippedTo};
 
-use sheet::schema_heads::{FieldRead, known_field};
+use sheet::schema_heads::known_field;
 
 fn to_count(has: bool) -> usize
     ensures { (result ≡ to_count has) × (result ≤ 1) }
@@ -20,7 +20,7 @@ pub fn skip_field(s: &[u8], at: usize) -> usize
     let mut pending: usize = 1;
     let mut next = at;
     while 0 < pending {
-        let FieldRead::Is(head, end) = known_field(s, next) else {
+        let Some((head, end)) = known_field(s, next) else {
             return s.len();
         };
         pending = pending - 1 + to_count(head.items) + head.count;

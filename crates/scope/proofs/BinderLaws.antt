@@ -1,4 +1,5 @@
 -- The binders in scope, innermost first.
+use Rattle.std.specs.Prelude.{Option as Optional, Some, None}
 use Prim.Native.Nat.{ℕ, zero, suc, ◌+◌, ◌-◌, ◌*◌, ◌/◌, ◌%◌, ◌<◌, ◌≤◌}
 use native.Mathlib.Omega.{arith}
 use native.Mathlib.Nat.{eq-zero-or-pos}
@@ -22,11 +23,7 @@ use Rattle.walk.specs.declared.answer.Reader.{Reader}
 use Rattle.scope.specs.Binders.{capped, length_unit, start_unit, element_number, binder_number, binder_name, element_by, binder_element}
 use Rattle.scope.specs.Scopes.{chain_of, BoundElement, BinderAt, ChainAt, Unbound, Binds, BoundIs}
 use Rattle.scope.specs.declared.name.Row.{Row}
-use Rattle.scope.specs.declared.binder.Element.{Element}
-use Rattle.scope.specs.declared.binder.Element.TheVariants.{Known, Unknown}
 use Rattle.scope.specs.declared.binder.Scope.{Scope}
-use Rattle.scope.specs.declared.binder.Bound.{Bound}
-use Rattle.scope.specs.declared.binder.Bound.TheVariants.{To, Nothing}
 
 chain-step : (bs : List ℕ) (i : ℕ) → 0 < i → chain_of i bs ≡ get_or bs (i - 1) 0 ∷ chain_of (i - 1) bs
 unfolding chain_of
@@ -90,7 +87,7 @@ module _ (rule name : List ℕ) (scope : Scope) (i : ℕ) (so_far : Searched rul
         (first.others, first.rest, so.2 ∙ bound-passed name so.0 first.b first.others first.is (named-so sheet words first.b first.here ∙ differs));
   }
 
-  pub searched-found : (x : Element) → x ≡ binder_element (get_or scope.binders (i - 1) 0) → b ≡ true → BoundIs rule scope name (To x)
+  pub searched-found : (x : Optional ℕ) → x ≡ binder_element (get_or scope.binders (i - 1) 0) → b ≡ true → BoundIs rule scope name (Some x)
   searched-found x is same = rw is (record {
     leads = λ sheet words env at.
         let so = so_far.rest sheet words env at.chain in
@@ -103,22 +100,22 @@ unfolding chain_of
 chain-empty bs zero h = refl
 chain-empty bs (suc i) h = absurd (h (omega arith))
 
-pub searched-all : (rule name : List ℕ) (i : ℕ) (scope : Scope) → Searched rule name scope.binders scope.count i → i ≤ 0 → BoundIs rule scope name Nothing
+pub searched-all : (rule name : List ℕ) (i : ℕ) (scope : Scope) → Searched rule name scope.binders scope.count i → i ≤ 0 → BoundIs rule scope name None
 searched-all rule name i scope so_far none_left = record {
   leads = λ sheet words env at.
       let so = so_far.rest sheet words env at.chain in
       so.2 ∙ bound-none name so.0 (closed sheet rule words so.0 (rw (chain-empty scope.binders i (λ h. omega arith)) at so.1));
 }
 
-pub bound-bare : (rule name : List ℕ) (scope : Scope) → scope.count ≡ 0 → BoundIs rule scope name Nothing
+pub bound-bare : (rule name : List ℕ) (scope : Scope) → scope.count ≡ 0 → BoundIs rule scope name None
 bound-bare rule name scope bare = searched-all rule name scope.count scope (searched-none rule name scope.binders scope.count) (omega arith)
 
-pub bound-crowded : (rule name : List ℕ) (scope : Scope) → 31 < scope.count → BoundIs rule scope name Nothing
+pub bound-crowded : (rule name : List ℕ) (scope : Scope) → 31 < scope.count → BoundIs rule scope name None
 bound-crowded rule name scope many = record { leads = λ sheet words env at. absurd (omega (arith, at.few)) }
 
 -- One binder more
 
-pub bind-crowded : (scope : Scope) (name : Part) (element : Element) → 31 ≤ scope.count → Binds scope name element scope
+pub bind-crowded : (scope : Scope) (name : Part) (element : Optional ℕ) → 31 ≤ scope.count → Binds scope name element scope
 bind-crowded scope name element many = record {
   row = refl;
   service = refl;
@@ -139,28 +136,28 @@ chain_more bs v n h = rw (add-one, get_or-set_same bs n v 0 h, chain-kept bs v n
 
 -- A binder as a number
 
-pub known-number : (element : Element) (k n : ℕ) → element ≡ Known k → n ≡ capped k → n + 1 ≡ element_number element
+pub known-number : (element : Optional ℕ) (k n : ℕ) → element ≡ Some k → n ≡ capped k → n + 1 ≡ element_number element
 unfolding element_number
 known-number element k n e m = rw (e, m)
 
-pub unknown-number : (element : Element) → element ≡ Unknown → 0 ≡ element_number element
+pub unknown-number : (element : Optional ℕ) → element ≡ None → 0 ≡ element_number element
 unfolding element_number
 unknown-number element e = rw e
 
-unknown-by : (n : ℕ) → n ≡ 0 → Unknown ≡ element_by n
+unknown-by : (n : ℕ) → n ≡ 0 → None ≡ element_by n
 unfolding element_by
 unknown-by n e = rw e
 
-known_by : (n : ℕ) → (n ≡ 0 → ⊥) → Known (n - 1) ≡ element_by n
+known_by : (n : ℕ) → (n ≡ 0 → ⊥) → Some (n - 1) ≡ element_by n
 unfolding element_by
 known_by zero h = absurd (h refl)
 known_by (suc n) h = let e : suc n - 1 ≡ n = omega arith in rw e
 
-pub unknown-in : (b : ℕ) → b % length_unit ≡ 0 → Unknown ≡ binder_element b
+pub unknown-in : (b : ℕ) → b % length_unit ≡ 0 → None ≡ binder_element b
 unfolding binder_element
 unknown-in b e = unknown-by (b % length_unit) e
 
-pub known_in : (b : ℕ) → (b % length_unit ≡ 0 → ⊥) → Known (b % length_unit - 1) ≡ binder_element b
+pub known_in : (b : ℕ) → (b % length_unit ≡ 0 → ⊥) → Some (b % length_unit - 1) ≡ binder_element b
 unfolding binder_element
 known_in b h = known_by (b % length_unit) h
 
@@ -183,12 +180,12 @@ part-capped rule start n small =
     rw (p, q, take-nil n, take-nil (capped n)) refl)
     (eq-zero-or-pos (start - 65535))
 
-pub number-element : (element : Element) → element_number element < length_unit
+pub number-element : (element : Optional ℕ) → element_number element < length_unit
 unfolding element_number
-number-element (Known k) = omega arith
-number-element Unknown = omega arith
+number-element (Some k) = omega arith
+number-element None = omega arith
 
-name-kept : (rule : List ℕ) (name : Part) (element : Element) → length rule ≤ max_sheet_bytes → part_of rule (binder_name (binder_number name element)) ≡ part_of rule name
+name-kept : (rule : List ℕ) (name : Part) (element : Optional ℕ) → length rule ≤ max_sheet_bytes → part_of rule (binder_name (binder_number name element)) ≡ part_of rule name
 unfolding binder_number part_of
 name-kept rule name element small =
     let n = number-element element in
@@ -196,26 +193,26 @@ name-kept rule name element small =
     let l : (capped name.start * start_unit + capped name.len * length_unit + element_number element) % start_unit / length_unit ≡ capped name.len = omega arith in
     rw (s, l) (part-capped rule name.start name.len (omega arith))
 
-number-kept : (name : Part) (element : Element) → binder_number name element % length_unit ≡ element_number element
+number-kept : (name : Part) (element : Optional ℕ) → binder_number name element % length_unit ≡ element_number element
 unfolding binder_number
 number-kept name element = let n = number-element element in omega arith
 
-element-kept : (sheet words : List ℕ) (element : Element) (f : Option Field) → BoundElement sheet words element f → BoundElement sheet words (element_by (element_number element)) f
+element-kept : (sheet words : List ℕ) (element : Optional ℕ) (f : Option Field) → BoundElement sheet words element f → BoundElement sheet words (element_by (element_number element)) f
 unfolding element_number element_by
-element-kept sheet words (Known k) none e = absurd e
-element-kept sheet words (Known k) (some f) e =
+element-kept sheet words (Some k) none e = absurd e
+element-kept sheet words (Some k) (some f) e =
     let slot = e.slot in
     let c : capped k + 1 ≡ suc k = omega arith in
     rw c e
-element-kept sheet words Unknown f e = e
+element-kept sheet words None f e = e
 
-binder-at : (sheet rule words : List ℕ) (name : Part) (element : Element) (x : ℕ) (f : Option Field) → x ≡ binder_number name element → length rule ≤ max_sheet_bytes
+binder-at : (sheet rule words : List ℕ) (name : Part) (element : Optional ℕ) (x : ℕ) (f : Option Field) → x ≡ binder_number name element → length rule ≤ max_sheet_bytes
     → BoundElement sheet words element f → BinderAt sheet rule words x (record { name = part_of rule name; element = f })
 unfolding binder_element
 binder-at sheet rule words name element x f is small e =
     rw is (record { name = name-kept rule name element small; element = rw (number-kept name element) (element-kept sheet words element f e) })
 
-pub bind-more : (scope : Scope) (name : Part) (element : Element) (x : ℕ) → x ≡ binder_number name element → scope.count < 31 → length scope.binders ≡ 31
+pub bind-more : (scope : Scope) (name : Part) (element : Optional ℕ) (x : ℕ) → x ≡ binder_number name element → scope.count < 31 → length scope.binders ≡ 31
     → Binds scope name element (record {
       row = scope.row;
       service = scope.service;

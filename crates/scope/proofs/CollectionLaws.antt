@@ -1,4 +1,5 @@
 -- Collections: how each way through the code answers what the definition says.
+use Rattle.std.specs.Prelude.{Option as Optional, Some, None, Result, Ok, Err}
 use Prim.Native.Nat.{ℕ, ◌+◌, ◌-◌, ◌<◌, ◌≤◌}
 use native.Mathlib.Omega.{arith}
 use mathlib.Core.Bool.{Bool, true, false}
@@ -20,30 +21,21 @@ use Rattle.reference.specs.Reference.{Environment, bound, root_of, from_holder, 
 use Rattle.schema.specs.Slot.{SlotHolds, HolderAt}
 use Rattle.schema.specs.Lookup.{FoundAt, LookedUp}
 use Rattle.schema.specs.declared.index.Holder.{Holder}
-use Rattle.schema.specs.declared.lookup.Found.{Found}
-use Rattle.schema.specs.declared.lookup.Found.TheVariants as Found
 use Rattle.walk.specs.Dots.{Ends}
 use Rattle.walk.specs.DotLaws.{rest-whole}
 use Rattle.walk.specs.Answers.{collection_detail}
 use Rattle.walk.specs.Steps.{FieldsAt, ElementIs}
 use Rattle.walk.specs.declared.answer.CollectionFault.TheVariants.{NoName}
-use Rattle.walk.specs.declared.answer.Collected.{Collected}
-use Rattle.walk.specs.declared.answer.Collected.TheVariants as Collected
 use Rattle.scope.specs.Names.{name_is, NamedIs}
 use Rattle.scope.specs.Scopes.{BoundElement, EnvironmentAt, BoundIs}
 use Rattle.scope.specs.Roots.{RootIs}
 use Rattle.scope.specs.Collections.{RootCollects, NameCollects, CollectionIs}
 use Rattle.scope.specs.declared.name.Name.{Name}
-use Rattle.scope.specs.declared.name.Named.{Named}
-use Rattle.scope.specs.declared.name.Named.TheVariants as Named
-use Rattle.scope.specs.declared.binder.Element.{Element}
-use Rattle.scope.specs.declared.binder.Element.TheVariants.{Known, Unknown}
 use Rattle.scope.specs.declared.binder.Scope.{Scope}
-use Rattle.scope.specs.declared.binder.Bound.{Bound}
-use Rattle.scope.specs.declared.binder.Bound.TheVariants as Bound
 use Rattle.scope.specs.declared.root.Root.{Root}
 use Rattle.scope.specs.declared.root.Root.TheVariants as Root
 use Rattle.scope.proofs.ReferenceLaws.{element-known, element-unknown}
+use Rattle.walk.specs.declared.answer.CollectionFault.{CollectionFault}
 
 -- The first character
 
@@ -88,25 +80,25 @@ module _ (at : ℕ) (t : Tree.Holder) (s : Text) (path : List Text) where
   unfolding collection_in from_holder member_step arrive
   in-found f l = rw l
 
-module _ (sheet words path : List ℕ) (at : ℕ) (h : Holder) (n : ℕ) (ends : Ends path n) (found : Found) (looked : LookedUp sheet words h (take n path) found) where
-  missing : found ≡ Found.Missing → (t : Tree.Holder) → HolderAt sheet words h t → lookup (split path).first t.members ≡ none
+module _ (sheet words path : List ℕ) (at : ℕ) (h : Holder) (n : ℕ) (ends : Ends path n) (found : Optional ℕ) (looked : LookedUp sheet words h (take n path) found) where
+  missing : found ≡ None → (t : Tree.Holder) → HolderAt sheet words h t → lookup (split path).first t.members ≡ none
   missing e t here = let l : lookup (take n path) t.members ≡ none = rw e at (looked t here) in rw ends.first l
 
-  found_at : (k : ℕ) → found ≡ Found.At k → (t : Tree.Holder) → HolderAt sheet words h t → FoundAt sheet words (split path).first t.members k
+  found_at : (k : ℕ) → found ≡ Some k → (t : Tree.Holder) → HolderAt sheet words h t → FoundAt sheet words (split path).first t.members k
   found_at k e t here = let l : FoundAt sheet words (take n path) t.members k = rw e at (looked t here) in rw ends.first l
 
-  pub root-open : found ≡ Found.Missing → h.opened ≡ true → RootCollects sheet words at h path Collected.Unknown
+  pub root-open : found ≡ None → h.opened ≡ true → RootCollects sheet words at h path (Ok None)
   root-open e o = record {
     leads = λ t here. in-open at t (split path).first (split path).others (missing e t here) (sym here.marked ∙ o);
   }
 
-  pub root-closed : found ≡ Found.Missing → h.opened ≡ false → RootCollects sheet words at h path (Collected.No NoName at)
+  pub root-closed : found ≡ None → h.opened ≡ false → RootCollects sheet words at h path (Err (NoName, at))
   root-closed e o = record {
     leads = λ t here.
         (7, (split path).first ∷ (split path).others, in-closed at t (split path).first (split path).others (missing e t here) (sym here.marked ∙ o), λ small. absurd (omega arith));
   }
 
-  pub root-last : (k : ℕ) (r : Collected) → found ≡ Found.At k → n ≡ length path → ElementIs sheet words (Collected.Known k) r → RootCollects sheet words at h path r
+  pub root-last : (k : ℕ) (r : Result (Optional ℕ) (CollectionFault × ℕ)) → found ≡ Some k → n ≡ length path → ElementIs sheet words (Ok (Some k)) r → RootCollects sheet words at h path r
   unfolding travel
   root-last k r e end m = record {
     leads = λ t here.
@@ -114,7 +106,7 @@ module _ (sheet words path : List ℕ) (at : ℕ) (h : Holder) (n : ℕ) (ends :
         rw (in-found at t (split path).first (split path).others l.f l.found, ends.last end) (m.leads (known l.f) (l.f, refl, l.holds));
   }
 
-  pub root-more : (k : ℕ) (c r : Collected) → found ≡ Found.At k → (n ≡ length path → ⊥)
+  pub root-more : (k : ℕ) (c r : Result (Optional ℕ) (CollectionFault × ℕ)) → found ≡ Some k → (n ≡ length path → ⊥)
       → FieldsAt sheet words k (take (length path - (n + 1)) (drop (n + 1) path)) c → ElementIs sheet words c r → RootCollects sheet words at h path r
   root-more k c r e more m element = record {
     leads = λ t here.
@@ -151,7 +143,7 @@ unfolding collection_in
 in-missing x s path e = rw e
 
 module _ (sheet words text : List ℕ) (scope : Scope) (end : ℕ) where
-  pub named-whole : length text ≤ end → NameCollects sheet words scope text end (Collected.No NoName 0)
+  pub named-whole : length text ≤ end → NameCollects sheet words scope text end (Err (NoName, 0))
   unfolding collection_detail
   named-whole past = record {
     leads = λ t at ends.
@@ -160,8 +152,8 @@ module _ (sheet words text : List ℕ) (scope : Scope) (end : ℕ) where
     whole : Ends text end → end ≡ length text
     whole ends = let within = ends.within in omega arith
 
-  module _ (named : Named) (is : NamedIs (take end text) named) where
-    pub named_none : named ≡ Named.Nothing → NameCollects sheet words scope text end (Collected.No NoName 0)
+  module _ (named : Optional Name) (is : NamedIs (take end text) named) where
+    pub named_none : named ≡ None → NameCollects sheet words scope text end (Err (NoName, 0))
     unfolding collection_detail
     named_none e = record {
       leads = λ t at ends.
@@ -169,7 +161,7 @@ module _ (sheet words text : List ℕ) (scope : Scope) (end : ℕ) where
           (5, [], no-name t (split text).others (name_of (split text).first) (ap name_of ends.first ∙ q), λ small. refl);
     }
 
-    module _ (name : Name) (found : named ≡ Named.Is name) (less : end < length text) (root : Root) (into : RootIs scope.schema name root) where
+    module _ (name : Name) (found : named ≡ Some name) (less : end < length text) (root : Root) (into : RootIs scope.schema name root) where
       abbrev first : Text
       first = (split (drop (end + 1) text)).first
 
@@ -181,7 +173,7 @@ module _ (sheet words text : List ℕ) (scope : Scope) (end : ℕ) where
           let q : name_of (take end text) ≡ some (name_is name) = rw found at is in
           name-path t (split text).others (name_of (split text).first) (name_is name) first others (ap name_of ends.first ∙ q) (ends.more less)
 
-      pub named-no-path : root ≡ Root.Nothing → NameCollects sheet words scope text end (Collected.No NoName 0)
+      pub named-no-path : root ≡ Root.Nothing → NameCollects sheet words scope text end (Err (NoName, 0))
       unfolding collection_detail
       named-no-path e = record {
         leads = λ t at ends.
@@ -189,14 +181,14 @@ module _ (sheet words text : List ℕ) (scope : Scope) (end : ℕ) where
             (5, [], to-root t ends ∙ in-nothing (root_of t (name_is name)) first others q, λ small. refl);
       }
 
-      pub named-absent : root ≡ Root.Missing → NameCollects sheet words scope text end (Collected.No NoName 0)
+      pub named-absent : root ≡ Root.Missing → NameCollects sheet words scope text end (Err (NoName, 0))
       named-absent e = record {
         leads = λ t at ends.
             let q : root_of t (name_is name) ≡ Reference.missing = rw e at (into.leads sheet words t at) in
             (6, [], to-root t ends ∙ in-missing (root_of t (name_is name)) first others q, λ small. absurd (omega arith));
       }
 
-      pub named-rooted : (at : ℕ) (h : Holder) (r : Collected) → root ≡ Root.At at h
+      pub named-rooted : (at : ℕ) (h : Holder) (r : Result (Optional ℕ) (CollectionFault × ℕ)) → root ≡ Root.At at h
           → RootCollects sheet words at h (take (length text - (end + 1)) (drop (end + 1) text)) r → NameCollects sheet words scope text end r
       named-rooted at h r e m = record {
         leads = λ t here ends.
@@ -232,53 +224,53 @@ module _ (t : Tree.Schema) (env : Environment) (e : ℕ) (text z : List ℕ) (be
   unfolding collection collection_text collection_bound collection_element
   text_path f s rest q o = rw (← behind, q, o)
 
-module _ (sheet rule words text z : List ℕ) (behind : z ≡ behind_first text) (scope : Scope) (end : ℕ) (ends : Ends z end) (found : Bound)
+module _ (sheet rule words text z : List ℕ) (behind : z ≡ behind_first text) (scope : Scope) (end : ℕ) (ends : Ends z end) (found : Optional (Optional ℕ))
     (is : BoundIs rule scope (take end z) found) where
   same_name : (env : Environment) → bound (split z).first env ≡ bound (take end z) env
   same_name env = ap (λ (s : Text). bound s env) ends.first
 
-  free : found ≡ Bound.Nothing → (env : Environment) → EnvironmentAt sheet rule words scope env → bound (split z).first env ≡ none
+  free : found ≡ None → (env : Environment) → EnvironmentAt sheet rule words scope env → bound (split z).first env ≡ none
   free e env at = let q : bound (take end z) env ≡ none = rw e at (is.leads sheet words env at) in same_name env ∙ q
 
-  pub collection-named : (b : Bool) (r : Collected) → found ≡ Bound.Nothing → b ≡ begins_with_dollar text → b ≡ true → NameCollects sheet words scope z end r
+  pub collection-named : (b : Bool) (r : Result (Optional ℕ) (CollectionFault × ℕ)) → found ≡ None → b ≡ begins_with_dollar text → b ≡ true → NameCollects sheet words scope z end r
       → CollectionIs sheet rule words scope text r
   collection-named b r e d q m = record {
     leads = λ setting t env entry at.
         rw (text-named t env entry text z behind (free e env at.binders) (sym d ∙ q)) (m.leads t at.schema ends);
   }
 
-  pub collection-plain : (b : Bool) → found ≡ Bound.Nothing → b ≡ begins_with_dollar text → b ≡ false → CollectionIs sheet rule words scope text (Collected.No NoName 0)
+  pub collection-plain : (b : Bool) → found ≡ None → b ≡ begins_with_dollar text → b ≡ false → CollectionIs sheet rule words scope text (Err (NoName, 0))
   unfolding collection_detail
   collection-plain b e d q = record {
     leads = λ setting t env entry at. (5, [], text-plain t env entry text z behind (free e env at.binders) (sym d ∙ q), λ small. refl);
   }
 
-  module _ (x : Element) (to : found ≡ Bound.To x) where
+  module _ (x : Optional ℕ) (to : found ≡ Some x) where
     bound-to : (env : Environment) → EnvironmentAt sheet rule words scope env → (o : Option Field) × (bound (take end z) env ≡ some o) × BoundElement sheet words x o
     bound-to env at = rw to at (is.leads sheet words env at)
 
-    pub collection-any : x ≡ Unknown → CollectionIs sheet rule words scope text Collected.Unknown
+    pub collection-any : x ≡ None → CollectionIs sheet rule words scope text (Ok None)
     collection-any e = record {
       leads = λ setting t env entry at.
           let q = bound-to env at.binders in
           text-any t env entry text z behind (same_name env ∙ q.1 ∙ ap some (element-unknown sheet words x q.0 e q.2));
     }
 
-    module _ (k : ℕ) (known_at_lem : x ≡ Known k) where
+    module _ (k : ℕ) (known_at_lem : x ≡ Some k) where
       to-field : (env : Environment) → EnvironmentAt sheet rule words scope env → (f : Field) × (bound (split z).first env ≡ some (some f)) × SlotHolds sheet words k f
       to-field env at =
           let q = bound-to env at in
           let f = element-known sheet words k x q.0 known_at_lem q.2 in
           (f.0, same_name env ∙ q.1 ∙ ap some f.1, f.2)
 
-      pub collection-whole : end ≡ length z → CollectionIs sheet rule words scope text Collected.Unknown
+      pub collection-whole : end ≡ length z → CollectionIs sheet rule words scope text (Ok None)
       collection-whole whole = record {
         leads = λ setting t env entry at.
             let q = to-field env at.binders in
             text-whole t env entry text z behind q.0 q.1 (ends.last whole);
       }
 
-      pub collection-path : (c r : Collected) → (end ≡ length z → ⊥) → FieldsAt sheet words k (take (length z - (end + 1)) (drop (end + 1) z)) c → ElementIs sheet words c r
+      pub collection-path : (c r : Result (Optional ℕ) (CollectionFault × ℕ)) → (end ≡ length z → ⊥) → FieldsAt sheet words k (take (length z - (end + 1)) (drop (end + 1) z)) c → ElementIs sheet words c r
           → CollectionIs sheet rule words scope text r
       collection-path c r more m element = record {
         leads = λ setting t env entry at.

@@ -1,4 +1,5 @@
 -- The nine names, and the rows of the table.
+use Rattle.std.specs.Prelude.{Option, Some, None}
 use Prim.Native.Nat.{ℕ, ◌+◌, ◌<◌, ◌≤◌}
 use native.Mathlib.Numerals.{add-one}
 use mathlib.Core.Bool.{Bool, true, false, not}
@@ -17,8 +18,6 @@ use Rattle.reference.specs.Table as Table
 use Rattle.reference.specs.Table.{stock_row}
 use Rattle.scope.specs.Names.{name_is, row_by, may_read_by, NamedIs, other_names, OtherIs}
 use Rattle.scope.specs.declared.name.Row.{Row}
-use Rattle.scope.specs.declared.name.Named.{Named}
-use Rattle.scope.specs.declared.name.Named.TheVariants.{Is, Nothing}
 use Rattle.scope.specs.declared.name.Name.{Name}
 use Rattle.scope.specs.declared.name.Name.TheVariants.{Id, Entity, Version, Fields, State, ToState, FromState, Args, OldFields}
 
@@ -46,9 +45,9 @@ without-fields : (t : List ℕ) (b : Bool) → b ≡ same_bytes (spelling Settin
 unfolding name_of named
 without-fields t b p q = rw (sym p ∙ q)
 
-pub named_other : (t : List ℕ) (b : Bool) → b ≡ same_bytes (spelling Setting.fields) t → b ≡ false → (r : Named) → OtherIs t r → NamedIs t r
-named_other t b p q (Is n) o = without-fields t b p q ∙ o
-named_other t b p q Nothing o = without-fields t b p q ∙ o
+pub named_other : (t : List ℕ) (b : Bool) → b ≡ same_bytes (spelling Setting.fields) t → b ≡ false → (r : Option Name) → OtherIs t r → NamedIs t r
+named_other t b p q (Some n) o = without-fields t b p q ∙ o
+named_other t b p q None o = without-fields t b p q ∙ o
 
 -- One of some kinds
 

@@ -1,4 +1,5 @@
 -- References: how each way through the code answers what the definition says.
+use Rattle.std.specs.Prelude.{Option as Optional, Some, None, Result, Ok, Err}
 use Prim.Native.Nat.{ℕ, ◌+◌, ◌-◌, ◌<◌, ◌≤◌}
 use native.Mathlib.Omega.{arith}
 use mathlib.Core.Bool.{Bool, true, false}
@@ -18,29 +19,20 @@ use Rattle.schema.specs.Slot.{SlotHolds, HolderAt}
 use Rattle.schema.specs.Lookup.{FoundAt, LookedUp}
 use Rattle.schema.specs.Read.{SchemaAt}
 use Rattle.schema.specs.declared.index.Holder.{Holder}
-use Rattle.schema.specs.declared.lookup.Found.{Found}
-use Rattle.schema.specs.declared.lookup.Found.TheVariants as Found
 use Rattle.walk.specs.Dots.{Ends}
 use Rattle.walk.specs.DotLaws.{ends-length, rest-whole, segment-empty, segment-full}
 use Rattle.walk.specs.Answers.{reader_is, reference_detail}
 use Rattle.walk.specs.Steps.{Walks}
 use Rattle.walk.specs.declared.answer.ReferenceFault.TheVariants.{EmptyPath, UnknownRoot, RootNotAvailable, NoSuchReference}
-use Rattle.walk.specs.declared.answer.Readable.{Readable}
-use Rattle.walk.specs.declared.answer.Readable.TheVariants.{Yes, No}
 use Rattle.scope.specs.Names.{name_is, may_read_by, NamedIs}
 use Rattle.scope.specs.Scopes.{BoundElement, EnvironmentAt, SettingAt, BoundIs}
 use Rattle.scope.specs.Roots.{RootIs}
 use Rattle.scope.specs.References.{RootWalks, RootReads, NameReads, ReferenceReads}
 use Rattle.scope.specs.declared.name.Name.{Name}
-use Rattle.scope.specs.declared.name.Named.{Named}
-use Rattle.scope.specs.declared.name.Named.TheVariants as Named
-use Rattle.scope.specs.declared.binder.Element.{Element}
-use Rattle.scope.specs.declared.binder.Element.TheVariants.{Known, Unknown}
 use Rattle.scope.specs.declared.binder.Scope.{Scope}
-use Rattle.scope.specs.declared.binder.Bound.{Bound}
-use Rattle.scope.specs.declared.binder.Bound.TheVariants as Bound
 use Rattle.scope.specs.declared.root.Root.{Root}
 use Rattle.scope.specs.declared.root.Root.TheVariants as Root
+use Rattle.walk.specs.declared.answer.ReferenceFault.{ReferenceFault}
 
 -- A path after the record or the arguments, on the tree
 
@@ -62,7 +54,7 @@ module _ (reader : Reader) (service : Bool) (at : ℕ) (t : Tree.Holder) (s : Te
   walk-found f e l = rw (e, l)
 
 module _ (sheet words path : List ℕ) (at : ℕ) (h : Holder) (reader : Reader) (service : Bool) (n : ℕ) (ends : Ends path n) where
-  pub root-empty : n ≡ 0 → RootWalks sheet words at h path reader service (No EmptyPath at)
+  pub root-empty : n ≡ 0 → RootWalks sheet words at h path reader service (Err (EmptyPath, at))
   unfolding reference_detail
   root-empty z = record {
     leads = λ t here.
@@ -70,30 +62,30 @@ module _ (sheet words path : List ℕ) (at : ℕ) (h : Holder) (reader : Reader)
         ((split path).first ∷ (split path).others, walk-empty reader service at t (split path).first (split path).others e);
   }
 
-  module _ (found : Found) (looked : LookedUp sheet words h (take n path) found) (some_bytes : n ≡ 0 → ⊥) where
+  module _ (found : Optional ℕ) (looked : LookedUp sheet words h (take n path) found) (some_bytes : n ≡ 0 → ⊥) where
     full : is_empty (split path).first ≡ false
     full = ap is_empty ends.first ∙ segment-full (take n path) (λ z. some_bytes (ends-length ends ∙ z))
 
-    missing : found ≡ Found.Missing → (t : Tree.Holder) → HolderAt sheet words h t → lookup (split path).first t.members ≡ none
+    missing : found ≡ None → (t : Tree.Holder) → HolderAt sheet words h t → lookup (split path).first t.members ≡ none
     missing e t here = let l : lookup (take n path) t.members ≡ none = rw e at (looked t here) in rw ends.first l
 
-    found_at : (k : ℕ) → found ≡ Found.At k → (t : Tree.Holder) → HolderAt sheet words h t → FoundAt sheet words (split path).first t.members k
+    found_at : (k : ℕ) → found ≡ Some k → (t : Tree.Holder) → HolderAt sheet words h t → FoundAt sheet words (split path).first t.members k
     found_at k e t here = let l : FoundAt sheet words (take n path) t.members k = rw e at (looked t here) in rw ends.first l
 
-    pub root-open : found ≡ Found.Missing → h.opened ≡ true → RootWalks sheet words at h path reader service Yes
+    pub root-open : found ≡ None → h.opened ≡ true → RootWalks sheet words at h path reader service (Ok tt)
     root-open e o = record {
       leads = λ t here.
           rw (walk-open reader service at t (split path).first (split path).others full (missing e t here) (sym here.marked ∙ o)) tt;
     }
 
-    pub root-closed : found ≡ Found.Missing → h.opened ≡ false → RootWalks sheet words at h path reader service (No UnknownRoot at)
+    pub root-closed : found ≡ None → h.opened ≡ false → RootWalks sheet words at h path reader service (Err (UnknownRoot, at))
     unfolding reference_detail
     root-closed e o = record {
       leads = λ t here.
           ((split path).first ∷ (split path).others, walk-closed reader service at t (split path).first (split path).others full (missing e t here) (sym here.marked ∙ o));
     }
 
-    pub root-last : (k : ℕ) → found ≡ Found.At k → n ≡ length path → RootWalks sheet words at h path reader service Yes
+    pub root-last : (k : ℕ) → found ≡ Some k → n ≡ length path → RootWalks sheet words at h path reader service (Ok tt)
     unfolding travel
     root-last k e end = record {
       leads = λ t here.
@@ -101,7 +93,7 @@ module _ (sheet words path : List ℕ) (at : ℕ) (h : Holder) (reader : Reader)
           rw (walk-found reader service at t (split path).first (split path).others l.f full l.found, ends.last end) tt;
     }
 
-    pub root-more : (k : ℕ) (r : Readable) → found ≡ Found.At k → (n ≡ length path → ⊥)
+    pub root-more : (k : ℕ) (r : Result Unit (ReferenceFault × ℕ)) → found ≡ Some k → (n ≡ length path → ⊥)
         → Walks sheet words k (take (length path - (n + 1)) (drop (n + 1) path)) reader service r → RootWalks sheet words at h path reader service r
     root-more k r e more m = record {
       leads = λ t here.
@@ -137,7 +129,7 @@ module _ (setting : Setting) (n : Setting.Name) (s : Text) (path : List Text) wh
   no-root x e = rw e
 
 module _ (sheet words path : List ℕ) (scope : Scope) (name : Name) (root : Root) (is : RootIs scope.schema name root) where
-  pub root-no-path : root ≡ Root.Nothing → RootReads sheet words scope name path (No NoSuchReference 0)
+  pub root-no-path : root ≡ Root.Nothing → RootReads sheet words scope name path (Err (NoSuchReference, 0))
   unfolding reference_detail
   root-no-path e = record {
     leads = λ setting t v at.
@@ -145,7 +137,7 @@ module _ (sheet words path : List ℕ) (scope : Scope) (name : Name) (root : Roo
         ((split path).first ∷ (split path).others, no-root setting (name_is name) (split path).first (split path).others (root_of t (name_is name)) q);
   }
 
-  pub root-absent : root ≡ Root.Missing → RootReads sheet words scope name path (No RootNotAvailable 0)
+  pub root-absent : root ≡ Root.Missing → RootReads sheet words scope name path (Err (RootNotAvailable, 0))
   unfolding reference_detail
   root-absent e = record {
     leads = λ setting t v at.
@@ -158,7 +150,7 @@ module _ (sheet words path : List ℕ) (scope : Scope) (name : Name) (root : Roo
         → (u : Tree.Holder) × (root_of t (name_is name) ≡ Reference.root at u) × HolderAt sheet words h u
     the-root t here = rw there at (is.leads sheet words t here)
 
-    pub root-read : (r : Readable) → b ≡ true → RootWalks sheet words at h path (reader_is scope.reader) scope.service r → RootReads sheet words scope name path r
+    pub root-read : (r : Result Unit (ReferenceFault × ℕ)) → b ≡ true → RootWalks sheet words at h path (reader_is scope.reader) scope.service r → RootReads sheet words scope name path r
     root-read r can m = record {
       leads = λ setting t v here.
           let q = the-root t here in
@@ -166,7 +158,7 @@ module _ (sheet words path : List ℕ) (scope : Scope) (name : Name) (root : Roo
           (m.leads q.0 q.2);
     }
 
-    pub root-unread : b ≡ false → RootReads sheet words scope name path (No RootNotAvailable 0)
+    pub root-unread : b ≡ false → RootReads sheet words scope name path (Err (RootNotAvailable, 0))
     unfolding reference_detail
     root-unread cannot = record {
       leads = λ setting t v here.
@@ -195,11 +187,11 @@ module _ (setting : Setting) (t : Tree.Schema) (path : List Text) where
   name-path x n s rest e p = rw (e, p)
 
 module _ (sheet words text : List ℕ) (scope : Scope) (end : ℕ) where
-  pub name-behind : length text < end → NameReads sheet words scope text end Yes
+  pub name-behind : length text < end → NameReads sheet words scope text end (Ok tt)
   name-behind past = record { leads = λ setting t v at ends. absurd (omega (arith, ends.within)) }
 
-  module _ (named : Named) (is : NamedIs (take end text) named) where
-    pub name-none : named ≡ Named.Nothing → NameReads sheet words scope text end (No NoSuchReference 0)
+  module _ (named : Optional Name) (is : NamedIs (take end text) named) where
+    pub name-none : named ≡ None → NameReads sheet words scope text end (Err (NoSuchReference, 0))
     unfolding reference_detail
     name-none e = record {
       leads = λ setting t v at ends.
@@ -207,11 +199,11 @@ module _ (sheet words text : List ℕ) (scope : Scope) (end : ℕ) where
           ((split text).others, no-name setting t (split text).others (name_of (split text).first) (ap name_of ends.first ∙ q));
     }
 
-    module _ (name : Name) (found : named ≡ Named.Is name) where
+    module _ (name : Name) (found : named ≡ Some name) where
       so-named : Ends text end → name_of (split text).first ≡ some (name_is name)
       so-named ends = let q : name_of (take end text) ≡ some (name_is name) = rw found at is in ap name_of ends.first ∙ q
 
-      pub name-read : (b : Bool) → b ≡ may_read_by scope.row (name_is name) → b ≡ true → length text ≤ end → NameReads sheet words scope text end Yes
+      pub name-read : (b : Bool) → b ≡ may_read_by scope.row (name_is name) → b ≡ true → length text ≤ end → NameReads sheet words scope text end (Ok tt)
       name-read b allowed can last = record {
         leads = λ setting t v at ends.
             rw (name-alone setting t (split text).others (name_of (split text).first) (name_is name) (so-named ends) (ends.last (whole ends)) (may v (name_is name) ∙ sym allowed ∙ can)) tt;
@@ -219,7 +211,7 @@ module _ (sheet words text : List ℕ) (scope : Scope) (end : ℕ) where
         whole : Ends text end → end ≡ length text
         whole ends = let within = ends.within in omega arith
 
-      pub name-refused : (b : Bool) → b ≡ may_read_by scope.row (name_is name) → b ≡ false → length text ≤ end → NameReads sheet words scope text end (No NoSuchReference 0)
+      pub name-refused : (b : Bool) → b ≡ may_read_by scope.row (name_is name) → b ≡ false → length text ≤ end → NameReads sheet words scope text end (Err (NoSuchReference, 0))
       unfolding reference_detail
       name-refused b allowed cannot last = record {
         leads = λ setting t v at ends.
@@ -228,7 +220,7 @@ module _ (sheet words text : List ℕ) (scope : Scope) (end : ℕ) where
         whole : Ends text end → end ≡ length text
         whole ends = let within = ends.within in omega arith
 
-      pub name-rooted : (r : Readable) → end < length text → RootReads sheet words scope name (take (length text - (end + 1)) (drop (end + 1) text)) r
+      pub name-rooted : (r : Result Unit (ReferenceFault × ℕ)) → end < length text → RootReads sheet words scope name (take (length text - (end + 1)) (drop (end + 1) text)) r
           → NameReads sheet words scope text end r
       name-rooted r less m = record {
         leads = λ setting t v at ends.
@@ -256,50 +248,50 @@ module _ (setting : Setting) (t : Tree.Schema) (env : Environment) (text : List 
   unfolding reference from_bound from_element
   reference-known service f v e = rw (e, v)
 
-known-element : (sheet words : List ℕ) (k : ℕ) (o : Option Field) → BoundElement sheet words (Known k) o → (f : Field) × (o ≡ some f) × SlotHolds sheet words k f
+known-element : (sheet words : List ℕ) (k : ℕ) (o : Option Field) → BoundElement sheet words (Some k) o → (f : Field) × (o ≡ some f) × SlotHolds sheet words k f
 known-element sheet words k none h = absurd h
 known-element sheet words k (some f) h = (f, refl, h)
 
-pub element-known : (sheet words : List ℕ) (k : ℕ) (x : Element) (o : Option Field) → x ≡ Known k → BoundElement sheet words x o → (f : Field) × (o ≡ some f) × SlotHolds sheet words k f
+pub element-known : (sheet words : List ℕ) (k : ℕ) (x : Optional ℕ) (o : Option Field) → x ≡ Some k → BoundElement sheet words x o → (f : Field) × (o ≡ some f) × SlotHolds sheet words k f
 element-known sheet words k x o e h = known-element sheet words k o (rw e at h)
 
-unknown-element : (sheet words : List ℕ) (o : Option Field) → BoundElement sheet words Unknown o → o ≡ none
+unknown-element : (sheet words : List ℕ) (o : Option Field) → BoundElement sheet words None o → o ≡ none
 unknown-element sheet words none h = refl
 unknown-element sheet words (some f) h = absurd h
 
-pub element-unknown : (sheet words : List ℕ) (x : Element) (o : Option Field) → x ≡ Unknown → BoundElement sheet words x o → o ≡ none
+pub element-unknown : (sheet words : List ℕ) (x : Optional ℕ) (o : Option Field) → x ≡ None → BoundElement sheet words x o → o ≡ none
 element-unknown sheet words x o e h = unknown-element sheet words o (rw e at h)
 
-module _ (sheet rule words text : List ℕ) (scope : Scope) (end : ℕ) (ends : Ends text end) (found : Bound) (is : BoundIs rule scope (take end text) found) where
+module _ (sheet rule words text : List ℕ) (scope : Scope) (end : ℕ) (ends : Ends text end) (found : Optional (Optional ℕ)) (is : BoundIs rule scope (take end text) found) where
   same_name : (env : Environment) → bound (split text).first env ≡ bound (take end text) env
   same_name env = ap (λ (s : Text). bound s env) ends.first
 
-  pub reference-free : (r : Readable) → found ≡ Bound.Nothing → NameReads sheet words scope text end r → ReferenceReads sheet rule words scope text r
+  pub reference-free : (r : Result Unit (ReferenceFault × ℕ)) → found ≡ None → NameReads sheet words scope text end r → ReferenceReads sheet rule words scope text r
   reference-free r e m = record {
     leads = λ setting t env at.
         let q : bound (take end text) env ≡ none = rw e at (is.leads sheet words env at.binders) in
         rw (reference-unbound setting t env text (same_name env ∙ q)) (m.leads setting t at.set at.schema ends);
   }
 
-  module _ (x : Element) (to : found ≡ Bound.To x) where
+  module _ (x : Optional ℕ) (to : found ≡ Some x) where
     bound-to : (env : Environment) → EnvironmentAt sheet rule words scope env → (o : Option Field) × (bound (take end text) env ≡ some o) × BoundElement sheet words x o
     bound-to env at = rw to at (is.leads sheet words env at)
 
-    pub reference-unknown : x ≡ Unknown → ReferenceReads sheet rule words scope text Yes
+    pub reference-unknown : x ≡ None → ReferenceReads sheet rule words scope text (Ok tt)
     reference-unknown e = record {
       leads = λ setting t env at.
           let q = bound-to env at.binders in
           rw (reference-any setting t env text (same_name env ∙ q.1 ∙ ap some (element-unknown sheet words x q.0 e q.2))) tt;
     }
 
-    module _ (k : ℕ) (known_at_lem : x ≡ Known k) where
+    module _ (k : ℕ) (known_at_lem : x ≡ Some k) where
       to-field : (env : Environment) → EnvironmentAt sheet rule words scope env → (f : Field) × (bound (split text).first env ≡ some (some f)) × SlotHolds sheet words k f
       to-field env at =
           let q = bound-to env at in
           let f = element-known sheet words k x q.0 known_at_lem q.2 in
           (f.0, same_name env ∙ q.1 ∙ ap some f.1, f.2)
 
-      pub reference-whole : end ≡ length text → ReferenceReads sheet rule words scope text Yes
+      pub reference-whole : end ≡ length text → ReferenceReads sheet rule words scope text (Ok tt)
       unfolding travel
       reference-whole whole = record {
         leads = λ setting t env at.
@@ -307,7 +299,7 @@ module _ (sheet rule words text : List ℕ) (scope : Scope) (end : ℕ) (ends : 
             rw (reference-known setting t env text scope.service q.0 at.set.service q.1, ends.last whole) tt;
       }
 
-      pub reference-path : (r : Readable) → (end ≡ length text → ⊥) → Walks sheet words k (take (length text - (end + 1)) (drop (end + 1) text)) kernel scope.service r
+      pub reference-path : (r : Result Unit (ReferenceFault × ℕ)) → (end ≡ length text → ⊥) → Walks sheet words k (take (length text - (end + 1)) (drop (end + 1) text)) kernel scope.service r
           → ReferenceReads sheet rule words scope text r
       reference-path r more m = record {
         leads = λ setting t env at.

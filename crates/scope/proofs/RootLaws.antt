@@ -1,4 +1,5 @@
 -- What the names with a path lead into.
+use Rattle.std.specs.Prelude.{Some, None}
 use Prim.Native.Nat.{ℕ}
 use mathlib.Core.List.{List}
 use mathlib.Core.Option.{Option, none, some}
@@ -9,8 +10,6 @@ use Rattle.reference.specs.Reference.{arguments_root, root_of}
 use Rattle.schema.specs.Slot.{HolderAt}
 use Rattle.schema.specs.Read.{ArgumentsAt}
 use Rattle.schema.specs.declared.index.Holder.{Holder}
-use Rattle.schema.specs.declared.read.Arguments.{Arguments}
-use Rattle.schema.specs.declared.read.Arguments.TheVariants as Arguments
 use Rattle.schema.specs.declared.read.Schema.{Schema}
 use Rattle.scope.specs.Names.{name_is}
 use Rattle.scope.specs.Roots.{RootAt, RootIs}
@@ -30,12 +29,12 @@ into-args : (t : Tree.Schema) (name : Name) → name ≡ Args → root_of t (nam
 unfolding root_of name_is
 into-args t name e = rw e
 
-no_arguments : (sheet words : List ℕ) (a : Option Tree.Holder) → ArgumentsAt (HolderAt sheet words) Arguments.Absent a → arguments_root a ≡ Reference.missing
+no_arguments : (sheet words : List ℕ) (a : Option Tree.Holder) → ArgumentsAt (HolderAt sheet words) None a → arguments_root a ≡ Reference.missing
 unfolding arguments_root
 no_arguments sheet words none h = refl
 no_arguments sheet words (some t) h = absurd h
 
-some-arguments : (sheet words : List ℕ) (h : Holder) (a : Option Tree.Holder) → ArgumentsAt (HolderAt sheet words) (Arguments.Are h) a
+some-arguments : (sheet words : List ℕ) (h : Holder) (a : Option Tree.Holder) → ArgumentsAt (HolderAt sheet words) (Some h) a
     → RootAt sheet words (At 0 h) (arguments_root a)
 unfolding arguments_root
 some-arguments sheet words h none x = absurd x
@@ -48,12 +47,12 @@ module _ (s : Schema) (name : Name) where
   pub root-old-fields : name ≡ OldFields → RootIs s name (At 1 s.fields)
   root-old-fields e = record { leads = λ sheet words t at. (t.fields, into-old-fields t name e, at.fields) }
 
-  pub root-missing : name ≡ Args → s.arguments ≡ Arguments.Absent → RootIs s name Missing
+  pub root-missing : name ≡ Args → s.arguments ≡ None → RootIs s name Missing
   root-missing e a = record {
     leads = λ sheet words t at. into-args t name e ∙ no_arguments sheet words t.arguments (rw a at at.arguments);
   }
 
-  pub root-args : (h : Holder) → name ≡ Args → s.arguments ≡ Arguments.Are h → RootIs s name (At 0 h)
+  pub root-args : (h : Holder) → name ≡ Args → s.arguments ≡ Some h → RootIs s name (At 0 h)
   root-args h e a = record {
     leads = λ sheet words t at. rw (into-args t name e) (some-arguments sheet words h t.arguments (rw a at at.arguments));
   }

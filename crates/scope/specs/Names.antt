@@ -1,5 +1,5 @@
 -- The code's names beside those of the definitions.
-use Rattle.std.specs.Prelude.{Bool, List, [], ◌∷◌, ◌≡◌}
+use Rattle.std.specs.Prelude.{Bool, List, [], ◌∷◌, ◌≡◌, Option, Some, None}
 use Rattle.std.proofs.Math.Option.{none, some}
 use Rattle.definition.specs.Tree.{Text}
 use Rattle.reference.specs.Setting as Setting
@@ -8,8 +8,6 @@ use Rattle.reference.specs.Setting.{named, name_of}
 use Rattle.scope.specs.declared.name.Name.{Name}
 use Rattle.scope.specs.declared.name.Name.TheVariants.{Id, Entity, Version, Fields, State, ToState, FromState, Args, OldFields}
 use Rattle.scope.specs.declared.name.Row.{Row}
-use Rattle.scope.specs.declared.name.Named.{Named}
-use Rattle.scope.specs.declared.name.Named.TheVariants.{Is, Nothing}
 
 unfoldable pub name_is : Name → Setting.Name
 name_is Id = Setting.id
@@ -40,14 +38,14 @@ row_by r =
 abbrev pub may_read_by : Row → Setting.Name → Bool
 may_read_by r = Table.may_read_by (row_by r)
 
-abbrev pub NamedIs : Text → Named → Type 0
-NamedIs t (Is n) = name_of t ≡ some (name_is n)
-NamedIs t Nothing = name_of t ≡ none
+abbrev pub NamedIs : Text → Option Name → Type 0
+NamedIs t (Some n) = name_of t ≡ some (name_is n)
+NamedIs t None = name_of t ≡ none
 
 -- the names that are tried after `fields`
 abbrev pub other_names : List Setting.Name
 other_names = Setting.id ∷ Setting.entity ∷ Setting.version ∷ Setting.state ∷ Setting.to_state ∷ Setting.from_state ∷ Setting.args ∷ Setting.old_fields ∷ []
 
-abbrev pub OtherIs : Text → Named → Type 0
-OtherIs t (Is n) = named other_names t ≡ some (name_is n)
-OtherIs t Nothing = named other_names t ≡ none
+abbrev pub OtherIs : Text → Option Name → Type 0
+OtherIs t (Some n) = named other_names t ≡ some (name_is n)
+OtherIs t None = named other_names t ≡ none

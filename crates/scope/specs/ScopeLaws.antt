@@ -1,5 +1,5 @@
 -- A scope as it starts, and with one binder more.
-use Rattle.std.specs.Prelude.{ℕ, ◌<◌, ◌≤◌, Bool, List, [], ◌∷◌, ◌≡◌, length}
+use Rattle.std.specs.Prelude.{ℕ, ◌<◌, ◌≤◌, Bool, List, [], ◌∷◌, ◌≡◌, length, Option as Optional}
 use Rattle.std.proofs.Math.Option.{Option}
 use Rattle.std.proofs.Common.{◌∙◌}
 use Rattle.text.specs.Parts.{part_of}
@@ -16,7 +16,6 @@ use Rattle.walk.specs.declared.answer.Reader.{Reader}
 use Rattle.scope.specs.Names.{may_read_by}
 use Rattle.scope.specs.Scopes.{BoundElement, ScopeAt, Unbound, Binds}
 use Rattle.scope.specs.declared.name.Row.{Row}
-use Rattle.scope.specs.declared.binder.Element.{Element}
 use Rattle.scope.specs.declared.binder.Scope.{Scope}
 
 pub scope-unbound : (sheet rule words : List ℕ) (x : Row) (service : Bool) (y : Reader) (s : Schema) (r : Scope) (setting : Setting) (t : Tree.Schema) → length rule ≤ max_sheet_bytes → Unbound x service y s r
@@ -28,7 +27,7 @@ scope-unbound sheet rule words x service y s r setting t small u v names reader 
   binders = u.binders sheet rule words;
 }
 
-pub scope-bound : (sheet rule words : List ℕ) (scope : Scope) (name : Part) (element : Element) (r : Scope) (f : Option Field) (setting : Setting) (t : Tree.Schema)
+pub scope-bound : (sheet rule words : List ℕ) (scope : Scope) (name : Part) (element : Optional ℕ) (r : Scope) (f : Option Field) (setting : Setting) (t : Tree.Schema)
     (env : Environment) → Binds scope name element r → scope.count < 31 → BoundElement sheet words element f → ScopeAt sheet rule words scope setting t env
     → ScopeAt sheet rule words r setting t (record { name = part_of rule name; element = f } ∷ env)
 scope-bound sheet rule words scope name element r f setting t env b room e at = record {

@@ -1,5 +1,5 @@
 -- The code's scope beside the binders of the definitions.
-use Rattle.std.specs.Prelude.{ℕ, zero, suc, ◌≤◌, ◌<◌, Bool, List, [], ◌∷◌, ◌≡◌, length, get_or}
+use Rattle.std.specs.Prelude.{ℕ, zero, suc, ◌≤◌, ◌<◌, Bool, List, [], ◌∷◌, ◌≡◌, length, get_or, Option as Optional, Some, None}
 use Rattle.std.proofs.Math.Option.{Option, none, some}
 use Rattle.text.specs.Parts.{part_of}
 use Rattle.text.specs.declared.part.Part.{Part}
@@ -17,22 +17,18 @@ use Rattle.walk.specs.declared.answer.Reader.{Reader}
 use Rattle.scope.specs.Names.{may_read_by}
 use Rattle.scope.specs.Binders.{binder_name, binder_element}
 use Rattle.scope.specs.declared.name.Row.{Row}
-use Rattle.scope.specs.declared.binder.Element.{Element}
-use Rattle.scope.specs.declared.binder.Element.TheVariants.{Known, Unknown}
 use Rattle.scope.specs.declared.binder.Scope.{Scope}
-use Rattle.scope.specs.declared.binder.Bound.{Bound}
-use Rattle.scope.specs.declared.binder.Bound.TheVariants.{To, Nothing}
 
 -- the first `n` binders, innermost first
 unfoldable pub chain_of : ℕ → List ℕ → List ℕ
 chain_of zero bs = []
 chain_of (suc n) bs = get_or bs n 0 ∷ chain_of n bs
 
-abbrev pub BoundElement : (sheet words : List ℕ) → Element → Option Field → Type 0
-BoundElement sheet words (Known k) (some f) = SlotHolds sheet words k f
-BoundElement sheet words (Known k) none = ⊥
-BoundElement sheet words Unknown (some f) = ⊥
-BoundElement sheet words Unknown none = Unit {0}
+abbrev pub BoundElement : (sheet words : List ℕ) → Optional ℕ → Option Field → Type 0
+BoundElement sheet words (Some k) (some f) = SlotHolds sheet words k f
+BoundElement sheet words (Some k) none = ⊥
+BoundElement sheet words None (some f) = ⊥
+BoundElement sheet words None none = Unit {0}
 
 pub record BinderAt (sheet rule words : List ℕ) (x : ℕ) (b : Reference.Bound) : Type 0 where
   pub name : part_of rule (binder_name x) ≡ b.name
@@ -70,7 +66,7 @@ pub record Unbound (x : Row) (is_service : Bool) (y : Reader) (s : Schema) (r : 
   pub binders : (sheet rule words : List ℕ) → EnvironmentAt sheet rule words r []
 
 -- one more binder, while there is room; its name is a part of a rule sheet
-pub record Binds (scope : Scope) (name : Part) (element : Element) (r : Scope) : Type 0 where
+pub record Binds (scope : Scope) (name : Part) (element : Optional ℕ) (r : Scope) : Type 0 where
   pub row : r.row ≡ scope.row
   pub service : r.service ≡ scope.service
   pub reader : r.reader ≡ scope.reader
@@ -79,9 +75,9 @@ pub record Binds (scope : Scope) (name : Part) (element : Element) (r : Scope) :
   pub binders : scope.count < 31 → (sheet rule words : List ℕ) (env : Environment) (f : Option Field) → length rule ≤ max_sheet_bytes → EnvironmentAt sheet rule words scope env
       → BoundElement sheet words element f → EnvironmentAt sheet rule words r (record { name = part_of rule name; element = f } ∷ env)
 
-abbrev pub BoundTo : (sheet words : List ℕ) → Bound → Option (Option Field) → Type 0
-BoundTo sheet words (To x) b = (f : Option Field) × (b ≡ some f) × BoundElement sheet words x f
-BoundTo sheet words Nothing b = b ≡ none
+abbrev pub BoundTo : (sheet words : List ℕ) → Optional (Optional ℕ) → Option (Option Field) → Type 0
+BoundTo sheet words (Some x) b = (f : Option Field) × (b ≡ some f) × BoundElement sheet words x f
+BoundTo sheet words None b = b ≡ none
 
-pub record BoundIs (rule : List ℕ) (scope : Scope) (name : Text) (r : Bound) : Type 0 where
+pub record BoundIs (rule : List ℕ) (scope : Scope) (name : Text) (r : Optional (Optional ℕ)) : Type 0 where
   pub leads : (sheet words : List ℕ) (env : Environment) → EnvironmentAt sheet rule words scope env → BoundTo sheet words r (bound name env)

@@ -18,15 +18,6 @@ const LENGTH_UNIT: u64 = 131072;
 
 const START_UNIT: u64 = LENGTH_UNIT * 65536;
 
-// The element of the collection that a binder goes through.
-#[derive(Clone, Copy)]
-pub enum Element {
-    // The field of that slot.
-    Known(usize),
-    // The schema does not declare it.
-    Unknown,
-}
-
 // What a condition is in. A binder is one number, since the scope is copied with every call: where its name starts in the rule sheet and how long it
 // is, and its element. The last binder is the innermost one.
 #[derive(Clone, Copy)]
@@ -39,28 +30,23 @@ pub struct Scope {
     pub count: usize,
 }
 
-#[derive(Clone, Copy)]
-pub enum Bound {
-    To(Element),
-    Nothing,
-}
-
 fn capped(n: usize) -> u64
     ensures { result ≡ capped n }
 {
     if n < MOST { n as u64 } else { MOST as u64 }
 }
 
-fn element_number(element: Element) -> u64
+// An element as a number: 0 where the schema does not declare it, else its slot and one.
+fn element_number(element: Option<usize>) -> u64
     ensures { (result ≡ element_number element) × (result < length_unit) }
 {
     match element {
-        Element::Known(slot) => capped(slot) + 1,
-        Element::Unknown => 0,
+        Some(slot) => capped(slot) + 1,
+        None => 0,
     }
 }
 
-fn binder_number(name: Part, element: Element) -> u64
+fn binder_number(name: Part, element: Option<usize>) -> u64
     ensures { result ≡ binder_number name element }
 {
     capped(name.start) * START_UNIT + capped(name.len) * LENGTH_UNIT + element_number(element)
@@ -75,14 +61,14 @@ fn name_in(binder: u64) -> Part
     }
 }
 
-fn element_in(binder: u64) -> Element
+fn element_in(binder: u64) -> Option<usize>
     ensures { result ≡ binder_element binder }
 {
     let number = (binder % LENGTH_UNIT) as usize;
     if number == 0 {
-        return Element::Unknown;
+        return None;
     }
-    Element::Known(number - 1)
+    Some(number - 1)
 }
 
 // A scope without binders.
@@ -100,8 +86,8 @@ pub fn unbound(row: Row, service: bool, reader: Reader, schema: Schema) -> Scope
     }
 }
 
-// The scope with one more binder inside.
-pub fn bind(scope: Scope, name: Part, element: Element) -> Scope
+// The scope with one more binder inside. Its element is the slot of the field that the binder goes through, or none where the schema does not declare it.
+pub fn bind(scope: Scope, name: Part, element: Option<usize>) -> Scope
     ensures { Binds scope name element result }
 {
     let count = scope.count;
@@ -123,26 +109,24 @@ pub fn bind(scope: Scope, name: Part, element: Element) -> Scope
     }
 }
 
-// The innermost binder of that name.
-pub fn find_binder(rule: &[u8], scope: Scope, name: &[u8]) -> Bound
+// The element of the innermost binder of that name: `Some(None)` where the schema does not declare it, `None` where there is no such binder.
+pub fn find_binder(rule: &[u8], scope: Scope, name: &[u8]) -> Option<Option<usize>>
     ensures { BoundIs rule.now scope name.now result }
 {
     let count = scope.count;
     // Most scopes have no binders: then none are copied.
     if count == 0 {
-        return Bound::Nothing;
+        return None;
     }
     if MAX_BINDERS < count {
-        return Bound::Nothing;
+        return None;
     }
     let binders = scope.binders;
-    let mut left = count;
-    while 0 < left {
-        let binder = binders[left - 1];
+    for i in 0..count {
+        let binder = binders[count - i - 1];
         if same_bytes(bytes_of(rule, name_in(binder)), name) {
-            return Bound::To(element_in(binder));
+            return Some(element_in(binder));
         }
-        left -= 1;
     }
-    Bound::Nothing
+    None
 }

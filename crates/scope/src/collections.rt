@@ -3,11 +3,11 @@ ghost use Rattle.std.specs.Prelude.{◌≡◌};
 ghost use Rattle.reference.specs.Reference.{behind_first, begins_with_dollar};
 ghost use Rattle.scope.specs.Collections.{RootCollects, NameCollects, CollectionIs};
 
-use crate::binder::{Bound, Element, Scope, find_binder};
-use crate::name::{Named, name_of};
+use crate::binder::{Scope, find_binder};
+use crate::name::name_of;
 use crate::root::{Root, root_of};
 use schema::index::Holder;
-use schema::lookup::{Found, lookup};
+use schema::lookup::lookup;
 use walk::answer::{Collected, CollectionFault};
 use walk::collection::{element_of, field_at};
 use walk::path::first_end;
@@ -45,14 +45,14 @@ fn collection_root(
     ensures { RootCollects schema.now words.now at holder path.now result }
 {
     let end = first_end(path);
-    let Found::At(slot) = lookup(schema, words, holder, &path[..end]) else {
+    let Some(slot) = lookup(schema, words, holder, &path[..end]) else {
         if holder.opened {
-            return Collected::Unknown;
+            return Ok(None);
         }
-        return Collected::No(CollectionFault::NoName, at);
+        return Err((CollectionFault::NoName, at));
     };
     if end == path.len() {
-        return element_of(schema, words, Collected::Known(slot));
+        return element_of(schema, words, Ok(Some(slot)));
     }
     element_of(
         schema,
@@ -66,15 +66,15 @@ fn collection_name(schema: &[u8], words: &[u32], scope: Scope, text: &[u8], end:
     ensures { NameCollects schema.now words.now scope text.now end result }
 {
     if text.len() <= end {
-        return Collected::No(CollectionFault::NoName, 0);
+        return Err((CollectionFault::NoName, 0));
     }
-    let Named::Is(name) = name_of(&text[..end]) else {
-        return Collected::No(CollectionFault::NoName, 0);
+    let Some(name) = name_of(&text[..end]) else {
+        return Err((CollectionFault::NoName, 0));
     };
     let index = scope.schema;
     match root_of(index, name) {
-        Root::Nothing => Collected::No(CollectionFault::NoName, 0),
-        Root::Missing => Collected::No(CollectionFault::NoName, 0),
+        Root::Nothing => Err((CollectionFault::NoName, 0)),
+        Root::Missing => Err((CollectionFault::NoName, 0)),
         Root::At(at, holder) => collection_root(schema, words, at, holder, &text[end + 1..]),
     }
 }
@@ -91,17 +91,17 @@ pub fn collection_element(
 {
     let behind = behind_first(text);
     let end = first_end(behind);
-    let Bound::To(element) = find_binder(rule, scope, &behind[..end]) else {
+    let Some(element) = find_binder(rule, scope, &behind[..end]) else {
         if begins_with_dollar(text) {
             return collection_name(schema, words, scope, behind, end);
         }
-        return Collected::No(CollectionFault::NoName, 0);
+        return Err((CollectionFault::NoName, 0));
     };
-    let Element::Known(slot) = element else {
-        return Collected::Unknown;
+    let Some(slot) = element else {
+        return Ok(None);
     };
     if end == behind.len() {
-        return Collected::Unknown;
+        return Ok(None);
     }
     element_of(
         schema,

@@ -19,49 +19,43 @@ pub enum Name {
     OldFields,
 }
 
-#[derive(Clone, Copy)]
-pub enum Named {
-    Is(Name),
-    Nothing,
-}
-
 // One of the names but `fields`.
-fn other_name(text: &[u8]) -> Named
+fn other_name(text: &[u8]) -> Option<Name>
     ensures { OtherIs text.now result }
 {
     if same_bytes(b"id", text) {
-        return Named::Is(Name::Id);
+        return Some(Name::Id);
     }
     if same_bytes(b"entity", text) {
-        return Named::Is(Name::Entity);
+        return Some(Name::Entity);
     }
     if same_bytes(b"version", text) {
-        return Named::Is(Name::Version);
+        return Some(Name::Version);
     }
     if same_bytes(b"state", text) {
-        return Named::Is(Name::State);
+        return Some(Name::State);
     }
     if same_bytes(b"to_state", text) {
-        return Named::Is(Name::ToState);
+        return Some(Name::ToState);
     }
     if same_bytes(b"from_state", text) {
-        return Named::Is(Name::FromState);
+        return Some(Name::FromState);
     }
     if same_bytes(b"args", text) {
-        return Named::Is(Name::Args);
+        return Some(Name::Args);
     }
     if same_bytes(b"old_fields", text) {
-        return Named::Is(Name::OldFields);
+        return Some(Name::OldFields);
     }
-    Named::Nothing
+    None
 }
 
 // The name that is spelled so, after the `$`. Most references begin with `fields`: that name is found without a call.
-pub fn name_of(text: &[u8]) -> Named
+pub fn name_of(text: &[u8]) -> Option<Name>
     ensures { NamedIs text.now result }
 {
     if same_bytes(b"fields", text) {
-        return Named::Is(Name::Fields);
+        return Some(Name::Fields);
     }
     other_name(text)
 }
@@ -69,12 +63,10 @@ pub fn name_of(text: &[u8]) -> Named
 pub fn one_of(kind: usize, kinds: &[usize]) -> bool
     ensures { result ≡ one_of kind kinds.now }
 {
-    let mut i = 0;
-    while i < kinds.len() {
-        if kind == kinds[i] {
+    for &other in kinds {
+        if kind == other {
             return true;
         }
-        i += 1;
     }
     false
 }

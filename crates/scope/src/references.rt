@@ -2,11 +2,11 @@
 ghost use Rattle.walk.specs.Answers.{reader_is};
 ghost use Rattle.scope.specs.References.{RootWalks, RootReads, NameReads, ReferenceReads};
 
-use crate::binder::{Bound, Element, Scope, find_binder};
-use crate::name::{Name, Named, may_read, name_of};
+use crate::binder::{Scope, find_binder};
+use crate::name::{Name, may_read, name_of};
 use crate::root::{Root, root_of};
 use schema::index::Holder;
-use schema::lookup::{Found, lookup};
+use schema::lookup::lookup;
 use walk::answer::{Readable, Reader, ReferenceFault};
 use walk::field_path::walk_field_path;
 use walk::path::first_end;
@@ -25,16 +25,16 @@ pub fn validate_reference_path(
 {
     let end = first_end(path);
     if end == 0 {
-        return Readable::No(ReferenceFault::EmptyPath, at);
+        return Err((ReferenceFault::EmptyPath, at));
     }
-    let Found::At(slot) = lookup(schema, words, holder, &path[..end]) else {
+    let Some(slot) = lookup(schema, words, holder, &path[..end]) else {
         if holder.opened {
-            return Readable::Yes;
+            return Ok(());
         }
-        return Readable::No(ReferenceFault::UnknownRoot, at);
+        return Err((ReferenceFault::UnknownRoot, at));
     };
     if end == path.len() {
-        return Readable::Yes;
+        return Ok(());
     }
     walk_field_path(schema, words, slot, &path[end + 1..], service, reader)
 }
@@ -45,8 +45,8 @@ fn validate_root(schema: &[u8], words: &[u32], scope: Scope, name: Name, path: &
 {
     let index = scope.schema;
     match root_of(index, name) {
-        Root::Nothing => Readable::No(ReferenceFault::NoSuchReference, 0),
-        Root::Missing => Readable::No(ReferenceFault::RootNotAvailable, 0),
+        Root::Nothing => Err((ReferenceFault::NoSuchReference, 0)),
+        Root::Missing => Err((ReferenceFault::RootNotAvailable, 0)),
         Root::At(at, holder) => {
             let row = scope.row;
             if may_read(row, name) {
@@ -61,7 +61,7 @@ fn validate_root(schema: &[u8], words: &[u32], scope: Scope, name: Name, path: &
                     reader,
                 );
             }
-            Readable::No(ReferenceFault::RootNotAvailable, 0)
+            Err((ReferenceFault::RootNotAvailable, 0))
         }
     }
 }
@@ -71,19 +71,19 @@ fn validate_name(schema: &[u8], words: &[u32], scope: Scope, text: &[u8], end: u
     ensures { NameReads schema.now words.now scope text.now end result }
 {
     if text.len() < end {
-        return Readable::Yes;
+        return Ok(());
     }
-    let Named::Is(name) = name_of(&text[..end]) else {
-        return Readable::No(ReferenceFault::NoSuchReference, 0);
+    let Some(name) = name_of(&text[..end]) else {
+        return Err((ReferenceFault::NoSuchReference, 0));
     };
     if end < text.len() {
         return validate_root(schema, words, scope, name, &text[end + 1..]);
     }
     let row = scope.row;
     if may_read(row, name) {
-        return Readable::Yes;
+        return Ok(());
     }
-    Readable::No(ReferenceFault::NoSuchReference, 0)
+    Err((ReferenceFault::NoSuchReference, 0))
 }
 
 // Whether the reference of that text, after its `$`, can be read. A binder wins over all other names, and its walk is always the kernel's.
@@ -97,14 +97,14 @@ pub fn validate_reference(
     ensures { ReferenceReads schema.now rule.now words.now scope text.now result }
 {
     let end = first_end(text);
-    let Bound::To(element) = find_binder(rule, scope, &text[..end]) else {
+    let Some(element) = find_binder(rule, scope, &text[..end]) else {
         return validate_name(schema, words, scope, text, end);
     };
-    let Element::Known(slot) = element else {
-        return Readable::Yes;
+    let Some(slot) = element else {
+        return Ok(());
     };
     if end == text.len() {
-        return Readable::Yes;
+        return Ok(());
     }
     walk_field_path(
         schema,

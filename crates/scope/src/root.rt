@@ -3,7 +3,7 @@ ghost use Rattle.scope.specs.Roots.{RootIs};
 
 use crate::name::Name;
 use schema::index::Holder;
-use schema::read::{Arguments, Schema};
+use schema::read::Schema;
 
 #[derive(Clone, Copy)]
 pub enum Root {
@@ -24,7 +24,7 @@ pub fn root_of(schema: Schema, name: Name) -> Root
         Name::OldFields => Root::At(1, fields),
         Name::Args => {
             let arguments = schema.arguments;
-            let Arguments::Are(holder) = arguments else {
+            let Some(holder) = arguments else {
                 return Root::Missing;
             };
             Root::At(0, holder)

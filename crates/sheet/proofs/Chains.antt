@@ -1,4 +1,5 @@
 -- Laws of what entries are made of, at a place of the bytes: each way through the code's readers.
+use Rattle.std.specs.Prelude.{Option as Optional, Some, None}
 use Prim.Native.Nat.{ℕ, ◌+◌, ◌-◌, ◌<◌, ◌≤◌}
 use mathlib.Core.Path.{◌≡◌, refl, sym}
 use mathlib.Core.Bool.{Bool, true, false}
@@ -19,23 +20,17 @@ use Rattle.text.specs.ByteReaders.{byte, comma, bytes}
 use Rattle.text.specs.Parts.{part_of, optional_of}
 use Rattle.text.specs.ReadAt.{ReadsTo, Refuses, NumeralIs, StartsWith}
 use Rattle.text.specs.ReadAtLaws.{bind-refused, bind-pure, then-refused, then-refuses, then-reads, then-then}
-use Rattle.text.specs.declared.numeral.NumeralRead.{NumeralRead}
-use Rattle.text.specs.declared.numeral.NumeralRead.TheVariants.{Is, Bad}
-use Rattle.text.specs.declared.part.OptionalPart.TheVariants.{Is as Present, Absent as Missing}
 use Rattle.sheet.specs.Entries.{max_text, dash, item, mark, text_length, text, optional_text}
 use Rattle.sheet.specs.Pieces.{first, dashed, last_text}
 use Rattle.sheet.specs.Places.{IsDashed, TextIs, LastTextIs, length_of, OptionalIs}
-use Rattle.sheet.specs.declared.entry.Length.{Length}
-use Rattle.sheet.specs.declared.entry.Length.TheVariants.{Of, Absent}
-use Rattle.sheet.specs.declared.entry.OptionalRead.TheVariants as optional
 
 pub then-numeral : (p : Reader (List ℕ) (Unit {0})) (q : Reader (List ℕ) ℕ) {s : List ℕ} {at mid : ℕ} {a : Unit {0}} (low high : ℕ) → ReadsTo p s at a mid
-    → (r : NumeralRead) → NumeralIs q low high s mid r → NumeralIs (p >> q) low high s at r
-then-numeral p q low high e (Is n next) f = (then-reads p q e f.0, f.1, f.2)
-then-numeral p q low high e Bad f = then-refuses p q e f
+    → (r : Optional (ℕ × ℕ)) → NumeralIs q low high s mid r → NumeralIs (p >> q) low high s at r
+then-numeral p q low high e (Some (n, next)) f = (then-reads p q e f.0, f.1, f.2)
+then-numeral p q low high e None f = then-refuses p q e f
 
 pub item-some : {s : List ℕ} {at : ℕ} {u : Unit {0}} (low high : ℕ) → ReadsTo (byte 44) s at u (at + 1)
-    → (r : NumeralRead) → NumeralIs (numeral low high) low high s (at + 1) r → NumeralIs (item low high) low high s at r
+    → (r : Optional (ℕ × ℕ)) → NumeralIs (numeral low high) low high s (at + 1) r → NumeralIs (item low high) low high s at r
 unfolding item
 item-some low high e r f = then-numeral comma (numeral low high) low high e r f
 
@@ -44,7 +39,7 @@ unfolding item
 item-none low high s at e = then-refused comma (numeral low high) s at e
 
 pub first_some : (letter : ℕ) {s : List ℕ} {at : ℕ} {u : Unit {0}} (low high : ℕ) → ReadsTo (byte letter) s at u (at + 1)
-    → (r : NumeralRead) → NumeralIs (item low high) low high s (at + 1) r → NumeralIs (first letter low high) low high s at r
+    → (r : Optional (ℕ × ℕ)) → NumeralIs (item low high) low high s (at + 1) r → NumeralIs (first letter low high) low high s at r
 unfolding first
 first_some letter low high e r f = then-numeral (byte letter) (item low high) low high e r f
 
@@ -156,14 +151,14 @@ module _ (s : List ℕ) (at : ℕ) (d : Refuses dashed s at) where
         within = e.within;
       }
 
-pub optional-absent : (l : Length) (s : List ℕ) (at : ℕ) → l ≡ Absent → at ≤ length s → OptionalIs l s at (optional.Is Missing at)
+pub optional-absent : (l : Optional ℕ) (s : List ℕ) (at : ℕ) → l ≡ None → at ≤ length s → OptionalIs l s at (Some (None, at))
 unfolding optional_text length_of optional_of pure
 optional-absent l s at e h = (rw e, omega arith, h)
 
-pub optional-present : (l : Length) (n : ℕ) (s : List ℕ) (at : ℕ) → l ≡ Of n → TextIs n s at true → OptionalIs l s at (optional.Is (Present (record { start = at; len = n })) (at + n))
+pub optional-present : (l : Optional ℕ) (n : ℕ) (s : List ℕ) (at : ℕ) → l ≡ Some n → TextIs n s at true → OptionalIs l s at (Some (Some (record { start = at; len = n }), at + n))
 unfolding optional_text length_of optional_of part_of ◌>>=◌ and_then pure
 optional-present l n s at e t = (rw (e, t.0), omega arith, t.1)
 
-pub optional-refused : (l : Length) (n : ℕ) (s : List ℕ) (at : ℕ) → l ≡ Of n → TextIs n s at false → OptionalIs l s at optional.Bad
+pub optional-refused : (l : Optional ℕ) (n : ℕ) (s : List ℕ) (at : ℕ) → l ≡ Some n → TextIs n s at false → OptionalIs l s at None
 unfolding optional_text length_of ◌>>=◌ and_then
 optional-refused l n s at e t = rw (e, t)

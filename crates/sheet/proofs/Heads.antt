@@ -1,4 +1,5 @@
 -- Laws of the heads at a place of the bytes: each way through the code's readers. A head is made of the pieces that the code reads.
+use Rattle.std.specs.Prelude.{Option as Optional, Some, None}
 use Prim.Native.Nat.{ℕ, ◌+◌, ◌≤◌}
 use mathlib.Core.Path.{◌≡◌, refl, ap, ◌∙◌}
 use mathlib.Core.Bool.{Bool, true, false, cond}
@@ -14,7 +15,6 @@ use Rattle.text.specs.ByteReaders.{byte, comma, line_end, bytes}
 use Rattle.text.specs.Parts.{part_of, optional_of}
 use Rattle.text.specs.ReadAt.{ReadsTo, Refuses}
 use Rattle.text.specs.declared.part.Part.{Part}
-use Rattle.text.specs.declared.part.OptionalPart.{OptionalPart}
 use Rattle.text.specs.ReadAtLaws.{bind-refused, bind-refuses, bind-reads, bind-pure, then-refused, then-refuses, then-reads, then-pure, and_then-assoc, then-then, then-bind, byte-other}
 use Rattle.number.specs.Grammar.{is_number}
 use Rattle.sheet.specs.Entries as entries
@@ -23,13 +23,12 @@ use Rattle.sheet.specs.Operators.{Shape, shape_of, literal, many, negation, one,
 use Rattle.sheet.specs.Pieces.{first, dashed, last_text, field_marks, field_texts, rule_texts, condition_row, condition_by, condition_from, kind_of, value_row, value_by, value_from}
 use Rattle.sheet.specs.Places.{TextIs, LastTextIs, holder_of, field_of, RuleTextsAre, RuleIs, condition_of, condition_count, value_of, value_count}
 use Rattle.sheet.specs.declared.schema_heads.FieldMarks.{FieldMarks}
-use Rattle.sheet.specs.declared.rule_heads.RuleHeadRead.{RuleHeadRead}
-use Rattle.sheet.specs.declared.rule_heads.RuleHeadRead.TheVariants as rule
 use Rattle.sheet.specs.declared.rule_heads.ConditionRow.{ConditionRow}
 use Rattle.sheet.specs.declared.rule_heads.ValueKind.{ValueKind}
 use Rattle.sheet.specs.declared.rule_heads.ValueKind.TheVariants as kind
 use Rattle.sheet.specs.declared.rule_heads.ValueRow.{ValueRow}
 use Rattle.sheet.proofs.Chains.{item-dashed, mark-refused}
+use Rattle.sheet.specs.declared.rule_heads.RuleHead.{RuleHead}
 
 -- Holders
 
@@ -188,7 +187,7 @@ module _ {s : List ℕ} {at a : ℕ} {m : FieldMarks} (f : ReadsTo field_marks s
   pub field-no-texts : Refuses field_texts s a → Refuses field_head s at
   field-no-texts e = field-pieces (drop at s) ∙ bind-refuses _ _ f (bind-refused _ _ s a e)
 
-  pub field-reads : (name : Part) (tag : OptionalPart) {next : ℕ} → ReadsTo field_texts s a (part_of s name, optional_of s tag) next
+  pub field-reads : (name : Part) (tag : Optional Part) {next : ℕ} → ReadsTo field_texts s a (part_of s name, optional_of s tag) next
       → ReadsTo field_head s at (field_of s (record { kind = m.kind; opened = m.opened; items = m.items; count = m.count; name = name; tag = tag })) next
   unfolding ◌>>=◌ and_then pure field_of field_by
   field-reads name tag e =
@@ -246,15 +245,15 @@ unfolding rule_head rule_texts rule_end either
 rule-pieces l = refl
 
 module _ {s : List ℕ} {at : ℕ} {u : Unit {0}} (c : ReadsTo (byte 82) s at u (at + 1)) where
-  pub rule-named : (r : RuleHeadRead) → RuleTextsAre s (at + 1) r → RuleIs s at r
+  pub rule-named : (r : Optional (RuleHead × ℕ)) → RuleTextsAre s (at + 1) r → RuleIs s at r
   unfolding or_else ◌>>◌ ◌>>=◌ and_then
-  rule-named (rule.Is h next) e =
+  rule-named (Some (h, next)) e =
       record {
         reads = rule-pieces (drop at s) ∙ rw (c.reads, e.reads);
         past = omega (arith, c.past, e.past);
         within = e.within;
       }
-  rule-named rule.Bad e = rule-pieces (drop at s) ∙ rw (c.reads, e, byte-other 82 84 (λ q. eqb-false 82 84 refl q) c)
+  rule-named None e = rule-pieces (drop at s) ∙ rw (c.reads, e, byte-other 82 84 (λ q. eqb-false 82 84 refl q) c)
 
 module _ (s : List ℕ) (at : ℕ) (c : Refuses (byte 82) s at) where
   pub rule-other : Refuses (byte 84) s at → Refuses rule_head s at

@@ -1,4 +1,5 @@
 -- Entries that were read before: what comes before their texts says where these are, and where the entry ends.
+use Rattle.std.specs.Prelude.{Option as Optional, Some, None}
 use Prim.Native.Nat.{ℕ, ◌+◌, ◌-◌, ◌≤◌, ◌<◌}
 use mathlib.Core.List.{List}
 use mathlib.Core.Option.{Option, some, none-ne-some}
@@ -12,17 +13,15 @@ use Rattle.text.specs.ByteReaders.{byte, comma, line_end}
 use Rattle.text.specs.ByteReaderLaws.{byte-sound}
 use Rattle.text.specs.Parts.{part_of, optional_of}
 use Rattle.text.specs.ReadAt.{ReadsTo, Refuses}
-use Rattle.text.specs.declared.part.OptionalPart.{OptionalPart}
 use Rattle.sheet.specs.Entries as entries
 use Rattle.sheet.specs.Entries.{max_text, max_count, item, text_length, text, optional_text, field_head}
 use Rattle.sheet.proofs.ItemLaws.{text-sound}
 use Rattle.sheet.specs.Pieces.{field_marks, field_texts}
 use Rattle.sheet.specs.Places.{length_of, field_of, tag_at, tag_bytes, KnownTo, Unread}
-use Rattle.sheet.specs.declared.entry.Length.{Length}
-use Rattle.sheet.specs.declared.entry.Length.TheVariants.{Of, Absent}
 use Rattle.sheet.specs.declared.schema_heads.FieldHead.{FieldHead}
 use Rattle.sheet.specs.declared.schema_heads.FieldMarks.{FieldMarks}
 use Rattle.sheet.proofs.Heads.{field_by, field-pieces}
+use Rattle.text.specs.declared.part.Part.{Part}
 
 pub refused : (s : List ℕ) (at : ℕ) → Refuses field_head s at → Unread s at
 refused s at e g t q = none-ne-some _ (sym e ∙ q)
@@ -39,15 +38,15 @@ text_at n s at x t e =
     let r = text-sound n (drop at s) x t e in
     (rw (r.0, ← r.1) (sym (take-append_seam x t)), rw (← (drop-drop n at s), r.0, ← r.1) (sym (drop-append_seam x t)))
 
-optional-at : (l : Length) (s : List ℕ) (at : ℕ) (x : Option (List ℕ)) (t : List ℕ) → Reads (optional_text (length_of l)) (drop at s) x t
+optional-at : (l : Optional ℕ) (s : List ℕ) (at : ℕ) (x : Option (List ℕ)) (t : List ℕ) → Reads (optional_text (length_of l)) (drop at s) x t
     → (x ≡ optional_of s (tag_at at l)) × (t ≡ drop (at + tag_bytes l) s)
 unfolding optional_text length_of optional_of tag_at part_of tag_bytes
-optional-at (Of n) s at x t e =
+optional-at (Some n) s at x t e =
     bind_inv _ _ _ e λ y s₁ e₁ e.
     let q = pure-inv _ _ e in
     let r = text_at n s at y s₁ e₁ in
     (rw (← q.0, r.0), rw (← q.1) r.1)
-optional-at Absent s at x t e =
+optional-at None s at x t e =
     let z : at + 0 ≡ at = omega arith in
     (sym (pure-inv _ _ e).0, rw (z, (pure-inv _ _ e).1))
 
@@ -63,7 +62,7 @@ texts_of len l = do
   line_end
   pure (name, tag)
 
-texts-at : (s : List ℕ) (at len : ℕ) (l : Length) (x : Texts) (t : List ℕ) → Reads (texts_of len (length_of l)) (drop at s) x t
+texts-at : (s : List ℕ) (at len : ℕ) (l : Optional ℕ) (x : Texts) (t : List ℕ) → Reads (texts_of len (length_of l)) (drop at s) x t
     → (x ≡ (take len (drop (at + 1) s), optional_of s (tag_at (at + 1 + len) l))) × (t ≡ drop (at + 1 + len + tag_bytes l + 1) s) × (at + 1 + len + tag_bytes l < length s)
 unfolding texts_of
 texts-at s at len l x t e =
@@ -79,7 +78,7 @@ texts-at s at len l x t e =
     (sym w.0 ∙ rw (q.0, r.0), sym w.1 ∙ z.0, z.1)
 
 -- the entry as a whole, once its marks and the lengths of its texts are read
-module _ {s : List ℕ} {at a b c len : ℕ} {m : FieldMarks} (f : ReadsTo field_marks s at m a) (n : ReadsTo (item 0 max_text) s a len b) (l : Length) (t : ReadsTo text_length s b (length_of l) c) where
+module _ {s : List ℕ} {at a b c len : ℕ} {m : FieldMarks} (f : ReadsTo field_marks s at m a) (n : ReadsTo (item 0 max_text) s a len b) (l : Optional ℕ) (t : ReadsTo text_length s b (length_of l) c) where
   known-texts : (x : Texts) (u : List ℕ) → field_texts (drop a s) ≡ some (x, u) → Reads (texts_of len (length_of l)) (drop c s) x u
   unfolding field_texts texts_of ◌>>=◌ and_then
   known-texts x u e = rw (n.reads, t.reads) at e
@@ -116,7 +115,7 @@ module _ {s : List ℕ} {at a b c len : ℕ} {m : FieldMarks} (f : ReadsTo field
   pub no-tag : {k : ℕ} → k ≡ tag_bytes l → length s - (c + 1 + len) ≤ k → Unread s at
   no-tag bytes few h u e = let z = (field-known h u e).2 in omega arith
 
-  pub known : {k : ℕ} {tag : OptionalPart} → m.count ≤ max_count → k ≡ tag_bytes l → tag ≡ tag_at (c + 1 + len) l → k < length s - (c + 1 + len)
+  pub known : {k : ℕ} {tag : Optional Part} → m.count ≤ max_count → k ≡ tag_bytes l → tag ≡ tag_at (c + 1 + len) l → k < length s - (c + 1 + len)
       → KnownTo s at
       (record { kind = m.kind; opened = m.opened; items = m.items; count = m.count; name = record { start = c + 1; len = len }; tag = tag })
       (c + 1 + len + k + 1)

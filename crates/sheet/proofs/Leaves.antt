@@ -1,4 +1,5 @@
 -- Laws of values that hold no others: a type of one digit by its bytes, and the rest of the entry by what the code reads.
+use Rattle.std.specs.Prelude.{Some}
 use Prim.Native.Nat.{ℕ, ◌+◌, ◌-◌, ◌<◌, ◌≤◌}
 use mathlib.Core.Path.{◌≡◌, refl}
 use mathlib.Core.Bool.{true, false, cond}
@@ -13,7 +14,6 @@ use Rattle.text.specs.CaseLaws.{by-test}
 use Rattle.text.specs.ByteReaders.{byte, comma}
 use Rattle.text.specs.Parts.{part_of}
 use Rattle.text.specs.ReadAt.{ReadsTo}
-use Rattle.text.specs.declared.numeral.NumeralRead.TheVariants as read
 use Rattle.text.specs.ReadAtLaws.{byte_reads}
 use Rattle.text.proofs.Numerals.{digits-stop, decimal-some, numeral-within}
 use Rattle.number.specs.Grammar.{is_number}
@@ -35,7 +35,7 @@ unfolding is_digit
 one-digit s i h low high e =
     let digit : is_digit (get_or s i 0) ≡ true = rw (le-leb 48 (get_or s i 0) (omega arith), le-leb (get_or s i 0) 57 (omega arith)) in
     let none_more : is_digit (get_or s (i + 1) 0) ≡ false = rw e in
-    let d = decimal-some 7 s i (omega arith) (λ q. omega arith) digit (read.Is (get_or s i 0 - 48) (i + 1)) (digits-stop (get_or s i 0 - 48) s (i + 1) h none_more, omega arith, omega arith) in
+    let d = decimal-some 7 s i (omega arith) (λ q. omega arith) digit (Some (get_or s i 0 - 48, i + 1)) (digits-stop (get_or s i 0 - 48) s (i + 1) h none_more, omega arith, omega arith) in
     numeral-within 1 7 d (omega arith) (omega arith)
 
 -- a type of one digit, by its bytes
@@ -51,8 +51,8 @@ module _ (s : List ℕ) (at : ℕ) (h : at + 3 < length s) (e₀ : get_or s at 0
       let r : at + 3 + 1 ≡ at + 4 = omega arith in
       let letter = byte-there 86 s at (omega arith) e₀ in
       let after = byte-there 44 s (at + 1) (omega arith) e₁ in
-      let number = item-some 1 7 after (read.Is (get_or s (at + 2) 0 - 48) (at + 3)) (type-digit, omega arith, omega arith) in
-      ((first_some 86 1 7 letter (read.Is (get_or s (at + 2) 0 - 48) (at + 3)) number).0, rw r at (byte-there 44 s (at + 3) h e₃), omega arith)
+      let number = item-some 1 7 after (Some (get_or s (at + 2) 0 - 48, at + 3)) (type-digit, omega arith, omega arith) in
+      ((first_some 86 1 7 letter (Some (get_or s (at + 2) 0 - 48, at + 3)) number).0, rw r at (byte-there 44 s (at + 3) h e₃), omega arith)
 
 pub no-type : (s : List ℕ) (at : ℕ) → LeafTypeIs s at 0
 no-type s at h = absurd (omega (arith, h))
@@ -67,7 +67,7 @@ module _ {s : List ℕ} {at number : ℕ} (type : ReadsTo (first 86 1 7) s at nu
     field : ReadsTo (item 0 most) s (at + 3) n end
     field =
         let r : at + 3 + 1 ≡ at + 4 = omega arith in
-        (item-some {s = s} {at = at + 3} 0 most (rw r type.1) (read.Is n end) (rw r length-read, omega arith, short)).0
+        (item-some {s = s} {at = at + 3} 0 most (rw r type.1) (Some (n, end)) (rw r length-read, omega arith, short)).0
 
     leaf-of : (k : ValueKind) → k ≡ kind_of number → most ≡ (value_row k).most → n ≡ cond (value_row k).texted n 0
         → true ≡ cond (value_row k).numeric (is_number (take n (drop (end + 1) s))) true

@@ -5,8 +5,7 @@ ghost use Rattle.sheet.specs.Entries.{item};
 ghost use Rattle.sheet.specs.Pieces.{first};
 ghost use Rattle.sheet.specs.Places.{MarkIs, IsDashed, TextIs, LastTextIs, LengthIs, OptionalIs};
 
-use text::numeral::NumeralRead;
-use text::part::{OptionalPart, Part};
+use text::part::Part;
 use text::{numeral, starts_with};
 
 // No text is longer than this.
@@ -15,61 +14,32 @@ pub const MAX_TEXT: u32 = 512;
 // No entry announces more others than this.
 pub const MAX_COUNT: u32 = 2048;
 
-#[derive(Clone, Copy)]
-pub enum MarkRead {
-    // The mark, and the place after it.
-    Is(bool, usize),
-    Bad,
-}
-
-// The length of a text that may be absent.
-#[derive(Clone, Copy)]
-pub enum Length {
-    Of(usize),
-    Absent,
-}
-
-#[derive(Clone, Copy)]
-pub enum LengthRead {
-    // The length, and the place after it.
-    Is(Length, usize),
-    Bad,
-}
-
-#[derive(Clone, Copy)]
-pub enum OptionalRead {
-    // The text, and the place after it.
-    Is(OptionalPart, usize),
-    Bad,
-}
-
-// The next field: a comma, and a numeral.
-pub fn item(s: &[u8], at: usize, low: u32, high: u32) -> NumeralRead
+// The next field: a comma, and a numeral. Its number, and the place after it.
+pub fn item(s: &[u8], at: usize, low: u32, high: u32) -> Option<(usize, usize)>
     ensures { NumeralIs (item low high) low high s.now at result }
 {
     if starts_with(s, at, b',') {
         return numeral::numeral(s, at + 1, low, high);
     }
-    NumeralRead::Bad
+    None
 }
 
-// An entry's letter and its first field.
-pub fn first(s: &[u8], at: usize, letter: u8, low: u32, high: u32) -> NumeralRead
+// An entry's letter and its first field: the number, and the place after it.
+pub fn first(s: &[u8], at: usize, letter: u8, low: u32, high: u32) -> Option<(usize, usize)>
     ensures { NumeralIs (first letter low high) low high s.now at result }
 {
     if starts_with(s, at, letter) {
         return item(s, at + 1, low, high);
     }
-    NumeralRead::Bad
+    None
 }
 
-pub fn mark(s: &[u8], at: usize) -> MarkRead
+// The next field, where it is 0 or 1: whether it is 1, and the place after it.
+pub fn mark(s: &[u8], at: usize) -> Option<(bool, usize)>
     ensures { MarkIs s.now at result }
 {
-    let NumeralRead::Is(n, next) = item(s, at, 0, 1) else {
-        return MarkRead::Bad;
-    };
-    MarkRead::Is(n == 1, next)
+    let (n, next) = item(s, at, 0, 1)?;
+    Some((n == 1, next))
 }
 
 // A field that is `-`.
@@ -112,27 +82,27 @@ pub fn is_last_text(s: &[u8], at: usize, len: usize) -> bool
     false
 }
 
-pub fn text_length(s: &[u8], at: usize) -> LengthRead
+// The next field, where it is the length of a text that may be absent: that length, and the place after it.
+pub fn text_length(s: &[u8], at: usize) -> Option<(Option<usize>, usize)>
     ensures { LengthIs s.now at result }
 {
     if is_dashed(s, at) {
-        return LengthRead::Is(Length::Absent, at + 2);
+        return Some((None, at + 2));
     }
-    let NumeralRead::Is(n, next) = item(s, at, 0, MAX_TEXT) else {
-        return LengthRead::Bad;
-    };
-    LengthRead::Is(Length::Of(n), next)
+    let (n, next) = item(s, at, 0, MAX_TEXT)?;
+    Some((Some(n), next))
 }
 
-pub fn optional_text(s: &[u8], at: usize, len: Length) -> OptionalRead
+// A text that may be absent, by its length, and the place after it.
+pub fn optional_text(s: &[u8], at: usize, len: Option<usize>) -> Option<(Option<Part>, usize)>
     requires { at ≤ length s.now }
     ensures { OptionalIs len s.now at result }
 {
-    let Length::Of(n) = len else {
-        return OptionalRead::Is(OptionalPart::Absent, at);
+    let Some(n) = len else {
+        return Some((None, at));
     };
     if is_text(s, at, n) {
-        return OptionalRead::Is(OptionalPart::Is(Part { start: at, len: n }), at + n);
+        return Some((Some(Part { start: at, len: n }), at + n));
     }
-    OptionalRead::Bad
+    None
 }

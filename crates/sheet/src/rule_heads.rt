@@ -7,10 +7,9 @@ ghost use Rattle.sheet.specs.Pieces.{shape_for, condition_row, condition_from, v
 ghost use Rattle.sheet.specs.Places.{RuleTextsAre, RuleIs, ConditionIs, PlainIs, ValueIs, LeafTypeIs, LeafEnds, KeyIs};
 
 use crate::entry;
-use crate::entry::{LengthRead, MAX_COUNT, MAX_TEXT, OptionalRead};
+use crate::entry::{MAX_COUNT, MAX_TEXT};
 use crate::operators::{ANY, COMPARE, ENDS_WITH, EXISTS, LITERAL, NOT, OPERATOR_COUNT, TRUTHY};
-use text::numeral::NumeralRead;
-use text::part::{OptionalPart, Part};
+use text::part::Part;
 use text::{numeral, part};
 
 // Types of values that are told apart, by their numbers; those up to TRUE are constants.
@@ -27,18 +26,12 @@ const OBJECT: u32 = 7;
 // The furthest place that is handed on four times over: no sheet is as long.
 const FURTHEST: usize = 1000000000;
 
+// A template is no absent rule, so this is no Option.
 #[derive(Clone, Copy)]
 pub enum RuleHead {
     // The name and the message.
-    Rule(OptionalPart, OptionalPart),
+    Rule(Option<Part>, Option<Part>),
     Template,
-}
-
-#[derive(Clone, Copy)]
-pub enum RuleHeadRead {
-    // The head, and the place after it.
-    Is(RuleHead, usize),
-    Bad,
 }
 
 // A condition's head by what follows it; the first number is the operator's where there are several.
@@ -57,13 +50,6 @@ pub enum ConditionHead {
 }
 
 #[derive(Clone, Copy)]
-pub enum ConditionRead {
-    // The head, and the place after it.
-    Is(ConditionHead, usize),
-    Bad,
-}
-
-#[derive(Clone, Copy)]
 pub enum ValueHead {
     // 1 null, 2 false, 3 true.
     Constant(usize),
@@ -73,20 +59,6 @@ pub enum ValueHead {
     Array(usize),
     // How many keys follow, each with its value.
     Object(usize),
-}
-
-#[derive(Clone, Copy)]
-pub enum ValueRead {
-    // The head, and the place after it.
-    Is(ValueHead, usize),
-    Bad,
-}
-
-#[derive(Clone, Copy)]
-pub enum KeyRead {
-    // The key, and the place after its entry.
-    Is(Part, usize),
-    Bad,
 }
 
 // What follows an operator (docs/FORMAT.md, "The rule sheet").
@@ -127,31 +99,24 @@ struct ValueRow {
     numeric: bool,
 }
 
-// A rule's entry after its letter.
-fn rule_texts(s: &[u8], at: usize) -> RuleHeadRead
+// A rule's entry after its letter: the head, and the place after the entry, as by each reader of a head here.
+fn rule_texts(s: &[u8], at: usize) -> Option<(RuleHead, usize)>
     ensures { RuleTextsAre s.now at result }
 {
-    let LengthRead::Is(name_len, a) = entry::text_length(s, at) else {
-        return RuleHeadRead::Bad;
-    };
-    let LengthRead::Is(message_len, b) = entry::text_length(s, a) else {
-        return RuleHeadRead::Bad;
-    };
+    let (name_len, a) = entry::text_length(s, at)?;
+    let (message_len, b) = entry::text_length(s, a)?;
     if text::starts_with(s, b, b',') {
-        let OptionalRead::Is(name, c) = entry::optional_text(s, b + 1, name_len) else {
-            return RuleHeadRead::Bad;
-        };
-        let OptionalRead::Is(message, end) = entry::optional_text(s, c, message_len) else {
-            return RuleHeadRead::Bad;
-        };
+        let (name, c) = entry::optional_text(s, b + 1, name_len)?;
+        let (message, end) = entry::optional_text(s, c, message_len)?;
         if text::starts_with(s, end, b'\n') {
-            return RuleHeadRead::Is(RuleHead::Rule(name, message), end + 1);
+            return Some((RuleHead::Rule(name, message), end + 1));
         }
     }
-    RuleHeadRead::Bad
+    None
 }
 
-pub fn rule_head(s: &[u8], at: usize) -> RuleHeadRead
+// A rule's entry, or a template's.
+pub fn rule_head(s: &[u8], at: usize) -> Option<(RuleHead, usize)>
     ensures { RuleIs s.now at result }
 {
     if text::starts_with(s, at, b'R') {
@@ -159,10 +124,10 @@ pub fn rule_head(s: &[u8], at: usize) -> RuleHeadRead
     }
     if text::starts_with(s, at, b'T') {
         if text::starts_with(s, at + 1, b'\n') {
-            return RuleHeadRead::Is(RuleHead::Template, at + 2);
+            return Some((RuleHead::Template, at + 2));
         }
     }
-    RuleHeadRead::Bad
+    None
 }
 
 // What follows an operator.
@@ -257,24 +222,21 @@ fn condition_from(shape: Shape, op: usize, n: usize, bind: Part) -> ConditionHea
     }
 }
 
-pub fn condition_head(s: &[u8], at: usize) -> ConditionRead
+// A condition's entry.
+pub fn condition_head(s: &[u8], at: usize) -> Option<(ConditionHead, usize)>
     ensures { ConditionIs s.now at result }
 {
-    let NumeralRead::Is(op, behind) = entry::first(s, at, b'C', 1, OPERATOR_COUNT) else {
-        return ConditionRead::Bad;
-    };
+    let (op, behind) = entry::first(s, at, b'C', 1, OPERATOR_COUNT)?;
     let shape = shape_of(op);
     let row = condition_row(shape);
-    let NumeralRead::Is(n, end) = entry::item(s, behind, row.least, row.most) else {
-        return ConditionRead::Bad;
-    };
+    let (n, end) = entry::item(s, behind, row.least, row.most)?;
     let len = text_len(row.bound, n);
     if entry::is_last_text(s, end, len) {
         let start = end + 1;
         let head = condition_from(shape, op, n, Part { start, len });
-        return ConditionRead::Is(head, start + len + 1);
+        return Some((head, start + len + 1));
     }
-    ConditionRead::Bad
+    None
 }
 
 // How many values follow a condition after which no conditions do, or 3 where some do.
@@ -315,7 +277,7 @@ pub fn plain_condition(s: &[u8], at: usize) -> usize
     if seems_to_hold(s, at) {
         return 0;
     }
-    let NumeralRead::Is(op, behind) = entry::first(s, at, b'C', 1, OPERATOR_COUNT) else {
+    let Some((op, behind)) = entry::first(s, at, b'C', 1, OPERATOR_COUNT) else {
         return 0;
     };
     let shape = shape_of(op);
@@ -324,7 +286,7 @@ pub fn plain_condition(s: &[u8], at: usize) -> usize
         return 0;
     }
     let row = condition_row(shape);
-    let NumeralRead::Is(_, end) = entry::item(s, behind, row.least, row.most) else {
+    let Some((_, end)) = entry::item(s, behind, row.least, row.most) else {
         return 0;
     };
     if FURTHEST < end {
@@ -411,26 +373,23 @@ fn value_from(kind: ValueKind, number: usize, n: usize, text: Part) -> ValueHead
     }
 }
 
-pub fn value_head(s: &[u8], at: usize) -> ValueRead
+// A value's entry.
+pub fn value_head(s: &[u8], at: usize) -> Option<(ValueHead, usize)>
     ensures { ValueIs s.now at result }
 {
-    let NumeralRead::Is(number, behind) = entry::first(s, at, b'V', 1, OBJECT) else {
-        return ValueRead::Bad;
-    };
+    let (number, behind) = entry::first(s, at, b'V', 1, OBJECT)?;
     let kind = kind_of(number);
     let row = value_row(kind);
-    let NumeralRead::Is(n, end) = entry::item(s, behind, 0, row.most) else {
-        return ValueRead::Bad;
-    };
+    let (n, end) = entry::item(s, behind, 0, row.most)?;
     let len = text_len(row.texted, n);
     if entry::is_last_text(s, end, len) {
         let start = end + 1;
         let text = Part { start, len };
         if is_right(row.numeric, part::bytes_of(s, text)) {
-            return ValueRead::Is(value_from(kind, number, n, text), start + len + 1);
+            return Some((value_from(kind, number, n, text), start + len + 1));
         }
     }
-    ValueRead::Bad
+    None
 }
 
 // The type's number in the entry of a value that holds no others, or 0. It is one digit, read with no loop.
@@ -478,7 +437,7 @@ pub fn leaf_end(s: &[u8], at: usize) -> usize
         return 0;
     }
     let most = leaf_most(number);
-    let NumeralRead::Is(len, end) = numeral::numeral(s, at + 4, 0, most) else {
+    let Some((len, end)) = numeral::numeral(s, at + 4, 0, most) else {
         return 0;
     };
     if entry::is_last_text(s, end, len) {
@@ -490,15 +449,14 @@ pub fn leaf_end(s: &[u8], at: usize) -> usize
     0
 }
 
-pub fn key_head(s: &[u8], at: usize) -> KeyRead
+// A key's entry: the key, and the place after the entry.
+pub fn key_head(s: &[u8], at: usize) -> Option<(Part, usize)>
     ensures { KeyIs s.now at result }
 {
-    let NumeralRead::Is(len, end) = entry::first(s, at, b'K', 0, MAX_TEXT) else {
-        return KeyRead::Bad;
-    };
+    let (len, end) = entry::first(s, at, b'K', 0, MAX_TEXT)?;
     if entry::is_last_text(s, end, len) {
         let start = end + 1;
-        return KeyRead::Is(Part { start, len }, start + len + 1);
+        return Some((Part { start, len }, start + len + 1));
     }
-    KeyRead::Bad
+    None
 }

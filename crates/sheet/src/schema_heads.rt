@@ -3,9 +3,8 @@ ghost use Rattle.std.specs.Prelude.{◌≡◌};
 ghost use Rattle.sheet.specs.Places.{HolderIs, ArgumentsAre, SchemaIs, FieldMarksAre, FieldTextsAre, FieldIs, tag_at, tag_bytes, KnownFieldIs};
 
 use crate::entry;
-use crate::entry::{Length, LengthRead, MAX_COUNT, MAX_TEXT, MarkRead, OptionalRead};
-use text::numeral::NumeralRead;
-use text::part::{OptionalPart, Part};
+use crate::entry::{MAX_COUNT, MAX_TEXT};
+use text::part::Part;
 
 // The kinds of fields that a walk tells apart; docs/FORMAT.md, "The schema sheet".
 pub const STRING: usize = 1;
@@ -31,36 +30,9 @@ pub struct HolderHead {
 }
 
 #[derive(Clone, Copy)]
-pub enum HolderHeadRead {
-    // The head, and the place after it.
-    Is(HolderHead, usize),
-    Bad,
-}
-
-#[derive(Clone, Copy)]
-pub enum ArgumentsHead {
-    Are(HolderHead),
-    Absent,
-}
-
-#[derive(Clone, Copy)]
-pub enum ArgumentsHeadRead {
-    // The head, and the place after it.
-    Is(ArgumentsHead, usize),
-    Bad,
-}
-
-#[derive(Clone, Copy)]
 pub struct SchemaHead {
     pub fields: HolderHead,
-    pub arguments: ArgumentsHead,
-}
-
-#[derive(Clone, Copy)]
-pub enum SchemaHeadRead {
-    // The head, and the place after it.
-    Is(SchemaHead, usize),
-    Bad,
+    pub arguments: Option<HolderHead>,
 }
 
 #[derive(Clone, Copy)]
@@ -74,23 +46,9 @@ pub struct FieldMarks {
 }
 
 #[derive(Clone, Copy)]
-pub enum FieldMarksRead {
-    // The marks, and the place after them.
-    Are(FieldMarks, usize),
-    Bad,
-}
-
-#[derive(Clone, Copy)]
 pub struct FieldTexts {
     pub name: Part,
-    pub tag: OptionalPart,
-}
-
-#[derive(Clone, Copy)]
-pub enum FieldTextsRead {
-    // The texts, and the place after them.
-    Are(FieldTexts, usize),
-    Bad,
+    pub tag: Option<Part>,
 }
 
 #[derive(Clone, Copy)]
@@ -102,77 +60,53 @@ pub struct FieldHead {
     // How many fields follow below this one.
     pub count: usize,
     pub name: Part,
-    pub tag: OptionalPart,
+    pub tag: Option<Part>,
 }
 
-#[derive(Clone, Copy)]
-pub enum FieldRead {
-    // The head, and the place after it.
-    Is(FieldHead, usize),
-    Bad,
-}
-
-fn holder_head(s: &[u8], at: usize) -> HolderHeadRead
+// The fields of an entry that say what a record or the arguments hold, and the place after them.
+fn holder_head(s: &[u8], at: usize) -> Option<(HolderHead, usize)>
     ensures { HolderIs s.now at result }
 {
-    let MarkRead::Is(opened, behind) = entry::mark(s, at) else {
-        return HolderHeadRead::Bad;
-    };
-    let NumeralRead::Is(count, next) = entry::item(s, behind, 0, MAX_COUNT) else {
-        return HolderHeadRead::Bad;
-    };
-    HolderHeadRead::Is(HolderHead { opened, count }, next)
+    let (opened, behind) = entry::mark(s, at)?;
+    let (count, next) = entry::item(s, behind, 0, MAX_COUNT)?;
+    Some((HolderHead { opened, count }, next))
 }
 
-fn arguments_head(s: &[u8], at: usize) -> ArgumentsHeadRead
+// The same of the arguments, which may be absent.
+fn arguments_head(s: &[u8], at: usize) -> Option<(Option<HolderHead>, usize)>
     ensures { ArgumentsAre s.now at result }
 {
     if entry::is_dashed(s, at) {
-        let NumeralRead::Is(_, next) = entry::item(s, at + 2, 0, 0) else {
-            return ArgumentsHeadRead::Bad;
-        };
-        return ArgumentsHeadRead::Is(ArgumentsHead::Absent, next);
+        let (_, next) = entry::item(s, at + 2, 0, 0)?;
+        return Some((None, next));
     }
-    let HolderHeadRead::Is(head, next) = holder_head(s, at) else {
-        return ArgumentsHeadRead::Bad;
-    };
-    ArgumentsHeadRead::Is(ArgumentsHead::Are(head), next)
+    let (head, next) = holder_head(s, at)?;
+    Some((Some(head), next))
 }
 
-pub fn schema_head(s: &[u8], at: usize) -> SchemaHeadRead
+// The sheet's first entry: the head, and the place after the entry, as by each reader of a head here.
+pub fn schema_head(s: &[u8], at: usize) -> Option<(SchemaHead, usize)>
     ensures { SchemaIs s.now at result }
 {
     if text::starts_with(s, at, b'H') {
-        let HolderHeadRead::Is(fields, behind) = holder_head(s, at + 1) else {
-            return SchemaHeadRead::Bad;
-        };
-        let ArgumentsHeadRead::Is(arguments, end) = arguments_head(s, behind) else {
-            return SchemaHeadRead::Bad;
-        };
+        let (fields, behind) = holder_head(s, at + 1)?;
+        let (arguments, end) = arguments_head(s, behind)?;
         if text::starts_with(s, end, b'\n') {
-            return SchemaHeadRead::Is(SchemaHead { fields, arguments }, end + 1);
+            return Some((SchemaHead { fields, arguments }, end + 1));
         }
     }
-    SchemaHeadRead::Bad
+    None
 }
 
-// A field's entry up to its count.
-fn field_marks(s: &[u8], at: usize) -> FieldMarksRead
+// A field's entry up to its count: the marks, and the place after them.
+fn field_marks(s: &[u8], at: usize) -> Option<(FieldMarks, usize)>
     ensures { FieldMarksAre s.now at result }
 {
-    let NumeralRead::Is(kind, a) = entry::first(s, at, b'F', 1, KIND_COUNT) else {
-        return FieldMarksRead::Bad;
-    };
-    let MarkRead::Is(opened, b) = entry::mark(s, a) else {
-        return FieldMarksRead::Bad;
-    };
-    let MarkRead::Is(items, c) = entry::mark(s, b) else {
-        return FieldMarksRead::Bad;
-    };
-    let NumeralRead::Is(count, next) = entry::item(s, c, 0, MAX_COUNT) else {
-        return FieldMarksRead::Bad;
-    };
-    FieldMarksRead::Are(
+    let (kind, a) = entry::first(s, at, b'F', 1, KIND_COUNT)?;
+    let (opened, b) = entry::mark(s, a)?;
+    let (items, c) = entry::mark(s, b)?;
+    let (count, next) = entry::item(s, c, 0, MAX_COUNT)?;
+    Some((
         FieldMarks {
             kind,
             opened,
@@ -180,56 +114,40 @@ fn field_marks(s: &[u8], at: usize) -> FieldMarksRead
             count,
         },
         next,
-    )
+    ))
 }
 
-// A field's entry after its count.
-fn field_texts(s: &[u8], at: usize) -> FieldTextsRead
+// A field's entry after its count: the texts, and the place after the entry.
+fn field_texts(s: &[u8], at: usize) -> Option<(FieldTexts, usize)>
     ensures { FieldTextsAre s.now at result }
 {
-    let NumeralRead::Is(len, a) = entry::item(s, at, 0, MAX_TEXT) else {
-        return FieldTextsRead::Bad;
-    };
-    let LengthRead::Is(tag_len, b) = entry::text_length(s, a) else {
-        return FieldTextsRead::Bad;
-    };
+    let (len, a) = entry::item(s, at, 0, MAX_TEXT)?;
+    let (tag_len, b) = entry::text_length(s, a)?;
     if text::starts_with(s, b, b',') {
         let start = b + 1;
         if entry::is_text(s, start, len) {
-            let OptionalRead::Is(tag, end) = entry::optional_text(s, start + len, tag_len) else {
-                return FieldTextsRead::Bad;
-            };
+            let (tag, end) = entry::optional_text(s, start + len, tag_len)?;
             if text::starts_with(s, end, b'\n') {
                 let name = Part { start, len };
-                return FieldTextsRead::Are(FieldTexts { name, tag }, end + 1);
+                return Some((FieldTexts { name, tag }, end + 1));
             }
         }
     }
-    FieldTextsRead::Bad
+    None
 }
 
 // A field's entry. The marks are read here and not by `field_marks`: that has one caller then, and both are built into theirs.
-pub fn field_head(s: &[u8], at: usize) -> FieldRead
+pub fn field_head(s: &[u8], at: usize) -> Option<(FieldHead, usize)>
     ensures { FieldIs s.now at result }
 {
-    let NumeralRead::Is(kind, after) = entry::first(s, at, b'F', 1, KIND_COUNT) else {
-        return FieldRead::Bad;
-    };
-    let MarkRead::Is(opened, b) = entry::mark(s, after) else {
-        return FieldRead::Bad;
-    };
-    let MarkRead::Is(items, c) = entry::mark(s, b) else {
-        return FieldRead::Bad;
-    };
-    let NumeralRead::Is(count, behind) = entry::item(s, c, 0, MAX_COUNT) else {
-        return FieldRead::Bad;
-    };
-    let FieldTextsRead::Are(texts, next) = field_texts(s, behind) else {
-        return FieldRead::Bad;
-    };
+    let (kind, after) = entry::first(s, at, b'F', 1, KIND_COUNT)?;
+    let (opened, b) = entry::mark(s, after)?;
+    let (items, c) = entry::mark(s, b)?;
+    let (count, behind) = entry::item(s, c, 0, MAX_COUNT)?;
+    let (texts, next) = field_texts(s, behind)?;
     let name = texts.name;
     let tag = texts.tag;
-    FieldRead::Is(
+    Some((
         FieldHead {
             kind,
             opened,
@@ -239,50 +157,44 @@ pub fn field_head(s: &[u8], at: usize) -> FieldRead
             tag,
         },
         next,
-    )
+    ))
 }
 
 // A tag of that length whose first byte is at `at`.
-fn tag_at(at: usize, len: Length) -> OptionalPart
+fn tag_at(at: usize, len: Option<usize>) -> Option<Part>
     ensures { result ≡ tag_at at len }
 {
     match len {
-        Length::Of(n) => OptionalPart::Is(Part { start: at, len: n }),
-        Length::Absent => OptionalPart::Absent,
+        Some(n) => Some(Part { start: at, len: n }),
+        None => None,
     }
 }
 
 // How many bytes a tag of that length takes.
-fn tag_bytes(len: Length) -> usize
+fn tag_bytes(len: Option<usize>) -> usize
     ensures { result ≡ tag_bytes len }
 {
     match len {
-        Length::Of(n) => n,
-        Length::Absent => 0,
+        Some(n) => n,
+        None => 0,
     }
 }
 
 // An entry that was read before: its texts are known to be UTF-8 and are not looked at again.
-pub fn known_field(s: &[u8], at: usize) -> FieldRead
+pub fn known_field(s: &[u8], at: usize) -> Option<(FieldHead, usize)>
     ensures { KnownFieldIs s.now at result }
 {
-    let FieldMarksRead::Are(marks, a) = field_marks(s, at) else {
-        return FieldRead::Bad;
-    };
-    let NumeralRead::Is(len, b) = entry::item(s, a, 0, MAX_TEXT) else {
-        return FieldRead::Bad;
-    };
-    let LengthRead::Is(tag_len, c) = entry::text_length(s, b) else {
-        return FieldRead::Bad;
-    };
+    let (marks, a) = field_marks(s, at)?;
+    let (len, b) = entry::item(s, a, 0, MAX_TEXT)?;
+    let (tag_len, c) = entry::text_length(s, b)?;
     let start = c + 1;
     let end = start + len;
     let bytes = tag_bytes(tag_len);
     if s.len() <= end {
-        return FieldRead::Bad;
+        return None;
     }
     if s.len() - end <= bytes {
-        return FieldRead::Bad;
+        return None;
     }
     let name = Part { start, len };
     let tag = tag_at(end, tag_len);
@@ -294,5 +206,5 @@ pub fn known_field(s: &[u8], at: usize) -> FieldRead
         name,
         tag,
     };
-    FieldRead::Is(head, end + bytes + 1)
+    Some((head, end + bytes + 1))
 }

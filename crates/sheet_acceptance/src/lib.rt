@@ -6,8 +6,6 @@ ghost use Rattle.definition.specs.Decode.{decode_schema, decode_rule};
 ghost use Rattle.sheet_acceptance.specs.Accepted.{accepted};
 
 use definition::limits::SCRATCH_WORDS;
-use rule::RuleRead;
-use schema::read::SchemaRead;
 
 // 1 for a schema sheet that is well formed, else 0.
 #[unsafe(no_mangle)]
@@ -15,10 +13,8 @@ pub extern "C" fn acceptance_schema(sheet: &[u8]) -> u32
     ensures { result ≡ accepted (decode_schema sheet.now) }
 {
     let mut scratch = [0u32; SCRATCH_WORDS];
-    match schema::read::read_schema(sheet, &mut scratch) {
-        SchemaRead::Good(_) => 1,
-        SchemaRead::Bad => 0,
-    }
+    let schema = schema::read::read_schema(sheet, &mut scratch);
+    if schema.is_some() { 1 } else { 0 }
 }
 
 // 1 for a rule sheet that is well formed, else 0.
@@ -27,8 +23,6 @@ pub extern "C" fn acceptance_rule(sheet: &[u8]) -> u32
     ensures { result ≡ accepted (decode_rule sheet.now) }
 {
     let mut scratch = [0u32; SCRATCH_WORDS];
-    match rule::read_rule(sheet, &mut scratch) {
-        RuleRead::Good(_) => 1,
-        RuleRead::Bad => 0,
-    }
+    let rule = rule::read_rule(sheet, &mut scratch);
+    if rule.is_some() { 1 } else { 0 }
 }

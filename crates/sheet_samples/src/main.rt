@@ -6,8 +6,6 @@ ghost use Rattle.std.specs.Prelude.{◌+◌, ◌≤◌, length};
 
 use byte_input::read_full;
 use definition::limits::SCRATCH_WORDS;
-use rule::RuleRead;
-use schema::read::SchemaRead;
 use std::io;
 
 const HEAD_BYTES: usize = 8;
@@ -46,18 +44,12 @@ fn three(s: &[u8], at: usize) -> usize
 
 fn accepts_schema(sheet: &[u8]) -> bool {
     let mut scratch = [0u32; SCRATCH_WORDS];
-    match schema::read::read_schema(sheet, &mut scratch) {
-        SchemaRead::Good(_) => true,
-        SchemaRead::Bad => false,
-    }
+    schema::read::read_schema(sheet, &mut scratch).is_some()
 }
 
 fn accepts_rule(sheet: &[u8]) -> bool {
     let mut scratch = [0u32; SCRATCH_WORDS];
-    match rule::read_rule(sheet, &mut scratch) {
-        RuleRead::Good(_) => true,
-        RuleRead::Bad => false,
-    }
+    rule::read_rule(sheet, &mut scratch).is_some()
 }
 
 fn accepts(letter: u8, sheet: &[u8]) -> bool {

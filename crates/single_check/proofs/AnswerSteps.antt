@@ -1,4 +1,5 @@
 -- The answer about two sheets: what the code found is what the check list shows, and its numbers are small.
+use Rattle.std.specs.Prelude.{Option as Optional, Ok, Err}
 use Prim.Native.Nat.{ℕ, ◌+◌, ◌*◌, ◌≤◌}
 use native.Mathlib.Omega.{arith}
 use mathlib.Core.Bool.{Bool, true, false, cond}
@@ -31,8 +32,6 @@ use Rattle.value_checks.specs.Shown.{Shown, passes, fails, shown_of, answer_show
 use Rattle.value_checks.specs.Verdicts.{number_of, failure_of, over_by, shown_with, shown_by}
 use Rattle.condition_checks.specs.Rules.{RuleJudged}
 use Rattle.value_checks.specs.declared.verdict.Fault.{Fault}
-use Rattle.value_checks.specs.declared.verdict.Over.{Over}
-use Rattle.value_checks.specs.declared.verdict.Verdict.TheVariants.{Pass, Defect}
 use Rattle.value_checks.specs.declared.verdict.Progress as Judged
 use Rattle.defect_path.specs.Path.{PathWritten}
 use Rattle.defect_path.specs.PathLaws.{HasPath, checks-have-paths}
@@ -117,7 +116,7 @@ module _ (set : Code.Setting) {schema sheet : List ℕ} {s : Schema} {words : Li
         rw (sym (shows t x short at rat) ∙ f) at (shown-within setting t x within.numbers)
 
     pub answer-accepted : {label before : List ℕ} {r : Outcome}
-        → a.verdict ≡ Pass
+        → a.verdict ≡ (Ok tt)
         → numbers_by r ≡ numbers_of (Result.accepted p)
         → Answered setting label schema sheet s words before before r
     unfolding shown_by shown_with answer_shown path_after
@@ -131,8 +130,8 @@ module _ (set : Code.Setting) {schema sheet : List ℕ} {s : Schema} {words : Li
               rw (checked-shows label t x short at rat f) (record { result = rw same at q; path = refl });
         }
 
-    pub answer-defect : {label before after : List ℕ} {fault : Fault} {entry : ℕ} {over : Over} {found : Finding} {place size family over_place over_place' written : ℕ}
-        → a.verdict ≡ Defect fault entry over
+    pub answer-defect : {label before after : List ℕ} {fault : Fault} {entry : ℕ} {over : Optional ℕ} {found : Finding} {place size family over_place over_place' written : ℕ}
+        → a.verdict ≡ Err (fault, entry, over)
         → FindingIs set.rule_kind fault found
         → Narrow entry place
         → PathWritten label sheet words found.number place before after written

@@ -1,4 +1,5 @@
 -- One rule sheet, by each way through its check.
+use Rattle.std.specs.Prelude.{Option as Optional, Some, None}
 use Prim.Native.Nat.{ℕ}
 use mathlib.Core.Bool.{Bool, true, false}
 use mathlib.Core.List.{List}
@@ -9,13 +10,9 @@ use Rattle.definition.specs.Decode.{decode_schema}
 use Rattle.definition.proofs.RoundTrip.{rule-round-trip}
 use Rattle.reference.specs.Setting.{Setting}
 use Rattle.schema.specs.declared.read.Schema.{Schema}
-use Rattle.schema.specs.declared.read.SchemaRead.{SchemaRead}
-use Rattle.schema.specs.declared.read.SchemaRead.TheVariants as SchemaRead
 use Rattle.rule.specs.Index.{RuleAt}
 use Rattle.rule.specs.Rule.{is_template, RuleAnswer}
 use Rattle.rule.specs.declared.RuleSheet.{RuleSheet}
-use Rattle.rule.specs.declared.RuleRead.{RuleRead}
-use Rattle.rule.specs.declared.RuleRead.TheVariants as RuleRead
 use Rattle.validation.specs.Result as Result
 use Rattle.validation.specs.Result.{is_taken, judged, numbers_of, path_after}
 use Rattle.single_check.specs.Outcomes.{numbers_by}
@@ -39,9 +36,9 @@ taken-let-in Templates (template v) = refl
 indexed-so : (sheet words : List ℕ) (x y : Rule) → ◌≡◌ {A = Option Rule} (some x) (some y) → RuleAt sheet words x → RuleAt sheet words y
 indexed-so sheet words x y e h = rw (some-injective x y e) at h
 
-module _ {takes : Takes} {setting : Setting} {label schema sheet path_before before : List ℕ} {q : SchemaRead} where
+module _ {takes : Takes} {setting : Setting} {label schema sheet path_before before : List ℕ} {q : Optional Schema} where
   pub sheet-no-schema : {r : Outcome}
-      → q ≡ SchemaRead.Bad
+      → q ≡ None
       → numbers_by r ≡ numbers_of (Result.refused 4)
       → SheetChecked takes setting label schema q sheet path_before path_before before before r
   unfolding sheet_answer judged path_after
@@ -54,9 +51,9 @@ module _ {takes : Takes} {setting : Setting} {label schema sheet path_before bef
             rw bad (record { result = n; path = refl });
       }
 
-  module _ {s : Schema} (e : q ≡ SchemaRead.Good s) {after : List ℕ} {a : RuleRead} (read : RuleAnswer sheet before after a) where
+  module _ {s : Schema} (e : q ≡ Some s) {after : List ℕ} {a : Optional RuleSheet} (read : RuleAnswer sheet before after a) where
     pub sheet-no-rule : {r : Outcome}
-        → a ≡ RuleRead.Bad
+        → a ≡ None
         → numbers_by r ≡ numbers_of (Result.refused 5)
         → SheetChecked takes setting label schema q sheet path_before path_before before after r
     unfolding sheet_answer judged taken_of path_after
@@ -70,7 +67,7 @@ module _ {takes : Takes} {setting : Setting} {label schema sheet path_before bef
               rw (good.reads, bad.0) (record { result = n; path = refl });
         }
 
-    module _ {t : RuleSheet} (f : a ≡ RuleRead.Good t) {x : Bool} (g : x ≡ is_let_in takes t.is_template) where
+    module _ {t : RuleSheet} (f : a ≡ Some t) {x : Bool} (g : x ≡ is_let_in takes t.is_template) where
       pub sheet-not-taken : {r : Outcome}
           → x ≡ false
           → numbers_by r ≡ numbers_of (Result.refused 5)
@@ -101,7 +98,7 @@ module _ {takes : Takes} {setting : Setting} {label schema sheet path_before bef
             kept = rule.kept;
             stands = rw e (λ y d. indexed-so sheet after rule.tree y (sym rule.reads ∙ d) rule.indexed);
             tells = λ is small room.
-                let good = still_read schema (SchemaRead.Good s) rule.kept (rw e at is) in
+                let good = still_read schema (Some s) rule.kept (rw e at is) in
                 let written = (rule-round-trip sheet rule.tree).0 rule.reads in
                 rw (good.reads, rule.reads, taken)
                 (n.tells good.tree rule.tree good.indexed rule.indexed written.1 (rw written.0 written.1.bytes) small room);

@@ -1,4 +1,5 @@
 -- The whole call: each way to its end gives what the definitions say of the call.
+use Rattle.std.specs.Prelude.{Option, Some, None, Ok, Err}
 use Prim.Native.Nat.{ℕ, ◌≤◌, ◌<◌}
 use native.Mathlib.Omega.{arith}
 use mathlib.Core.List.{List, []}
@@ -10,8 +11,6 @@ use Rattle.definition.specs.Decode.{decode_rule}
 use Rattle.reference.specs.Setting as Reference
 use Rattle.reference.specs.Table.{table_in, setting_under, or_stock}
 use Rattle.schema.specs.Read.{SchemaIs, SchemaAnswer}
-use Rattle.schema.specs.declared.read.SchemaRead.{SchemaRead}
-use Rattle.schema.specs.declared.read.SchemaRead.TheVariants as SchemaRead
 use Rattle.rule.specs.Index.{RuleAt}
 use Rattle.validation.specs.Result as Result
 use Rattle.validation.specs.Result.{Call, Heard, refusal, scratch_words, mark_bytes, Numbers, of_table, of_settings, early, first_refusal, judged, numbers_of, path_after, result_of, call_of}
@@ -27,9 +26,9 @@ use Rattle.single_check.specs.Sheets.{takes_of, sheet_answer, RuleStands, SheetC
 use Rattle.single_check.specs.SheetLaws.{front-schema, front-rule, front-both, sheet-scratch, roomy, sheets-decide, single-told}
 use Rattle.single_check.specs.Runs.{lent_run_of, marked_run_of, MeetsIndexed}
 use Rattle.single_check.specs.declared.settings.Setting.{Setting as CodeSetting}
-use Rattle.single_check.specs.declared.settings.Settled.TheVariants.{Set, Refused}
 use Rattle.single_check.specs.declared.sheets.Takes.{Takes}
 use Rattle.single_check.specs.declared.outcome.Outcome.{Outcome}
+use Rattle.schema.specs.declared.read.Schema.{Schema}
 
 not-due : {n : ℕ} (takes : Result.Takes) (kind semantics : ℕ) (label sheet : List ℕ) (path scratch : ℕ) → EarlyIs kind semantics label path scratch n → n ≡ 0
     → first_refusal (of_settings (asked_by takes kind semantics label sheet) (widths_by path scratch)) ≡ none
@@ -46,7 +45,7 @@ refused-some : {n : ℕ} → Heard (Result.refused n) → n ≡ 0 → ⊥
 refused-some (refusal {n} p) z = refusal-some n p z
 
 -- a rule that was accepted was read, so its index stays
-index-stands : (setting : Reference.Setting) (takes : Result.Takes) (label schema sheet middle after : List ℕ) (q : SchemaRead)
+index-stands : (setting : Reference.Setting) (takes : Result.Takes) (label schema sheet middle after : List ℕ) (q : Option Schema)
     → SchemaIs schema middle q
     → RuleStands q sheet after
     → (numbers_of (sheet_answer takes setting label schema sheet)).number ≡ 0
@@ -54,10 +53,10 @@ index-stands : (setting : Reference.Setting) (takes : Result.Takes) (label schem
     → decode_rule sheet ≡ some x
     → RuleAt sheet after x
 unfolding sheet_answer judged numbers_of
-index-stands setting takes label schema sheet middle after SchemaRead.Bad is stands z =
+index-stands setting takes label schema sheet middle after None is stands z =
     let four : ◌≡◌ {A = ℕ} 4 0 = rw is at z in
     absurd (omega arith)
-index-stands setting takes label schema sheet middle after (SchemaRead.Good s) is stands z = stands
+index-stands setting takes label schema sheet middle after (Some s) is stands z = stands
 
 module _ (takes : Takes) (kind semantics : ℕ) (label table schema sheet path_before : List ℕ) (marks : ℕ) (before : List ℕ) where
   abbrev call : Call
@@ -93,11 +92,11 @@ module _ (takes : Takes) (kind semantics : ℕ) (label table schema sheet path_b
       by-table : first_refusal (early call) ≡ first_refusal (of_table table)
       by-table = table-decides call settings-pass enough
 
-      pub meets-table : {m : ℕ} {r : Outcome} → SettledIs kind semantics table (Refused m) → numbers_by r ≡ numbers_of (Result.refused m) → Ends r path_before before
+      pub meets-table : {m : ℕ} {r : Outcome} → SettledIs kind semantics table (Err m) → numbers_by r ≡ numbers_of (Result.refused m) → Ends r path_before before
       meets-table {m} t q = meets-refused (early-refused call m (by-table ∙ t)) q
 
-      pub meets-sheets : (s : CodeSetting) {middle after path : List ℕ} {q : SchemaRead} {r : Outcome}
-          → SettledIs kind semantics table (Set s)
+      pub meets-sheets : (s : CodeSetting) {middle after path : List ℕ} {q : Option Schema} {r : Outcome}
+          → SettledIs kind semantics table (Ok s)
           → SchemaAnswer schema before middle q
           → SheetChecked takes (setting_by s) label schema q sheet path_before path middle after r
           → Ends r path after

@@ -1,5 +1,5 @@
 -- What a check is set to, and what is refused before a sheet is read.
-use Rattle.std.specs.Prelude.{ℕ, List, ◌≡◌}
+use Rattle.std.specs.Prelude.{ℕ, List, ◌≡◌, Result, Ok, Err}
 use Rattle.std.proofs.Math.Option.{none, some}
 use Rattle.reference.specs.Setting as Reference
 use Rattle.reference.specs.Setting.{setting_with}
@@ -8,8 +8,6 @@ use Rattle.scope.specs.Names.{may_read_by}
 use Rattle.scope.specs.declared.name.Row.{Row}
 use Rattle.validation.specs.Result.{Takes, Asked, Widths, Call, of_table, of_settings, first_refusal, number_in}
 use Rattle.single_check.specs.declared.settings.Setting.{Setting}
-use Rattle.single_check.specs.declared.settings.Settled.{Settled}
-use Rattle.single_check.specs.declared.settings.Settled.TheVariants.{Set, Refused}
 
 -- the code's setting as one of the definitions; rules and templates are the kernel's
 abbrev pub setting_by : Setting → Reference.Setting
@@ -39,7 +37,7 @@ pub record EarlyIs (kind semantics : ℕ) (label : List ℕ) (path scratch numbe
   pub first : (takes : Takes) (rule : List ℕ) → number ≡ number_in (first_refusal (of_settings (asked_by takes kind semantics label rule) (widths_by path scratch)))
 
 -- a refusal of the table, or the setting of a call under it
-abbrev pub SettledIs : (kind semantics : ℕ) (table : List ℕ) → Settled → Type 0
-SettledIs kind semantics table (Set s) =
+abbrev pub SettledIs : (kind semantics : ℕ) (table : List ℕ) → Result Setting ℕ → Type 0
+SettledIs kind semantics table (Ok s) =
     (first_refusal (of_table table) ≡ none) × (setting_by s ≡ setting_under (or_stock (table_in table)) kind semantics)
-SettledIs kind semantics table (Refused n) = first_refusal (of_table table) ≡ some n
+SettledIs kind semantics table (Err n) = first_refusal (of_table table) ≡ some n

@@ -1,5 +1,5 @@
 -- What a check of one sheet is to the whole call, and to the next sheet.
-use Rattle.std.specs.Prelude.{ℕ, ◌≤◌, ◌+◌, ◌-◌, Bool, true, false, not, cond, ◌&&◌, List, ◌≡◌, refl, leb, length, drop}
+use Rattle.std.specs.Prelude.{ℕ, ◌≤◌, ◌+◌, ◌-◌, Bool, true, false, not, cond, ◌&&◌, List, ◌≡◌, refl, leb, length, drop, Option as Optional, Some, None}
 use Rattle.std.proofs.Common.{arith, sym, ap, ◌∙◌, length-drop, ext_get_or, get_or-drop, leb-true}
 use Rattle.std.proofs.Math.Option.{Option, none, some}
 use Rattle.text.specs.Utf8.{is_utf8}
@@ -12,8 +12,6 @@ use Rattle.reference.specs.Setting.{Setting}
 use Rattle.schema.specs.Kept as SchemaKept
 use Rattle.schema.specs.Read.{SchemaIs}
 use Rattle.schema.specs.SchemaLaws.{SchemaAt-kept}
-use Rattle.schema.specs.declared.read.SchemaRead.{SchemaRead}
-use Rattle.schema.specs.declared.read.SchemaRead.TheVariants as SchemaRead
 use Rattle.rule.specs.Read as RuleKept
 use Rattle.validation.specs.Check.{is_none, checks}
 use Rattle.validation.specs.Judge.{Verdict, all_pass, fails_at, judge}
@@ -24,12 +22,13 @@ use Rattle.single_check.specs.Answers.{Tells}
 use Rattle.single_check.specs.Sheets.{takes_of, taken_of, sheet_answer, FrontOnly, SheetChecked}
 use Rattle.single_check.specs.declared.sheets.Takes.{Takes}
 use Rattle.single_check.specs.declared.outcome.Outcome.{Outcome}
+use Rattle.schema.specs.declared.read.Schema.{Schema}
 
 -- The next sheet: the schema's index still holds where only a rule's words have changed.
 
-pub still_read : (schema : List ℕ) {before after : List ℕ} (read : SchemaRead) → RuleKept.Kept before after 0 max_rule_entries → SchemaIs schema before read → SchemaIs schema after read
-still_read schema SchemaRead.Bad k is = is
-still_read schema {before} {after} (SchemaRead.Good s) k is =
+pub still_read : (schema : List ℕ) {before after : List ℕ} (read : Optional Schema) → RuleKept.Kept before after 0 max_rule_entries → SchemaIs schema before read → SchemaIs schema after read
+still_read schema None k is = is
+still_read schema {before} {after} (Some s) k is =
     record {
       tree = is.tree;
       reads = is.reads;
@@ -119,7 +118,7 @@ sheets-decide c h =
     (by-sheets c.asked.takes (setting_for c) c.asked.label (decode_schema c.schema) (decode_rule c.asked.rule))
 
 -- so the check of a sheet determines what a call with that sheet alone answers
-pub single-told : {takes : Takes} {path_before path before after : List ℕ} {read : SchemaRead} {r : Outcome} (c : Call)
+pub single-told : {takes : Takes} {path_before path before after : List ℕ} {read : Optional Schema} {r : Outcome} (c : Call)
     → first_refusal (early c) ≡ none
     → c.asked.takes ≡ takes_of takes
     → c.lent.widths.path ≡ length path_before

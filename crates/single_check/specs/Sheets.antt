@@ -1,13 +1,11 @@
 -- One rule sheet under a schema that has been read: its answer, and what is left of the scratch.
-use Rattle.std.specs.Prelude.{ℕ, ◌≤◌, Bool, true, not, cond, List, ◌≡◌, length, get_or}
+use Rattle.std.specs.Prelude.{ℕ, ◌≤◌, Bool, true, not, cond, List, ◌≡◌, length, get_or, Option as Optional, Some, None}
 use Rattle.std.proofs.Math.Option.{Option, none, some}
 use Rattle.definition.specs.Limits.{max_rule_entries}
 use Rattle.definition.specs.Tree.{Rule}
 use Rattle.definition.specs.Decode.{decode_schema, decode_rule}
 use Rattle.reference.specs.Setting.{Setting}
 use Rattle.schema.specs.Read.{SchemaIs}
-use Rattle.schema.specs.declared.read.SchemaRead.{SchemaRead}
-use Rattle.schema.specs.declared.read.SchemaRead.TheVariants as SchemaRead
 use Rattle.rule.specs.Index.{RuleAt}
 use Rattle.rule.specs.Read.{Kept}
 use Rattle.validation.specs.Result as Result
@@ -16,6 +14,7 @@ use Rattle.single_check.specs.Answers.{Tells}
 use Rattle.single_check.specs.declared.sheets.Takes.{Takes}
 use Rattle.single_check.specs.declared.sheets.Takes.TheVariants.{Any, Rules, Templates}
 use Rattle.single_check.specs.declared.outcome.Outcome.{Outcome}
+use Rattle.schema.specs.declared.read.Schema.{Schema}
 
 unfoldable pub takes_of : Takes → Result.Takes
 takes_of Any = Result.any
@@ -43,12 +42,12 @@ pub record FrontOnly (before after : List ℕ) : Type 0 where
   pub kept : (i : ℕ) → scratch_words ≤ i → get_or after i 0 ≡ get_or before i 0
 
 -- where the schema was read, the rule's index is in the words
-abbrev pub RuleStands : SchemaRead → (sheet words : List ℕ) → Type 0
-RuleStands SchemaRead.Bad sheet words = Unit {0}
-RuleStands (SchemaRead.Good s) sheet words = (x : Rule) → decode_rule sheet ≡ some x → RuleAt sheet words x
+abbrev pub RuleStands : Optional Schema → (sheet words : List ℕ) → Type 0
+RuleStands None sheet words = Unit {0}
+RuleStands (Some s) sheet words = (x : Rule) → decode_rule sheet ≡ some x → RuleAt sheet words x
 
 -- A check of one sheet. What reading the schema answered and left in the scratch is taken as it is, and stays for the next sheet.
-pub record SheetChecked (takes : Takes) (setting : Setting) (label schema : List ℕ) (read : SchemaRead) (sheet path_before path before after : List ℕ) (r : Outcome) : Type 0 where
+pub record SheetChecked (takes : Takes) (setting : Setting) (label schema : List ℕ) (read : Optional Schema) (sheet path_before path before after : List ℕ) (r : Outcome) : Type 0 where
   -- only the rule's own words have changed
   pub kept : Kept before after 0 max_rule_entries
   pub stands : RuleStands read sheet after

@@ -9,7 +9,6 @@ use condition_checks::rules::judge;
 use defect_path::write_path;
 use schema::read::Schema;
 use scope::binder::unbound;
-use value_checks::verdict::Verdict;
 use walk::answer::Reader;
 
 // Entries, counts and lengths are small.
@@ -34,7 +33,7 @@ pub fn answer(
     let a = judge(schema, rule, words, scope);
     let passed = narrow(a.passed);
     let verdict = a.verdict;
-    let Verdict::Defect(fault, entry, over) = verdict else {
+    let Err((fault, entry, over)) = verdict else {
         return accepted(passed);
     };
     let f = find(setting.rule_kind, fault);

@@ -5,7 +5,7 @@ ghost use Rattle.validation.specs.Result.{family_in, over_place_in};
 ghost use Rattle.value_checks.specs.Verdicts.{over_by, side_detail, instant_detail};
 ghost use Rattle.single_check.specs.Findings.{FindingIs};
 
-use value_checks::verdict::{Fault, InstantFault, Over, Side};
+use value_checks::verdict::{Fault, InstantFault, Side};
 use walk::answer::{CollectionFault, ReferenceFault};
 
 #[derive(Clone, Copy)]
@@ -103,20 +103,20 @@ pub fn find(rule_kind: bool, fault: Fault) -> Finding
 }
 
 // Family 1 is 8 inside a quantifier's body.
-pub fn family_in(over: Over, family: u32) -> u32
+pub fn family_in(over: Option<usize>, family: u32) -> u32
     ensures { result ≡ family_in (over_by over) family }
 {
-    let Over::In(_) = over else {
+    let Some(_) = over else {
         return family;
     };
     if family == 1 { 8 } else { family }
 }
 
 // Where the collection of the innermost quantifier is, for family 8.
-pub fn over_place(over: Over, family: u32) -> usize
+pub fn over_place(over: Option<usize>, family: u32) -> usize
     ensures { result ≡ over_place_in (over_by over) family }
 {
-    let Over::In(entry) = over else {
+    let Some(entry) = over else {
         return 0;
     };
     if family == 1 { entry } else { 0 }

@@ -14,7 +14,7 @@ ghost use Rattle.single_check.specs.Runs.{lent_run_of, run_of, marked_run_of, Me
 ghost use Rattle.single_check.specs.declared.sheets.Takes.TheVariants.{Any};
 
 use crate::outcome::{Outcome, Report, refused};
-use crate::settings::{Settled, refused_settings, settle};
+use crate::settings::{refused_settings, settle};
 use crate::sheets::{Takes, check_sheet};
 use constants::mark_constants;
 use definition::limits::MARK_BYTES;
@@ -44,8 +44,8 @@ fn validate_lent(
         return refused(35);
     }
     match settle(kind, semantics, table) {
-        Settled::Refused(number) => refused(number),
-        Settled::Set(setting) => {
+        Err(number) => refused(number),
+        Ok(setting) => {
             let read = read_schema(schema, scratch);
             check_sheet(takes, setting, label, schema, read, rule, path, scratch)
         }

@@ -6,7 +6,7 @@ ghost use Rattle.validation.specs.Result.{max_label_bytes, path_bytes, scratch_w
 ghost use Rattle.single_check.specs.Settings.{setting_by, setting_in, EarlyIs, SettledIs};
 
 use definition::limits::{MAX_LABEL_BYTES, PATH_BYTES, SCRATCH_WORDS};
-use name_table::read::{KINDS, TableRead, lent_table};
+use name_table::read::{KINDS, lent_table};
 use scope::name::{Row, one_of};
 
 // How many semantics there are.
@@ -74,21 +74,15 @@ fn setting_of(row: Row, kind: u32, semantics: u32) -> Setting
     }
 }
 
-#[derive(Clone, Copy)]
-pub enum Settled {
-    Set(Setting),
-    Refused(u32),
-}
-
 // What the name table sets a check to: 37 if it is malformed, 38 if a mark breaks one of its two conditions.
-pub fn settle(kind: u32, semantics: u32, table: &[u8]) -> Settled
+pub fn settle(kind: u32, semantics: u32, table: &[u8]) -> Result<Setting, u32>
     ensures { SettledIs kind semantics table.now result }
 {
-    let TableRead::Is(row, sound) = lent_table(table, kind) else {
-        return Settled::Refused(37);
+    let Some((row, sound)) = lent_table(table, kind) else {
+        return Err(37);
     };
     if sound {
-        return Settled::Set(setting_of(row, kind, semantics));
+        return Ok(setting_of(row, kind, semantics));
     }
-    Settled::Refused(38)
+    Err(38)
 }

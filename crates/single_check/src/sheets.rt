@@ -7,8 +7,8 @@ ghost use Rattle.single_check.specs.Sheets.{is_let_in, SheetChecked};
 use crate::answer::answer;
 use crate::outcome::{Outcome, refused};
 use crate::settings::Setting;
-use rule::{RuleRead, read_rule};
-use schema::read::SchemaRead;
+use rule::read_rule;
+use schema::read::Schema;
 
 // Which rule sheets an entry takes.
 #[derive(Clone, Copy)]
@@ -34,7 +34,7 @@ pub fn check_sheet(
     setting: Setting,
     label: &[u8],
     schema: &[u8],
-    read: SchemaRead,
+    read: Option<Schema>,
     rule: &[u8],
     path: &mut [u8],
     scratch: &mut [u32],
@@ -42,10 +42,10 @@ pub fn check_sheet(
     requires { max_rule_entries ≤ length scratch.old }
     ensures { SheetChecked takes (setting_by setting) label.now schema.now read rule.now path.old path.new scratch.old scratch.new result }
 {
-    let SchemaRead::Good(s) = read else {
+    let Some(s) = read else {
         return refused(4);
     };
-    let RuleRead::Good(r) = read_rule(rule, scratch) else {
+    let Some(r) = read_rule(rule, scratch) else {
         return refused(5);
     };
     if is_let_in(takes, r.is_template) {

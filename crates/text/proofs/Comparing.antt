@@ -1,5 +1,5 @@
 -- Laws of the order of two texts: by their first bytes, and by their bytes from a place on.
-use Prim.Native.Nat.{ℕ, zero, suc, ◌+◌, ◌*◌, ◌<◌, ◌≤◌}
+use Prim.Native.Nat.{ℕ, zero, suc, min, ◌+◌, ◌*◌, ◌<◌, ◌≤◌}
 use mathlib.Core.Path.{◌≡◌, refl, ap, sym}
 use mathlib.Core.Bool.{Bool, true, false}
 use mathlib.Core.List.{List, [], ◌∷◌}
@@ -15,7 +15,10 @@ use Rattle.text.proofs.DigitLaws.{stays-below, same-big-endian}
 use Rattle.text.specs.Order.{precedes, same_bytes}
 use Rattle.text.specs.OrderLaws.{same_bytes-equal}
 use Rattle.text.specs.CaseLaws.{by-test}
-use Rattle.text.specs.Compares.{Stand, SameAt, SameStart}
+use Rattle.std.specs.Ordering.{MatchOrdering}
+use Rattle.std.specs.declared.cmp.Ordering.{Ordering}
+use Rattle.std.specs.declared.cmp.Ordering.TheVariants.{Less, Equal, Greater}
+use Rattle.text.specs.Compares.{Compares, Stand, SameAt, SameStart}
 
 cons_same : (x y : ℕ) {s t : List ℕ} {p q r : Bool} → x ≡ y → Stand s t p q r → Stand (x ∷ s) (y ∷ t) p q r
 unfolding precedes same_bytes
@@ -78,8 +81,23 @@ module _ (a b : List ℕ) (i : ℕ) (goes : Goes a b i) where
       pub is_greater : get_or b i 0 < get_or a i 0 → Stand a b false false true
       is_greater h = goes _ _ _ (rw (drop-cons a i 0 ha, drop-cons b i 0 hb) (cons-greater _ _ _ _ h))
 
+      pub unequal : (get_or a i 0 ≡ get_or b i 0 → ⊥) → (r : Ordering)
+          → MatchOrdering r (get_or a i 0 < get_or b i 0) (get_or a i 0 ≡ get_or b i 0) (get_or b i 0 < get_or a i 0)
+          → Compares a b r
+      unequal ne Less h = is-less h
+      unequal ne Equal h = absurd (ne h)
+      unequal ne Greater h = is_greater h
+
       pub goes_on : get_or a i 0 ≡ get_or b i 0 → Goes a b (i + 1)
       goes_on e p q r h = goes p q r (rw (drop-cons a i 0 ha, drop-cons b i 0 hb) (cons_same _ _ e (rw (add-one i) at h)))
+
+-- the bytes up to the end of the shorter are the same: the lengths decide
+pub by-lengths : (a b : List ℕ) (i : ℕ) → Goes a b i → i ≡ min (length a) (length b) → (r : Ordering)
+    → MatchOrdering r (length a < length b) (length a ≡ length b) (length b < length a)
+    → Compares a b r
+by-lengths a b i goes n Less h = first_ends a b i goes (omega arith) (omega arith)
+by-lengths a b i goes n Equal h = both_end a b i goes (omega arith) (omega arith)
+by-lengths a b i goes n Greater h = second-ends a b i goes (omega arith) (omega arith)
 
 -- Bytes that are passed over by eights
 

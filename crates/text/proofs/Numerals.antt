@@ -1,4 +1,5 @@
 -- Laws of numerals at a place of the bytes: each way through the code's reader, as an equation of the definition.
+use Rattle.std.specs.Prelude.{Option as Optional, Some, None}
 use Prim.Native.Nat.{ℕ, ◌+◌, ◌*◌, ◌-◌, ◌/◌, ◌<◌, ◌≤◌}
 use mathlib.Core.Path.{◌≡◌, refl, sym, ap, ◌∙◌}
 use mathlib.Core.Bool.{Bool, true, false, cond, and-false}
@@ -13,8 +14,6 @@ use Rattle.text.specs.Decimal.{is_digit}
 use Rattle.text.specs.Reader.{◌>>=◌, ◌>>◌, and_then, ensure, pure}
 use Rattle.text.specs.Numeral.{digits, decimal, numeral}
 use Rattle.text.specs.ReadAt.{ReadsTo, Refuses, DigitsAre, DecimalIs}
-use Rattle.text.specs.declared.numeral.NumeralRead.{NumeralRead}
-use Rattle.text.specs.declared.numeral.NumeralRead.TheVariants.{Is, Bad}
 
 -- a value only grows
 digits-grow : (value : ℕ) (s : List ℕ) → value ≤ (digits value s).0
@@ -54,12 +53,12 @@ digits-beyond value high first s i at h d more e =
     (sym (digits_more value s i h d) ∙ e)
 
 -- a numeral of any length by its first byte
-pub decimal-end : (high : ℕ) (s : List ℕ) (at : ℕ) → length s ≤ at → DecimalIs high s at Bad
+pub decimal-end : (high : ℕ) (s : List ℕ) (at : ℕ) → length s ≤ at → DecimalIs high s at None
 unfolding decimal
 decimal-end high s at h n t e = absurd (none-ne-some (n, t) (rw (drop_of_length-le s h) at e))
 
 module _ (high : ℕ) (s : List ℕ) (at : ℕ) (h : at < length s) where
-  pub decimal-zero : get_or s at 0 ≡ 48 → DecimalIs high s at (Is 0 (at + 1))
+  pub decimal-zero : get_or s at 0 ≡ 48 → DecimalIs high s at (Some (0, at + 1))
   unfolding decimal
   decimal-zero e =
       record {
@@ -69,7 +68,7 @@ module _ (high : ℕ) (s : List ℕ) (at : ℕ) (h : at < length s) where
       }
 
   module _ (other : get_or s at 0 ≡ 48 → ⊥) where
-    pub decimal-none : is_digit (get_or s at 0) ≡ false → DecimalIs high s at Bad
+    pub decimal-none : is_digit (get_or s at 0) ≡ false → DecimalIs high s at None
     unfolding decimal
     decimal-none d n t e = absurd (none-ne-some (n, t) (rw (drop-cons s at 0 h, ne_eqb (get_or s at 0) 48 other, d) at e))
 
@@ -77,14 +76,14 @@ module _ (high : ℕ) (s : List ℕ) (at : ℕ) (h : at < length s) where
     unfolding decimal
     by_digits d = rw (add-one, drop-cons s at 0 h, ne_eqb (get_or s at 0) 48 other, d)
 
-    pub decimal-some : is_digit (get_or s at 0) ≡ true → (r : NumeralRead) → DigitsAre (get_or s at 0 - 48) high s (at + 1) r → DecimalIs high s at r
-    decimal-some d (Is n next) e =
+    pub decimal-some : is_digit (get_or s at 0) ≡ true → (r : Optional (ℕ × ℕ)) → DigitsAre (get_or s at 0 - 48) high s (at + 1) r → DecimalIs high s at r
+    decimal-some d (Some (n, next)) e =
         record {
           reads = by_digits d ∙ ap (λ (x : ℕ × List ℕ). some x) e.0;
           past = omega (arith, e.1);
           within = e.2;
         }
-    decimal-some d Bad e = λ n t f.
+    decimal-some d None e = λ n t f.
         let same = some-injective (digits (get_or s at 0 - 48) (drop (at + 1) s)) (n, t) (sym (by_digits d) ∙ f) in
         rw (ap (λ (x : ℕ × List ℕ). x.0) same) at e
 
@@ -113,7 +112,7 @@ numeral-missing : (l : List ℕ) (low high : ℕ) → decimal l ≡ none → num
 unfolding numeral ◌>>=◌ ◌>>◌ and_then
 numeral-missing l low high d = rw d
 
-pub numeral-none : (low high most : ℕ) (s : List ℕ) (at : ℕ) → most ≡ high → DecimalIs most s at Bad → Refuses (numeral low high) s at
+pub numeral-none : (low high most : ℕ) (s : List ℕ) (at : ℕ) → most ≡ high → DecimalIs most s at None → Refuses (numeral low high) s at
 numeral-none low high most s at same bad = go (decimal (drop at s)) refl
   where
     go : (o : Option (ℕ × List ℕ)) → decimal (drop at s) ≡ o → Refuses (numeral low high) s at

@@ -1,8 +1,8 @@
 -- How two texts compare, by what their comparison answers.
 use Rattle.std.specs.Prelude.{ℕ, ◌+◌, ◌≤◌, ◌<◌, Bool, true, false, List, ◌≡◌, length, get_or}
 use Rattle.text.specs.Order.{precedes, same_bytes}
-use Rattle.text.specs.declared.order.ByteOrder.{ByteOrder}
-use Rattle.text.specs.declared.order.ByteOrder.TheVariants.{Less, Same, Greater}
+use Rattle.std.specs.declared.cmp.Ordering.TheVariants.{Equal, Greater, Less}
+use Rattle.std.specs.declared.cmp.Ordering.{Ordering}
 
 -- whether the first comes before the second, is the same, comes after it
 pub record Stand (a b : List ℕ) (before same behind : Bool) : Type 0 where
@@ -10,9 +10,9 @@ pub record Stand (a b : List ℕ) (before same behind : Bool) : Type 0 where
   pub same-is : same_bytes a b ≡ same
   pub behind-is : precedes b a ≡ behind
 
-abbrev pub Compares : List ℕ → List ℕ → ByteOrder → Type 0
+abbrev pub Compares : List ℕ → List ℕ → Ordering → Type 0
 Compares a b Less = Stand a b true false false
-Compares a b Same = Stand a b false true false
+Compares a b Equal = Stand a b false true false
 Compares a b Greater = Stand a b false false true
 
 -- the same `n` bytes are from place `i` on

@@ -1,15 +1,13 @@
 -- What the functions that work with offsets answer.
-use Rattle.std.specs.Prelude.{ℕ, ◌+◌, ◌<◌, ◌≤◌, ◌≡◌, false, List, length, get_or, take, drop}
+use Rattle.std.specs.Prelude.{ℕ, ◌+◌, ◌<◌, ◌≤◌, ◌≡◌, false, List, length, get_or, take, drop, Option, Some, None}
 use Rattle.std.proofs.Math.Option.{none, some}
 use Rattle.text.specs.Utf8.{decode_one, is_utf8}
 use Rattle.text.specs.Blank.{trim_start, trim_end}
-use Rattle.text.specs.declared.Decoded.{Decoded}
-use Rattle.text.specs.declared.Decoded.TheVariants.{CodePoint, Malformed}
 
 -- what is decoded at an offset, with the offset after it
-abbrev pub Decodes : List ℕ → ℕ → Decoded → Type 0
-Decodes s at (CodePoint c next) = (decode_one (drop at s) ≡ some (c, drop next s)) × (at < next) × (next ≤ length s)
-Decodes s at Malformed = decode_one (drop at s) ≡ none
+abbrev pub Decodes : List ℕ → ℕ → Option (ℕ × ℕ) → Type 0
+Decodes s at (Some (c, next)) = (decode_one (drop at s) ≡ some (c, drop next s)) × (at < next) × (next ≤ length s)
+Decodes s at None = decode_one (drop at s) ≡ none
 
 -- `n` bytes from there on are ASCII
 abbrev pub AsciiAt : List ℕ → ℕ → ℕ → Type 0

@@ -15,15 +15,6 @@ ghost use Rattle.text.specs.Digits.{Digits, BigEndian};
 ghost use Rattle.text.specs.Decimal.{is_digit};
 ghost use Rattle.text.specs.ReadAt.{StartsWith};
 
-// What is at an offset of a text.
-#[derive(Clone, Copy)]
-pub enum Decoded {
-    // A code point, and the offset after its bytes.
-    CodePoint(u32, usize),
-    // No code point begins there, or the text has ended.
-    Malformed,
-}
-
 fn is_between(low: u8, high: u8, b: u8) -> bool
     ensures { result ≡ between low high b }
 {
@@ -155,40 +146,40 @@ pub fn eight_at(s: &[u8], at: usize) -> u64
     wider(four_at(s, at)) + wider(four_at(s, at + 4)) * 4294967296
 }
 
-// The code point whose bytes begin at an offset.
-pub fn decode_one(s: &[u8], at: usize) -> Decoded
+// The code point whose bytes begin at an offset, and the offset after them.
+pub fn decode_one(s: &[u8], at: usize) -> Option<(u32, usize)>
     ensures { Decodes s.now at result }
 {
     if s.len() <= at {
-        return Decoded::Malformed;
+        return None;
     }
     let left = s.len() - at;
     let a = s[at];
     if a <= 0x7F {
-        return Decoded::CodePoint(wide(a), at + 1);
+        return Some((wide(a), at + 1));
     }
     if left < 2 {
-        return Decoded::Malformed;
+        return None;
     }
     let b = s[at + 1];
     if is_utf8_2(a, b) {
-        return Decoded::CodePoint(code_of_2(a, b), at + 2);
+        return Some((code_of_2(a, b), at + 2));
     }
     if left < 3 {
-        return Decoded::Malformed;
+        return None;
     }
     let c = s[at + 2];
     if is_utf8_3(a, b, c) {
-        return Decoded::CodePoint(code_of_3(a, b, c), at + 3);
+        return Some((code_of_3(a, b, c), at + 3));
     }
     if left < 4 {
-        return Decoded::Malformed;
+        return None;
     }
     let d = s[at + 3];
     if is_utf8_4(a, b, c, d) {
-        return Decoded::CodePoint(code_of_4(a, b, c, d), at + 4);
+        return Some((code_of_4(a, b, c, d), at + 4));
     }
-    Decoded::Malformed
+    None
 }
 
 // Whether a code point is White_Space.
@@ -319,6 +310,7 @@ pub fn is_utf8(s: &[u8]) -> bool
     ensures { result ≡ is_utf8 s.now }
 {
     let mut at = behind_ascii(s, behind_ascii_32(s));
+    // A while: the next place depends on the code point that is passed.
     while at < s.len() {
         if s[at] <= 0x7F {
             at += 1;
@@ -339,7 +331,7 @@ pub fn is_blank(s: &[u8]) -> bool
 {
     let mut at = 0;
     while at < s.len() {
-        let Decoded::CodePoint(c, next) = decode_one(s, at) else {
+        let Some((c, next)) = decode_one(s, at) else {
             return false;
         };
         if is_white_space(c) {
@@ -357,7 +349,7 @@ fn start_of(s: &[u8]) -> usize
 {
     let mut at = 0;
     while at < s.len() {
-        let Decoded::CodePoint(c, behind) = decode_one(s, at) else {
+        let Some((c, behind)) = decode_one(s, at) else {
             return at;
         };
         if is_white_space(c) {
@@ -375,15 +367,16 @@ fn end_of(s: &[u8]) -> usize
 {
     let mut at = 0;
     let mut end = 0;
+    // A while: the next place depends on the code point that is passed.
     while at < s.len() {
         match decode_one(s, at) {
-            Decoded::CodePoint(c, next) => {
+            Some((c, next)) => {
                 at = next;
                 if is_white_space(c) {
                     continue;
                 }
             }
-            Decoded::Malformed => {
+            None => {
                 at += 1;
             }
         }

@@ -3,12 +3,7 @@ ghost use Rattle.std.specs.Prelude.{◌≡◌, true, ◌+◌, ◌≤◌, min, le
 ghost use Rattle.text.specs.Order.{same_bytes};
 ghost use Rattle.text.specs.Compares.{Compares, SameAt, SameStart};
 
-#[derive(Clone, Copy)]
-pub enum ByteOrder {
-    Less,
-    Same,
-    Greater,
-}
+use std::cmp::Ordering;
 
 fn shorter(a: &[u8], b: &[u8]) -> usize
     ensures { result ≡ min (length a.now) (length b.now) }
@@ -40,34 +35,21 @@ fn same_start(a: &[u8], b: &[u8]) -> usize
 }
 
 // How two texts compare that start with the same `from` bytes: byte by byte, then by their lengths.
-fn compare_from(a: &[u8], b: &[u8], from: usize) -> ByteOrder
+fn compare_from(a: &[u8], b: &[u8], from: usize) -> Ordering
     requires { SameStart a.now b.now from }
     ensures { Compares a.now b.now result }
 {
     let n = shorter(a, b);
-    let mut i = from;
-    while i < n {
-        let x = a[i];
-        let y = b[i];
-        if x < y {
-            return ByteOrder::Less;
+    for i in from..n {
+        if a[i] != b[i] {
+            return a[i].cmp(&b[i]);
         }
-        if y < x {
-            return ByteOrder::Greater;
-        }
-        i += 1;
     }
-    if a.len() < b.len() {
-        return ByteOrder::Less;
-    }
-    if b.len() < a.len() {
-        return ByteOrder::Greater;
-    }
-    ByteOrder::Same
+    a.len().cmp(&b.len())
 }
 
 // Four bytes as one number decide more often than one byte does, so that fewer branches are guessed wrong.
-pub fn compare(a: &[u8], b: &[u8]) -> ByteOrder
+pub fn compare(a: &[u8], b: &[u8]) -> Ordering
     ensures { Compares a.now b.now result }
 {
     let n = shorter(a, b);
@@ -76,10 +58,10 @@ pub fn compare(a: &[u8], b: &[u8]) -> ByteOrder
         let first = crate::four_big_endian(a, i);
         let second = crate::four_big_endian(b, i);
         if first < second {
-            return ByteOrder::Less;
+            return Ordering::Less;
         }
         if second < first {
-            return ByteOrder::Greater;
+            return Ordering::Greater;
         }
         i += 4;
     }
@@ -92,12 +74,10 @@ pub fn same_bytes(a: &[u8], b: &[u8]) -> bool
     if a.len() != b.len() {
         return false;
     }
-    let mut i = same_start(a, b);
-    while i < a.len() {
+    for i in same_start(a, b)..a.len() {
         if a[i] != b[i] {
             return false;
         }
-        i += 1;
     }
     true
 }

@@ -8,13 +8,6 @@ pub struct Part {
     pub len: usize,
 }
 
-// A text that may be absent.
-#[derive(Clone, Copy)]
-pub enum OptionalPart {
-    Is(Part),
-    Absent,
-}
-
 // The bytes of a part, as many of them as there are.
 pub fn bytes_of(s: &[u8], p: Part) -> &[u8]
     ensures { result.now ≡ part_of s.now p }

@@ -46,10 +46,8 @@ fn bytes_of(hex: &[u8], out: &mut [u8]) -> usize
 // Whether the digits write that number.
 fn writes(digits: &[u8], n: u32) -> bool {
     let mut left = n;
-    let mut i = digits.len();
-    while i > 0 {
-        i -= 1;
-        if digits[i] != b'0' + (left % 10) as u8 {
+    for &digit in digits.iter().rev() {
+        if digit != b'0' + (left % 10) as u8 {
             return false;
         }
         left /= 10;
@@ -89,16 +87,13 @@ fn is_read(sample: &[u8]) -> bool {
         return false;
     }
     match timestamp::parse(&sample[FIELD_DIGITS..]) {
-        timestamp::Parsed::Instant(fields) => are_fields(sample, fields),
-        timestamp::Parsed::Unreadable => false,
+        Some(fields) => are_fields(sample, fields),
+        None => false,
     }
 }
 
 fn is_unreadable(s: &[u8]) -> bool {
-    match timestamp::parse(s) {
-        timestamp::Parsed::Instant(_) => false,
-        timestamp::Parsed::Unreadable => true,
-    }
+    timestamp::parse(s).is_none()
 }
 
 fn passes(list: u8, sample: &[u8]) -> bool {
@@ -141,14 +136,12 @@ fn line_end(s: &[u8], at: usize) -> usize
     requires { at ≤ length s.now }
     ensures { (at ≤ result) × (result ≤ length s.now) }
 {
-    let mut end = at;
-    while end < s.len() {
+    for end in at..s.len() {
         if s[end] == b'\n' {
             return end;
         }
-        end += 1;
     }
-    end
+    s.len()
 }
 
 // Whether a line is one of a list's, and, where only is set, comes out as it says.

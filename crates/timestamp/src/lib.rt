@@ -22,14 +22,6 @@ pub struct Fields {
     pub nanoseconds: u32,
 }
 
-// What a text was read as.
-#[derive(Clone, Copy)]
-pub enum Parsed {
-    Instant(Fields),
-    // Not an instant.
-    Unreadable,
-}
-
 // The byte at a place, 0 where the text has ended.
 fn byte_at(s: &[u8], at: usize) -> u8
     ensures { result ≡ get_or s.now at 0 }
@@ -191,17 +183,12 @@ fn is_end(s: &[u8], at: usize) -> bool
 fn fraction_end(s: &[u8]) -> usize
     ensures { (result ≡ skip_digits s.now 20 9) × (result < 64) }
 {
-    let mut at = 20;
-    let mut left: usize = 9;
-    while 0 < left {
-        if is_digit(byte_at(s, at)) {
-            at += 1;
-            left -= 1;
-        } else {
+    for at in 20..29 {
+        if !is_digit(byte_at(s, at)) {
             return at;
         }
     }
-    at
+    29
 }
 
 fn is_fraction(s: &[u8]) -> bool
@@ -248,16 +235,12 @@ fn is_instant(s: &[u8], f: Fields) -> bool
 }
 
 // The instant that a text is, White_Space at its ends aside.
-pub fn parse(s: &[u8]) -> Parsed
+pub fn parse(s: &[u8]) -> Option<Fields>
     ensures { Parses s.now result }
 {
     let t = text::trim(s);
     let f = fields_of(t);
-    if is_instant(t, f) {
-        Parsed::Instant(f)
-    } else {
-        Parsed::Unreadable
-    }
+    if is_instant(t, f) { Some(f) } else { None }
 }
 
 // Whether an instant lies before another: the first field that differs decides.

@@ -14,7 +14,7 @@ use json_laying::operator::lay_operator;
 use json_text::quote::{Escapes, lay_quoted};
 use rule::index::{end_of, start_of};
 use sheet::operators::{COMPARE, NOT};
-use sheet::rule_heads::{ConditionHead, ConditionRead, condition_head};
+use sheet::rule_heads::{ConditionHead, condition_head};
 use text::part::bytes_of;
 
 fn lay_truth(out: &mut [u8], at: usize, holds: bool) -> usize
@@ -135,7 +135,7 @@ pub fn lay_front(rule: &[u8], words: &[u32], i: usize, out: &mut [u8], at: usize
     requires { i < most_place }
     ensures { LaysFront rule.now words.now i out.old out.new at result }
 {
-    let ConditionRead::Is(head, _) = condition_head(rule, start_of(words, i)) else {
+    let Some((head, _)) = condition_head(rule, start_of(words, i)) else {
         return at;
     };
     match head {

@@ -18,9 +18,9 @@ use condition::lay_conditions;
 use definition::limits::MAX_RULE_ENTRIES;
 use json_text::quote::{Escapes, lay_quoted};
 use rule::index::start_of;
-use rule::{RuleRead, read_rule};
-use sheet::rule_heads::{RuleHead, RuleHeadRead, rule_head};
-use text::part::{OptionalPart, bytes_of};
+use rule::read_rule;
+use sheet::rule_heads::{RuleHead, rule_head};
+use text::part::{Part, bytes_of};
 
 pub const CONVERSION_NUMBERS: usize = 2;
 
@@ -30,30 +30,30 @@ const NOT_A_RULE: u32 = 5;
 const NO_ROOM: u32 = 33;
 
 // A rule up to the condition of its `assert`.
-fn lay_name(sheet: &[u8], name: OptionalPart, out: &mut [u8]) -> usize
+fn lay_name(sheet: &[u8], name: Option<Part>, out: &mut [u8]) -> usize
     ensures { Laid out.old out.new 0 (name_text (optional_of sheet.now name)) result }
 {
     match name {
-        OptionalPart::Is(part) => {
+        Some(part) => {
             let a = lay(out, 0, b"{\"name\":");
             let b = lay_quoted(out, a, bytes_of(sheet, part), Escapes::Plain);
             lay(out, b, b",\"assert\":")
         }
-        OptionalPart::Absent => lay(out, 0, b"{\"assert\":"),
+        None => lay(out, 0, b"{\"assert\":"),
     }
 }
 
 // What is behind that condition.
-fn lay_message(sheet: &[u8], message: OptionalPart, out: &mut [u8], at: usize) -> usize
+fn lay_message(sheet: &[u8], message: Option<Part>, out: &mut [u8], at: usize) -> usize
     ensures { Laid out.old out.new at (message_text (optional_of sheet.now message)) result }
 {
     match message {
-        OptionalPart::Is(part) => {
+        Some(part) => {
             let a = lay(out, at, b",\"message\":");
             let b = lay_quoted(out, a, bytes_of(sheet, part), Escapes::Plain);
             lay(out, b, b"}")
         }
-        OptionalPart::Absent => lay(out, at, b"}"),
+        None => lay(out, at, b"}"),
     }
 }
 
@@ -62,7 +62,7 @@ fn lay_rule(sheet: &[u8], words: &[u32], entries: usize, out: &mut [u8]) -> usiz
     requires { entries ≤ word_entries }
     ensures { LaysRule sheet.now words.now entries out.old out.new result }
 {
-    let RuleHeadRead::Is(head, _) = rule_head(sheet, start_of(words, 0)) else {
+    let Some((head, _)) = rule_head(sheet, start_of(words, 0)) else {
         return 0;
     };
     match head {
@@ -87,7 +87,7 @@ pub fn to_json(sheet: &[u8], json: &mut [u8]) -> [u32; CONVERSION_NUMBERS]
     ensures { Meets to_json (run_of sheet.now json.old json.new result) }
 {
     let mut words = [0u32; MAX_RULE_ENTRIES];
-    let RuleRead::Good(read) = read_rule(sheet, &mut words) else {
+    let Some(read) = read_rule(sheet, &mut words) else {
         return [NOT_A_RULE, 0];
     };
     if read.is_template {

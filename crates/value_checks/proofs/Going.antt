@@ -1,4 +1,5 @@
 -- Going on: nothing more, one list after the other, one check that passes or fails, and a defect that stays.
+use Rattle.std.specs.Prelude.{Option, Result, Ok, Err}
 use Prim.Native.Nat.{ℕ, ◌+◌, ◌-◌, ◌≤◌}
 use native.Mathlib.Omega.{arith}
 use mathlib.Core.Bool.{Bool, true, false}
@@ -12,9 +13,6 @@ use Rattle.value_checks.specs.Shown.{Shown, passes, fails, shown_of, go_on, judg
 use Rattle.value_checks.specs.Verdicts.{failure_of, shown_with, shown_by, going, GoesOn, FailsWith, PassedOn, Failed, failed, Required}
 use Rattle.rule.specs.Leaves.{said_in, said-append}
 use Rattle.value_checks.specs.declared.verdict.Fault.{Fault}
-use Rattle.value_checks.specs.declared.verdict.Over.{Over}
-use Rattle.value_checks.specs.declared.verdict.Verdict.{Verdict}
-use Rattle.value_checks.specs.declared.verdict.Verdict.TheVariants.{Pass, Defect}
 use Rattle.value_checks.specs.declared.verdict.Progress.{Progress}
 
 none-goes : (ask : Check → CheckOutcome) (s : Shown) → s ≡ go_on s (λ n. shown_of (judge_from ask n []))
@@ -42,8 +40,8 @@ goes_then {ask} {a} {b} {r} {xs} {ys} g h =
     }
 
 -- a defect absorbs all further checks
-pub goes-stopped : {ask : Check → CheckOutcome} {checks : List Check} {a : Progress} {f : Fault} {place : ℕ} {over : Over}
-    → a.verdict ≡ Defect f place over
+pub goes-stopped : {ask : Check → CheckOutcome} {checks : List Check} {a : Progress} {f : Fault} {place : ℕ} {over : Option ℕ}
+    → a.verdict ≡ Err (f, place, over)
     → GoesOn ask a checks a
 unfolding shown_by shown_with go_on
 goes-stopped e = record { shows = rw e }
@@ -56,41 +54,41 @@ pub goes_one : {ask : Check → CheckOutcome} {n : ℕ} {c : Check} → ask c �
 unfolding shown_by shown_with go_on decide shown_of
 goes_one {ask} {n} {c} p = record { shows = rw (one-judged ask n c none p) }
 
-pub goes-wrong : {ask : Check → CheckOutcome} {n : ℕ} {c : Check} {fault : Fault} {place : ℕ} {over : Over}
+pub goes-wrong : {ask : Check → CheckOutcome} {n : ℕ} {c : Check} {fault : Fault} {place : ℕ} {over : Option ℕ}
     → FailsWith c fault place over
     → ask c ≡ some (failure_of fault)
-    → GoesOn ask (going n) (c ∷ []) (record { passed = n; verdict = Defect fault place over })
+    → GoesOn ask (going n) (c ∷ []) (record { passed = n; verdict = Err (fault, place, over) })
 unfolding shown_by shown_with go_on decide shown_of
 goes-wrong {ask} {n} {c} {fault} {place} {over} w p =
     record { shows = rw (one-judged ask n c (some (failure_of fault)) p, w.numbered, w.placed, w.held) }
 
 -- a failing check ends it
-pub goes-wrong-on : {ask : Check → CheckOutcome} {n : ℕ} {c : Check} {checks : List Check} {fault : Fault} {place : ℕ} {over : Over}
+pub goes-wrong-on : {ask : Check → CheckOutcome} {n : ℕ} {c : Check} {checks : List Check} {fault : Fault} {place : ℕ} {over : Option ℕ}
     → FailsWith c fault place over
     → ask c ≡ some (failure_of fault)
-    → GoesOn ask (going n) (c ∷ checks) (record { passed = n; verdict = Defect fault place over })
+    → GoesOn ask (going n) (c ∷ checks) (record { passed = n; verdict = Err (fault, place, over) })
 goes-wrong-on w p = goes_then (goes-wrong w p) (goes-stopped refl)
 
 -- what holds of an answer that passes holds of its count: the next check goes on from there
-pub goes-passed : (P : Progress → Type 0) {r : Progress} → r.verdict ≡ Pass → P r → P (going r.passed)
-goes-passed P {r} e p = subst (λ (v : Verdict). P (record { passed = r.passed; verdict = v })) e p
+pub goes-passed : (P : Progress → Type 0) {r : Progress} → r.verdict ≡ (Ok tt) → P r → P (going r.passed)
+goes-passed P {r} e p = subst (λ (v : Result Unit (Fault × ℕ × Option ℕ)). P (record { passed = r.passed; verdict = v })) e p
 
 -- One check in code.
 
 pub passed_on : {n : ℕ} → PassedOn (going n) (going (n + 1))
 passed_on = record { at_most = omega arith; goes = λ ask c p. goes_one p }
 
-pub failed-now : {n : ℕ} {fault : Fault} {place : ℕ} {over : Over} → Failed (going n) fault place over (record { passed = n; verdict = Defect fault place over })
+pub failed-now : {n : ℕ} {fault : Fault} {place : ℕ} {over : Option ℕ} → Failed (going n) fault place over (record { passed = n; verdict = Err (fault, place, over) })
 failed-now = record { same = refl; goes = λ ask c checks w p. goes-wrong-on w p }
 
-pub required-wrong : {a r : Progress} {wrong : Bool} {fault : Fault} {place : ℕ} {over : Over}
+pub required-wrong : {a r : Progress} {wrong : Bool} {fault : Fault} {place : ℕ} {over : Option ℕ}
     → wrong ≡ true
     → Failed a fault place over r
     → Required a wrong fault place over r
 unfolding failed
 required-wrong t f = record { at_most = omega (arith, f.same); goes = λ ask c w p. f.goes ask c [] w (rw t at p) }
 
-pub required-right : {a r : Progress} {wrong : Bool} {fault : Fault} {place : ℕ} {over : Over}
+pub required-right : {a r : Progress} {wrong : Bool} {fault : Fault} {place : ℕ} {over : Option ℕ}
     → wrong ≡ false
     → PassedOn a r
     → Required a wrong fault place over r

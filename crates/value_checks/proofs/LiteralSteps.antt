@@ -1,4 +1,5 @@
 -- The literal pass, step by step.
+use Rattle.std.specs.Prelude.{Option as Optional, None, Err}
 use Prim.Native.Nat.{ℕ, ◌+◌, ◌-◌, ◌≤◌, ◌<◌}
 use native.Mathlib.Omega.{arith}
 use mathlib.Core.Bool.{Bool, true, false, not}
@@ -26,9 +27,6 @@ use Rattle.value_checks.specs.Verdicts.{number_of, failure_of, over_by, failed, 
 use Rattle.value_checks.specs.Literals.{literal_says, LiteralsJudged}
 use Rattle.value_checks.specs.declared.verdict.Fault.{Fault}
 use Rattle.value_checks.specs.declared.verdict.Fault.TheVariants.{Literal}
-use Rattle.value_checks.specs.declared.verdict.Over.{Over}
-use Rattle.value_checks.specs.declared.verdict.Over.TheVariants.{Outside}
-use Rattle.value_checks.specs.declared.verdict.Verdict.TheVariants.{Defect}
 use Rattle.value_checks.specs.declared.verdict.Progress.{Progress}
 use Rattle.value_checks.proofs.Going.{goes-nothing, goes_then, goes-stopped, said-next}
 use Rattle.rule.proofs.EntrySteps.{entries-part}
@@ -107,7 +105,7 @@ module _ {s words : List ℕ} {i at : ℕ} {a : Progress} {test : Bool} (start :
       → TextAt s at part
       → digits ≡ part_of s part
       → finite ≡ is_finite digits
-      → Required a (not finite) Literal (i + 1) Outside r
+      → Required a (not finite) Literal (i + 1) None r
       → LiteralsJudged s words i 1 a r
   unfolding literal_check number_of failure_of over_by check over_of environment
   literal-number {part} {digits} {finite} {r} t known same f q =
@@ -145,12 +143,12 @@ module _ {s words : List ℕ} {a : Progress} {start i : ℕ} where
       → LiteralsJudged s words start (end - start) a r
   literals-all {end} h k p = let e : i - start ≡ end - start = omega arith in rw e at p
 
-pub literals-stopped : {s words : List ℕ} {start i end : ℕ} {a b r : Progress} {f : Fault} {place : ℕ} {over : Over}
+pub literals-stopped : {s words : List ℕ} {start i end : ℕ} {a b r : Progress} {f : Fault} {place : ℕ} {over : Optional ℕ}
     → start ≤ i
     → i < end
     → LiteralsJudged s words start (i - start) a b
     → LiteralsJudged s words i 1 b r
-    → r.verdict ≡ Defect f place over
+    → r.verdict ≡ Err (f, place, over)
     → LiteralsJudged s words start (end - start) a r
 literals-stopped {i = i} {end = end} h k p q t =
     literals-next {i = i + 1} {n = end - (i + 1)} (omega arith) (omega arith) (literals-next h refl p q)

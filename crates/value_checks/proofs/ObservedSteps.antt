@@ -1,4 +1,5 @@
 -- The literal pass over conditions, step by step: what is left is a list of conditions side by side, and each step puts a condition's children in its place.
+use Rattle.std.specs.Prelude.{Option, Err}
 use Prim.Native.Nat.{ℕ, ◌+◌, ◌-◌, ◌≤◌, ◌<◌}
 use native.Mathlib.Omega.{arith}
 use mathlib.Core.Bool.{Bool, true, false, cond}
@@ -21,8 +22,6 @@ use Rattle.rule.specs.Nodes.{EntriesIn, IsCondition, AreConditions, Behind, chil
 use Rattle.value_checks.specs.Verdicts.{GoesOn}
 use Rattle.value_checks.specs.Literals.{literal_says, LiteralsJudged, ObservedJudged, ConditionLiterals}
 use Rattle.value_checks.specs.declared.verdict.Fault.{Fault}
-use Rattle.value_checks.specs.declared.verdict.Over.{Over}
-use Rattle.value_checks.specs.declared.verdict.Verdict.TheVariants.{Defect}
 use Rattle.value_checks.specs.declared.verdict.Progress.{Progress}
 use Rattle.value_checks.proofs.Going.{goes-nothing, goes_then, goes-stopped}
 use Rattle.rule.proofs.NodeSteps.{has-operator, value-size, first-stands, none_left, none-ends}
@@ -231,7 +230,7 @@ module _ {rule words : List ℕ} {from i end : ℕ} {a b : Progress} (l : Litera
             l.onward setting schema cs w b (rw f goes-nothing);
       }
 
-  pub left-stopped : {f : Fault} {place : ℕ} {over : Over} → b.verdict ≡ Defect f place over → i - from ≤ end - from → ConditionLiterals rule words from end a b
+  pub left-stopped : {f : Fault} {place : ℕ} {over : Option ℕ} → b.verdict ≡ Err (f, place, over) → i - from ≤ end - from → ConditionLiterals rule words from end a b
   left-stopped t m =
       record {
         at_most = omega (arith, l.at_most);

@@ -1,4 +1,5 @@
 -- Operands, step by step.
+use Rattle.std.specs.Prelude.{Option as Optional, Some, None, Result, Ok, Err}
 use Prim.Native.Nat.{ℕ, ◌+◌, ◌*◌, ◌-◌, ◌≤◌, ◌<◌}
 use native.Mathlib.Omega.{arith}
 use mathlib.Core.Bool.{Bool, true, false, false≢true}
@@ -30,17 +31,12 @@ use Rattle.value_checks.specs.Verdicts.{number_of, detail_of, refused_at, failur
 use Rattle.value_checks.specs.Frames.{Frame, frame, Stands, IsReference, ReferencesIn, instant_check, affix_check, asked_before, asked_after, asked, asked_of, ValueJudged, OperandJudged, OperandsJudged, FormIs, form_of, literal_by, ReadAs}
 use Rattle.value_checks.specs.declared.operand.Form.{Form}
 use Rattle.value_checks.specs.declared.operand.Form.TheVariants as Form
-use Rattle.value_checks.specs.declared.operand.InstantRead.{InstantRead}
-use Rattle.value_checks.specs.declared.operand.InstantRead.TheVariants as InstantRead
-use Rattle.value_checks.specs.declared.operand.InstantRead.TheVariants.{Bad}
 use Rattle.value_checks.specs.declared.verdict.InstantFault.{InstantFault}
 use Rattle.value_checks.specs.declared.verdict.InstantFault.TheVariants.{Escaped, Unreadable}
 use Rattle.value_checks.specs.declared.verdict.Side.{Side}
 use Rattle.value_checks.specs.declared.verdict.Side.TheVariants.{Left, Right}
 use Rattle.value_checks.specs.declared.verdict.Fault.{Fault}
 use Rattle.value_checks.specs.declared.verdict.Fault.TheVariants.{Operand, Affix, Instant}
-use Rattle.value_checks.specs.declared.verdict.Over.{Over}
-use Rattle.value_checks.specs.declared.verdict.Verdict.TheVariants.{Defect}
 use Rattle.value_checks.specs.declared.verdict.Progress.{Progress}
 use Rattle.value_checks.proofs.Going.{goes-nothing, goes_then, goes-stopped}
 use Rattle.rule.proofs.NodeSteps.{others_of, value-stands, others-stand, no-values-left, no-values-end}
@@ -109,32 +105,32 @@ module _ (rule words : List ℕ) (i : ℕ) {at : ℕ} (start : at ≡ start_of w
 
 -- Instants.
 
-abbrev TextReadAs : Text → InstantRead → Type 0
+abbrev TextReadAs : Text → Result (Optional Fields) InstantFault → Type 0
 TextReadAs t r = ReadAs (instant_text t) (literal_text t) r
 
-pub instant-reference : (t : Text) → IsReference t true → TextReadAs t InstantRead.Reference
+pub instant-reference : (t : Text) → IsReference t true → TextReadAs t (Ok None)
 unfolding instant_text literal_text form_of literal_by fails_if is_none
 instant-reference t h = let dollar = reference-begins t h in record { form = rw (dollar, h); fields = rw dollar }
 
 -- text that begins with `$` and is no reference begins with `$$`
-pub instant-dollars : (t : Text) → IsReference t false → begins_with_dollar t ≡ true → TextReadAs t (Bad Escaped)
+pub instant-dollars : (t : Text) → IsReference t false → begins_with_dollar t ≡ true → TextReadAs t (Err Escaped)
 unfolding instant_text literal_text form_of literal_by instant_detail fails_if is_none
 instant-dollars t h dollar = record { form = rw (dollar, h); fields = rw dollar }
 
-pub instant-unread : (t : Text) → begins_with_dollar t ≡ false → instant t ≡ none → TextReadAs t (Bad Unreadable)
+pub instant-unread : (t : Text) → begins_with_dollar t ≡ false → instant t ≡ none → TextReadAs t (Err Unreadable)
 unfolding instant_text literal_text form_of literal_by instant_detail fails_if is_none
 instant-unread t e r = record { form = rw (e, r); fields = rw (e, r) }
 
-pub instant-read : (t : Text) {f : Fields} → begins_with_dollar t ≡ false → instant t ≡ some f → TextReadAs t (InstantRead.Literal f)
+pub instant-read : (t : Text) {f : Fields} → begins_with_dollar t ≡ false → instant t ≡ some f → TextReadAs t (Ok (Some f))
 unfolding instant_text literal_text form_of literal_by fails_if is_none
 instant-read t e r = record { form = rw (e, r); fields = rw (e, r) }
 
-pub form-instant : {e : ℕ} {t text : Text} {r : InstantRead} (v : Value) → v ≡ string e t → text ≡ t → TextReadAs text r
+pub form-instant : {e : ℕ} {t text : Text} {r : Result (Optional Fields) InstantFault} (v : Value) → v ≡ string e t → text ≡ t → TextReadAs text r
     → ReadAs (instant_form v) (literal_instant v) r
 unfolding instant_form literal_instant
 form-instant v g s p = record { form = rw (g, sym s) p.form; fields = rw (g, sym s) p.fields }
 
-pub holder-instant : (v : Value) → is_string v ≡ false → ReadAs (instant_form v) (literal_instant v) (Bad Unreadable)
+pub holder-instant : (v : Value) → is_string v ≡ false → ReadAs (instant_form v) (literal_instant v) (Err Unreadable)
 unfolding instant_form literal_instant form_of literal_by instant_detail is_string
 holder-instant (constant e type) s = record { form = refl; fields = refl }
 holder-instant (number e digits) s = record { form = refl; fields = refl }
@@ -186,11 +182,11 @@ form-fails {f} n {q} {fault} setting tree binders env v s w p m e z others =
 
 -- What the value of a word is asked besides its references.
 
-module _ {rule words : List ℕ} {over : Over} {i : ℕ} {a : Progress} where
+module _ {rule words : List ℕ} {over : Optional ℕ} {i : ℕ} {a : Progress} where
   pub nothing-asked : {questions : List Binder → Value → List Check} → ((binders : List Binder) (v : Value) → questions binders v ≡ []) → ValueJudged rule words over questions i a a
   nothing-asked e = record { at_most = omega arith; goes = λ schema scope setting tree binders env v s w. rw (e binders v) goes-nothing }
 
-  pub instant-passes : {x : InstantRead} {r : Progress}
+  pub instant-passes : {x : Result (Optional Fields) InstantFault} {r : Progress}
       → ((v : Value) → ValueAt rule words i v → ReadAs (instant_form v) (literal_instant v) x)
       → form_of x ≡ settled none
       → PassedOn a r
@@ -202,9 +198,9 @@ module _ {rule words : List ℕ} {over : Over} {i : ℕ} {a : Progress} where
         goes = λ schema scope setting tree binders env v s w. form-passes 20 setting tree binders env v s p ((g v w).form ∙ y);
       }
 
-  pub instant-fails : {x : InstantRead} {fault : InstantFault} {r : Progress}
+  pub instant-fails : {x : Result (Optional Fields) InstantFault} {fault : InstantFault} {r : Progress}
       → ((v : Value) → ValueAt rule words i v → ReadAs (instant_form v) (literal_instant v) x)
-      → x ≡ Bad fault
+      → x ≡ Err fault
       → Failed a (Instant fault) (i + 1) over r
       → ValueJudged rule words over instant_check i a r
   unfolding instant_check form_of number_of failure_of
@@ -282,7 +278,7 @@ module _ {rule words : List ℕ} {over : Over} {i : ℕ} {a : Progress} where
 
 -- One operand.
 
-module _ {schema rule words : List ℕ} {scope : Scope} {over : Over} {op : ℕ} {which : Side} {start end : ℕ} (inside : start < end) {a : Progress} where
+module _ {schema rule words : List ℕ} {scope : Scope} {over : Optional ℕ} {op : ℕ} {which : Side} {start end : ℕ} (inside : start < end) {a : Progress} where
   pub operand-judged : {b c r : Progress}
       → ValueJudged rule words over (asked_before op which) start a b
       → ReferencesIn (frame schema rule words scope over) start (end - start) b c
@@ -299,9 +295,9 @@ module _ {schema rule words : List ℕ} {scope : Scope} {over : Over} {op : ℕ}
       }
 
   -- where the check before the references failed
-  pub operand-refused : {r : Progress} {fault : Fault} {place : ℕ} {o : Over}
+  pub operand-refused : {r : Progress} {fault : Fault} {place : ℕ} {o : Optional ℕ}
       → ValueJudged rule words over (asked_before op which) start a r
-      → r.verdict ≡ Defect fault place o
+      → r.verdict ≡ Err (fault, place, o)
       → OperandJudged (frame schema rule words scope over) op which start end a r
   operand-refused p t =
       operand-judged p
@@ -309,10 +305,10 @@ module _ {schema rule words : List ℕ} {scope : Scope} {over : Over} {op : ℕ}
       (record { at_most = omega arith; goes = λ schema scope setting tree binders env v s w. goes-stopped t })
 
   -- where one of its references failed
-  pub operand-stopped : {b r : Progress} {fault : Fault} {place : ℕ} {o : Over}
+  pub operand-stopped : {b r : Progress} {fault : Fault} {place : ℕ} {o : Optional ℕ}
       → ValueJudged rule words over (asked_before op which) start a b
       → ReferencesIn (frame schema rule words scope over) start (end - start) b r
-      → r.verdict ≡ Defect fault place o
+      → r.verdict ≡ Err (fault, place, o)
       → OperandJudged (frame schema rule words scope over) op which start end a r
   operand-stopped p l t =
       operand-judged p l (record { at_most = omega arith; goes = λ schema scope setting tree binders env v s w. goes-stopped t })
@@ -360,8 +356,8 @@ module _ {f : Frame} {op : ℕ} {which : Side} {i end next : ℕ} {b d : Progres
             (first-asked setting tree binders env (l.rest vs w) r (l.stand vs w) s g);
       }
 
-pub operands-stopped : {f : Frame} {op start i end : ℕ} {which : Side} {a b : Progress} {fault : Fault} {place : ℕ} {o : Over}
-    → b.verdict ≡ Defect fault place o
+pub operands-stopped : {f : Frame} {op start i end : ℕ} {which : Side} {a b : Progress} {fault : Fault} {place : ℕ} {o : Optional ℕ}
+    → b.verdict ≡ Err (fault, place, o)
     → i - start ≤ end - start
     → OperandsLeft f op which start i end a b
     → OperandsJudged f op start end a b

@@ -1,4 +1,5 @@
 -- The references of a value, step by step.
+use Rattle.std.specs.Prelude.{Option, Result, Ok, Err}
 use Prim.Native.Nat.{ℕ, ◌+◌, ◌-◌, ◌≤◌, ◌<◌}
 use native.Mathlib.Omega.{arith}
 use mathlib.Core.Bool.{Bool, true, false, not, cond, ◌&&◌, false≢true}
@@ -19,8 +20,6 @@ use Rattle.definition.specs.Within.{value_entries}
 use Rattle.rule.specs.Index.{start_of}
 use Rattle.walk.specs.Answers.{IsReached, ReadableIs}
 use Rattle.walk.specs.declared.answer.ReferenceFault.{ReferenceFault}
-use Rattle.walk.specs.declared.answer.Readable.{Readable}
-use Rattle.walk.specs.declared.answer.Readable.TheVariants.{Yes, No}
 use Rattle.validation.specs.Check.{Binder, readable, check, reference_text, reference_check, references, references_of_values, references_of_pairs}
 use Rattle.validation.specs.Judge.{outcome, environment, verdict, answer, answer_in}
 use Rattle.rule.specs.Leaves.{leaves, leaves_of_values, leaves_of_pairs, said_in, said-value}
@@ -31,8 +30,6 @@ use Rattle.scope.specs.References.{ReferenceReads}
 use Rattle.value_checks.specs.Frames.{Frame, Stands, IsReference, reference_says, ReferencesIn}
 use Rattle.value_checks.specs.declared.verdict.Fault.{Fault}
 use Rattle.value_checks.specs.declared.verdict.Fault.TheVariants.{Reference}
-use Rattle.value_checks.specs.declared.verdict.Over.{Over}
-use Rattle.value_checks.specs.declared.verdict.Verdict.TheVariants.{Defect}
 use Rattle.value_checks.specs.declared.verdict.Progress.{Progress}
 use Rattle.value_checks.proofs.Going.{goes-nothing, goes_then, goes-stopped, said-next}
 use Rattle.rule.proofs.EntrySteps.{entries-part, entries-value}
@@ -119,10 +116,10 @@ module _ {f : Frame} {i at : ℕ} {a : Progress} {test : Bool} (start : at ≡ s
     reference-none e =
         record { at_most = omega arith; goes = λ setting tree binders env s w. rw (says_typed (reference_says binders) f.rule f.words i at 53 start (subst (λ (x : Bool). HasType f.rule at 53 x) tested string) _ (string-says f.rule at i known same binders) w, e) goes-nothing }
 
-    pub reference-passes : {x : Readable} {r : Progress}
+    pub reference-passes : {x : Result Unit (ReferenceFault × ℕ)} {r : Progress}
         → IsReference text true
         → ReferenceReads f.schema f.rule f.words f.scope (take (length text - 1) (drop 1 text)) x
-        → x ≡ Yes
+        → x ≡ (Ok tt)
         → PassedOn a r
         → ReferencesIn f i 1 a r
     unfolding reference_check
@@ -131,17 +128,17 @@ module _ {f : Frame} {i at : ℕ} {a : Progress} {test : Bool} (start : at ≡ s
           at_most = p.at_most;
           goes =
               λ setting tree binders env s w.
-              let m : ReadableIs Yes (reference setting tree env (drop 1 text)) =
+              let m : ReadableIs (Ok tt) (reference setting tree env (drop 1 text)) =
               rw (behind-dollar text, y) at (q.leads setting tree env s.scoped) in
               rw (says_typed (reference_says binders) f.rule f.words i at 53 start (subst (λ (x : Bool). HasType f.rule at 53 x) tested string) _ (string-says f.rule at i known same binders) w, e)
               (p.goes (outcome setting tree) _
               (readable-outcome setting tree binders env 18 (i + 1) (drop 1 text) s.bound ∙ reached-verdict _ m));
         }
 
-    pub reference-fails : {x : Readable} {fault : ReferenceFault} {place : ℕ} {r : Progress}
+    pub reference-fails : {x : Result Unit (ReferenceFault × ℕ)} {fault : ReferenceFault} {place : ℕ} {r : Progress}
         → IsReference text true
         → ReferenceReads f.schema f.rule f.words f.scope (take (length text - 1) (drop 1 text)) x
-        → x ≡ No fault place
+        → x ≡ Err (fault, place)
         → Failed a (Reference fault place) (i + 1) f.over r
         → ReferencesIn f i 1 a r
     unfolding reference_check verdict number_of failure_of check
@@ -150,7 +147,7 @@ module _ {f : Frame} {i at : ℕ} {a : Progress} {test : Bool} (start : at ≡ s
           at_most = omega (arith, p.same);
           goes =
               λ setting tree binders env s w.
-              let m : ReadableIs (No fault place) (reference setting tree env (drop 1 text)) =
+              let m : ReadableIs (Err (fault, place)) (reference setting tree env (drop 1 text)) =
               rw (behind-dollar text, y) at (q.leads setting tree env s.scoped) in
               rw (says_typed (reference_says binders) f.rule f.words i at 53 start (subst (λ (x : Bool). HasType f.rule at 53 x) tested string) _ (string-says f.rule at i known same binders) w, e)
               (p.goes (outcome setting tree) _ [] (record { numbered = refl; placed = refl; held = s.held })
@@ -183,12 +180,12 @@ module _ {f : Frame} {a : Progress} {start i : ℕ} where
       → ReferencesIn f start (end - start) a r
   references-all {end} h k p = let e : i - start ≡ end - start = omega arith in rw e at p
 
-pub references-stopped : {f : Frame} {start i end : ℕ} {a b r : Progress} {fault : Fault} {place : ℕ} {over : Over}
+pub references-stopped : {f : Frame} {start i end : ℕ} {a b r : Progress} {fault : Fault} {place : ℕ} {over : Option ℕ}
     → start ≤ i
     → i < end
     → ReferencesIn f start (i - start) a b
     → ReferencesIn f i 1 b r
-    → r.verdict ≡ Defect fault place over
+    → r.verdict ≡ Err (fault, place, over)
     → ReferencesIn f start (end - start) a r
 references-stopped {i = i} {end = end} h k p q t =
     references-next {i = i + 1} {n = end - (i + 1)} (omega arith) (omega arith) (references-next h refl p q)

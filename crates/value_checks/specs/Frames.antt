@@ -1,5 +1,5 @@
 -- What a judging function is given, and the trees that this stands for.
-use Rattle.std.specs.Prelude.{ℕ, ◌+◌, ◌*◌, ◌-◌, ◌≤◌, Bool, true, false, not, cond, List, [], ◌∷◌, ◌++◌, ◌≡◌, drop, eqb}
+use Rattle.std.specs.Prelude.{ℕ, ◌+◌, ◌*◌, ◌-◌, ◌≤◌, Bool, true, false, not, cond, List, [], ◌∷◌, ◌++◌, ◌≡◌, drop, eqb, Option as Optional, Some, None, Result, Ok, Err}
 use Rattle.std.proofs.Math.Option.{Option, none, some}
 use Rattle.text.specs.Parts.{part_of}
 use Rattle.timestamp.specs.declared.Fields.{Fields}
@@ -17,23 +17,21 @@ use Rattle.rule.specs.Nodes.{IsValue, AreValues, EntriesIn}
 use Rattle.value_checks.specs.Verdicts.{GoesOn, over_by, side_detail, instant_detail}
 use Rattle.scope.specs.Scopes.{ScopeAt}
 use Rattle.scope.specs.declared.binder.Scope.{Scope}
-use Rattle.value_checks.specs.declared.verdict.Over.{Over}
 use Rattle.value_checks.specs.declared.verdict.Side.{Side}
 use Rattle.value_checks.specs.declared.verdict.Side.TheVariants.{Left, Right}
 use Rattle.value_checks.specs.declared.verdict.Progress.{Progress}
 use Rattle.value_checks.specs.declared.operand.Form.{Form}
 use Rattle.value_checks.specs.declared.operand.Form.TheVariants as Form
-use Rattle.value_checks.specs.declared.operand.InstantRead.{InstantRead}
-use Rattle.value_checks.specs.declared.operand.InstantRead.TheVariants as InstantRead
+use Rattle.value_checks.specs.declared.verdict.InstantFault.{InstantFault}
 
 pub record Frame : Type 0 where
   pub schema : List ℕ
   pub rule : List ℕ
   pub words : List ℕ
   pub scope : Scope
-  pub over : Over
+  pub over : Optional ℕ
 
-abbrev pub frame : (schema rule words : List ℕ) → Scope → Over → Frame
+abbrev pub frame : (schema rule words : List ℕ) → Scope → Optional ℕ → Frame
 frame schema rule words scope over = record { schema = schema; rule = rule; words = words; scope = scope; over = over }
 
 -- the setting, the schema, and the quantifiers whose bodies hold what is judged, with what their binders stand for
@@ -89,7 +87,7 @@ asked_of op which binders no_values = []
 asked_of op which binders (value v others) = asked op which binders v ++ asked_of op Right binders others
 
 -- what the value of word `i` is asked besides its references
-pub record ValueJudged (rule words : List ℕ) (over : Over) (questions : List Binder → Value → List Check) (i : ℕ) (a r : Progress) : Type 0 where
+pub record ValueJudged (rule words : List ℕ) (over : Optional ℕ) (questions : List Binder → Value → List Check) (i : ℕ) (a r : Progress) : Type 0 where
   pub at_most : r.passed ≤ a.passed + 1
   pub goes : (schema : List ℕ) (scope : Scope) (setting : Setting) (tree : Schema) (binders : List Binder) (env : Environment) (v : Value)
       → Stands (frame schema rule words scope over) setting tree binders env
@@ -118,17 +116,16 @@ FormIs rule (Form.Text p) v = v ≡ string (entry_of v) (part_of rule p)
 FormIs rule Form.Holder v = (is_holder v ≡ true) × (is_string v ≡ false)
 FormIs rule Form.Other v = (is_holder v ≡ false) × (is_string v ≡ false)
 
-unfoldable pub form_of : InstantRead → Question
-form_of InstantRead.Reference = settled none
-form_of (InstantRead.Literal fields) = settled none
-form_of (InstantRead.Bad fault) = settled (some (instant_detail fault))
+unfoldable pub form_of : Result (Optional Fields) InstantFault → Question
+form_of (Ok fields) = settled none
+form_of (Err fault) = settled (some (instant_detail fault))
 
-unfoldable pub literal_by : InstantRead → Option Fields
-literal_by InstantRead.Reference = none
-literal_by (InstantRead.Literal fields) = some fields
-literal_by (InstantRead.Bad fault) = none
+unfoldable pub literal_by : Result (Optional Fields) InstantFault → Option Fields
+literal_by (Ok None) = none
+literal_by (Ok (Some fields)) = some fields
+literal_by (Err fault) = none
 
 -- what `before` and `after` ask of an operand, and the instant that it is by itself
-pub record ReadAs (asked : Question) (literal : Option Fields) (r : InstantRead) : Type 0 where
+pub record ReadAs (asked : Question) (literal : Option Fields) (r : Result (Optional Fields) InstantFault) : Type 0 where
   pub form : asked ≡ form_of r
   pub fields : literal ≡ literal_by r

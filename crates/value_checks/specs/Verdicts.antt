@@ -1,5 +1,5 @@
 -- What the code answers, beside what a verdict shows of its check.
-use Rattle.std.specs.Prelude.{ℕ, ◌+◌, ◌≤◌, Bool, true, false, List, [], ◌∷◌, ◌≡◌}
+use Rattle.std.specs.Prelude.{ℕ, ◌+◌, ◌≤◌, Bool, true, false, List, [], ◌∷◌, ◌≡◌, Option as Optional, Some, None, Result, Ok, Err}
 use Rattle.std.proofs.Math.Option.{Option, none, some}
 use Rattle.walk.specs.Answers.{reference_detail, collection_detail}
 use Rattle.validation.specs.Check.{Check}
@@ -12,10 +12,6 @@ use Rattle.value_checks.specs.declared.verdict.InstantFault.{InstantFault}
 use Rattle.value_checks.specs.declared.verdict.InstantFault.TheVariants.{Escaped, Unreadable}
 use Rattle.value_checks.specs.declared.verdict.Fault.{Fault}
 use Rattle.value_checks.specs.declared.verdict.Fault.TheVariants.{Name, Message, Deep, Literal, Operator, Empty, Operand, Reference, Affix, Instant, Bind, Collection}
-use Rattle.value_checks.specs.declared.verdict.Over.{Over}
-use Rattle.value_checks.specs.declared.verdict.Over.TheVariants.{Outside, In}
-use Rattle.value_checks.specs.declared.verdict.Verdict.{Verdict}
-use Rattle.value_checks.specs.declared.verdict.Verdict.TheVariants.{Pass, Defect}
 use Rattle.value_checks.specs.declared.verdict.Progress.{Progress}
 
 unfoldable pub number_of : Fault → ℕ
@@ -75,20 +71,20 @@ unfoldable pub failure_of : Fault → Failure
 unfolding detail_of refused_at
 failure_of fault = failure (detail_of fault) (refused_at fault)
 
-unfoldable pub over_by : Over → Option ℕ
-over_by Outside = none
-over_by (In e) = some e
+unfoldable pub over_by : Optional ℕ → Option ℕ
+over_by None = none
+over_by (Some e) = some e
 
-unfoldable pub shown_with : ℕ → Verdict → Shown
-shown_with n Pass = passes n
-shown_with n (Defect f place over) = fails n (number_of f) place (over_by over) (failure_of f)
+unfoldable pub shown_with : ℕ → Result Unit (Fault × ℕ × Optional ℕ) → Shown
+shown_with n (Ok tt) = passes n
+shown_with n (Err (f, place, over)) = fails n (number_of f) place (over_by over) (failure_of f)
 
 unfoldable pub shown_by : Progress → Shown
 shown_by a = shown_with a.passed a.verdict
 
 -- no check has failed, and `n` have passed
 abbrev pub going : ℕ → Progress
-going n = record { passed = n; verdict = Pass }
+going n = record { passed = n; verdict = Ok tt }
 
 -- `r` goes on from `a`: with the checks, where all passed so far
 pub record GoesOn (ask : Check → CheckOutcome) (a : Progress) (checks : List Check) (r : Progress) : Type 0 where
@@ -99,7 +95,7 @@ pub record HasRoom (a : Progress) (more : ℕ) : Type 0 where
   pub fits : a.passed + more ≤ 65536
 
 -- what fails with that fault, at that place
-pub record FailsWith (c : Check) (fault : Fault) (place : ℕ) (over : Over) : Type 0 where
+pub record FailsWith (c : Check) (fault : Fault) (place : ℕ) (over : Optional ℕ) : Type 0 where
   pub numbered : c.number ≡ number_of fault
   pub placed : c.place ≡ place
   pub held : over_of c.binders ≡ over_by over
@@ -110,7 +106,7 @@ pub record PassedOn (a r : Progress) : Type 0 where
   pub goes : (ask : Check → CheckOutcome) (c : Check) → ask c ≡ none → GoesOn ask a (c ∷ []) r
 
 -- one check more, which fails: nothing is asked after it
-pub record Failed (a : Progress) (fault : Fault) (place : ℕ) (over : Over) (r : Progress) : Type 0 where
+pub record Failed (a : Progress) (fault : Fault) (place : ℕ) (over : Optional ℕ) (r : Progress) : Type 0 where
   pub same : r.passed ≡ a.passed
   pub goes : (ask : Check → CheckOutcome) (c : Check) (checks : List Check)
       → FailsWith c fault place over
@@ -121,7 +117,7 @@ unfoldable pub failed : Bool → Failure → CheckOutcome
 failed true why = some why
 failed false why = none
 
-pub record Required (a : Progress) (wrong : Bool) (fault : Fault) (place : ℕ) (over : Over) (r : Progress) : Type 0 where
+pub record Required (a : Progress) (wrong : Bool) (fault : Fault) (place : ℕ) (over : Optional ℕ) (r : Progress) : Type 0 where
   pub at_most : r.passed ≤ a.passed + 1
   pub goes : (ask : Check → CheckOutcome) (c : Check)
       → FailsWith c fault place over

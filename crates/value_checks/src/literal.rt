@@ -4,7 +4,7 @@ ghost use Rattle.definition.specs.Limits.{word_entries};
 ghost use Rattle.value_checks.specs.Verdicts.{going, HasRoom};
 ghost use Rattle.value_checks.specs.Literals.{LiteralsJudged, ObservedJudged, ConditionLiterals};
 
-use crate::verdict::{Fault, Over, Progress, Verdict, going, require};
+use crate::verdict::{Fault, Progress, going, require};
 use rule::index::start_of;
 use rule::kind::{NUMBER, has_type, operator_at, text_at};
 use rule::node::{behind, children_from};
@@ -19,7 +19,7 @@ fn validate_literal(passed: usize, rule: &[u8], words: &[u32], i: usize) -> Prog
     let at = start_of(words, i);
     if has_type(rule, at, NUMBER) {
         let finite = number::is_finite(bytes_of(rule, text_at(rule, at)));
-        return require(passed, !finite, Fault::Literal, i + 1, Over::Outside);
+        return require(passed, !finite, Fault::Literal, i + 1, None);
     }
     going(passed)
 }
@@ -36,15 +36,13 @@ fn validate_literals(
     ensures { LiteralsJudged rule.now words.now start (end - start) (going passed) result }
 {
     let mut so_far = passed;
-    let mut i = start;
-    while i < end {
+    for i in start..end {
         let r = validate_literal(so_far, rule, words, i);
         let verdict = r.verdict;
-        let Verdict::Pass = verdict else {
+        let Ok(()) = verdict else {
             return r;
         };
         so_far = r.passed;
-        i += 1;
     }
     going(so_far)
 }
@@ -86,7 +84,7 @@ pub fn unobservable_condition_literals(
         let next = children_from(words, op, i, behind(words, i, end));
         let r = validate_observed(so_far, rule, words, op, i + 1, next);
         let verdict = r.verdict;
-        let Verdict::Pass = verdict else {
+        let Ok(()) = verdict else {
             return r;
         };
         so_far = r.passed;

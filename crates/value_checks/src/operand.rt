@@ -9,9 +9,7 @@ ghost use Rattle.value_checks.specs.Verdicts.{going, HasRoom};
 ghost use Rattle.value_checks.specs.Frames.{frame, FormIs, ReadAs, ValueJudged, instant_check, affix_check, asked_before, asked_after, OperandJudged, OperandsJudged};
 
 use crate::references::{is_reference, validate_references};
-use crate::verdict::{
-    Fault, InstantFault, Over, Progress, Side, Verdict, fail, going, pass, require,
-};
+use crate::verdict::{Fault, InstantFault, Progress, Side, fail, going, pass, require};
 use rule::index::start_of;
 use rule::kind::{STRING, text_at, type_at};
 use rule::node::behind;
@@ -19,7 +17,7 @@ use scope::binder::Scope;
 use scope::collections::begins_with_dollar;
 use sheet::operators::{COMPARE, is_affix, is_instant_test};
 use text::part::{Part, bytes_of};
-use timestamp::{Fields, Parsed};
+use timestamp::Fields;
 
 #[derive(Clone, Copy)]
 pub enum Form {
@@ -27,14 +25,6 @@ pub enum Form {
     // An array or an object.
     Holder,
     Other,
-}
-
-// What an operand of `before` or `after` is.
-#[derive(Clone, Copy)]
-pub enum InstantRead {
-    Reference,
-    Literal(Fields),
-    Bad(InstantFault),
 }
 
 // The value of word `i`, by its type.
@@ -52,47 +42,58 @@ pub fn form_of(rule: &[u8], words: &[u32], i: usize) -> Form
     Form::Text(text_at(rule, at))
 }
 
-// A reference may be an instant; text that begins with `$$` is none.
-fn instant_text(text: &[u8]) -> InstantRead
+// A reference may be an instant, which is not known here; text that begins with `$$` is none.
+fn instant_text(text: &[u8]) -> Result<Option<Fields>, InstantFault>
     ensures { ReadAs (instant_text text.now) (literal_text text.now) result }
 {
     if is_reference(text) {
-        return InstantRead::Reference;
+        return Ok(None);
     }
     if begins_with_dollar(text) {
-        return InstantRead::Bad(InstantFault::Escaped);
+        return Err(InstantFault::Escaped);
     }
-    let Parsed::Instant(fields) = timestamp::parse(text) else {
-        return InstantRead::Bad(InstantFault::Unreadable);
+    let Some(fields) = timestamp::parse(text) else {
+        return Err(InstantFault::Unreadable);
     };
-    InstantRead::Literal(fields)
+    Ok(Some(fields))
 }
 
-// The value of word `i`, as an operand of `before` or `after`.
-pub fn instant_form(rule: &[u8], words: &[u32], i: usize) -> InstantRead
+// The value of word `i`, as an operand of `before` or `after`: the instant of a literal, or none of a reference.
+pub fn instant_form(rule: &[u8], words: &[u32], i: usize) -> Result<Option<Fields>, InstantFault>
     ensures { (v : Value) → ValueAt rule.now words.now i v → ReadAs (instant_form v) (literal_instant v) result }
 {
     match form_of(rule, words, i) {
         Form::Text(part) => instant_text(bytes_of(rule, part)),
-        Form::Holder => InstantRead::Bad(InstantFault::Unreadable),
-        Form::Other => InstantRead::Bad(InstantFault::Unreadable),
+        Form::Holder => Err(InstantFault::Unreadable),
+        Form::Other => Err(InstantFault::Unreadable),
     }
 }
 
 // The value of word `i` as an operand of `before` or `after`.
-fn validate_instant(passed: usize, rule: &[u8], words: &[u32], over: Over, i: usize) -> Progress
+fn validate_instant(
+    passed: usize,
+    rule: &[u8],
+    words: &[u32],
+    over: Option<usize>,
+    i: usize,
+) -> Progress
     requires { HasRoom (going passed) 1 × (i < word_entries) }
     ensures { ValueJudged rule.now words.now over instant_check i (going passed) result }
 {
     match instant_form(rule, words, i) {
-        InstantRead::Reference => pass(passed),
-        InstantRead::Literal(_) => pass(passed),
-        InstantRead::Bad(fault) => fail(passed, Fault::Instant(fault), i + 1, over),
+        Ok(_) => pass(passed),
+        Err(fault) => fail(passed, Fault::Instant(fault), i + 1, over),
     }
 }
 
 // The value of word `i` as an operand of `starts_with` or `ends_with`.
-fn validate_affix(passed: usize, rule: &[u8], words: &[u32], over: Over, i: usize) -> Progress
+fn validate_affix(
+    passed: usize,
+    rule: &[u8],
+    words: &[u32],
+    over: Option<usize>,
+    i: usize,
+) -> Progress
     requires { HasRoom (going passed) 1 × (i < word_entries) }
     ensures { ValueJudged rule.now words.now over affix_check i (going passed) result }
 {
@@ -107,7 +108,7 @@ fn validate_side(
     passed: usize,
     rule: &[u8],
     words: &[u32],
-    over: Over,
+    over: Option<usize>,
     op: usize,
     which: Side,
     i: usize,
@@ -127,7 +128,7 @@ fn validate_form(
     passed: usize,
     rule: &[u8],
     words: &[u32],
-    over: Over,
+    over: Option<usize>,
     op: usize,
     i: usize,
 ) -> Progress
@@ -151,7 +152,7 @@ fn validate_operand(
     rule: &[u8],
     words: &[u32],
     scope: Scope,
-    over: Over,
+    over: Option<usize>,
     op: usize,
     which: Side,
     start: usize,
@@ -162,12 +163,12 @@ fn validate_operand(
 {
     let a = validate_side(passed, rule, words, over, op, which, start);
     let before = a.verdict;
-    let Verdict::Pass = before else {
+    let Ok(()) = before else {
         return a;
     };
     let r = validate_references(a.passed, schema, rule, words, scope, over, start, end);
     let verdict = r.verdict;
-    let Verdict::Pass = verdict else {
+    let Ok(()) = verdict else {
         return r;
     };
     validate_form(r.passed, rule, words, over, op, start)
@@ -180,7 +181,7 @@ pub fn validate_operands(
     rule: &[u8],
     words: &[u32],
     scope: Scope,
-    over: Over,
+    over: Option<usize>,
     op: usize,
     start: usize,
     end: usize,
@@ -195,7 +196,7 @@ pub fn validate_operands(
         let next = behind(words, i, end);
         let r = validate_operand(so_far, schema, rule, words, scope, over, op, which, i, next);
         let verdict = r.verdict;
-        let Verdict::Pass = verdict else {
+        let Ok(()) = verdict else {
             return r;
         };
         so_far = r.passed;

@@ -4,14 +4,13 @@ ghost use Rattle.definition.specs.Limits.{word_entries};
 ghost use Rattle.value_checks.specs.Verdicts.{going, HasRoom};
 ghost use Rattle.value_checks.specs.Frames.{frame, IsReference, ReferencesIn};
 
-use crate::verdict::{Fault, Over, Progress, Verdict, fail, going, pass};
+use crate::verdict::{Fault, Progress, fail, going, pass};
 use rule::index::start_of;
 use rule::kind::{STRING, has_type, text_at};
 use scope::binder::Scope;
 use scope::collections::begins_with_dollar;
 use scope::references::validate_reference;
 use text::part::bytes_of;
-use walk::answer::Readable;
 
 pub fn is_reference(text: &[u8]) -> bool
     ensures { IsReference text.now result }
@@ -29,7 +28,7 @@ fn validate_value_reference(
     rule: &[u8],
     words: &[u32],
     scope: Scope,
-    over: Over,
+    over: Option<usize>,
     i: usize,
 ) -> Progress
     requires { HasRoom (going passed) 1 × (i < word_entries) }
@@ -40,7 +39,7 @@ fn validate_value_reference(
         let text = bytes_of(rule, text_at(rule, at));
         if is_reference(text) {
             let found = validate_reference(schema, rule, words, scope, &text[1..]);
-            let Readable::No(fault, at) = found else {
+            let Err((fault, at)) = found else {
                 return pass(passed);
             };
             return fail(passed, Fault::Reference(fault, at), i + 1, over);
@@ -57,7 +56,7 @@ pub fn validate_references(
     rule: &[u8],
     words: &[u32],
     scope: Scope,
-    over: Over,
+    over: Option<usize>,
     start: usize,
     end: usize,
 ) -> Progress
@@ -65,15 +64,13 @@ pub fn validate_references(
     ensures { ReferencesIn (frame schema.now rule.now words.now scope over) start (end - start) (going passed) result }
 {
     let mut so_far = passed;
-    let mut i = start;
-    while i < end {
+    for i in start..end {
         let r = validate_value_reference(so_far, schema, rule, words, scope, over, i);
         let verdict = r.verdict;
-        let Verdict::Pass = verdict else {
+        let Ok(()) = verdict else {
             return r;
         };
         so_far = r.passed;
-        i += 1;
     }
     going(so_far)
 }

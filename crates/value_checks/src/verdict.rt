@@ -39,25 +39,14 @@ pub enum Fault {
     Collection(CollectionFault, usize),
 }
 
-// The innermost quantifier whose body holds a check.
-#[derive(Clone, Copy)]
-pub enum Over {
-    Outside,
-    // The entry of its `in` value.
-    In(usize),
-}
-
-#[derive(Clone, Copy)]
-pub enum Verdict {
-    Pass,
-    // The fault, the entry that it is found at, and the quantifier around it.
-    Defect(Fault, usize, Over),
-}
+// The fault, the entry that it is found at, and the entry of the `in` value of the innermost quantifier around it.
+pub type Verdict = Result<(), (Fault, usize, Option<usize>)>;
 
 #[derive(Clone, Copy)]
 pub struct Progress {
     // The checks that passed, up to the first that does not.
     pub passed: usize,
+    // Of that one.
     pub verdict: Verdict,
 }
 
@@ -67,7 +56,7 @@ pub fn going(passed: usize) -> Progress
 {
     Progress {
         passed,
-        verdict: Verdict::Pass,
+        verdict: Ok(()),
     }
 }
 
@@ -80,17 +69,23 @@ pub fn pass(passed: usize) -> Progress
 }
 
 // One check more, which fails: the end.
-pub fn fail(passed: usize, fault: Fault, place: usize, over: Over) -> Progress
+pub fn fail(passed: usize, fault: Fault, place: usize, over: Option<usize>) -> Progress
     ensures { Failed (going passed) fault place over result }
 {
     Progress {
         passed,
-        verdict: Verdict::Defect(fault, place, over),
+        verdict: Err((fault, place, over)),
     }
 }
 
 // One check more, which fails with the fault where `wrong` holds.
-pub fn require(passed: usize, wrong: bool, fault: Fault, place: usize, over: Over) -> Progress
+pub fn require(
+    passed: usize,
+    wrong: bool,
+    fault: Fault,
+    place: usize,
+    over: Option<usize>,
+) -> Progress
     requires { HasRoom (going passed) 1 }
     ensures { Required (going passed) wrong fault place over result }
 {

@@ -1,12 +1,8 @@
 -- Where a case lies in the bytes that were read, and whether it agrees.
-use Rattle.std.specs.Prelude.{ℕ, ◌+◌, ◌-◌, ◌≤◌, Bool, true, List, ◌≡◌, length, take, drop}
+use Rattle.std.specs.Prelude.{ℕ, ◌+◌, ◌-◌, ◌≤◌, Bool, true, List, ◌≡◌, length, take, drop, Option, Some, None}
 use Rattle.text.specs.declared.part.Part.{Part}
 use Rattle.check_file.specs.Output.{output_of}
 use Rattle.vectors.specs.declared.Case.{Case}
-use Rattle.vectors.specs.declared.Found.{Found}
-use Rattle.vectors.specs.declared.Found.TheVariants as found
-use Rattle.vectors.specs.declared.Replayed.{Replayed}
-use Rattle.vectors.specs.declared.Replayed.TheVariants as replayed
 use Rattle.vectors.specs.declared.Step.{Step}
 use Rattle.vectors.specs.declared.Step.TheVariants as step
 
@@ -18,9 +14,9 @@ pub record Lies (s : List ℕ) (c : Case) : Type 0 where
   pub expected : c.expected ≤ c.end
   pub within : c.end ≤ length s
 
-abbrev pub FoundIn : List ℕ → Found → Type 0
-FoundIn s (found.Whole c) = Lies s c
-FoundIn s found.Broken = Unit {0}
+abbrev pub FoundIn : List ℕ → Option Case → Type 0
+FoundIn s (Some c) = Lies s c
+FoundIn s None = Unit {0}
 
 -- the bytes from `start` up to `end`
 abbrev pub between : (start end : ℕ) → List ℕ → List ℕ
@@ -37,9 +33,9 @@ pub record Replays (s : List ℕ) (agrees : Bool) (next : ℕ) : Type 0 where
   pub tells : Tells agrees (between (found).file (found).expected s) (between (found).expected (found).end s)
   pub ends : next ≡ (found).end
 
-abbrev pub ReplayedIn : List ℕ → Replayed → Type 0
-ReplayedIn s (replayed.Whole agrees next) = Replays s agrees next
-ReplayedIn s replayed.Broken = Unit {0}
+abbrev pub ReplayedIn : List ℕ → Option (Bool × ℕ) → Type 0
+ReplayedIn s (Some (agrees, next)) = Replays s agrees next
+ReplayedIn s None = Unit {0}
 
 -- whether a case that lies in the buffer `s` agrees, and what is left after it
 pub record Steps (s : List ℕ) (agrees : Bool) (w : Part) : Type 0 where

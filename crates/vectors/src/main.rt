@@ -39,20 +39,7 @@ struct Case {
     end: usize,
 }
 
-#[derive(Clone, Copy)]
-enum Found {
-    Whole(Case),
-    // Not all of a case is there.
-    Broken,
-}
-
-#[derive(Clone, Copy)]
-enum Replayed {
-    // Whether it came out as expected, and the place after it.
-    Whole(bool, usize),
-    Broken,
-}
-
+// Neither case is a failure, so this is no Result.
 #[derive(Clone, Copy)]
 enum Step {
     // Whether a case came out as expected, and what is left after it.
@@ -117,8 +104,8 @@ fn count(s: &[u8], at: usize, stop: u8) -> Numeral
     }
 }
 
-// The case at the start of `s`.
-fn find(s: &[u8]) -> Found
+// The case at the start of `s`, if all of it is there.
+fn find(s: &[u8]) -> Option<Case>
     ensures { FoundIn s.now result }
 {
     let given = count(s, 0, b',');
@@ -127,13 +114,13 @@ fn find(s: &[u8]) -> Found
     let expected = file + given.value;
     let end = expected + told.value;
     if end <= s.len() {
-        return Found::Whole(Case {
+        return Some(Case {
             file,
             expected,
             end,
         });
     }
-    Found::Broken
+    None
 }
 
 fn is_as_expected(file: &[u8], expected: &[u8]) -> bool
@@ -144,17 +131,16 @@ fn is_as_expected(file: &[u8], expected: &[u8]) -> bool
     check::same(&line[0..n], expected)
 }
 
-fn replay(s: &[u8]) -> Replayed
+// Whether the case at the start of `s` came out as expected, and the place after it.
+fn replay(s: &[u8]) -> Option<(bool, usize)>
     ensures { ReplayedIn s.now result }
 {
-    let Found::Whole(c) = find(s) else {
-        return Replayed::Broken;
-    };
+    let c = find(s)?;
     let file = c.file;
     let expected = c.expected;
     let end = c.end;
     let agrees = is_as_expected(&s[file..expected], &s[expected..end]);
-    Replayed::Whole(agrees, end)
+    Some((agrees, end))
 }
 
 // Moves the bytes from `start` up to `end` to the front.
@@ -227,7 +213,7 @@ fn advance<R: Read>(reader: &mut R, buffer: &mut [u8], w: Part) -> io::Result<St
     let start = f.start;
     let left = f.len;
     let end = start + left;
-    let Replayed::Whole(agrees, n) = replay(&buffer[start..end]) else {
+    let Some((agrees, n)) = replay(&buffer[start..end]) else {
         return Ok(Step::Last(left == 0));
     };
     Ok(Step::Replayed(

@@ -1,4 +1,5 @@
 -- A path from a field on: the first segment, then what is left of the path after its dot.
+use Rattle.std.specs.Prelude.{Option, Some, None, Result, Ok, Err}
 use Prim.Native.Nat.{ℕ, ◌+◌, ◌-◌, ◌<◌}
 use native.Mathlib.Omega.{arith}
 use mathlib.Core.Bool.{Bool}
@@ -19,13 +20,7 @@ use Rattle.schema.specs.declared.index.IndexedField.{IndexedField}
 use Rattle.walk.specs.declared.answer.ReferenceFault.{ReferenceFault}
 use Rattle.walk.specs.declared.answer.WalkStep.{WalkStep}
 use Rattle.walk.specs.declared.answer.WalkStep.TheVariants.{Refuse, Leaf, Free, Into}
-use Rattle.walk.specs.declared.answer.Readable.{Readable}
-use Rattle.walk.specs.declared.answer.Readable.TheVariants.{Yes, No}
 use Rattle.walk.specs.declared.answer.CollectionFault.{CollectionFault}
-use Rattle.walk.specs.declared.answer.FieldStep.{FieldStep}
-use Rattle.walk.specs.declared.answer.FieldStep.TheVariants as FieldStep
-use Rattle.walk.specs.declared.answer.Collected.{Collected}
-use Rattle.walk.specs.declared.answer.Collected.TheVariants as Collected
 
 end-within : (path : List ℕ) (n : ℕ) → Ends path n → (n ≡ length path → ⊥) → n < length path
 end-within path n ends other = omega (arith, ends.within)
@@ -35,7 +30,7 @@ end-length path n ends = part_length path n ends.within
 
 -- The last segment
 
-pub last-refuse : (entry : ℕ) (w : WalkStep) (fault : ReferenceFault) → w ≡ Refuse fault → LastStep entry w (No fault entry)
+pub last-refuse : (entry : ℕ) (w : WalkStep) (fault : ReferenceFault) → w ≡ Refuse fault → LastStep entry w (Err (fault, entry))
 unfolding arrive
 last-refuse entry w fault e = record {
   leads = λ sheet words step s x h.
@@ -43,7 +38,7 @@ last-refuse entry w fault e = record {
       (s ∷ [], rw q);
 }
 
-pub last_leaf : (entry : ℕ) (w : WalkStep) (fault : ReferenceFault) → w ≡ Leaf fault → LastStep entry w Yes
+pub last_leaf : (entry : ℕ) (w : WalkStep) (fault : ReferenceFault) → w ≡ Leaf fault → LastStep entry w (Ok tt)
 unfolding arrive last_or
 last_leaf entry w fault e = record {
   leads = λ sheet words step s x h.
@@ -51,7 +46,7 @@ last_leaf entry w fault e = record {
       rw q tt;
 }
 
-pub last-free : (entry : ℕ) (w : WalkStep) → w ≡ Free → LastStep entry w Yes
+pub last-free : (entry : ℕ) (w : WalkStep) → w ≡ Free → LastStep entry w (Ok tt)
 unfolding arrive
 last-free entry w e = record {
   leads = λ sheet words step s x h.
@@ -59,7 +54,7 @@ last-free entry w e = record {
       rw q tt;
 }
 
-pub last-into : (entry : ℕ) (w : WalkStep) (k : ℕ) → w ≡ Into k → LastStep entry w Yes
+pub last-into : (entry : ℕ) (w : WalkStep) (k : ℕ) → w ≡ Into k → LastStep entry w (Ok tt)
 unfolding arrive travel
 last-into entry w k e = record {
   leads = λ sheet words step s x h.
@@ -67,7 +62,7 @@ last-into entry w k e = record {
       rw q.1 tt;
 }
 
-pub last-field-refuse : (entry : ℕ) (w : FieldStep) (fault : CollectionFault) → w ≡ FieldStep.Refuse fault → LastField entry w (Collected.No fault entry)
+pub last-field-refuse : (entry : ℕ) (w : Result (Option ℕ) CollectionFault) (fault : CollectionFault) → w ≡ Err fault → LastField entry w (Err (fault, entry))
 unfolding arrive
 last-field-refuse entry w fault e = record {
   leads = λ sheet words s x h.
@@ -75,7 +70,7 @@ last-field-refuse entry w fault e = record {
       (collection_detail fault, s ∷ [], rw q, λ small. refl);
 }
 
-pub last-field-free : (entry : ℕ) (w : FieldStep) → w ≡ FieldStep.Free → LastField entry w Collected.Unknown
+pub last-field-free : (entry : ℕ) (w : Result (Option ℕ) CollectionFault) → w ≡ (Ok None) → LastField entry w (Ok None)
 unfolding arrive
 last-field-free entry w e = record {
   leads = λ sheet words s x h.
@@ -87,7 +82,7 @@ into-known : (entry : ℕ) (s : Text) (x : Step) (f : Field) → x ≡ into f �
 unfolding arrive travel
 into-known entry s x f e = rw e
 
-pub last-field-into : (entry : ℕ) (w : FieldStep) (k : ℕ) → w ≡ FieldStep.Into k → LastField entry w (Collected.Known k)
+pub last-field-into : (entry : ℕ) (w : Result (Option ℕ) CollectionFault) (k : ℕ) → w ≡ Ok (Some k) → LastField entry w (Ok (Some k))
 last-field-into entry w k e = record {
   leads = λ sheet words s x h.
       let q : (f : Field) × (x ≡ into f) × SlotHolds sheet words k f = rw e at h in
@@ -104,7 +99,7 @@ module _ (sheet words path : List ℕ) (k : ℕ) (x : IndexedField) (held : Inde
   cut-last : n ≡ length path → split path ≡ record { first = take n path; others = [] }
   cut-last e = segments-are (split path) ends.first (ends.last e)
 
-  pub walk-last : (reader : Reader) (service : Bool) (r : Readable) (w : WalkStep) → n ≡ length path → WalkSteps sheet words x (take n path) reader service w → LastStep x.entry w r
+  pub walk-last : (reader : Reader) (service : Bool) (r : Result Unit (ReferenceFault × ℕ)) (w : WalkStep) → n ≡ length path → WalkSteps sheet words x (take n path) reader service w → LastStep x.entry w r
       → Walks sheet words k path reader service r
   unfolding travel
   walk-last reader service r w e steps last = record {
@@ -113,7 +108,7 @@ module _ (sheet words path : List ℕ) (k : ℕ) (x : IndexedField) (held : Inde
         (last.leads sheet words (walk_step reader service) (take n path) (walk_step reader service f (take n path)) (steps.leads f (held f at)));
   }
 
-  pub field-last : (r : Collected) (w : FieldStep) → n ≡ length path → FieldSteps sheet words x (take n path) w → LastField x.entry w r → FieldsAt sheet words k path r
+  pub field-last : (r : Result (Option ℕ) (CollectionFault × ℕ)) (w : Result (Option ℕ) CollectionFault) → n ≡ length path → FieldSteps sheet words x (take n path) w → LastField x.entry w r → FieldsAt sheet words k path r
   unfolding travel
   field-last r w e steps last = record {
     leads = λ f at.
@@ -128,7 +123,7 @@ module _ (sheet words path : List ℕ) (k : ℕ) (x : IndexedField) (held : Inde
     cut_at = segments-are (split path) ends.first (ends.more (end-within path n ends further))
 
     pub walk_refused : (reader : Reader) (service : Bool) (w : WalkStep) (fault : ReferenceFault) → WalkSteps sheet words x (take n path) reader service w → w ≡ Refuse fault
-        → Walks sheet words k path reader service (No fault x.entry)
+        → Walks sheet words k path reader service (Err (fault, x.entry))
     unfolding travel arrive
     walk_refused reader service w fault steps e = record {
       leads = λ f at.
@@ -137,7 +132,7 @@ module _ (sheet words path : List ℕ) (k : ℕ) (x : IndexedField) (held : Inde
     }
 
     pub walk-leaf : (reader : Reader) (service : Bool) (w : WalkStep) (fault : ReferenceFault) → WalkSteps sheet words x (take n path) reader service w → w ≡ Leaf fault
-        → Walks sheet words k path reader service (No fault x.entry)
+        → Walks sheet words k path reader service (Err (fault, x.entry))
     unfolding travel arrive last_or
     walk-leaf reader service w fault steps e = record {
       leads = λ f at.
@@ -145,7 +140,7 @@ module _ (sheet words path : List ℕ) (k : ℕ) (x : IndexedField) (held : Inde
           (take n path ∷ others, rw (cut_at, q, entry-is f (held f at)));
     }
 
-    pub walk-free : (reader : Reader) (service : Bool) (w : WalkStep) → WalkSteps sheet words x (take n path) reader service w → w ≡ Free → Walks sheet words k path reader service Yes
+    pub walk-free : (reader : Reader) (service : Bool) (w : WalkStep) → WalkSteps sheet words x (take n path) reader service w → w ≡ Free → Walks sheet words k path reader service (Ok tt)
     unfolding travel arrive
     walk-free reader service w steps e = record {
       leads = λ f at.
@@ -153,7 +148,7 @@ module _ (sheet words path : List ℕ) (k : ℕ) (x : IndexedField) (held : Inde
           rw (cut_at, q) tt;
     }
 
-    pub walk-into : (reader : Reader) (service : Bool) (w : WalkStep) (next : ℕ) (r : Readable) → WalkSteps sheet words x (take n path) reader service w → w ≡ Into next
+    pub walk-into : (reader : Reader) (service : Bool) (w : WalkStep) (next : ℕ) (r : Result Unit (ReferenceFault × ℕ)) → WalkSteps sheet words x (take n path) reader service w → w ≡ Into next
         → Walks sheet words next (take (length path - (n + 1)) (drop (n + 1) path)) reader service r → Walks sheet words k path reader service r
     unfolding travel arrive
     walk-into reader service w next r steps e m = record {
@@ -163,8 +158,8 @@ module _ (sheet words path : List ℕ) (k : ℕ) (x : IndexedField) (held : Inde
           rw (cut_at, q.1) (onward.leads q.0 q.2);
     }
 
-    pub field-refused : (w : FieldStep) (fault : CollectionFault) → FieldSteps sheet words x (take n path) w → w ≡ FieldStep.Refuse fault
-        → FieldsAt sheet words k path (Collected.No fault x.entry)
+    pub field-refused : (w : Result (Option ℕ) CollectionFault) (fault : CollectionFault) → FieldSteps sheet words x (take n path) w → w ≡ Err fault
+        → FieldsAt sheet words k path (Err (fault, x.entry))
     unfolding travel arrive
     field-refused w fault steps e = record {
       leads = λ f at.
@@ -172,7 +167,7 @@ module _ (sheet words path : List ℕ) (k : ℕ) (x : IndexedField) (held : Inde
           (collection_detail fault, take n path ∷ others, rw (cut_at, q, entry-is f (held f at)), λ small. refl);
     }
 
-    pub field-free : (w : FieldStep) → FieldSteps sheet words x (take n path) w → w ≡ FieldStep.Free → FieldsAt sheet words k path Collected.Unknown
+    pub field-free : (w : Result (Option ℕ) CollectionFault) → FieldSteps sheet words x (take n path) w → w ≡ (Ok None) → FieldsAt sheet words k path (Ok None)
     unfolding travel arrive
     field-free w steps e = record {
       leads = λ f at.
@@ -180,7 +175,7 @@ module _ (sheet words path : List ℕ) (k : ℕ) (x : IndexedField) (held : Inde
           rw (cut_at, q);
     }
 
-    pub field-into : (w : FieldStep) (next : ℕ) (r : Collected) → FieldSteps sheet words x (take n path) w → w ≡ FieldStep.Into next
+    pub field-into : (w : Result (Option ℕ) CollectionFault) (next : ℕ) (r : Result (Option ℕ) (CollectionFault × ℕ)) → FieldSteps sheet words x (take n path) w → w ≡ Ok (Some next)
         → FieldsAt sheet words next (take (length path - (n + 1)) (drop (n + 1) path)) r → FieldsAt sheet words k path r
     unfolding travel arrive
     field-into w next r steps e m = record {

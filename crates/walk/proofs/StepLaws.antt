@@ -1,4 +1,5 @@
 -- One segment: how each way through the code answers what the step on the tree is.
+use Rattle.std.specs.Prelude.{Option as Optional, Some, None}
 use Prim.Native.Nat.{ℕ}
 use mathlib.Core.Bool.{Bool, true, false, cond}
 use mathlib.Core.List.{List, [], ◌∷◌}
@@ -11,8 +12,6 @@ use Rattle.text.specs.Ascii.{ascii}
 use Rattle.text.specs.Order.{same_bytes}
 use Rattle.text.specs.Parts.{part_of, optional_of}
 use Rattle.text.specs.declared.part.Part.{Part}
-use Rattle.text.specs.declared.part.OptionalPart.{OptionalPart}
-use Rattle.text.specs.declared.part.OptionalPart.TheVariants as O
 use Rattle.definition.specs.Tree as Tree
 use Rattle.definition.specs.Tree.{Text, Field, field, Items, absent, element, Members}
 use Rattle.reference.specs.Path.{is_count, is_ordinal}
@@ -24,11 +23,7 @@ use Rattle.walk.specs.DotLaws.{segment-empty, segment-full}
 use Rattle.walk.specs.Answers.{reader_is, reference_detail, StepIs}
 use Rattle.walk.specs.Steps.{ItemSteps, ArraySteps, MapSteps, UnionSteps, MemberSteps, TextSteps, scalar_step, ScalarSteps, ServiceSteps, WalkSteps}
 use Rattle.schema.specs.declared.index.Holder.{Holder}
-use Rattle.schema.specs.declared.index.ElementSlot.{ElementSlot}
-use Rattle.schema.specs.declared.index.ElementSlot.TheVariants as ElementSlot
 use Rattle.schema.specs.declared.index.IndexedField.{IndexedField}
-use Rattle.schema.specs.declared.lookup.Found.{Found}
-use Rattle.schema.specs.declared.lookup.Found.TheVariants as Found
 use Rattle.walk.specs.declared.answer.Reader as Code
 use Rattle.walk.specs.declared.answer.Reader.TheVariants.{Kernel, Projection}
 use Rattle.walk.specs.declared.answer.ReferenceFault.TheVariants.{EmptyPath, UnknownProperty, ArrayMember, MapMember, AfterCount, AfterTag, UnionMember, NoCount, NoMember, TextCount}
@@ -43,32 +38,32 @@ count-spelt r s e = e
 
 -- The element of an array
 
-item-known : (sheet words : List ℕ) (k : ℕ) (items : Items) → ElementAt sheet words (ElementSlot.At k) items → StepIs sheet words (Into k) (item_step items)
+item-known : (sheet words : List ℕ) (k : ℕ) (items : Items) → ElementAt sheet words (Some k) items → StepIs sheet words (Into k) (item_step items)
 unfolding item_step
 item-known sheet words k absent h = absurd h
 item-known sheet words k (element f) h = (f, refl, h)
 
-item-open : (sheet words : List ℕ) (items : Items) → ElementAt sheet words ElementSlot.Absent items → item_step items ≡ free
+item-open : (sheet words : List ℕ) (items : Items) → ElementAt sheet words None items → item_step items ≡ free
 unfolding item_step
 item-open sheet words absent h = refl
 item-open sheet words (element f) h = absurd h
 
-pub item-into : (x : ElementSlot) (k : ℕ) → x ≡ ElementSlot.At k → ItemSteps x (Into k)
+pub item-into : (x : Optional ℕ) (k : ℕ) → x ≡ Some k → ItemSteps x (Into k)
 item-into x k e = rw e (record { leads = λ sheet words items h. item-known sheet words k items h })
 
-pub item-free : (x : ElementSlot) → x ≡ ElementSlot.Absent → ItemSteps x Free
+pub item-free : (x : Optional ℕ) → x ≡ None → ItemSteps x Free
 item-free x e = rw e (record { leads = λ sheet words items h. item-open sheet words items h })
 
-pub array_count : (x : ElementSlot) (s : List ℕ) (b : Bool) → b ≡ is_count s → b ≡ true → ArraySteps x s (Leaf AfterCount)
+pub array_count : (x : Optional ℕ) (s : List ℕ) (b : Bool) → b ≡ is_count s → b ≡ true → ArraySteps x s (Leaf AfterCount)
 unfolding array_step reference_detail
 array_count x s b p q = record { leads = λ sheet words items h. rw (sym p ∙ q) }
 
-pub array-item : (x : ElementSlot) (s : List ℕ) (r : WalkStep) (b o : Bool) → b ≡ is_count s → b ≡ false → o ≡ is_ordinal s → o ≡ true → ItemSteps x r → ArraySteps x s r
+pub array-item : (x : Optional ℕ) (s : List ℕ) (r : WalkStep) (b o : Bool) → b ≡ is_count s → b ≡ false → o ≡ is_ordinal s → o ≡ true → ItemSteps x r → ArraySteps x s r
 unfolding array_step
 array-item x s r b o p q u v m =
     record { leads = λ sheet words items h. rw (sym p ∙ q, sym u ∙ v) (m.leads sheet words items h) }
 
-pub array-other : (x : ElementSlot) (s : List ℕ) (b o : Bool) → b ≡ is_count s → b ≡ false → o ≡ is_ordinal s → o ≡ false → ArraySteps x s (Refuse ArrayMember)
+pub array-other : (x : Optional ℕ) (s : List ℕ) (b o : Bool) → b ≡ is_count s → b ≡ false → o ≡ is_ordinal s → o ≡ false → ArraySteps x s (Refuse ArrayMember)
 unfolding array_step reference_detail
 array-other x s b o p q u v = record { leads = λ sheet words items h. rw (sym p ∙ q, sym u ∙ v) }
 
@@ -82,56 +77,56 @@ map_other s b p q = record { leads = λ sheet words. rw (sym p ∙ q) }
 
 -- A union
 
-pub tag_same : (sheet s n : List ℕ) (tag : OptionalPart) (p : Part) (r : Bool) → tag ≡ O.Is p → n ≡ part_of sheet p → r ≡ same_bytes n s → r ≡ is_tag (optional_of sheet tag) s
+pub tag_same : (sheet s n : List ℕ) (tag : Optional Part) (p : Part) (r : Bool) → tag ≡ Some p → n ≡ part_of sheet p → r ≡ same_bytes n s → r ≡ is_tag (optional_of sheet tag) s
 unfolding is_tag optional_of
 tag_same sheet s n tag p r e q h = rw (e, ← q) h
 
-pub tag-none : (sheet s : List ℕ) (tag : OptionalPart) → tag ≡ O.Absent → false ≡ is_tag (optional_of sheet tag) s
+pub tag-none : (sheet s : List ℕ) (tag : Optional Part) → tag ≡ None → false ≡ is_tag (optional_of sheet tag) s
 unfolding is_tag optional_of
 tag-none sheet s tag e = rw e
 
-pub content-value : (sheet s : List ℕ) (tag : OptionalPart) (b r : Bool) → b ≡ is_tag (optional_of sheet tag) (118 ∷ 97 ∷ 108 ∷ 117 ∷ 101 ∷ []) → b ≡ true
+pub content-value : (sheet s : List ℕ) (tag : Optional Part) (b r : Bool) → b ≡ is_tag (optional_of sheet tag) (118 ∷ 97 ∷ 108 ∷ 117 ∷ 101 ∷ []) → b ≡ true
     → r ≡ same_bytes (99 ∷ 111 ∷ 110 ∷ 116 ∷ 101 ∷ 110 ∷ 116 ∷ []) s → r ≡ same_bytes (content_key (optional_of sheet tag)) s
 unfolding content_key ascii
 content-value sheet s tag b r p q h = h ∙ rw (sym p ∙ q)
 
-pub content-other : (sheet s : List ℕ) (tag : OptionalPart) (b r : Bool) → b ≡ is_tag (optional_of sheet tag) (118 ∷ 97 ∷ 108 ∷ 117 ∷ 101 ∷ []) → b ≡ false
+pub content-other : (sheet s : List ℕ) (tag : Optional Part) (b r : Bool) → b ≡ is_tag (optional_of sheet tag) (118 ∷ 97 ∷ 108 ∷ 117 ∷ 101 ∷ []) → b ≡ false
     → r ≡ same_bytes (118 ∷ 97 ∷ 108 ∷ 117 ∷ 101 ∷ []) s → r ≡ same_bytes (content_key (optional_of sheet tag)) s
 unfolding content_key ascii
 content-other sheet s tag b r p q h = h ∙ rw (sym p ∙ q)
 
-pub union-tag : (sheet s : List ℕ) (tag : OptionalPart) (b : Bool) → b ≡ is_tag (optional_of sheet tag) s → b ≡ true → UnionSteps sheet tag s (Leaf AfterTag)
+pub union-tag : (sheet s : List ℕ) (tag : Optional Part) (b : Bool) → b ≡ is_tag (optional_of sheet tag) s → b ≡ true → UnionSteps sheet tag s (Leaf AfterTag)
 unfolding union_step reference_detail
 union-tag sheet s tag b p q = record { leads = λ words. rw (sym p ∙ q) }
 
-pub union-content : (sheet s : List ℕ) (tag : OptionalPart) (b d : Bool) → b ≡ is_tag (optional_of sheet tag) s → b ≡ false
+pub union-content : (sheet s : List ℕ) (tag : Optional Part) (b d : Bool) → b ≡ is_tag (optional_of sheet tag) s → b ≡ false
     → d ≡ same_bytes (content_key (optional_of sheet tag)) s → d ≡ true → UnionSteps sheet tag s Free
 unfolding union_step
 union-content sheet s tag b d p q u v = record { leads = λ words. rw (sym p ∙ q, sym u ∙ v) }
 
-pub union-other : (sheet s : List ℕ) (tag : OptionalPart) (b d : Bool) → b ≡ is_tag (optional_of sheet tag) s → b ≡ false
+pub union-other : (sheet s : List ℕ) (tag : Optional Part) (b d : Bool) → b ≡ is_tag (optional_of sheet tag) s → b ≡ false
     → d ≡ same_bytes (content_key (optional_of sheet tag)) s → d ≡ false → UnionSteps sheet tag s (Refuse UnionMember)
 unfolding union_step reference_detail
 union-other sheet s tag b d p q u v = record { leads = λ words. rw (sym p ∙ q, sym u ∙ v) }
 
 -- A member
 
-module _ (sheet words s : List ℕ) (h : Holder) (found : Found) (looked : LookedUp sheet words h s found) where
-  missing : found ≡ Found.Missing → (t : Tree.Holder) → HolderAt sheet words h t → lookup s t.members ≡ none
+module _ (sheet words s : List ℕ) (h : Holder) (found : Optional ℕ) (looked : LookedUp sheet words h s found) where
+  missing : found ≡ None → (t : Tree.Holder) → HolderAt sheet words h t → lookup s t.members ≡ none
   missing e t at = rw e at (looked t at)
 
-  pub member-open : found ≡ Found.Missing → h.opened ≡ true → MemberSteps sheet words h s Free
+  pub member-open : found ≡ None → h.opened ≡ true → MemberSteps sheet words h s Free
   unfolding member_step
   member-open e o = record { leads = λ t at. rw (missing e t at, sym at.marked ∙ o) }
 
-  pub member-closed : found ≡ Found.Missing → h.opened ≡ false → MemberSteps sheet words h s (Refuse UnknownProperty)
+  pub member-closed : found ≡ None → h.opened ≡ false → MemberSteps sheet words h s (Refuse UnknownProperty)
   unfolding member_step reference_detail
   member-closed e o = record { leads = λ t at. rw (missing e t at, sym at.marked ∙ o) }
 
-  found_at : (k : ℕ) → found ≡ Found.At k → (t : Tree.Holder) → HolderAt sheet words h t → FoundAt sheet words s t.members k
+  found_at : (k : ℕ) → found ≡ Some k → (t : Tree.Holder) → HolderAt sheet words h t → FoundAt sheet words s t.members k
   found_at k e t at = rw e at (looked t at)
 
-  pub member-into : (k : ℕ) → found ≡ Found.At k → MemberSteps sheet words h s (Into k)
+  pub member-into : (k : ℕ) → found ≡ Some k → MemberSteps sheet words h s (Into k)
   unfolding member_step
   member-into k e = record {
     leads = λ t at.

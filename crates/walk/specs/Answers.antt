@@ -1,5 +1,5 @@
 -- What the code answers about a walk, beside what the walk on trees reaches.
-use Rattle.std.specs.Prelude.{ℕ, ◌≤◌, List, ◌≡◌}
+use Rattle.std.specs.Prelude.{ℕ, ◌≤◌, List, ◌≡◌, Option, Some, None, Result, Ok, Err}
 use Rattle.definition.specs.Tree.{Text, Field}
 use Rattle.reference.specs.Setting as Setting
 use Rattle.reference.specs.Walk.{Step, refuse, leaf, free, into, Reached, refused, unknown, known}
@@ -12,12 +12,6 @@ use Rattle.walk.specs.declared.answer.CollectionFault.{CollectionFault}
 use Rattle.walk.specs.declared.answer.CollectionFault.TheVariants as Collection
 use Rattle.walk.specs.declared.answer.WalkStep.{WalkStep}
 use Rattle.walk.specs.declared.answer.WalkStep.TheVariants as WalkStep
-use Rattle.walk.specs.declared.answer.Readable.{Readable}
-use Rattle.walk.specs.declared.answer.Readable.TheVariants.{Yes, No}
-use Rattle.walk.specs.declared.answer.FieldStep.{FieldStep}
-use Rattle.walk.specs.declared.answer.FieldStep.TheVariants as FieldStep
-use Rattle.walk.specs.declared.answer.Collected.{Collected}
-use Rattle.walk.specs.declared.answer.Collected.TheVariants as Collected
 
 abbrev pub reader_is : Reader → Setting.Reader
 reader_is Kernel = Setting.kernel
@@ -53,10 +47,10 @@ StepIs sheet words (WalkStep.Leaf fault) s = s ≡ leaf (reference_detail fault)
 StepIs sheet words WalkStep.Free s = s ≡ free
 StepIs sheet words (WalkStep.Into k) s = (f : Field) × (s ≡ into f) × SlotHolds sheet words k f
 
-abbrev pub FieldStepIs : (sheet words : List ℕ) → FieldStep → Step → Type 0
-FieldStepIs sheet words (FieldStep.Refuse fault) s = s ≡ refuse (collection_detail fault)
-FieldStepIs sheet words FieldStep.Free s = s ≡ free
-FieldStepIs sheet words (FieldStep.Into k) s = (f : Field) × (s ≡ into f) × SlotHolds sheet words k f
+abbrev pub FieldStepIs : (sheet words : List ℕ) → Result (Option ℕ) CollectionFault → Step → Type 0
+FieldStepIs sheet words (Err fault) s = s ≡ refuse (collection_detail fault)
+FieldStepIs sheet words (Ok None) s = s ≡ free
+FieldStepIs sheet words (Ok (Some k)) s = (f : Field) × (s ≡ into f) × SlotHolds sheet words k f
 
 abbrev pub IsReached : Reached → Type 0
 IsReached (refused d at left) = ⊥
@@ -64,13 +58,13 @@ IsReached unknown = Unit {0}
 IsReached (known f) = Unit {0}
 
 -- whether a reference can be read, which leads to `x`
-abbrev pub ReadableIs : Readable → Reached → Type 0
-ReadableIs Yes x = IsReached x
-ReadableIs (No fault at) x = (left : List Text) × (x ≡ refused (reference_detail fault) at left)
+abbrev pub ReadableIs : Result Unit (ReferenceFault × ℕ) → Reached → Type 0
+ReadableIs (Ok tt) x = IsReached x
+ReadableIs (Err (fault, at)) x = (left : List Text) × (x ≡ refused (reference_detail fault) at left)
 
 -- what a path of `in` leads to. Details 6 and 7 of `collection` never occur in a result, so nothing is said of their fault.
-abbrev pub CollectedIs : (sheet words : List ℕ) → Collected → Reached → Type 0
-CollectedIs sheet words (Collected.Known k) x = (f : Field) × (x ≡ known f) × SlotHolds sheet words k f
-CollectedIs sheet words Collected.Unknown x = x ≡ unknown
-CollectedIs sheet words (Collected.No fault at) x =
+abbrev pub CollectedIs : (sheet words : List ℕ) → Result (Option ℕ) (CollectionFault × ℕ) → Reached → Type 0
+CollectedIs sheet words (Ok (Some k)) x = (f : Field) × (x ≡ known f) × SlotHolds sheet words k f
+CollectedIs sheet words (Ok None) x = x ≡ unknown
+CollectedIs sheet words (Err (fault, at)) x =
     (d : ℕ) × (left : List Text) × (x ≡ refused d at left) × (d ≤ 5 → d ≡ collection_detail fault)

@@ -48,29 +48,12 @@ pub enum WalkStep {
     Into(usize),
 }
 
-// Whether a reference can be read.
-#[derive(Clone, Copy)]
-pub enum Readable {
-    Yes,
-    // The fault, and the entry of the field that refused: 1 for the record, 0 for the arguments or no field.
-    No(ReferenceFault, usize),
-}
+// Whether a reference can be read, or why not: the fault, and the entry of the field that refused, 1 for the record, 0 for the arguments or no field.
+pub type Readable = Result<(), (ReferenceFault, usize)>;
 
-// Where one segment of an `in` path leads.
-#[derive(Clone, Copy)]
-pub enum FieldStep {
-    Refuse(CollectionFault),
-    Free,
-    Into(usize),
-}
+// Where one segment of an `in` path leads: to the field of that slot, or to what the schema does not declare; or why it is refused.
+pub type FieldStep = Result<Option<usize>, CollectionFault>;
 
-// What a path of `in` reaches, or the collection's element.
-#[derive(Clone, Copy)]
-pub enum Collected {
-    // The field of that slot.
-    Known(usize),
-    // Something that the schema does not declare.
-    Unknown,
-    // The fault, and the entry of the field that refused, as in `Readable`.
-    No(CollectionFault, usize),
-}
+// What a path of `in` reaches, or the collection's element: the field of that slot, or what the schema does not declare; or the fault, and the entry
+// of the field that refused, as in `Readable`.
+pub type Collected = Result<Option<usize>, (CollectionFault, usize)>;

@@ -1,10 +1,10 @@
 // The path of an `in` value, from a field on, and the element of what it leads to.
-ghost use Rattle.walk.specs.Steps.{FieldSteps, LastField, FieldsAt, DeclaredElement, ElementOfField, ElementIs};
+ghost use Rattle.walk.specs.Steps.{FieldSteps, LastField, FieldsAt, ElementOfField, ElementIs};
 
 use crate::answer::{Collected, CollectionFault, FieldStep};
 use crate::path::{first_end, is_ordinal};
-use schema::index::{ElementSlot, IndexedField, indexed_field};
-use schema::lookup::{Found, lookup};
+use schema::index::{IndexedField, indexed_field};
+use schema::lookup::lookup;
 use sheet::schema_heads::{ARRAY, JSON, MAP, OBJECT, UNION};
 
 pub fn field_step(schema: &[u8], words: &[u32], field: IndexedField, segment: &[u8]) -> FieldStep
@@ -12,31 +12,31 @@ pub fn field_step(schema: &[u8], words: &[u32], field: IndexedField, segment: &[
 {
     let kind = field.kind;
     if kind == JSON {
-        return FieldStep::Free;
+        return Ok(None);
     }
     if kind == UNION {
-        return FieldStep::Free;
+        return Ok(None);
     }
     if kind == OBJECT {
         let members = field.members;
-        let Found::At(slot) = lookup(schema, words, members, segment) else {
+        let Some(slot) = lookup(schema, words, members, segment) else {
             if members.opened {
-                return FieldStep::Free;
+                return Ok(None);
             }
-            return FieldStep::Refuse(CollectionFault::UnknownProperty);
+            return Err(CollectionFault::UnknownProperty);
         };
-        return FieldStep::Into(slot);
+        return Ok(Some(slot));
     }
     if kind == ARRAY {
         if is_ordinal(segment) {
             let element = field.element;
-            let ElementSlot::At(slot) = element else {
-                return FieldStep::Free;
+            let Some(slot) = element else {
+                return Ok(None);
             };
-            return FieldStep::Into(slot);
+            return Ok(Some(slot));
         }
     }
-    FieldStep::Refuse(CollectionFault::NoMember)
+    Err(CollectionFault::NoMember)
 }
 
 // The last segment, of the field with that entry.
@@ -44,9 +44,9 @@ fn last_field(entry: usize, step: FieldStep) -> Collected
     ensures { LastField entry step result }
 {
     match step {
-        FieldStep::Refuse(fault) => Collected::No(fault, entry),
-        FieldStep::Free => Collected::Unknown,
-        FieldStep::Into(slot) => Collected::Known(slot),
+        Err(fault) => Err((fault, entry)),
+        Ok(None) => Ok(None),
+        Ok(Some(slot)) => Ok(Some(slot)),
     }
 }
 
@@ -62,18 +62,9 @@ pub fn field_at(schema: &[u8], words: &[u32], slot: usize, path: &[u8]) -> Colle
         return last_field(entry, step);
     }
     match step {
-        FieldStep::Refuse(fault) => Collected::No(fault, entry),
-        FieldStep::Free => Collected::Unknown,
-        FieldStep::Into(next) => field_at(schema, words, next, &path[end + 1..]),
-    }
-}
-
-fn declared_element(element: ElementSlot) -> Collected
-    ensures { DeclaredElement element result }
-{
-    match element {
-        ElementSlot::At(slot) => Collected::Known(slot),
-        ElementSlot::Absent => Collected::Unknown,
+        Err(fault) => Err((fault, entry)),
+        Ok(None) => Ok(None),
+        Ok(Some(next)) => field_at(schema, words, next, &path[end + 1..]),
     }
 }
 
@@ -83,14 +74,13 @@ fn element_of_field(schema: &[u8], words: &[u32], slot: usize) -> Collected
 {
     let field = indexed_field(schema, words, slot);
     let kind = field.kind;
-    let element = field.element;
     if kind == ARRAY {
-        return declared_element(element);
+        return Ok(field.element);
     }
     if kind == MAP {
-        return declared_element(element);
+        return Ok(field.element);
     }
-    Collected::No(CollectionFault::NotACollection, field.entry)
+    Err((CollectionFault::NotACollection, field.entry))
 }
 
 // The element of what was reached.
@@ -98,8 +88,8 @@ pub fn element_of(schema: &[u8], words: &[u32], collected: Collected) -> Collect
     ensures { ElementIs schema.now words.now collected result }
 {
     match collected {
-        Collected::Known(slot) => element_of_field(schema, words, slot),
-        Collected::Unknown => Collected::Unknown,
-        Collected::No(fault, at) => Collected::No(fault, at),
+        Ok(Some(slot)) => element_of_field(schema, words, slot),
+        Ok(None) => Ok(None),
+        Err((fault, at)) => Err((fault, at)),
     }
 }

@@ -12,10 +12,10 @@ fn last_step(entry: usize, step: WalkStep) -> Readable
     ensures { LastStep entry step result }
 {
     match step {
-        WalkStep::Refuse(fault) => Readable::No(fault, entry),
-        WalkStep::Leaf(_) => Readable::Yes,
-        WalkStep::Free => Readable::Yes,
-        WalkStep::Into(_) => Readable::Yes,
+        WalkStep::Refuse(fault) => Err((fault, entry)),
+        WalkStep::Leaf(_) => Ok(()),
+        WalkStep::Free => Ok(()),
+        WalkStep::Into(_) => Ok(()),
     }
 }
 
@@ -39,9 +39,9 @@ pub fn walk_field_path(
         return last_step(entry, step);
     }
     match step {
-        WalkStep::Refuse(fault) => Readable::No(fault, entry),
-        WalkStep::Leaf(fault) => Readable::No(fault, entry),
-        WalkStep::Free => Readable::Yes,
+        WalkStep::Refuse(fault) => Err((fault, entry)),
+        WalkStep::Leaf(fault) => Err((fault, entry)),
+        WalkStep::Free => Ok(()),
         WalkStep::Into(next) => {
             walk_field_path(schema, words, next, &path[end + 1..], service, reader)
         }

@@ -69,14 +69,12 @@ fn end_after(path: &[u8], known: usize) -> usize
     requires { DotlessStart path.now known }
     ensures { Ends path.now result }
 {
-    let mut i = dotless_start(path, known);
-    while i < path.len() {
+    for i in dotless_start(path, known)..path.len() {
         if path[i] == b'.' {
             return i;
         }
-        i += 1;
     }
-    i
+    path.len()
 }
 
 // Where the first segment of a path ends.
@@ -100,11 +98,8 @@ pub fn has_dot(path: &[u8]) -> bool
 fn is_digits(segment: &[u8]) -> bool
     ensures { result ≡ is_digits segment.now }
 {
-    let mut i = 0;
-    while i < segment.len() {
-        if is_digit(segment[i]) {
-            i += 1;
-        } else {
+    for &b in segment {
+        if !is_digit(b) {
             return false;
         }
     }

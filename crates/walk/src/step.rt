@@ -8,23 +8,23 @@ ghost use Rattle.walk.specs.Steps.{ItemSteps, ArraySteps, MapSteps, UnionSteps, 
 
 use crate::answer::{Reader, ReferenceFault, WalkStep};
 use crate::path::{is_count, is_ordinal};
-use schema::index::{ElementSlot, Holder, IndexedField};
-use schema::lookup::{Found, lookup};
+use schema::index::{Holder, IndexedField};
+use schema::lookup::lookup;
 use sheet::schema_heads::{ARRAY, JSON, MAP, OBJECT, STRING, UNION};
 use text::order::same_bytes;
-use text::part::{OptionalPart, bytes_of};
+use text::part::{Part, bytes_of};
 
 // An element that the schema does not declare may be anything.
-fn item_step(element: ElementSlot) -> WalkStep
+fn item_step(element: Option<usize>) -> WalkStep
     ensures { ItemSteps element result }
 {
     match element {
-        ElementSlot::At(slot) => WalkStep::Into(slot),
-        ElementSlot::Absent => WalkStep::Free,
+        Some(slot) => WalkStep::Into(slot),
+        None => WalkStep::Free,
     }
 }
 
-fn array_step(element: ElementSlot, segment: &[u8]) -> WalkStep
+fn array_step(element: Option<usize>, segment: &[u8]) -> WalkStep
     ensures { ArraySteps element segment.now result }
 {
     if is_count(segment) {
@@ -45,17 +45,17 @@ fn map_step(segment: &[u8]) -> WalkStep
     WalkStep::Refuse(ReferenceFault::MapMember)
 }
 
-fn is_tag(schema: &[u8], tag: OptionalPart, segment: &[u8]) -> bool
+fn is_tag(schema: &[u8], tag: Option<Part>, segment: &[u8]) -> bool
     ensures { result ≡ is_tag (optional_of schema.now tag) segment.now }
 {
     match tag {
-        OptionalPart::Is(name) => same_bytes(bytes_of(schema, name), segment),
-        OptionalPart::Absent => false,
+        Some(name) => same_bytes(bytes_of(schema, name), segment),
+        None => false,
     }
 }
 
 // `value`, and `content` where the tag is `value`.
-fn is_content_key(schema: &[u8], tag: OptionalPart, segment: &[u8]) -> bool
+fn is_content_key(schema: &[u8], tag: Option<Part>, segment: &[u8]) -> bool
     ensures { result ≡ same_bytes (content_key (optional_of schema.now tag)) segment.now }
 {
     if is_tag(schema, tag, b"value") {
@@ -64,7 +64,7 @@ fn is_content_key(schema: &[u8], tag: OptionalPart, segment: &[u8]) -> bool
     same_bytes(b"value", segment)
 }
 
-fn union_step(schema: &[u8], tag: OptionalPart, segment: &[u8]) -> WalkStep
+fn union_step(schema: &[u8], tag: Option<Part>, segment: &[u8]) -> WalkStep
     ensures { UnionSteps schema.now tag segment.now result }
 {
     if is_tag(schema, tag, segment) {
@@ -80,7 +80,7 @@ fn union_step(schema: &[u8], tag: OptionalPart, segment: &[u8]) -> WalkStep
 fn member_step(schema: &[u8], words: &[u32], holder: Holder, segment: &[u8]) -> WalkStep
     ensures { MemberSteps schema.now words.now holder segment.now result }
 {
-    let Found::At(slot) = lookup(schema, words, holder, segment) else {
+    let Some(slot) = lookup(schema, words, holder, segment) else {
         if holder.opened {
             return WalkStep::Free;
         }

@@ -1,4 +1,5 @@
 -- The whole call: each way to its end gives what the definitions say of it.
+use Rattle.std.specs.Prelude.{Ok, Err}
 use Prim.Native.Nat.{ℕ, ◌*◌, ◌/◌, ◌^◌, ◌≤◌, ◌<◌}
 use native.Mathlib.Omega.{arith}
 use mathlib.Core.List.{List, [], ◌∷◌, flatten}
@@ -11,7 +12,6 @@ use Rattle.validation.proofs.RefusalLaws.{number-some}
 use Rattle.single_check.specs.Settings.{setting_by, EarlyIs, SettledIs}
 use Rattle.single_check.specs.SheetLaws.{roomy, front-scratch}
 use Rattle.single_check.specs.declared.settings.Setting.{Setting as CodeSetting}
-use Rattle.single_check.specs.declared.settings.Settled.TheVariants.{Set, Refused}
 use Rattle.rule_book.specs.Book.{sheets_of}
 use Rattle.rule_book.proofs.BookLaws.{book-round-trip}
 use Rattle.rule_book.specs.Places.{sheet_count}
@@ -83,11 +83,11 @@ module _ (kind semantics : ℕ) (label table schema book path_before pages_befor
         fits : page_bytes * page_count (length all.0) ≤ length pages_before
         fits = omega (arith, pages-are)
 
-        pub meets-table : {m : ℕ} {r : List ℕ} → SettledIs kind semantics table (Refused m) → r ≡ wall_numbers (refused_by m)
+        pub meets-table : {m : ℕ} {r : List ℕ} → SettledIs kind semantics table (Err m) → r ≡ wall_numbers (refused_by m)
             → MeetsWall (wall_run_of kind semantics label table schema book path_before pages_before before r path_before pages_before before)
         meets-table {m} t q = meets-refused (table-refused wall_call pass all.0 all.1 fits m t) q
 
-        pub meets-printed : (s : CodeSetting) → SettledIs kind semantics table (Set s) → {after path pages r : List ℕ}
+        pub meets-printed : (s : CodeSetting) → SettledIs kind semantics table (Ok s) → {after path pages r : List ℕ}
             → PagesPut (setting_by s) label schema book count path_before path before after pages_before pages
             → r ≡ 0 ∷ count ∷ []
             → MeetsWall (wall_run_of kind semantics label table schema book path_before pages_before before r path pages after)

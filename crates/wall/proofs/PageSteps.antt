@@ -1,4 +1,5 @@
 -- The pages, row by row and page by page: what is written and what is left to write make the whole.
+use Rattle.std.specs.Prelude.{Option}
 use Prim.Native.Nat.{ℕ, zero, suc, ◌+◌, ◌*◌, ◌-◌, ◌≤◌, ◌<◌}
 use native.Mathlib.Omega.{arith}
 use mathlib.Core.Bool.{cond}
@@ -14,7 +15,6 @@ use Rattle.buffer.specs.Wrote.{Wrote}
 use Rattle.buffer.specs.WroteLaws.{wrote_nothing, wrote_then, wrote_kept, sets-front}
 use Rattle.reference.specs.Setting.{Setting}
 use Rattle.schema.specs.Read.{SchemaAnswer}
-use Rattle.schema.specs.declared.read.SchemaRead.{SchemaRead}
 use Rattle.validation.specs.Result.{any, Answer, refused, accepted, defect, path_bytes, Numbers, numbers_of, path_after, KeptFrom}
 use Rattle.validation.proofs.KeptLaws.{kept-both}
 use Rattle.single_check.specs.Answers.{Tells}
@@ -34,6 +34,7 @@ use Rattle.wall.specs.Writing.{row_of, rows_from}
 use Rattle.wall.specs.Printing.{Given, Advanced, RowPut, PagePut, PagesPut}
 use Rattle.wall.specs.declared.page.Row.{Row}
 use Rattle.wall.specs.declared.page.PageEnd.{PageEnd}
+use Rattle.schema.specs.declared.read.Schema.{Schema}
 
 -- What is written so far, of a whole of which that rest is left.
 
@@ -61,7 +62,7 @@ begun-end b = rw (b.parts, append-nil) b.wrote
 
 -- The sheets of a book.
 
-module _ {label schema : List ℕ} {read : SchemaRead} {book : List ℕ} where
+module _ {label schema : List ℕ} {read : Option Schema} {book : List ℕ} where
   pub advanced-start : {path words : List ℕ} {at : ℕ} → Ready label schema read (drop at book) path words
       → Advanced label schema read book path path words words at 0 at
   advanced-start r =
@@ -125,7 +126,7 @@ told_line serial a before after o t fits =
     ∙ ap (λ (l : List ℕ). line serial (numbers_of a).number (numbers_of a).family (numbers_of a).place (numbers_of a).passed (take (numbers_of a).path_length l)) t.path
     ∙ answer-line serial a before fits
 
-module _ {setting : Setting} {label schema : List ℕ} {read : SchemaRead} {book : List ℕ} {at to : ℕ} {path words pages : List ℕ} (serial : ℕ)
+module _ {setting : Setting} {label schema : List ℕ} {read : Option Schema} {book : List ℕ} {at to : ℕ} {path words pages : List ℕ} (serial : ℕ)
     (ready : Ready label schema read (drop at book) path words) where
   -- after the last sheet
   pub row-blank : {after : List ℕ} {next : ℕ} → Refuses sheet_in book at → Wrote pages after to blank_line next
@@ -224,7 +225,7 @@ page-rows before answers =
 
 -- The rows of a page after its heading, one after the other.
 
-pub record Paging (setting : Setting) (label schema : List ℕ) (read : SchemaRead) (book : List ℕ) (from before line₀ : ℕ) (path₀ words₀ pages₀ path words pages : List ℕ) (sheet line accepted row : ℕ) : Type 0 where
+pub record Paging (setting : Setting) (label schema : List ℕ) (read : Option Schema) (book : List ℕ) (from before line₀ : ℕ) (path₀ words₀ pages₀ path words pages : List ℕ) (sheet line accepted row : ℕ) : Type 0 where
   pub advanced : Advanced label schema read book path₀ path words₀ words from row sheet
   pub rows : row ≤ per_page
   pub few : accepted ≤ row
@@ -233,7 +234,7 @@ pub record Paging (setting : Setting) (label schema : List ℕ) (read : SchemaRe
       → Begun pages₀ pages line₀ line (flatten (rows_from per_page (per_page * before + 1) 0 (answers_in setting label schema sheets)))
       (flatten (rows_from (per_page - row) (per_page * before + 1 + row) accepted (drop row (answers_in setting label schema sheets))))
 
-module _ {setting : Setting} {label schema : List ℕ} {read : SchemaRead} {book : List ℕ} {from before line₀ : ℕ} {path₀ words₀ pages₀ : List ℕ} where
+module _ {setting : Setting} {label schema : List ℕ} {read : Option Schema} {book : List ℕ} {from before line₀ : ℕ} {path₀ words₀ pages₀ : List ℕ} where
   pub paging-start : Ready label schema read (drop from book) path₀ words₀
       → Paging setting label schema read book from before line₀ path₀ words₀ pages₀ path₀ words₀ pages₀ from line₀ 0 0
   paging-start ready =
@@ -296,7 +297,7 @@ module _ {setting : Setting} {label schema : List ℕ} {read : SchemaRead} {book
 
 -- The pages, one after the other.
 
-pub given-ready : {label schema book path words middle : List ℕ} {read : SchemaRead} → Given label book path words → SchemaAnswer schema words middle read
+pub given-ready : {label schema book path words middle : List ℕ} {read : Option Schema} → Given label book path words → SchemaAnswer schema words middle read
     → Ready label schema read book path middle
 given-ready g a =
     record {
@@ -313,7 +314,7 @@ unfolding flatten
 flat_append [] ys = refl
 flat_append (x ∷ xs) ys = rw (flat_append xs ys, append_assoc)
 
-pub record Printing (setting : Setting) (label schema : List ℕ) (read : SchemaRead) (book : List ℕ) (count : ℕ) (path₀ words₀ pages₀ path words pages : List ℕ) (sheet line done : ℕ) : Type 0 where
+pub record Printing (setting : Setting) (label schema : List ℕ) (read : Option Schema) (book : List ℕ) (count : ℕ) (path₀ words₀ pages₀ path words pages : List ℕ) (sheet line done : ℕ) : Type 0 where
   pub advanced : Advanced label schema read book path₀ path words₀ words 0 (per_page * done) sheet
   pub some_left : done ≤ count
   pub size : length pages ≡ length pages₀
@@ -321,7 +322,7 @@ pub record Printing (setting : Setting) (label schema : List ℕ) (read : Schema
       → Begun pages₀ pages 0 line (flatten (pages_from 0 count (answers_in setting label schema sheets)))
       (flatten (pages_from done (count - done) (drop (per_page * done) (answers_in setting label schema sheets))))
 
-module _ {setting : Setting} {label schema : List ℕ} {read : SchemaRead} {book : List ℕ} {count : ℕ} {path₀ words₀ pages₀ : List ℕ} where
+module _ {setting : Setting} {label schema : List ℕ} {read : Option Schema} {book : List ℕ} {count : ℕ} {path₀ words₀ pages₀ : List ℕ} where
   pub printing-start : Ready label schema read book path₀ words₀
       → Printing setting label schema read book count path₀ words₀ pages₀ path₀ words₀ pages₀ 0 0 0
   printing-start ready =

@@ -1,11 +1,10 @@
 -- Printing as the code does it: a row for each sheet, a page of rows, all pages; what each may rely on and what it leaves.
-use Rattle.std.specs.Prelude.{ℕ, ◌≤◌, ◌≡◌, length, take, drop}
+use Rattle.std.specs.Prelude.{ℕ, ◌≤◌, ◌≡◌, length, take, drop, Option}
 use mathlib.Core.List.{List, [], ◌∷◌, flatten}
 use Rattle.std.proofs.Math.Option.{some}
 use Rattle.std.proofs.lemmas.List.Edits.{sets}
 use Rattle.buffer.specs.Wrote.{Wrote}
 use Rattle.reference.specs.Setting.{Setting}
-use Rattle.schema.specs.declared.read.SchemaRead.{SchemaRead}
 use Rattle.validation.specs.Result.{max_label_bytes, path_bytes, scratch_words, KeptFrom}
 use Rattle.call.specs.Call.{Run}
 use Rattle.single_check.specs.Sheets.{FrontOnly}
@@ -17,6 +16,7 @@ use Rattle.wall.specs.Wall.{WallCall}
 use Rattle.wall.specs.Writing.{row_of}
 use Rattle.wall.specs.declared.page.Row.{Row}
 use Rattle.wall.specs.declared.page.PageEnd.{PageEnd}
+use Rattle.schema.specs.declared.read.Schema.{Schema}
 
 -- the file is of the form, and there is room, before the schema is read
 pub record Given (label book path words : List ℕ) : Type 0 where
@@ -27,21 +27,21 @@ pub record Given (label book path words : List ℕ) : Type 0 where
   pub enough : scratch_words ≤ length words
 
 -- the next n sheets were checked, from place `from` of the book to place `to`, and all is ready for the one after them
-pub record Advanced (label schema : List ℕ) (read : SchemaRead) (book path_before path before after : List ℕ) (from n to : ℕ) : Type 0 where
+pub record Advanced (label schema : List ℕ) (read : Option Schema) (book path_before path before after : List ℕ) (from n to : ℕ) : Type 0 where
   pub ready : Ready label schema read (drop to book) path after
   pub left : (sheets : List (List ℕ)) → sheets_of (drop from book) ≡ some sheets → sheets_of (drop to book) ≡ some (drop n sheets)
   pub kept : KeptFrom path_bytes path_before path
   pub front : FrontOnly before after
 
 -- the line of the next sheet, or a blank one after the last
-pub record RowPut (setting : Setting) (label schema : List ℕ) (read : SchemaRead) (book : List ℕ) (at serial to : ℕ) (path_before path before after pages_before pages : List ℕ) (r : Row) : Type 0 where
+pub record RowPut (setting : Setting) (label schema : List ℕ) (read : Option Schema) (book : List ℕ) (at serial to : ℕ) (path_before path before after pages_before pages : List ℕ) (r : Row) : Type 0 where
   pub advanced : Advanced label schema read book path_before path before after at 1 r.sheet
   pub written : (sheets : List (List ℕ)) → sheets_of (drop at book) ≡ some sheets
       → Wrote pages_before pages to (row_of serial (answers_in setting label schema sheets)) r.line
   pub counted : (sheets : List (List ℕ)) → sheets_of (drop at book) ≡ some sheets
       → r.accepted ≡ count_of 0 (take 1 (answers_in setting label schema sheets))
 
-pub record PagePut (setting : Setting) (label schema : List ℕ) (read : SchemaRead) (book : List ℕ) (at number to : ℕ) (path_before path before after pages_before pages : List ℕ) (r : PageEnd) : Type 0 where
+pub record PagePut (setting : Setting) (label schema : List ℕ) (read : Option Schema) (book : List ℕ) (at number to : ℕ) (path_before path before after pages_before pages : List ℕ) (r : PageEnd) : Type 0 where
   pub advanced : Advanced label schema read book path_before path before after at per_page r.sheet
   pub written : (sheets : List (List ℕ)) → sheets_of (drop at book) ≡ some sheets
       → Wrote pages_before pages to (flatten (page number (take per_page (answers_in setting label schema sheets)))) r.line

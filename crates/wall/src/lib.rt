@@ -10,8 +10,8 @@ ghost use Rattle.wall.specs.Wall.{wall_numbers, MeetsWall};
 ghost use Rattle.wall.specs.Printing.{wall_run_of};
 
 use crate::page::{page_count, put_pages};
-use rule_book::sheets::{Counted, count_sheets};
-use single_check::settings::{Settled, refused_settings, settle};
+use rule_book::sheets::count_sheets;
+use single_check::settings::{refused_settings, settle};
 
 // How many numbers a result has.
 pub const WALL_NUMBERS: usize = 2;
@@ -43,7 +43,7 @@ pub fn wall(
     if number != 0 {
         return refused(number);
     }
-    let Counted::Sheets(sheets) = count_sheets(book) else {
+    let Some(sheets) = count_sheets(book) else {
         return refused(34);
     };
     let count = page_count(sheets);
@@ -51,8 +51,8 @@ pub fn wall(
         return refused(33);
     }
     match settle(kind, semantics, table) {
-        Settled::Refused(number) => refused(number),
-        Settled::Set(setting) => {
+        Err(number) => refused(number),
+        Ok(setting) => {
             put_pages(setting, label, schema, book, count, path, scratch, pages);
             [0, count as u64]
         }

@@ -17,10 +17,8 @@ fn put_blanks(out: &mut [u8], at: usize, count: usize) -> usize
     ensures { Wrote out.old out.new at (blanks count) result }
 {
     let mut next = at;
-    let mut i = 0;
-    while i < count {
+    for _ in 0..count {
         next = push(out, next, b' ');
-        i += 1;
     }
     next
 }
@@ -71,10 +69,8 @@ fn put_shown(out: &mut [u8], at: usize, bytes: &[u8]) -> usize
     ensures { Wrote out.old out.new at (map shown bytes.now) result }
 {
     let mut next = at;
-    let mut i = 0;
-    while i < bytes.len() {
-        next = push(out, next, shown_byte(bytes[i]));
-        i += 1;
+    for &b in bytes {
+        next = push(out, next, shown_byte(b));
     }
     next
 }

@@ -6,8 +6,8 @@ ghost use Rattle.wall.specs.Pages.{per_page, page_count};
 ghost use Rattle.wall.specs.Printing.{Given, RowPut, PagePut, PagesPut};
 
 use crate::line::{put_blank_line, put_foot, put_heading, put_line};
-use rule_book::sheets::{NextSheet, next_sheet};
-use schema::read::{SchemaRead, read_schema};
+use rule_book::sheets::next_sheet;
+use schema::read::{Schema, read_schema};
 use single_check::settings::Setting;
 use single_check::sheets::{Takes, check_sheet};
 use text::part::bytes_of;
@@ -50,7 +50,7 @@ fn put_row(
     setting: Setting,
     label: &[u8],
     schema: &[u8],
-    read: SchemaRead,
+    read: Option<Schema>,
     book: &[u8],
     at: usize,
     serial: usize,
@@ -62,7 +62,7 @@ fn put_row(
     requires { Ready label.now schema.now read (drop at book.now) path.old scratch.old }
     ensures { RowPut (setting_by setting) label.now schema.now read book.now at serial to path.old path.new scratch.old scratch.new pages.old pages.new result }
 {
-    let NextSheet::Is(part, sheet) = next_sheet(book, at) else {
+    let Some((part, sheet)) = next_sheet(book, at) else {
         let line = put_blank_line(pages, to);
         return Row {
             sheet: at,
@@ -93,7 +93,7 @@ fn put_page(
     setting: Setting,
     label: &[u8],
     schema: &[u8],
-    read: SchemaRead,
+    read: Option<Schema>,
     book: &[u8],
     at: usize,
     before: usize,
@@ -109,8 +109,7 @@ fn put_page(
     let mut line = put_heading(pages, to, before + 1);
     let mut sheet = at;
     let mut accepted: usize = 0;
-    let mut row: usize = 0;
-    while row < PER_PAGE {
+    for row in 0..PER_PAGE {
         let r = put_row(
             setting,
             label,
@@ -127,7 +126,6 @@ fn put_page(
         sheet = r.sheet;
         line = r.line;
         accepted += r.accepted;
-        row += 1;
     }
     let line = put_foot(pages, line, accepted);
     PageEnd { sheet, line }
@@ -150,13 +148,11 @@ pub fn put_pages(
     let read = read_schema(schema, scratch);
     let mut sheet: usize = 0;
     let mut line: usize = 0;
-    let mut page: usize = 0;
-    while page < count {
+    for page in 0..count {
         let end = put_page(
             setting, label, schema, read, book, sheet, page, path, scratch, pages, line,
         );
         sheet = end.sheet;
         line = end.line;
-        page += 1;
     }
 }

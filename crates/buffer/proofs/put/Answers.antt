@@ -5,14 +5,14 @@ use native.Mathlib.Omega.{arith}
 use borrow.Author.Rules.{rules}
 use Rattle.buffer.proofs.put.Goals as goal
 
-pub loop-i-init : goal.loop-i-init
-loop-i-init c = (omega arith, wrote_nothing _ _)
+pub loop-byte-init : goal.loop-byte-init
+loop-byte-init c = wrote_nothing _ _
 
-pub loop-i-preserved : goal.loop-i-preserved
-loop-i-preserved c = (search rules, search (wrote-more, rules))
+pub loop-byte-preserved : goal.loop-byte-preserved
+loop-byte-preserved c = search (wrote-more, rules)
 
 pub shape_of-out : goal.shape_of-out
-shape_of-out c = wrote_kept c.loop-i.invariant.1
+shape_of-out c = wrote_kept c.loop-byte.invariant
 
 pub returns : goal.returns
 returns c = search (wrote-all, rules)

@@ -6,15 +6,15 @@ use native.Mathlib.Omega.{arith}
 use borrow.Author.Rules.{rules}
 use Rattle.buffer.proofs.put_numbers.Goals as goal
 
-pub loop-i-init : goal.loop-i-init
+pub loop-n-init : goal.loop-n-init
 unfolding bytes_of
-loop-i-init c = (omega arith, wrote_nothing _ _)
+loop-n-init c = wrote_nothing _ _
 
-pub loop-i-preserved : goal.loop-i-preserved
-loop-i-preserved c = (search rules, search (wrote-numbers, rules))
+pub loop-n-preserved : goal.loop-n-preserved
+loop-n-preserved c = search (wrote-numbers, rules)
 
 pub shape_of-out : goal.shape_of-out
-shape_of-out c = wrote_kept c.loop-i.invariant.1
+shape_of-out c = wrote_kept c.loop-n.invariant
 
 pub returns : goal.returns
 returns c = search (all-numbers, rules)

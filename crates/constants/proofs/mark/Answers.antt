@@ -6,4 +6,4 @@ pub returns-in_default : goal.returns-in_default
 returns-in_default c = marked-none c.args.count c.args.entry c.args.marks.now c.in_default.is
 
 pub returns : goal.returns
-returns c = marked-one c.args.count c.args.entry c.in-Is.is c.mark_of.ensures c.put_u32.ensures
+returns c = marked-one c.args.count c.args.entry c.in-Some.is c.mark_of.ensures c.put_u32.ensures

@@ -10,8 +10,8 @@ returns-then-place-eq0 c = root-nowhere c.if-place-eq0.true
 
 pub returns-in-Rule : goal.returns-in-Rule
 unfolding rule_of
-returns-in-Rule c = root-rule c.start_of.ensures c.to_size-target.ensures c.if-place-eq0.false (rw c.in-Rule.is at (rw c.in-Is.is at c.rule_head.ensures)).reads c.put_assert.ensures
+returns-in-Rule c = root-rule c.start_of.ensures c.to_size-target.ensures c.if-place-eq0.false (rw c.in-Rule.is at (rw c.in-Some.is at c.rule_head.ensures)).reads c.put_assert.ensures
 
 pub returns-in-Template : goal.returns-in-Template
 unfolding rule_of
-returns-in-Template c = root-template c.start_of.ensures c.to_size-target.ensures c.if-place-eq0.false (rw c.in-Template.is at (rw c.in-Is.is at c.rule_head.ensures)).reads c.put_value.ensures
+returns-in-Template c = root-template c.start_of.ensures c.to_size-target.ensures c.if-place-eq0.false (rw c.in-Template.is at (rw c.in-Some.is at c.rule_head.ensures)).reads c.put_value.ensures

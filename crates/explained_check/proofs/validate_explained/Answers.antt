@@ -25,15 +25,15 @@ check_sheet-o-requires c =
 
 pub overflow_cast-count : goal.overflow_cast-count
 overflow_cast-count c =
-    omega (arith, few-marks _ _ _ _ _ _ _ _ _ [] _ c.refused_settings-number.ensures c.if-number-ne0.false (omega (arith, c.if-marks-lt-MARK_BYTES.false)) _ (rw c.in-Set.is at c.settle.ensures) c.read_schema-read.ensures c.check_sheet-o.ensures c.if-o-eq0.true c.mark_constants-count.ensures)
+    omega (arith, few-marks _ _ _ _ _ _ _ _ _ [] _ c.refused_settings-number.ensures c.if-number-ne0.false (omega (arith, c.if-marks-lt-MARK_BYTES.false)) _ (rw c.in-Ok.is at c.settle.ensures) c.read_schema-read.ensures c.check_sheet-o.ensures c.if-o-eq0.true c.mark_constants-count.ensures)
 
 pub returns-then-o-eq0 : goal.returns-then-o-eq0
 returns-then-o-eq0 c =
-    ends-accepted _ _ _ _ _ _ _ _ _ _ _ c.refused_settings-number.ensures c.if-number-ne0.false (omega (arith, c.if-marks-lt-MARK_BYTES.false)) _ (rw c.in-Set.is at c.settle.ensures) c.read_schema-read.ensures c.check_sheet-o.ensures c.if-o-eq0.true c.mark_constants-count.ensures c.unsaid-then-o-eq0.ensures
+    ends-accepted _ _ _ _ _ _ _ _ _ _ _ c.refused_settings-number.ensures c.if-number-ne0.false (omega (arith, c.if-marks-lt-MARK_BYTES.false)) _ (rw c.in-Ok.is at c.settle.ensures) c.read_schema-read.ensures c.check_sheet-o.ensures c.if-o-eq0.true c.mark_constants-count.ensures c.unsaid-then-o-eq0.ensures
 
 pub returns-in_default : goal.returns-in_default
 returns-in_default c =
-    ends-unread _ _ _ _ _ _ _ _ _ _ _ c.refused_settings-number.ensures c.if-number-ne0.false (omega (arith, c.if-marks-lt-MARK_BYTES.false)) _ (rw c.in-Set.is at c.settle.ensures) c.read_schema-read.ensures c.check_sheet-o.ensures c.if-o-eq0.false c.in_default.is c.unsaid-in_default.ensures
+    ends-unread _ _ _ _ _ _ _ _ _ _ _ c.refused_settings-number.ensures c.if-number-ne0.false (omega (arith, c.if-marks-lt-MARK_BYTES.false)) _ (rw c.in-Ok.is at c.settle.ensures) c.read_schema-read.ensures c.check_sheet-o.ensures c.if-o-eq0.false c.in_default.is c.unsaid-in_default.ensures
 
 pub shape_of-scratch-then-o-lt11 : goal.shape_of-scratch-then-o-lt11
 shape_of-scratch-then-o-lt11 c =
@@ -41,11 +41,11 @@ shape_of-scratch-then-o-lt11 c =
 
 pub returns-then-o-lt11 : goal.returns-then-o-lt11
 returns-then-o-lt11 c =
-    ends-unsaid _ _ _ _ _ _ _ _ _ _ _ c.refused_settings-number.ensures c.if-number-ne0.false (omega (arith, c.if-marks-lt-MARK_BYTES.false)) _ (rw c.in-Set.is at c.settle.ensures) c.read_schema-read.ensures c.check_sheet-o.ensures c.if-o-eq0.false (omega (arith, c.if-o-lt11.true)) c.unsaid-then-o-lt11.ensures
+    ends-unsaid _ _ _ _ _ _ _ _ _ _ _ c.refused_settings-number.ensures c.if-number-ne0.false (omega (arith, c.if-marks-lt-MARK_BYTES.false)) _ (rw c.in-Ok.is at c.settle.ensures) c.read_schema-read.ensures c.check_sheet-o.ensures c.if-o-eq0.false (omega (arith, c.if-o-lt11.true)) c.unsaid-then-o-lt11.ensures
 
-pub returns-in-Refused : goal.returns-in-Refused
-returns-in-Refused c =
-    ends-table _ _ _ _ _ _ _ _ _ _ _ c.refused_settings-number.ensures c.if-number-ne0.false (omega (arith, c.if-marks-lt-MARK_BYTES.false)) (rw c.in-Refused.is at c.settle.ensures) c.refused-in-Refused.ensures c.unsaid-in-Refused.ensures
+pub returns-in-Err : goal.returns-in-Err
+returns-in-Err c =
+    ends-table _ _ _ _ _ _ _ _ _ _ _ c.refused_settings-number.ensures c.if-number-ne0.false (omega (arith, c.if-marks-lt-MARK_BYTES.false)) (rw c.in-Err.is at c.settle.ensures) c.refused-in-Err.ensures c.unsaid-in-Err.ensures
 
 pub shape_of-path : goal.shape_of-path
 shape_of-path c =
@@ -57,4 +57,4 @@ shape_of-scratch c =
 
 pub returns-else-o-lt11 : goal.returns-else-o-lt11
 returns-else-o-lt11 c =
-    ends-said _ _ _ _ _ _ _ _ _ _ _ c.refused_settings-number.ensures c.if-number-ne0.false (omega (arith, c.if-marks-lt-MARK_BYTES.false)) _ (rw c.in-Set.is at c.settle.ensures) c.read_schema-read.ensures c.check_sheet-o.ensures c.if-o-eq0.false c.in-Good.is (omega (arith, c.if-o-lt11.false)) c.unbound-scope.ensures c.say-said.ensures
+    ends-said _ _ _ _ _ _ _ _ _ _ _ c.refused_settings-number.ensures c.if-number-ne0.false (omega (arith, c.if-marks-lt-MARK_BYTES.false)) _ (rw c.in-Ok.is at c.settle.ensures) c.read_schema-read.ensures c.check_sheet-o.ensures c.if-o-eq0.false c.in-Some.is (omega (arith, c.if-o-lt11.false)) c.unbound-scope.ensures c.say-said.ensures

@@ -12,4 +12,4 @@ returns-in_default c = instant-unread c.args.text.now c.args.fields.now c.if-fie
 
 pub returns : goal.returns
 unfolding list_of
-returns c = instant-written c.args.text.now c.if-fields-lt-INSTANT_BYTES.false (rw c.in-Instant.is at c.parse.ensures) refl c.put_numbers.ensures
+returns c = instant-written c.args.text.now c.if-fields-lt-INSTANT_BYTES.false (rw c.in-Some.is at c.parse.ensures) refl c.put_numbers.ensures

@@ -31,20 +31,20 @@ lay_within-returns-in_default t c = unread-lays c.start_of.ensures (rw c.in_defa
 
 pub lay_within-returns-in-Constant : goal.lay_within-returns-in-Constant
 unfolding value_of
-lay_within-returns-in-Constant t c = constant-lays c.start_of.ensures (rw c.in-Constant.is at (rw c.in-Is.is at c.value_head.ensures)).0 c.lay_constant.ensures
+lay_within-returns-in-Constant t c = constant-lays c.start_of.ensures (rw c.in-Constant.is at (rw c.in-Some.is at c.value_head.ensures)).0 c.lay_constant.ensures
 
 pub lay_within-returns-in-Number : goal.lay_within-returns-in-Number
 unfolding value_of
-lay_within-returns-in-Number t c = number-lays c.start_of.ensures (rw c.in-Number.is at (rw c.in-Is.is at c.value_head.ensures)).0 c.bytes_of.ensures c.lay.ensures
+lay_within-returns-in-Number t c = number-lays c.start_of.ensures (rw c.in-Number.is at (rw c.in-Some.is at c.value_head.ensures)).0 c.bytes_of.ensures c.lay.ensures
 
 pub lay_within-returns-in-Text : goal.lay_within-returns-in-Text
 unfolding value_of
-lay_within-returns-in-Text t c = string-lays c.start_of.ensures (rw c.in-Text.is at (rw c.in-Is.is at c.value_head.ensures)).0 c.bytes_of-in-Text.ensures c.lay_quoted.ensures
+lay_within-returns-in-Text t c = string-lays c.start_of.ensures (rw c.in-Text.is at (rw c.in-Some.is at c.value_head.ensures)).0 c.bytes_of-in-Text.ensures c.lay_quoted.ensures
 
 pub lay_within-returns-in-Array : goal.lay_within-returns-in-Array
 unfolding value_of
-lay_within-returns-in-Array t c = array-lays c.start_of.ensures (rw c.in-Array.is at (rw c.in-Is.is at c.value_head.ensures)).0 c.lay_byte-inside.ensures c.lay_held.ensures (omega arith)
+lay_within-returns-in-Array t c = array-lays c.start_of.ensures (rw c.in-Array.is at (rw c.in-Some.is at c.value_head.ensures)).0 c.lay_byte-inside.ensures c.lay_held.ensures (omega arith)
 
 pub lay_within-returns-in-Object : goal.lay_within-returns-in-Object
 unfolding value_of
-lay_within-returns-in-Object t c = object-lays c.start_of.ensures (rw c.in-Object.is at (rw c.in-Is.is at c.value_head.ensures)).0 c.lay_byte-inside-in-Object.ensures c.lay_held-in-Object.ensures (omega arith)
+lay_within-returns-in-Object t c = object-lays c.start_of.ensures (rw c.in-Object.is at (rw c.in-Some.is at c.value_head.ensures)).0 c.lay_byte-inside-in-Object.ensures c.lay_held-in-Object.ensures (omega arith)

@@ -10,4 +10,4 @@ pub returns-in_default : goal.returns-in_default
 returns-in_default c = key-unread c.if-keys-eq0.false c.start_of.ensures (rw c.in_default.is at c.key_head.ensures)
 
 pub returns : goal.returns
-returns c = key-laid (omega arith) c.if-keys-eq0.false c.start_of.ensures (rw c.in-Is.is at c.key_head.ensures) c.bytes_of.ensures c.lay_quoted-colon.ensures c.lay_byte.ensures
+returns c = key-laid (omega arith) c.if-keys-eq0.false c.start_of.ensures (rw c.in-Some.is at c.key_head.ensures) c.bytes_of.ensures c.lay_quoted-colon.ensures c.lay_byte.ensures

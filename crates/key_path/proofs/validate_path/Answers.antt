@@ -12,4 +12,4 @@ pub returns-in_default : goal.returns-in_default
 returns-in_default c = meets-bad _ _ _ _ _ c.refused_key-number.ensures c.if-number-ne0.false c.read_schema.ensures c.in_default.is c.refused-in_default.ensures
 
 pub returns : goal.returns
-returns c = meets-good _ _ _ _ _ c.refused_key-number.ensures c.if-number-ne0.false c.read_schema.ensures c.in-Good.is c.check_key.ensures
+returns c = meets-good _ _ _ _ _ c.refused_key-number.ensures c.if-number-ne0.false c.read_schema.ensures c.in-Some.is c.check_key.ensures

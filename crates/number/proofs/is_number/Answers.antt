@@ -8,4 +8,4 @@ returns-in_default c = rw (rw c.in_default.is at c.split.ensures)
 
 pub returns : goal.returns
 unfolding is_number is_some
-returns c = rw (rw c.in-Number.is at c.split.ensures).0
+returns c = rw (rw c.in-Some.is at c.split.ensures).0

@@ -34,45 +34,45 @@ returns-in_default c = rw (rw c.in_default.is at c.split.ensures) (refl, refl)
 
 pub slice_bounds-test_parts-count : goal.slice_bounds-test_parts-count
 slice_bounds-test_parts-count c =
-    let o = rw c.in-Number.is at c.split.ensures in
+    let o = rw c.in-Some.is at c.split.ensures in
     omega (arith, o.1.whole)
 
 pub slice_bounds-test_parts-start : goal.slice_bounds-test_parts-start
 slice_bounds-test_parts-start c =
-    let o = rw c.in-Number.is at c.split.ensures in
+    let o = rw c.in-Some.is at c.split.ensures in
     omega (arith, o.1.whole)
 
 pub slice_bounds-test_parts-end : goal.slice_bounds-test_parts-end
 slice_bounds-test_parts-end c =
-    let o = rw c.in-Number.is at c.split.ensures in
+    let o = rw c.in-Some.is at c.split.ensures in
     omega (arith, o.1.point)
 
 pub slice_bounds-test_parts-count-2 : goal.slice_bounds-test_parts-count-2
 slice_bounds-test_parts-count-2 c =
-    let o = rw c.in-Number.is at c.split.ensures in
+    let o = rw c.in-Some.is at c.split.ensures in
     omega (arith, o.1.fraction)
 
 pub slice_bounds-test_parts-start-2 : goal.slice_bounds-test_parts-start-2
 slice_bounds-test_parts-start-2 c =
-    let o = rw c.in-Number.is at c.split.ensures in
+    let o = rw c.in-Some.is at c.split.ensures in
     omega (arith, o.1.fraction)
 
 pub slice_bounds-test_parts-end-2 : goal.slice_bounds-test_parts-end-2
 slice_bounds-test_parts-end-2 c =
-    let o = rw c.in-Number.is at c.split.ensures in
+    let o = rw c.in-Some.is at c.split.ensures in
     omega (arith, o.1.end)
 
 pub slice_bounds-test_parts-count-3 : goal.slice_bounds-test_parts-count-3
 slice_bounds-test_parts-count-3 c =
-    let o = rw c.in-Number.is at c.split.ensures in
+    let o = rw c.in-Some.is at c.split.ensures in
     omega (arith, o.1.exponent)
 
 pub slice_bounds-test_parts-start-3 : goal.slice_bounds-test_parts-start-3
 slice_bounds-test_parts-start-3 c =
-    let o = rw c.in-Number.is at c.split.ensures in
+    let o = rw c.in-Some.is at c.split.ensures in
     omega (arith, o.1.exponent)
 
 pub returns : goal.returns
 returns c =
-    let o = rw c.in-Number.is at c.split.ensures in
-    parts-tested c.args.s.now c.in-Number.p o.0 c.test_parts.ensures
+    let o = rw c.in-Some.is at c.split.ensures in
+    parts-tested c.args.s.now c.in-Some.p o.0 c.test_parts.ensures

@@ -12,8 +12,8 @@ returns-then-list-lt-LIST_BYTES c = meets-list _ _ _ _ _ _ _ _ c.refused_setting
 pub open_sheets-requires : goal.open_sheets-requires
 open_sheets-requires c = let a = c.args in let r = room a.kind a.semantics a.table.now a.schema.now a.rule.now a.path.now a.list.now a.scratch.now c.refused_settings-number.ensures c.if-number-ne0.false in (r.room, r.words)
 
-pub returns-in-Refused : goal.returns-in-Refused
-returns-in-Refused c = meets-table _ _ _ _ _ _ _ _ c.refused_settings-number.ensures c.if-number-ne0.false (omega (arith, c.if-list-lt-LIST_BYTES.false)) (rw c.in-Refused.is at c.settle.ensures) c.refused-in-Refused.ensures
+pub returns-in-Err : goal.returns-in-Err
+returns-in-Err c = meets-table _ _ _ _ _ _ _ _ c.refused_settings-number.ensures c.if-number-ne0.false (omega (arith, c.if-list-lt-LIST_BYTES.false)) (rw c.in-Err.is at c.settle.ensures) c.refused-in-Err.ensures
 
-pub returns-in-Set : goal.returns-in-Set
-returns-in-Set c = meets-sheets _ _ _ _ _ _ _ _ c.refused_settings-number.ensures c.if-number-ne0.false (omega (arith, c.if-list-lt-LIST_BYTES.false)) _ (rw c.in-Set.is at c.settle.ensures) c.open_sheets.ensures
+pub returns-in-Ok : goal.returns-in-Ok
+returns-in-Ok c = meets-sheets _ _ _ _ _ _ _ _ c.refused_settings-number.ensures c.if-number-ne0.false (omega (arith, c.if-list-lt-LIST_BYTES.false)) _ (rw c.in-Ok.is at c.settle.ensures) c.open_sheets.ensures

@@ -7,5 +7,5 @@ returns-in_default c = printed-none _ _ (rw c.in_default.is at c.take_apart.ensu
 
 pub returns : goal.returns
 returns c =
-    let r = rw c.in-Apart.is at c.take_apart.ensures in
+    let r = rw c.in-Some.is at c.take_apart.ensures in
     printed-apart _ _ r c.bytes_of.ensures c.bytes_of-2.ensures c.bytes_of-3.ensures c.answer.ensures

@@ -19,10 +19,10 @@ pub check_sheet-requires : goal.check_sheet-requires
 check_sheet-requires c =
     omega (arith, words-enough _ _ _ _ _ c.refused_settings-number.ensures c.if-number-ne0.false, c.read_schema-read.ensures.kept.size)
 
-pub returns-in-Refused : goal.returns-in-Refused
-returns-in-Refused c =
-    meets-table _ _ _ _ _ _ _ _ _ _ c.refused_settings-number.ensures c.if-number-ne0.false (omega (arith, c.if-marks-lt-MARK_BYTES.false)) (rw c.in-Refused.is at c.settle.ensures) c.refused-in-Refused.ensures
+pub returns-in-Err : goal.returns-in-Err
+returns-in-Err c =
+    meets-table _ _ _ _ _ _ _ _ _ _ c.refused_settings-number.ensures c.if-number-ne0.false (omega (arith, c.if-marks-lt-MARK_BYTES.false)) (rw c.in-Err.is at c.settle.ensures) c.refused-in-Err.ensures
 
-pub returns-in-Set : goal.returns-in-Set
-returns-in-Set c =
-    meets-sheets _ _ _ _ _ _ _ _ _ _ c.refused_settings-number.ensures c.if-number-ne0.false (omega (arith, c.if-marks-lt-MARK_BYTES.false)) _ (rw c.in-Set.is at c.settle.ensures) c.read_schema-read.ensures c.check_sheet.ensures
+pub returns-in-Ok : goal.returns-in-Ok
+returns-in-Ok c =
+    meets-sheets _ _ _ _ _ _ _ _ _ _ c.refused_settings-number.ensures c.if-number-ne0.false (omega (arith, c.if-marks-lt-MARK_BYTES.false)) _ (rw c.in-Ok.is at c.settle.ensures) c.read_schema-read.ensures c.check_sheet.ensures

@@ -17,25 +17,25 @@ is_white_space-requires c = tt
 
 pub loop-at-smaller : goal.loop-at-smaller
 loop-at-smaller c =
-    let e = rw c.in-CodePoint.is at c.decode_one.ensures in
+    let e = rw c.in-Some.is at c.decode_one.ensures in
     omega arith
 
 pub loop-at-preserved : goal.loop-at-preserved
 loop-at-preserved c =
-    let e = rw c.in-CodePoint.is at c.decode_one.ensures in (
+    let e = rw c.in-Some.is at c.decode_one.ensures in (
       e.2,
       blank-again c.args.s.now
           c.loop-at.at
-          c.loop-at.invariant.1 c.in-CodePoint.next
+          c.loop-at.invariant.1 c.in-Some.next
           e.0 c.is_white_space.ensures c.if-is_white_space.true,
     )
 
 pub returns-else-is_white_space : goal.returns-else-is_white_space
 returns-else-is_white_space c =
-    let e = rw c.in-CodePoint.is at c.decode_one.ensures in
+    let e = rw c.in-Some.is at c.decode_one.ensures in
     blank-stopped c.args.s.now
     c.loop-at.at
-    c.loop-at.invariant.1 c.in-CodePoint.next
+    c.loop-at.invariant.1 c.in-Some.next
     e.0 c.is_white_space.ensures c.if-is_white_space.false
 
 pub returns : goal.returns

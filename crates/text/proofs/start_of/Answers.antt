@@ -21,28 +21,28 @@ is_white_space-requires c = tt
 
 pub loop-at-smaller : goal.loop-at-smaller
 loop-at-smaller c =
-    let e = rw c.in-CodePoint.is at c.decode_one.ensures in
+    let e = rw c.in-Some.is at c.decode_one.ensures in
     omega arith
 
 pub loop-at-preserved : goal.loop-at-preserved
 loop-at-preserved c =
-    let e = rw c.in-CodePoint.is at c.decode_one.ensures in (
+    let e = rw c.in-Some.is at c.decode_one.ensures in (
       e.2,
       start-again c.args.s.now
           c.loop-at.at
-          c.loop-at.invariant.1 c.in-CodePoint.behind
+          c.loop-at.invariant.1 c.in-Some.behind
           e.0 c.is_white_space.ensures c.if-is_white_space.true,
     )
 
 pub returns-else-is_white_space : goal.returns-else-is_white_space
 returns-else-is_white_space c =
-    let e = rw c.in-CodePoint.is at c.decode_one.ensures in
+    let e = rw c.in-Some.is at c.decode_one.ensures in
     record {
       within = search rules;
       rest = start-stopped
           c.args.s.now
           c.loop-at.at
-          c.loop-at.invariant.1 c.in-CodePoint.behind
+          c.loop-at.invariant.1 c.in-Some.behind
           e.0 c.is_white_space.ensures c.if-is_white_space.false;
     }
 

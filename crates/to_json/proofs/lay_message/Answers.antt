@@ -6,10 +6,10 @@ use Rattle.to_json.specs.Parts.{message_text}
 use native.Mathlib.Omega.{arith}
 use Rattle.to_json.proofs.lay_message.Goals as goal
 
-pub returns-in-Is : goal.returns-in-Is
+pub returns-in-Some : goal.returns-in-Some
 unfolding optional_of message_text ascii
-returns-in-Is c = rw c.in-Is.is (texted-laid (ascii ",\"message\":") (ascii "}") (omega arith) c.lay-a.ensures c.lay_quoted-b.ensures c.lay.ensures c.bytes_of.ensures)
+returns-in-Some c = rw c.in-Some.is (texted-laid (ascii ",\"message\":") (ascii "}") (omega arith) c.lay-a.ensures c.lay_quoted-b.ensures c.lay.ensures c.bytes_of.ensures)
 
-pub returns-in-Absent : goal.returns-in-Absent
+pub returns-in-None : goal.returns-in-None
 unfolding optional_of message_text ascii
-returns-in-Absent c = rw c.in-Absent.is c.lay-in-Absent.ensures
+returns-in-None c = rw c.in-None.is c.lay-in-None.ensures

@@ -13,8 +13,8 @@ shape_of-out c = c.lay_message.ensures.len ∙ c.lay_conditions-b.auto.out ∙ c
 
 pub returns-in-Rule : goal.returns-in-Rule
 unfolding rule_of
-returns-in-Rule c = rule-lays c.start_of.ensures (omega (arith, c.type_inv)) (rw c.in-Rule.is at (rw c.in-Is.is at c.rule_head.ensures)) c.lay_name-a.ensures c.lay_conditions-b.ensures c.lay_message.ensures
+returns-in-Rule c = rule-lays c.start_of.ensures (omega (arith, c.type_inv)) (rw c.in-Rule.is at (rw c.in-Some.is at c.rule_head.ensures)) c.lay_name-a.ensures c.lay_conditions-b.ensures c.lay_message.ensures
 
 pub returns-in-Template : goal.returns-in-Template
 unfolding rule_of
-returns-in-Template c = rule-template c.start_of.ensures (rw c.in-Template.is at (rw c.in-Is.is at c.rule_head.ensures))
+returns-in-Template c = rule-template c.start_of.ensures (rw c.in-Template.is at (rw c.in-Some.is at c.rule_head.ensures))

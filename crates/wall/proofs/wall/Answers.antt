@@ -20,32 +20,32 @@ returns-in_default c =
 pub returns-then-pages-count : goal.returns-then-pages-count
 returns-then-pages-count c =
     let a = c.args in
-    let counted = rw c.in-Sheets.is at c.count_sheets.ensures in
+    let counted = rw c.in-Some.is at c.count_sheets.ensures in
     meets-room a.kind a.semantics a.label.now a.table.now a.schema.now a.book.now a.path.now a.pages.now a.scratch.now
     c.refused_settings-number.ensures c.if-number-ne0.false counted c.page_count-count.ensures (omega arith) c.refused-then-pages-count.ensures
 
 pub put_pages-requires : goal.put_pages-requires
 put_pages-requires c =
     let a = c.args in
-    let counted = rw c.in-Sheets.is at c.count_sheets.ensures in (
+    let counted = rw c.in-Some.is at c.count_sheets.ensures in (
       given a.kind a.semantics a.label.now a.table.now a.schema.now a.book.now a.path.now a.pages.now a.scratch.now
           c.refused_settings-number.ensures c.if-number-ne0.false counted c.page_count-count.ensures,
       few a.kind a.semantics a.label.now a.table.now a.schema.now a.book.now a.path.now a.pages.now a.scratch.now
           c.refused_settings-number.ensures c.if-number-ne0.false counted c.page_count-count.ensures (omega (arith, c.type_inv.book)),
     )
 
-pub returns-in-Refused : goal.returns-in-Refused
-returns-in-Refused c =
+pub returns-in-Err : goal.returns-in-Err
+returns-in-Err c =
     let a = c.args in
-    let counted = rw c.in-Sheets.is at c.count_sheets.ensures in
-    let due = rw c.in-Refused.is at c.settle.ensures in
+    let counted = rw c.in-Some.is at c.count_sheets.ensures in
+    let due = rw c.in-Err.is at c.settle.ensures in
     meets-table a.kind a.semantics a.label.now a.table.now a.schema.now a.book.now a.path.now a.pages.now a.scratch.now
-    c.refused_settings-number.ensures c.if-number-ne0.false counted c.page_count-count.ensures (omega arith) due c.refused-in-Refused.ensures
+    c.refused_settings-number.ensures c.if-number-ne0.false counted c.page_count-count.ensures (omega arith) due c.refused-in-Err.ensures
 
-pub returns-in-Set : goal.returns-in-Set
-returns-in-Set c =
+pub returns-in-Ok : goal.returns-in-Ok
+returns-in-Ok c =
     let a = c.args in
-    let counted = rw c.in-Sheets.is at c.count_sheets.ensures in
-    let set = rw c.in-Set.is at c.settle.ensures in
+    let counted = rw c.in-Some.is at c.count_sheets.ensures in
+    let set = rw c.in-Ok.is at c.settle.ensures in
     meets-printed a.kind a.semantics a.label.now a.table.now a.schema.now a.book.now a.path.now a.pages.now a.scratch.now
     c.refused_settings-number.ensures c.if-number-ne0.false counted c.page_count-count.ensures (omega arith) _ set c.put_pages.ensures refl

@@ -1,5 +1,5 @@
-use Prim.Native.Nat.{◌-◌}
-use mathlib.Core.Path.{sym, ◌∙◌}
+use lib.ListN.{length}
+use mathlib.Core.Path.{◌≡◌, sym, ◌∙◌}
 use Rattle.text.specs.DecimalLaws.{is_digit-range}
 use Rattle.check_file.proofs.Reading.{passed_none, passed-digit, passed-end, passed-stop}
 use native.Mathlib.Omega.{arith}
@@ -12,16 +12,18 @@ pub overflow_mul-value : goal.overflow_mul-value
 overflow_mul-value c = omega (arith, c.loop-i.invariant.answered)
 
 pub overflow_sub-wide : goal.overflow_sub-wide
-overflow_sub-wide c = omega (arith, is_digit-range _ (sym c.is_digit.ensures ∙ c.if-is_digit.true))
+overflow_sub-wide c = omega (arith, is_digit-range _ (sym c.is_digit.ensures ∙ c.if-not-is_digit.false))
 
 pub overflow_add-value : goal.overflow_add-value
-overflow_add-value c = omega (arith, c.loop-i.invariant.answered, is_digit-range _ (sym c.is_digit.ensures ∙ c.if-is_digit.true))
+overflow_add-value c = omega (arith, c.loop-i.invariant.answered, is_digit-range _ (sym c.is_digit.ensures ∙ c.if-not-is_digit.false))
 
 pub loop-i-preserved : goal.loop-i-preserved
-loop-i-preserved c = passed-digit c.loop-i.invariant c.loop-i-test.true (sym c.is_digit.ensures ∙ c.if-is_digit.true) (omega (arith, c.capped-value.ensures, c.wide.ensures.0))
+loop-i-preserved c = passed-digit c.loop-i.invariant (omega arith) (sym c.is_digit.ensures ∙ c.if-not-is_digit.false) (omega (arith, c.capped-value.ensures, c.wide.ensures.0))
 
-pub returns-else-is_digit : goal.returns-else-is_digit
-returns-else-is_digit c = passed-stop c.loop-i.invariant c.loop-i-test.true (sym c.is_digit.ensures ∙ c.if-is_digit.false)
+pub returns-then-not-is_digit : goal.returns-then-not-is_digit
+returns-then-not-is_digit c = passed-stop c.loop-i.invariant (omega arith) (sym c.is_digit.ensures ∙ c.if-not-is_digit.true)
 
 pub returns : goal.returns
-returns c = passed-end c.loop-i.invariant c.loop-i-test.false
+returns c =
+    let last : c.loop-i.i ≡ length c.args.s.now = omega arith in
+    rw last at (passed-end c.loop-i.invariant c.loop-i-test.false)

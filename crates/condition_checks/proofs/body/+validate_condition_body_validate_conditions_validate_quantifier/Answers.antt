@@ -4,7 +4,7 @@ use Rattle.value_checks.specs.Frames.{OperandsJudged}
 use Rattle.condition_checks.specs.Bodies.{EntryJudged, LeafJudged, BodyJudged}
 use Rattle.value_checks.proofs.Going.{goes-passed, passed_on, required-right}
 use Rattle.condition_checks.proofs.BodySteps.{leaf-yes, leaf-no, body-zero, inner-conditions, inner-quantifier, inner-unbound, inner-stopped, body-judged, body-leaf, bodies-begin, bodies-next, bodies-stopped, bodies-all}
-use Rattle.condition_checks.proofs.QuantifierSteps.{quantifier-misnamed, quantifier-stopped, quantifier-known, quantifier-unknown, quantifier-refused}
+use Rattle.condition_checks.proofs.QuantifierSteps.{quantifier-misnamed, quantifier-stopped, quantifier-walked, quantifier-refused}
 use Prim.Native.Nat.{◌-◌}
 use Rattle.condition_checks.proofs.body.+validate_condition_body_validate_conditions_validate_quantifier.Goals as goal
 
@@ -37,14 +37,14 @@ validate_condition_body-validate_conditions-requires t c = (omega (arith, c.if-l
 
 pub validate_condition_body-returns-then-op-le-NOT : goal.validate_condition_body-returns-then-op-le-NOT
 validate_condition_body-returns-then-op-le-NOT t c =
-    body-judged c.args.schema.now c.args.rule.now c.args.words.now c.args.scope c.args.over c.args.i c.args.end c.args.left _ c.if-left-eq0.false c.start_of.ensures c.operator_at-op.ensures (goes-passed (EntryJudged _ _ _ _ _ _) c.in-Pass.is c.validate_entry-r.ensures)
+    body-judged c.args.schema.now c.args.rule.now c.args.words.now c.args.scope c.args.over c.args.i c.args.end c.args.left _ c.if-left-eq0.false c.start_of.ensures c.operator_at-op.ensures (goes-passed (EntryJudged _ _ _ _ _ _) c.in-Ok.is c.validate_entry-r.ensures)
     (inner-conditions (leaf-no c.is_leaf.ensures c.if-is_leaf.false) (omega (arith, c.if-op-le-NOT.true)) c.validate_conditions.ensures)
     (omega (arith, c.requires.1, c.validate_entry-r.ensures.operator.at_most, c.validate_entry-r.ensures.nonempty.at_most, c.validate_conditions.ensures.at_most))
 
 pub validate_condition_body-returns-in_default-bind_of : goal.validate_condition_body-returns-in_default-bind_of
 validate_condition_body-returns-in_default-bind_of t c =
     rw c.going-in_default-bind_of.ensures
-    (body-judged c.args.schema.now c.args.rule.now c.args.words.now c.args.scope c.args.over c.args.i c.args.end c.args.left _ c.if-left-eq0.false c.start_of.ensures c.operator_at-op.ensures (goes-passed (EntryJudged _ _ _ _ _ _) c.in-Pass.is c.validate_entry-r.ensures)
+    (body-judged c.args.schema.now c.args.rule.now c.args.words.now c.args.scope c.args.over c.args.i c.args.end c.args.left _ c.if-left-eq0.false c.start_of.ensures c.operator_at-op.ensures (goes-passed (EntryJudged _ _ _ _ _ _) c.in-Ok.is c.validate_entry-r.ensures)
     (inner-unbound (leaf-no c.is_leaf.ensures c.if-is_leaf.false) (omega (arith, c.if-op-le-NOT.false)) c.bind_of.ensures c.in_default-bind_of.is)
     (omega (arith, c.requires.1, c.validate_entry-r.ensures.operator.at_most, c.validate_entry-r.ensures.nonempty.at_most)))
 
@@ -56,8 +56,8 @@ validate_condition_body-validate_quantifier-requires t c = (omega (arith, c.if-l
 
 pub validate_condition_body-returns : goal.validate_condition_body-returns
 validate_condition_body-returns t c =
-    body-judged c.args.schema.now c.args.rule.now c.args.words.now c.args.scope c.args.over c.args.i c.args.end c.args.left _ c.if-left-eq0.false c.start_of.ensures c.operator_at-op.ensures (goes-passed (EntryJudged _ _ _ _ _ _) c.in-Pass.is c.validate_entry-r.ensures)
-    (inner-quantifier (leaf-no c.is_leaf.ensures c.if-is_leaf.false) (omega (arith, c.if-op-le-NOT.false)) c.bind_of.ensures c.in-Is.is c.validate_quantifier.ensures)
+    body-judged c.args.schema.now c.args.rule.now c.args.words.now c.args.scope c.args.over c.args.i c.args.end c.args.left _ c.if-left-eq0.false c.start_of.ensures c.operator_at-op.ensures (goes-passed (EntryJudged _ _ _ _ _ _) c.in-Ok.is c.validate_entry-r.ensures)
+    (inner-quantifier (leaf-no c.is_leaf.ensures c.if-is_leaf.false) (omega (arith, c.if-op-le-NOT.false)) c.bind_of.ensures c.in-Some.is c.validate_quantifier.ensures)
     (omega (arith, c.requires.1, c.validate_entry-r.ensures.operator.at_most, c.validate_entry-r.ensures.nonempty.at_most, c.validate_quantifier.ensures.at_most))
 
 pub validate_conditions-loop-i-init : goal.validate_conditions-loop-i-init
@@ -78,7 +78,7 @@ pub validate_conditions-loop-i-preserved-then-is_leaf : goal.validate_conditions
 validate_conditions-loop-i-preserved-then-is_leaf t c = (
   omega (arith, c.behind-next.ensures.past c.loop-i-test.true, c.loop-i.invariant.0),
   omega (arith, c.behind-next.ensures.most),
-  bodies-next c.loop-i-test.true c.behind-next.ensures (body-leaf c.args.schema.now c.args.rule.now c.args.words.now c.args.scope c.args.over c.loop-i.i c.behind-next.result c.args.left _ c.start_of.ensures c.operator_at-op.ensures (leaf-yes c.is_leaf.ensures c.if-is_leaf.true) (goes-passed (LeafJudged _ _ _ _ _) c.in-Pass.is c.validate_leaf-r.ensures)) c.loop-i.invariant.0 c.loop-i.invariant.2,
+  bodies-next c.loop-i-test.true c.behind-next.ensures (body-leaf c.args.schema.now c.args.rule.now c.args.words.now c.args.scope c.args.over c.loop-i.i c.behind-next.result c.args.left _ c.start_of.ensures c.operator_at-op.ensures (leaf-yes c.is_leaf.ensures c.if-is_leaf.true) (goes-passed (LeafJudged _ _ _ _ _) c.in-Ok.is c.validate_leaf-r.ensures)) c.loop-i.invariant.0 c.loop-i.invariant.2,
 )
 
 pub validate_conditions-validate_condition_body-r-requires : goal.validate_conditions-validate_condition_body-r-requires
@@ -96,7 +96,7 @@ pub validate_conditions-loop-i-preserved : goal.validate_conditions-loop-i-prese
 validate_conditions-loop-i-preserved t c = (
   omega (arith, c.behind-next.ensures.past c.loop-i-test.true, c.loop-i.invariant.0),
   omega (arith, c.behind-next.ensures.most),
-  bodies-next c.loop-i-test.true c.behind-next.ensures (goes-passed (BodyJudged _ _ _ _ _) c.in-Pass-verdict.is c.validate_condition_body-r.ensures) c.loop-i.invariant.0 c.loop-i.invariant.2,
+  bodies-next c.loop-i-test.true c.behind-next.ensures (goes-passed (BodyJudged _ _ _ _ _) c.in-Ok-verdict.is c.validate_condition_body-r.ensures) c.loop-i.invariant.0 c.loop-i.invariant.2,
 )
 
 pub validate_conditions-returns : goal.validate_conditions-returns
@@ -126,23 +126,12 @@ validate_quantifier-overflow_add-n t c = omega (arith, c.requires.0.fits, c.requ
 pub validate_quantifier-validate_conditions-requires : goal.validate_quantifier-validate_conditions-requires
 validate_quantifier-validate_conditions-requires t c = (omega arith, (record { fits = omega (arith, c.requires.0.fits, c.requires.1, c.requires.2, c.behind-mid.ensures.most, c.behind-mid.ensures.least (omega (arith, c.requires.1)), c.validate_operands-r.ensures.at_most) }, c.requires.2))
 
-pub validate_quantifier-overflow_add-n-in-Unknown : goal.validate_quantifier-overflow_add-n-in-Unknown
-validate_quantifier-overflow_add-n-in-Unknown t c = omega (arith, c.requires.0.fits, c.requires.1, c.requires.2, c.behind-mid.ensures.most, c.behind-mid.ensures.least (omega (arith, c.requires.1)), c.validate_operands-r.ensures.at_most)
+pub validate_quantifier-returns-in-Ok-collection_of : goal.validate_quantifier-returns-in-Ok-collection_of
+validate_quantifier-returns-in-Ok-collection_of t c =
+    quantifier-walked c.args.schema.now c.args.rule.now c.args.words.now c.args.scope c.args.over c.args.name c.args.i c.args.end c.args.left c.requires.1 c.behind-mid.ensures c.bytes_of.ensures c.is_wrong_bind.ensures (required-right c.if-is_wrong_bind.false passed_on) (goes-passed (OperandsJudged _ _ _ _ _) c.in-Ok.is c.validate_operands-r.ensures)
+    _ c.collection_of.ensures c.in-Ok-collection_of.is c.bind-inner.ensures passed_on c.validate_conditions.ensures
 
-pub validate_quantifier-validate_conditions-requires-in-Unknown : goal.validate_quantifier-validate_conditions-requires-in-Unknown
-validate_quantifier-validate_conditions-requires-in-Unknown t c = (omega arith, (record { fits = omega (arith, c.requires.0.fits, c.requires.1, c.requires.2, c.behind-mid.ensures.most, c.behind-mid.ensures.least (omega (arith, c.requires.1)), c.validate_operands-r.ensures.at_most) }, c.requires.2))
-
-pub validate_quantifier-returns-in-Known : goal.validate_quantifier-returns-in-Known
-validate_quantifier-returns-in-Known t c =
-    quantifier-known c.args.schema.now c.args.rule.now c.args.words.now c.args.scope c.args.over c.args.name c.args.i c.args.end c.args.left c.requires.1 c.behind-mid.ensures c.bytes_of.ensures c.is_wrong_bind.ensures (required-right c.if-is_wrong_bind.false passed_on) (goes-passed (OperandsJudged _ _ _ _ _) c.in-Pass.is c.validate_operands-r.ensures)
-    c.collection_of.ensures c.in-Known.is c.bind-inner.ensures passed_on c.validate_conditions.ensures
-
-pub validate_quantifier-returns-in-Unknown : goal.validate_quantifier-returns-in-Unknown
-validate_quantifier-returns-in-Unknown t c =
-    quantifier-unknown c.args.schema.now c.args.rule.now c.args.words.now c.args.scope c.args.over c.args.name c.args.i c.args.end c.args.left c.requires.1 c.behind-mid.ensures c.bytes_of.ensures c.is_wrong_bind.ensures (required-right c.if-is_wrong_bind.false passed_on) (goes-passed (OperandsJudged _ _ _ _ _) c.in-Pass.is c.validate_operands-r.ensures)
-    c.collection_of.ensures c.in-Unknown.is c.bind-inner-in-Unknown.ensures passed_on c.validate_conditions-in-Unknown.ensures
-
-pub validate_quantifier-returns-in-No : goal.validate_quantifier-returns-in-No
-validate_quantifier-returns-in-No t c =
-    quantifier-refused c.args.schema.now c.args.rule.now c.args.words.now c.args.scope c.args.over c.args.name c.args.i c.args.end c.args.left c.requires.1 c.behind-mid.ensures c.bytes_of.ensures c.is_wrong_bind.ensures (required-right c.if-is_wrong_bind.false passed_on) (goes-passed (OperandsJudged _ _ _ _ _) c.in-Pass.is c.validate_operands-r.ensures)
-    c.collection_of.ensures c.in-No.is refl c.fail-in-No.ensures
+pub validate_quantifier-returns-in-Err : goal.validate_quantifier-returns-in-Err
+validate_quantifier-returns-in-Err t c =
+    quantifier-refused c.args.schema.now c.args.rule.now c.args.words.now c.args.scope c.args.over c.args.name c.args.i c.args.end c.args.left c.requires.1 c.behind-mid.ensures c.bytes_of.ensures c.is_wrong_bind.ensures (required-right c.if-is_wrong_bind.false passed_on) (goes-passed (OperandsJudged _ _ _ _ _) c.in-Ok.is c.validate_operands-r.ensures)
+    c.collection_of.ensures c.in-Err.is refl c.fail-in-Err.ensures

@@ -18,4 +18,4 @@ pub validate_operands-requires : goal.validate_operands-requires
 validate_operands-requires c = (record { fits = omega (arith, c.requires.0.fits, c.requires.1, c.validate_entry-r.ensures.operator.at_most, c.validate_entry-r.ensures.nonempty.at_most) }, omega (arith, c.requires.2))
 
 pub returns : goal.returns
-returns c = leaf-judged c.requires.1 (goes-passed (EntryJudged _ _ _ _ _ _) c.in-Pass.is c.validate_entry-r.ensures) c.validate_operands.ensures
+returns c = leaf-judged c.requires.1 (goes-passed (EntryJudged _ _ _ _ _ _) c.in-Ok.is c.validate_entry-r.ensures) c.validate_operands.ensures

@@ -11,4 +11,4 @@ returns-in_default c = rw c.in_default.is
 
 pub returns : goal.returns
 unfolding is_blank_text optional_of
-returns c = rw c.in-Is.is (c.is_blank.ensures ∙ ap is_blank c.bytes_of.ensures)
+returns c = rw c.in-Some.is (c.is_blank.ensures ∙ ap is_blank c.bytes_of.ensures)

@@ -12,11 +12,11 @@ validate_operands-requires c = (record { fits = omega (arith, c.end_of-end.ensur
 
 pub returns-in_default-head : goal.returns-in_default-head
 unfolding rule_of
-returns-in_default-head c = judge-template c.start_of.ensures c.end_of-end.ensures (rw (c.in-Is.is, c.in_default-head.is) at c.rule_head.ensures) c.validate_operands.ensures
+returns-in_default-head c = judge-template c.start_of.ensures c.end_of-end.ensures (rw (c.in-Some.is, c.in_default-head.is) at c.rule_head.ensures) c.validate_operands.ensures
 
 pub validate_rule_definition-requires : goal.validate_rule_definition-requires
 validate_rule_definition-requires c = omega (arith, c.end_of-end.ensures)
 
 pub returns : goal.returns
 unfolding rule_of
-returns c = judge-rule c.start_of.ensures c.end_of-end.ensures (rw (c.in-Is.is, c.in-Rule.is) at c.rule_head.ensures) c.validate_rule_definition.ensures
+returns c = judge-rule c.start_of.ensures c.end_of-end.ensures (rw (c.in-Some.is, c.in-Rule.is) at c.rule_head.ensures) c.validate_rule_definition.ensures

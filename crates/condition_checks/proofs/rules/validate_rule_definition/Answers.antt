@@ -32,4 +32,4 @@ validate_condition_body-requires c = (record { fits = omega (arith, c.validate_c
 
 pub returns : goal.returns
 returns c = definition-judged c.is_blank_text.ensures c.is_blank_text-2.ensures (required-right c.if-is_blank_text.false passed_on) (required-right c.if-is_blank_text-2.false passed_on) c.condition_depth.ensures c.if-most-condition_depth.false passed_on
-    (goes-passed (PassJudged _ _ _ _ _) c.in-Pass.is c.validate_condition_literals-r.ensures) c.validate_condition_body.ensures
+    (goes-passed (PassJudged _ _ _ _ _) c.in-Ok.is c.validate_condition_literals-r.ensures) c.validate_condition_body.ensures

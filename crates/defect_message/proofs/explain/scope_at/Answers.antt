@@ -8,7 +8,7 @@ returns-in_default c = scope-unread c.start_of.ensures (rw c.in_default.is at c.
 
 pub returns-in_default-head : goal.returns-in_default-head
 unfolding rule_of
-returns-in_default-head c = scope-template c.start_of.ensures (rw (c.in-Is.is, c.in_default-head.is) at c.rule_head.ensures)
+returns-in_default-head c = scope-template c.start_of.ensures (rw (c.in-Some.is, c.in_default-head.is) at c.rule_head.ensures)
 
 pub returns-then-end-le1 : goal.returns-then-end-le1
 returns-then-end-le1 c = scope-short c.end_of-end.ensures (omega arith)
@@ -18,4 +18,4 @@ returns-then-end-target c = scope-past c.end_of-end.ensures c.word_of-target.ens
 
 pub returns : goal.returns
 unfolding rule_of
-returns c = scope-found c.start_of.ensures (rw (c.in-Is.is, c.in-Rule.is) at c.rule_head.ensures) c.end_of-end.ensures c.word_of-target.ensures c.scope_below.ensures
+returns c = scope-found c.start_of.ensures (rw (c.in-Some.is, c.in-Rule.is) at c.rule_head.ensures) c.end_of-end.ensures c.word_of-target.ensures c.scope_below.ensures

@@ -3,10 +3,10 @@ use Rattle.defect_message.proofs.RefusalLaws.{union-tagged, union-untagged}
 use native.Mathlib.Omega.{arith}
 use Rattle.defect_message.proofs.refusal.lay_union.Goals as goal
 
-pub returns-in-Is : goal.returns-in-Is
+pub returns-in-Some : goal.returns-in-Some
 unfolding ascii
-returns-in-Is c = union-tagged _ _ _ (omega arith) c.in-Is.is c.lay_both-next.ensures c.bytes_of.ensures c.lay_carried.ensures
+returns-in-Some c = union-tagged _ _ _ (omega arith) c.in-Some.is c.lay_both-next.ensures c.bytes_of.ensures c.lay_carried.ensures
 
-pub returns-in-Absent : goal.returns-in-Absent
+pub returns-in-None : goal.returns-in-None
 unfolding ascii
-returns-in-Absent c = union-untagged _ _ _ (omega arith) c.in-Absent.is c.lay_both-next.ensures c.lay_both.ensures
+returns-in-None c = union-untagged _ _ _ (omega arith) c.in-None.is c.lay_both-next.ensures c.lay_both.ensures

@@ -8,4 +8,4 @@ returns-in_default c = key-refused c.start_of.ensures (rw c.in_default.is at c.k
 
 pub returns : goal.returns
 unfolding dotted
-returns c = key-written c.start_of.ensures (rw c.in-Is.is at c.key_head.ensures).reads c.bytes_of.ensures (wrote_then c.push-next.ensures c.put.ensures)
+returns c = key-written c.start_of.ensures (rw c.in-Some.is at c.key_head.ensures).reads c.bytes_of.ensures (wrote_then c.push-next.ensures c.put.ensures)

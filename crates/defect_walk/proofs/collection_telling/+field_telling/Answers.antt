@@ -16,17 +16,17 @@ overflow_add-end t c = search (ends-within, rules)
 pub overflow_add-at : goal.overflow_add-at
 overflow_add-at t c = search (ends-within, rules)
 
-pub overflow_add-at-in-Into : goal.overflow_add-at-in-Into
-overflow_add-at-in-Into t c = search (ends-within, rules)
+pub overflow_add-at-in-Ok-Some : goal.overflow_add-at-in-Ok-Some
+overflow_add-at-in-Ok-Some t c = search (ends-within, rules)
 
 pub field_telling-requires : goal.field_telling-requires
 field_telling-requires t c = search (ends-within, rules)
 
-pub returns-in-Refuse : goal.returns-in-Refuse
-returns-in-Refuse t c = search (field-refused, rules)
+pub returns-in-Err : goal.returns-in-Err
+returns-in-Err t c = search (field-refused, rules)
 
-pub returns-in-Free : goal.returns-in-Free
-returns-in-Free t c = search (field-free, rules)
+pub returns-in-Ok-None : goal.returns-in-Ok-None
+returns-in-Ok-None t c = let free = rw c.in-Ok-None.field-0-is at c.in-Ok-None.is in search (field-free, free, rules)
 
 pub returns-else-end-path : goal.returns-else-end-path
 returns-else-end-path t c = search (field-into, rules)

@@ -24,17 +24,17 @@ returns-in_default t c = found-bad c.start_of.ensures c.operator_at-op.ensures c
 pub overflow_add-i : goal.overflow_add-i
 overflow_add-i t c = omega (arith, c.requires.0, c.requires.1)
 
-pub scope_below-requires-in-Known : goal.scope_below-requires-in-Known
-scope_below-requires-in-Known t c = (omega (arith, c.requires.0, c.requires.0, c.child_at-child.ensures.least, c.child_at-child.ensures.most, c.child_at-child.ensures.inside, c.children_from-start.ensures.past), (c.child_at-child.ensures.inside, omega (arith, c.child_at-child.ensures.most, c.requires.1), c.child_at-child.ensures.holds))
+pub scope_below-requires-in-Ok-Some : goal.scope_below-requires-in-Ok-Some
+scope_below-requires-in-Ok-Some t c = (omega (arith, c.requires.0, c.requires.0, c.child_at-child.ensures.least, c.child_at-child.ensures.most, c.child_at-child.ensures.inside, c.children_from-start.ensures.past), (c.child_at-child.ensures.inside, omega (arith, c.child_at-child.ensures.most, c.requires.1), c.child_at-child.ensures.holds))
 
-pub scope_below-requires-in-Unknown : goal.scope_below-requires-in-Unknown
-scope_below-requires-in-Unknown t c = (omega (arith, c.requires.0, c.requires.0, c.child_at-child.ensures.least, c.child_at-child.ensures.most, c.child_at-child.ensures.inside, c.children_from-start.ensures.past), (c.child_at-child.ensures.inside, omega (arith, c.child_at-child.ensures.most, c.requires.1), c.child_at-child.ensures.holds))
+pub scope_below-requires-in-Ok-None : goal.scope_below-requires-in-Ok-None
+scope_below-requires-in-Ok-None t c = (omega (arith, c.requires.0, c.requires.0, c.child_at-child.ensures.least, c.child_at-child.ensures.most, c.child_at-child.ensures.inside, c.children_from-start.ensures.past), (c.child_at-child.ensures.inside, omega (arith, c.child_at-child.ensures.most, c.requires.1), c.child_at-child.ensures.holds))
 
-pub returns-in-Known : goal.returns-in-Known
-returns-in-Known t c = found-known c.start_of.ensures c.operator_at-op.ensures c.children_from-start.ensures c.requires.2 (omega (arith, c.if-target-start.false)) c.child_at-child.ensures (omega (arith, c.if-op-le-NOT.false)) c.bind_of.ensures c.in-Is.is c.collection_of.ensures c.in-Known.is c.bind-inner.ensures c.scope_below-in-Known.ensures
+pub returns-in-Ok-Some : goal.returns-in-Ok-Some
+returns-in-Ok-Some t c = found-known c.start_of.ensures c.operator_at-op.ensures c.children_from-start.ensures c.requires.2 (omega (arith, c.if-target-start.false)) c.child_at-child.ensures (omega (arith, c.if-op-le-NOT.false)) c.bind_of.ensures c.in-Some.is c.collection_of.ensures (rw c.in-Ok-Some.field-0-is at c.in-Ok-Some.is) c.bind-inner.ensures c.scope_below-in-Ok-Some.ensures
 
-pub returns-in-Unknown : goal.returns-in-Unknown
-returns-in-Unknown t c = found-unknown c.start_of.ensures c.operator_at-op.ensures c.children_from-start.ensures c.requires.2 (omega (arith, c.if-target-start.false)) c.child_at-child.ensures (omega (arith, c.if-op-le-NOT.false)) c.bind_of.ensures c.in-Is.is c.collection_of.ensures c.in-Unknown.is c.bind-inner-in-Unknown.ensures c.scope_below-in-Unknown.ensures
+pub returns-in-Ok-None : goal.returns-in-Ok-None
+returns-in-Ok-None t c = found-unknown c.start_of.ensures c.operator_at-op.ensures c.children_from-start.ensures c.requires.2 (omega (arith, c.if-target-start.false)) c.child_at-child.ensures (omega (arith, c.if-op-le-NOT.false)) c.bind_of.ensures c.in-Some.is c.collection_of.ensures (rw c.in-Ok-None.field-0-is at c.in-Ok-None.is) c.bind-inner-in-Ok-None.ensures c.scope_below-in-Ok-None.ensures
 
-pub returns-in-No : goal.returns-in-No
-returns-in-No t c = found_none c.start_of.ensures c.operator_at-op.ensures c.children_from-start.ensures c.requires.2 (omega arith) c.child_at-child.ensures (omega arith) c.bind_of.ensures c.in-Is.is c.collection_of.ensures c.in-No.is
+pub returns-in-Err : goal.returns-in-Err
+returns-in-Err t c = found_none c.start_of.ensures c.operator_at-op.ensures c.children_from-start.ensures c.requires.2 (omega arith) c.child_at-child.ensures (omega arith) c.bind_of.ensures c.in-Some.is c.collection_of.ensures c.in-Err.is

@@ -28,4 +28,4 @@ pub check_sheet-o-requires : goal.check_sheet-o-requires
 check_sheet-o-requires c = c.requires.3
 
 pub returns : goal.returns
-returns c = rule-checked _ _ _ _ _ _ _ _ (rw c.in-Set.is at c.settle.ensures) c.check_sheet-o.ensures c.put_record.ensures c.check_sheet-o.auto.path
+returns c = rule-checked _ _ _ _ _ _ _ _ (rw c.in-Ok.is at c.settle.ensures) c.check_sheet-o.ensures c.put_record.ensures c.check_sheet-o.auto.path

@@ -1,4 +1,3 @@
-use Prim.Native.Nat.{◌-◌}
 use mathlib.Core.Path.{◌∙◌}
 use native.Mathlib.Omega.{arith}
 use Rattle.drafts.proofs.MarkSteps.{read-start, read_next, read-bad, read-end}
@@ -30,22 +29,16 @@ pub shape_of-scratch-in_default : goal.shape_of-scratch-in_default
 shape_of-scratch-in_default c = let bad = rw c.in_default.is at c.read_rule.ensures in bad.1.len ∙ c.loop-i.invariant.1.kept.len
 
 pub returns-in_default : goal.returns-in_default
-returns-in_default c = let bad = rw c.in_default.is at c.read_rule.ensures in read-bad _ _ _ _ _ c.loop-i.invariant.1 (omega (arith, c.loop-i.invariant.0, c.loop-i-test.true)) c.lent_at-l.ensures bad.0 bad.1
+returns-in_default c = let bad = rw c.in_default.is at c.read_rule.ensures in read-bad _ _ _ _ _ c.loop-i.invariant.1 (omega (arith, c.loop-i.invariant.0)) c.lent_at-l.ensures bad.0 bad.1
 
 pub mentions-requires : goal.mentions-requires
-mentions-requires c = let good = rw c.in-Good.is at c.read_rule.ensures in omega (arith, good.within)
+mentions-requires c = let good = rw c.in-Some.is at c.read_rule.ensures in omega (arith, good.within)
 
 pub bounds-marks-i : goal.bounds-marks-i
-bounds-marks-i c = omega (arith, c.loop-i.invariant.0, c.loop-i.invariant.1.size, c.loop-i-test.true, c.requires.0)
-
-pub overflow_add-i : goal.overflow_add-i
-overflow_add-i c = omega arith
-
-pub loop-i-smaller : goal.loop-i-smaller
-loop-i-smaller c = omega arith
+bounds-marks-i c = omega (arith, c.loop-i.invariant.0, c.loop-i.invariant.1.size, c.requires.0)
 
 pub loop-i-preserved : goal.loop-i-preserved
-loop-i-preserved c = let good = rw c.in-Good.is at c.read_rule.ensures in (c.loop-i.invariant.0, read_next _ _ _ _ _ c.loop-i.invariant.1 (omega (arith, c.loop-i.invariant.0, c.loop-i-test.true)) c.lent_at-l.ensures good c.mentions.ensures c.mark_of.ensures)
+loop-i-preserved c = let good = rw c.in-Some.is at c.read_rule.ensures in (c.loop-i.invariant.0, read_next _ _ _ _ _ c.loop-i.invariant.1 (omega (arith, c.loop-i.invariant.0)) c.lent_at-l.ensures good c.mentions.ensures c.mark_of.ensures)
 
 pub shape_of-marks : goal.shape_of-marks
 shape_of-marks c = c.loop-i.invariant.1.size
@@ -54,4 +47,4 @@ pub shape_of-scratch : goal.shape_of-scratch
 shape_of-scratch c = c.loop-i.invariant.1.kept.len
 
 pub returns : goal.returns
-returns c = read-end _ _ _ _ _ c.loop-i.invariant.1 (omega (arith, c.loop-i.invariant.0, c.loop-i-test.false))
+returns c = read-end _ _ _ _ _ c.loop-i.invariant.1 (omega (arith, c.loop-i.invariant.0))

@@ -1,4 +1,3 @@
-use Prim.Native.Nat.{◌-◌}
 use native.Mathlib.Omega.{arith}
 use Rattle.drafts.proofs.LentSteps.{looked-start, looked-next, looked-end}
 use borrow.Author.Rules.{rules}
@@ -19,14 +18,8 @@ slice_bounds-label-start c = omega (arith, c.lent_at-l.ensures.first, c.lent_at-
 pub slice_bounds-label-end : goal.slice_bounds-label-end
 slice_bounds-label-end c = omega (arith, c.lent_at-l.ensures.first, c.lent_at-l.ensures.second, c.lent_at-l.ensures.within)
 
-pub overflow_add-i : goal.overflow_add-i
-overflow_add-i c = omega arith
-
-pub loop-i-smaller : goal.loop-i-smaller
-loop-i-smaller c = omega arith
-
 pub loop-i-preserved : goal.loop-i-preserved
-loop-i-preserved c = (c.loop-i.invariant.0, looked-next _ _ c.loop-i.invariant.1 (omega (arith, c.loop-i.invariant.0, c.loop-i-test.true)) c.lent_at-l.ensures c.refused_settings-number.ensures c.sooner_of-found.ensures)
+loop-i-preserved c = (c.loop-i.invariant.0, looked-next _ _ c.loop-i.invariant.1 (omega (arith, c.loop-i.invariant.0)) c.lent_at-l.ensures c.refused_settings-number.ensures c.sooner_of-found.ensures)
 
 pub returns : goal.returns
-returns c = looked-end _ _ c.loop-i.invariant.1 (omega (arith, c.loop-i.invariant.0, c.loop-i-test.false))
+returns c = looked-end _ _ c.loop-i.invariant.1 (omega (arith, c.loop-i.invariant.0))

@@ -1,5 +1,5 @@
 -- `drafts::refusals::refused_rules` meets its contract.
-use Prim.Native.Nat.{◌/◌, ◌-◌}
+use Prim.Native.Nat.{◌/◌}
 use mathlib.Core.Path.{◌≡◌}
 use lib.ListN.{length}
 use Rattle.drafts.proofs.LentSteps.{Looked}
@@ -7,6 +7,3 @@ use Rattle.drafts.proofs.refusals.refused_rules.Given as goal
 
 abbrev pub invariant-loop-i : goal.invariant-loop-i
 invariant-loop-i l = (l.count ≡ length l.heads / 16) × Looked l.heads l.texts l.i l.at l.found
-
-abbrev pub decreases-loop-i : goal.decreases-loop-i
-decreases-loop-i l = l.count - l.i

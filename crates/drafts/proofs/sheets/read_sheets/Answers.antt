@@ -6,7 +6,7 @@ pub returns-in_default : goal.returns-in_default
 returns-in_default c = no-schema c.read_schema.ensures c.in_default.is
 
 pub returns-then-read_rules : goal.returns-then-read_rules
-returns-then-read_rules c = all_read c.read_schema.ensures c.in-Good.is c.read_rules.ensures c.if-read_rules.true
+returns-then-read_rules c = all_read c.read_schema.ensures c.in-Some.is c.read_rules.ensures c.if-read_rules.true
 
 pub returns : goal.returns
-returns c = no-rule c.read_schema.ensures c.in-Good.is c.read_rules.ensures c.if-read_rules.false
+returns c = no-rule c.read_schema.ensures c.in-Some.is c.read_rules.ensures c.if-read_rules.false

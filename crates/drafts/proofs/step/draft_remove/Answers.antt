@@ -25,8 +25,8 @@ check_sheets-requires c = let a = c.args in (omega (arith, count-few a.heads.now
 
 pub overflow_cast-result : goal.overflow_cast-result
 unfolding part_of
-overflow_cast-result c = let a = c.args in record { fits = omega (arith, next_small a.heads.now a.texts.now a.table.now a.name.now a.buffer.now a.size a.records.now a.path.now a.scratch.now c.refused_early-number.ensures c.if-number-ne0.false c.bytes_of-sheet.ensures c.read_sheets-number.ensures c.if-number-ne0-2.false c.place_of.ensures c.in-Found.is c.remove_from-next.ensures) }
+overflow_cast-result c = let a = c.args in record { fits = omega (arith, next_small a.heads.now a.texts.now a.table.now a.name.now a.buffer.now a.size a.records.now a.path.now a.scratch.now c.refused_early-number.ensures c.if-number-ne0.false c.bytes_of-sheet.ensures c.read_sheets-number.ensures c.if-number-ne0-2.false c.place_of.ensures c.in-Ok.is c.remove_from-next.ensures) }
 
 pub returns : goal.returns
 unfolding part_of
-returns c = remove-done _ _ _ _ _ _ _ _ _ c.refused_early-number.ensures c.if-number-ne0.false c.bytes_of-sheet.ensures c.read_sheets-number.ensures c.if-number-ne0-2.false c.place_of.ensures c.in-Found.is c.remove_from-next.ensures refl c.bytes_of-schema.ensures c.check_sheets.ensures
+returns c = remove-done _ _ _ _ _ _ _ _ _ c.refused_early-number.ensures c.if-number-ne0.false c.bytes_of-sheet.ensures c.read_sheets-number.ensures c.if-number-ne0-2.false c.place_of.ensures c.in-Ok.is c.remove_from-next.ensures refl c.bytes_of-schema.ensures c.check_sheets.ensures

@@ -10,12 +10,12 @@ returns-then-out-end c = formed-over c.args.out.now c.args.start c.args.end (ome
 pub returns-then-end-start : goal.returns-then-end-start
 returns-then-end-start c = formed-turned c.args.out.now c.args.start c.args.end (omega (arith, c.if-end-start.true))
 
-pub returns-in-Good : goal.returns-in-Good
-returns-in-Good c =
-    let x = rw c.in-Good.is at c.read_rule.ensures in
+pub returns-in-Some : goal.returns-in-Some
+returns-in-Some c =
+    let x = rw c.in-Some.is at c.read_rule.ensures in
     formed-good c.args.out.now c.args.start c.args.end (omega (arith, c.if-end-start.false)) (omega (arith, c.if-out-end.false)) refl x.reads
 
-pub returns-in-Bad : goal.returns-in-Bad
-returns-in-Bad c =
-    let x = rw c.in-Bad.is at c.read_rule.ensures in
+pub returns-in-None : goal.returns-in-None
+returns-in-None c =
+    let x = rw c.in-None.is at c.read_rule.ensures in
     formed-bad c.args.out.now c.args.start c.args.end (omega (arith, c.if-end-start.false)) (omega (arith, c.if-out-end.false)) refl x.0

@@ -1,4 +1,3 @@
-use Prim.Native.Nat.{◌-◌}
 use Rattle.buffer.specs.WroteLaws.{wrote_nothing, wrote_kept}
 use Rattle.host_numbers.specs.Counts.{long_bytes_of}
 use Rattle.host_numbers.proofs.CountSteps.{one-long-more, counts-short, counts-written}
@@ -10,20 +9,20 @@ returns-then-bytes-numbers c = counts-short c.args.numbers.now c.args.bytes.now 
 
 pub loop-i-init : goal.loop-i-init
 unfolding long_bytes_of
-loop-i-init c = (wrote_nothing c.args.bytes.now 0, omega arith)
+loop-i-init c = wrote_nothing c.args.bytes.now 0
 
 pub put_u64-requires : goal.put_u64-requires
-put_u64-requires c = omega (arith, wrote_kept c.loop-i.invariant.0)
+put_u64-requires c = omega (arith, wrote_kept c.loop-i.invariant)
 
 pub loop-i-preserved : goal.loop-i-preserved
 loop-i-preserved c =
     let l = c.loop-i in
-    (one-long-more c.args.numbers.now l.i (omega arith) l.invariant.0 c.put_u64.ensures, omega arith)
+    one-long-more c.args.numbers.now l.i (omega arith) l.invariant c.put_u64.ensures
 
 pub shape_of-bytes : goal.shape_of-bytes
-shape_of-bytes c = wrote_kept c.loop-i.invariant.0
+shape_of-bytes c = wrote_kept c.loop-i.invariant
 
 pub returns : goal.returns
 returns c =
     let l = c.loop-i in
-    counts-written c.args.numbers.now l.i (omega arith) (omega arith) l.invariant.0
+    counts-written c.args.numbers.now l.i (omega arith) (omega arith) l.invariant

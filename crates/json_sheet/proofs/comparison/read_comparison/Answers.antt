@@ -16,17 +16,17 @@ overflow_sub-depth c = omega arith
 pub read_three-requires : goal.read_three-requires
 read_three-requires c = (rw c.if-starts_with.true at c.starts_with.ensures).within
 
-pub shape_of-out-in_default : goal.shape_of-out-in_default
-shape_of-out-in_default c = c.read_three.auto.out ∙ c.lay-start.auto.out ∙ c.lay-count.auto.out
+pub shape_of-out-in_err-operand : goal.shape_of-out-in_err-operand
+shape_of-out-in_err-operand c = c.read_three.auto.out ∙ c.lay-start.auto.out ∙ c.lay-count.auto.out
 
-pub returns-in_default : goal.returns-in_default
-returns-in_default c = comparison-bad (rw c.if-starts_with.true at c.starts_with.ensures) c.args.depth c.if-depth-eq0.false (rw c.in_default.is at c.read_three.ensures)
+pub returns-in_err-operand : goal.returns-in_err-operand
+returns-in_err-operand c = rw c.from_residual.ensures (comparison-bad (rw c.if-starts_with.true at c.starts_with.ensures) c.args.depth c.if-depth-eq0.false (rw c.in_err-operand.was at c.read_three.ensures))
 
 pub shape_of-out-then-starts_with : goal.shape_of-out-then-starts_with
 shape_of-out-then-starts_with c = c.recount.auto.out ∙ c.swap.auto.out ∙ c.read_three.auto.out ∙ c.lay-start.auto.out ∙ c.lay-count.auto.out
 
 pub returns-then-starts_with : goal.returns-then-starts_with
-returns-then-starts_with c = comparison-given (rw c.if-starts_with.true at c.starts_with.ensures) c.args.depth c.if-depth-eq0.false (omega (arith, c.type_inv)) c.lay-count.ensures c.lay-start.ensures (rw c.in-Good.is at c.read_three.ensures) c.swap.ensures c.recount.ensures
+returns-then-starts_with c = comparison-given (rw c.if-starts_with.true at c.starts_with.ensures) c.args.depth c.if-depth-eq0.false (omega (arith, c.type_inv)) c.lay-count.ensures c.lay-start.ensures (rw c.in_ok-operand.was at c.read_three.ensures) c.swap.ensures c.recount.ensures
 
 pub returns : goal.returns
 returns c = comparison-other c.args.s.now c.args.at c.args.depth (rw c.if-starts_with.false at c.starts_with.ensures)

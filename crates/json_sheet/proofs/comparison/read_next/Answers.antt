@@ -4,17 +4,17 @@ use Rattle.json_sheet.specs.Compared.{unread}
 use Rattle.json_sheet.proofs.Comparing.{followed, not-followed, otherwise}
 use Rattle.json_sheet.proofs.comparison.read_next.Goals as goal
 
-pub returns-in_default : goal.returns-in_default
-returns-in_default c = unread (rw c.in_default.is at c.read_part.ensures)
+pub returns-in_err-member : goal.returns-in_err-member
+returns-in_err-member c = rw c.from_residual.ensures (unread (rw c.in_err-member.was at c.read_part.ensures))
 
 pub read_separator-requires : goal.read_separator-requires
-read_separator-requires c = (rw c.in-Good.is at c.read_part.ensures).read.within
+read_separator-requires c = (rw c.in_ok-member.was at c.read_part.ensures).read.within
 
 pub returns-in-More : goal.returns-in-More
-returns-in-More c = followed (rw c.in-Good.is at c.read_part.ensures) (MoreAt 0x7D) (rw c.in-More.is at c.read_separator.ensures)
+returns-in-More c = followed (rw c.in_ok-member.was at c.read_part.ensures) (MoreAt 0x7D) (rw c.in-More.is at (rw c.in_ok-next.was at c.read_separator.ensures))
 
 pub returns-in-End : goal.returns-in-End
-returns-in-End c = otherwise (rw c.in-Good.is at c.read_part.ensures) (EndAt 0x7D) (rw c.in-End.is at c.read_separator.ensures)
+returns-in-End c = otherwise (rw c.in_ok-member.was at c.read_part.ensures) (EndAt 0x7D) (rw c.in-End.is at (rw c.in_ok-next.was at c.read_separator.ensures))
 
-pub returns-in-Bad : goal.returns-in-Bad
-returns-in-Bad c = not-followed (rw c.in-Good.is at c.read_part.ensures) (EndAt 0x7D) (rw c.in-Bad.is at c.read_separator.ensures)
+pub returns-in_err-next : goal.returns-in_err-next
+returns-in_err-next c = rw c.from_residual-in_err-next.ensures (not-followed (rw c.in_ok-member.was at c.read_part.ensures) (EndAt 0x7D) (rw c.in_err-next.was at c.read_separator.ensures))

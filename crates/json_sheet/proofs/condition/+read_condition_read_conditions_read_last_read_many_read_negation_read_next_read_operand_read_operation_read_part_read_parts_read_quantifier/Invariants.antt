@@ -7,7 +7,6 @@ use Rattle.definition.specs.Write.{write_condition}
 use Rattle.json_text.specs.Shaped.{many_in}
 use Rattle.json_rule.specs.Streamed.{streamed}
 use Rattle.json_sheet.specs.Places.{entries_of_conditions, count_of_conditions_from}
-use Rattle.json_sheet.specs.declared.value.Got.TheVariants as got
 use Rattle.json_sheet.proofs.Siblings.{Walking}
 use Prim.Native.Nat.{◌+◌, ◌*◌, ◌-◌}
 use Rattle.json_sheet.proofs.condition.+read_condition_read_conditions_read_last_read_many_read_negation_read_next_read_operand_read_operation_read_part_read_parts_read_quantifier.Given as goal

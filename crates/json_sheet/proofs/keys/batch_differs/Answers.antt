@@ -1,5 +1,4 @@
 use native.Mathlib.Omega.{arith}
-use Prim.Native.Nat.{◌-◌}
 use mathlib.Core.Path.{refl, sym, ◌∙◌}
 use Rattle.json_keys.specs.TableLaws.{sofar-begin, sofar-falls, sofar-ready, sofar-found, sofar-end, sofar-next, sofar-rest, sofar-again}
 use Rattle.json_sheet.proofs.keys.batch_differs.Goals as goal
@@ -41,28 +40,19 @@ pub returns-then-next-eq0 : goal.returns-then-next-eq0
 returns-then-next-eq0 c = sofar-end c.loop-n.invariant c.next_member-next.ensures c.slot_of-slot.ensures refl (rw c.if-is_chained.false at c.is_chained.ensures) c.if-next-eq0.true
 
 pub bounds-links-n : goal.bounds-links-n
-bounds-links-n c = omega (arith, c.loop-n-test.true, c.loop-n.invariant.linked)
+bounds-links-n c = omega (arith, c.loop-n.invariant.linked)
 
 pub overflow_add-places : goal.overflow_add-places
 overflow_add-places c = omega (arith, c.loop-n.invariant.within)
 
 pub bounds-places-n : goal.bounds-places-n
-bounds-places-n c = omega (arith, c.loop-n-test.true, c.loop-n.invariant.placed)
-
-pub overflow_add-n : goal.overflow_add-n
-overflow_add-n c = omega (arith, c.loop-n-test.true)
-
-pub overflow_cast-heads : goal.overflow_cast-heads
-overflow_cast-heads c = omega (arith, c.loop-n-test.true)
+bounds-places-n c = omega (arith, c.loop-n.invariant.placed)
 
 pub bounds-heads-slot-in-loop-n : goal.bounds-heads-slot-in-loop-n
 bounds-heads-slot-in-loop-n c = omega (arith, c.slot_of-slot.ensures.small)
 
-pub loop-n-smaller : goal.loop-n-smaller
-loop-n-smaller c = omega (arith, c.loop-n-test.true)
-
 pub loop-n-preserved : goal.loop-n-preserved
-loop-n-preserved c = sofar-next c.loop-n.invariant c.next_member-next.ensures c.slot_of-slot.ensures refl (rw c.if-is_chained.false at c.is_chained.ensures) refl (omega (arith, c.loop-n-test.true)) c.if-next-eq0.false
+loop-n-preserved c = sofar-next c.loop-n.invariant c.next_member-next.ensures c.slot_of-slot.ensures refl (rw c.if-is_chained.false at c.is_chained.ensures) refl (omega arith) c.if-next-eq0.false
 
 pub rest_differs-requires : goal.rest_differs-requires
 rest_differs-requires c = (c.loop-n.invariant.within, sofar-ready c.loop-n.invariant)
@@ -74,7 +64,7 @@ pub shape_of-places-then-rest_differs : goal.shape_of-places-then-rest_differs
 shape_of-places-then-rest_differs c = c.loop-n.invariant.placed ∙ sym c.requires.2
 
 pub returns-then-rest_differs : goal.returns-then-rest_differs
-returns-then-rest_differs c = sofar-rest c.loop-n.invariant (omega (arith, c.loop-n-test.false)) (rw c.if-rest_differs.true at c.rest_differs.ensures)
+returns-then-rest_differs c = sofar-rest c.loop-n.invariant (omega arith) (rw c.if-rest_differs.true at c.rest_differs.ensures)
 
 pub shape_of-links : goal.shape_of-links
 shape_of-links c = c.loop-n.invariant.linked ∙ sym c.requires.1
@@ -83,4 +73,4 @@ pub shape_of-places : goal.shape_of-places
 shape_of-places c = c.loop-n.invariant.placed ∙ sym c.requires.2
 
 pub returns : goal.returns
-returns c = sofar-again c.loop-n.invariant (omega (arith, c.loop-n-test.false)) (rw c.if-rest_differs.false at c.rest_differs.ensures)
+returns c = sofar-again c.loop-n.invariant (omega arith) (rw c.if-rest_differs.false at c.rest_differs.ensures)

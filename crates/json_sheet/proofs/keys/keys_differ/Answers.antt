@@ -20,24 +20,24 @@ pub returns-in_default : goal.returns-in_default
 returns-in_default c = c.loop-i.invariant.3 false (scan-bad c.args.text.now c.loop-i.i c.loop-i-test.true c.if-b-eq34.true (rw c.in_default.is at c.read_string.ensures))
 
 pub loop-i-smaller-then-b-eq34 : goal.loop-i-smaller-then-b-eq34
-loop-i-smaller-then-b-eq34 c = let r = rw c.in-Is.is at c.read_string.ensures in omega (arith, r.read.past, r.read.within)
+loop-i-smaller-then-b-eq34 c = let r = rw c.in-Some.is at c.read_string.ensures in omega (arith, r.read.past, r.read.within)
 
 pub loop-i-preserved-then-b-eq34 : goal.loop-i-preserved-then-b-eq34
 loop-i-preserved-then-b-eq34 c =
-    let r = rw c.in-Is.is at c.read_string.ensures in
+    let r = rw c.in-Some.is at c.read_string.ensures in
     (r.read.within, c.loop-i.invariant.1, c.loop-i.invariant.2, λ x k. c.loop-i.invariant.3 x (scan-quote c.args.text.now c.loop-i.i c.loop-i-test.true c.if-b-eq34.true r k))
 
 pub object_differs-requires : goal.object_differs-requires
 object_differs-requires c = (omega (arith, c.loop-i-test.true), c.loop-i.invariant.1, c.loop-i.invariant.2)
 
-pub loop-i-smaller-then-object_differs : goal.loop-i-smaller-then-object_differs
-loop-i-smaller-then-object_differs c = omega (arith, c.loop-i-test.true)
+pub loop-i-smaller-else-not-object_differs : goal.loop-i-smaller-else-not-object_differs
+loop-i-smaller-else-not-object_differs c = omega (arith, c.loop-i-test.true)
 
-pub loop-i-preserved-then-object_differs : goal.loop-i-preserved-then-object_differs
-loop-i-preserved-then-object_differs c = (omega (arith, c.loop-i-test.true), c.object_differs.auto.links ∙ c.loop-i.invariant.1, c.object_differs.auto.places ∙ c.loop-i.invariant.2, λ x k. c.loop-i.invariant.3 x (scan-open c.args.text.now c.loop-i.i c.loop-i-test.true c.if-b-eq123.true (rw c.if-object_differs.true at c.object_differs.ensures) k))
+pub loop-i-preserved-else-not-object_differs : goal.loop-i-preserved-else-not-object_differs
+loop-i-preserved-else-not-object_differs c = (omega (arith, c.loop-i-test.true), c.object_differs.auto.links ∙ c.loop-i.invariant.1, c.object_differs.auto.places ∙ c.loop-i.invariant.2, λ x k. c.loop-i.invariant.3 x (scan-open c.args.text.now c.loop-i.i c.loop-i-test.true c.if-b-eq123.true (rw c.if-not-object_differs.false at c.object_differs.ensures) k))
 
-pub returns-else-object_differs : goal.returns-else-object_differs
-returns-else-object_differs c = c.loop-i.invariant.3 false (scan-repeated c.args.text.now c.loop-i.i c.loop-i-test.true c.if-b-eq123.true (rw c.if-object_differs.false at c.object_differs.ensures))
+pub returns-then-not-object_differs : goal.returns-then-not-object_differs
+returns-then-not-object_differs c = c.loop-i.invariant.3 false (scan-repeated c.args.text.now c.loop-i.i c.loop-i-test.true c.if-b-eq123.true (rw c.if-not-object_differs.true at c.object_differs.ensures))
 
 pub loop-i-smaller : goal.loop-i-smaller
 loop-i-smaller c = omega (arith, c.loop-i-test.true)

@@ -37,12 +37,12 @@ pub shape_of-places-then-next-eq0 : goal.shape_of-places-then-next-eq0
 shape_of-places-then-next-eq0 c = c.batch_differs.auto.places ∙ c.loop-next.invariant.1 ∙ sym c.requires.2
 
 pub returns-then-next-eq0 : goal.returns-then-next-eq0
-returns-then-next-eq0 c = let o = rw c.in-Differ.is at c.batch_differs.ensures in c.loop-next.invariant.3 true (o.ended c.if-next-eq0.true)
+returns-then-next-eq0 c = let o = rw c.in-Some.is at c.batch_differs.ensures in c.loop-next.invariant.3 true (o.ended c.if-next-eq0.true)
 
 pub loop-next-smaller : goal.loop-next-smaller
-loop-next-smaller c = let o = rw c.in-Differ.is at c.batch_differs.ensures in omega (arith, o.forward c.if-next-eq0.false, o.within)
+loop-next-smaller c = let o = rw c.in-Some.is at c.batch_differs.ensures in omega (arith, o.forward c.if-next-eq0.false, o.within)
 
 pub loop-next-preserved : goal.loop-next-preserved
 loop-next-preserved c =
-    let o = rw c.in-Differ.is at c.batch_differs.ensures in
+    let o = rw c.in-Some.is at c.batch_differs.ensures in
     (c.batch_differs.auto.links ∙ c.loop-next.invariant.0, c.batch_differs.auto.places ∙ c.loop-next.invariant.1, o.within, λ r k. c.loop-next.invariant.3 r (o.more c.if-next-eq0.false r k))

@@ -9,11 +9,11 @@ overflow_add-at c = omega (arith, (rw c.if-starts_with.true at c.starts_with.ens
 pub read_string-requires : goal.read_string-requires
 read_string-requires c = (rw c.if-starts_with.true at c.starts_with.ensures).within
 
-pub returns-in_default : goal.returns-in_default
-returns-in_default c = text-unread (rw c.if-starts_with.true at c.starts_with.ensures) (rw c.in_default.is at c.read_string.ensures)
+pub returns-in_err-len : goal.returns-in_err-len
+returns-in_err-len c = rw c.from_residual.ensures (text-unread (rw c.if-starts_with.true at c.starts_with.ensures) (rw c.in_err-len.was at c.read_string.ensures))
 
 pub returns-then-starts_with : goal.returns-then-starts_with
-returns-then-starts_with c = text-given (rw c.if-starts_with.true at c.starts_with.ensures) (rw c.in-Is.is at c.read_string.ensures)
+returns-then-starts_with c = text-given (rw c.if-starts_with.true at c.starts_with.ensures) (rw c.in_ok-len.was at c.read_string.ensures)
 
 pub overflow_add-at-then-starts_with-2 : goal.overflow_add-at-then-starts_with-2
 overflow_add-at-then-starts_with-2 c = omega (arith, (rw c.if-starts_with-2.true at c.starts_with-2.ensures).within)

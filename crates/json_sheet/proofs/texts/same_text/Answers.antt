@@ -30,12 +30,12 @@ returns-in_default-char c =
 pub returns-then-c-d : goal.returns-then-c-d
 returns-then-c-d c =
     let l = c.loop-a in
-    l.invariant false (same-other c.args.s.now l.i l.j (rw c.if-starts_with.false at c.starts_with.ensures) (rw c.if-starts_with-2.false at c.starts_with-in-loop-a.ensures) (rw c.in-Is.is at c.char.ensures) (rw c.in-Is-char.is at c.char-in-loop-a.ensures) (λ e. omega (arith, c.if-c-d.true, e)))
+    l.invariant false (same-other c.args.s.now l.i l.j (rw c.if-starts_with.false at c.starts_with.ensures) (rw c.if-starts_with-2.false at c.starts_with-in-loop-a.ensures) (rw c.in-Some.is at c.char.ensures) (rw c.in-Some-char.is at c.char-in-loop-a.ensures) (λ e. omega (arith, c.if-c-d.true, e)))
 
 pub loop-a-smaller : goal.loop-a-smaller
-loop-a-smaller c = let r = rw c.in-Is.is at c.char.ensures in omega (arith, r.read.past, r.read.within)
+loop-a-smaller c = let r = rw c.in-Some.is at c.char.ensures in omega (arith, r.read.past, r.read.within)
 
 pub loop-a-preserved : goal.loop-a-preserved
 loop-a-preserved c =
     let l = c.loop-a in
-    λ r k. l.invariant r (same_turn c.args.s.now l.i l.j (rw c.if-starts_with.false at c.starts_with.ensures) (rw c.if-starts_with-2.false at c.starts_with-in-loop-a.ensures) (rw c.in-Is.is at c.char.ensures) (rw c.in-Is-char.is at c.char-in-loop-a.ensures) (omega (arith, c.if-c-d.false)) k)
+    λ r k. l.invariant r (same_turn c.args.s.now l.i l.j (rw c.if-starts_with.false at c.starts_with.ensures) (rw c.if-starts_with-2.false at c.starts_with-in-loop-a.ensures) (rw c.in-Some.is at c.char.ensures) (rw c.in-Some-char.is at c.char-in-loop-a.ensures) (omega (arith, c.if-c-d.false)) k)

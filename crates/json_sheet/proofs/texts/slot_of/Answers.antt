@@ -18,12 +18,12 @@ returns-in_default c =
     slot_is c.args.s.now c.args.at l.h l.invariant.1 (l.invariant.0 l.h (stirs-bad c.args.s.now l.i l.h (rw c.if-starts_with.false at c.starts_with.ensures) l.h (rw c.in_default.is at c.char.ensures)))
 
 pub stir_point-h-requires : goal.stir_point-h-requires
-stir_point-h-requires c = let r = rw c.in-Is.is at c.char.ensures in omega (arith, r.within)
+stir_point-h-requires c = let r = rw c.in-Some.is at c.char.ensures in omega (arith, r.within)
 
 pub loop-at-smaller : goal.loop-at-smaller
-loop-at-smaller c = let r = rw c.in-Is.is at c.char.ensures in omega (arith, r.read.past, r.read.within)
+loop-at-smaller c = let r = rw c.in-Some.is at c.char.ensures in omega (arith, r.read.past, r.read.within)
 
 pub loop-at-preserved : goal.loop-at-preserved
 loop-at-preserved c =
     let l = c.loop-at in
-    (λ r k. l.invariant.0 r (stirs-turn c.args.s.now l.i l.h (rw c.if-starts_with.false at c.starts_with.ensures) (rw c.in-Is.is at c.char.ensures) c.stir_point-h.ensures r k), stirred-below l.h (utf8_of _) l.invariant.1 c.stir_point-h.ensures)
+    (λ r k. l.invariant.0 r (stirs-turn c.args.s.now l.i l.h (rw c.if-starts_with.false at c.starts_with.ensures) (rw c.in-Some.is at c.char.ensures) c.stir_point-h.ensures r k), stirred-below l.h (utf8_of _) l.invariant.1 c.stir_point-h.ensures)

@@ -12,26 +12,26 @@ loop-i-init c = scanned-first c.args.s.now c.args.at _ c.requires c.plain_end-i.
 pub returns-then-s-i-eq34 : goal.returns-then-s-i-eq34
 returns-then-s-i-eq34 c = scanned-end c.args.s.now c.args.at c.loop-i.i c.loop-i.len c.loop-i.invariant c.loop-i-test.true c.if-s-i-eq34.true
 
-pub returns-in_default : goal.returns-in_default
-returns-in_default c = scanned-bad c.args.s.now c.args.at c.loop-i.i c.loop-i.len c.loop-i.invariant c.loop-i-test.true c.if-s-i-eq34.false (rw c.in_default.is at c.char.ensures)
+pub returns-in_err-c : goal.returns-in_err-c
+returns-in_err-c c = rw c.from_residual.ensures (scanned-bad c.args.s.now c.args.at c.loop-i.i c.loop-i.len c.loop-i.invariant c.loop-i-test.true c.if-s-i-eq34.false (rw c.in_err-c.was at c.char.ensures))
 
 pub plain_end-end-requires : goal.plain_end-end-requires
-plain_end-end-requires c = (rw c.in-Is.is at c.char.ensures).read.within
+plain_end-end-requires c = (rw c.in_ok-c.was at c.char.ensures).read.within
 
 pub overflow_add-len : goal.overflow_add-len
-overflow_add-len c = let r = (rw c.in-Is.is at c.char.ensures) in omega (arith, r.size, r.read.within, c.loop-i.invariant.short, c.size_of.ensures)
+overflow_add-len c = let r = (rw c.in_ok-c.was at c.char.ensures) in omega (arith, r.size, r.read.within, c.loop-i.invariant.short, c.size_of.ensures)
 
 pub overflow_sub-len-in-loop-i : goal.overflow_sub-len-in-loop-i
 overflow_sub-len-in-loop-i c = omega (arith, c.plain_end-end.ensures.forward)
 
 pub overflow_add-len-in-loop-i : goal.overflow_add-len-in-loop-i
-overflow_add-len-in-loop-i c = let r = (rw c.in-Is.is at c.char.ensures) in omega (arith, r.size, r.read.within, c.loop-i.invariant.short, c.size_of.ensures, c.plain_end-end.ensures.forward, c.plain_end-end.ensures.within)
+overflow_add-len-in-loop-i c = let r = (rw c.in_ok-c.was at c.char.ensures) in omega (arith, r.size, r.read.within, c.loop-i.invariant.short, c.size_of.ensures, c.plain_end-end.ensures.forward, c.plain_end-end.ensures.within)
 
 pub loop-i-smaller : goal.loop-i-smaller
-loop-i-smaller c = let r = (rw c.in-Is.is at c.char.ensures) in omega (arith, r.read.past, c.loop-i-test.true, c.plain_end-end.ensures.forward, c.plain_end-end.ensures.within)
+loop-i-smaller c = let r = (rw c.in_ok-c.was at c.char.ensures) in omega (arith, r.read.past, c.loop-i-test.true, c.plain_end-end.ensures.forward, c.plain_end-end.ensures.within)
 
 pub loop-i-preserved : goal.loop-i-preserved
-loop-i-preserved c = scanned-turn c.args.s.now c.args.at c.loop-i.i c.loop-i.len c.loop-i.invariant c.loop-i-test.true c.if-s-i-eq34.false (rw c.in-Is.is at c.char.ensures) c.size_of.ensures c.plain_end-end.ensures
+loop-i-preserved c = scanned-turn c.args.s.now c.args.at c.loop-i.i c.loop-i.len c.loop-i.invariant c.loop-i-test.true c.if-s-i-eq34.false (rw c.in_ok-c.was at c.char.ensures) c.size_of.ensures c.plain_end-end.ensures
 
 pub returns : goal.returns
 returns c = scanned-out c.args.s.now c.args.at c.loop-i.i c.loop-i.len c.loop-i.invariant c.loop-i-test.false

@@ -11,10 +11,10 @@ pub overflow_add-at : goal.overflow_add-at
 overflow_add-at c = omega (arith, c.loop-i.invariant.within)
 
 pub loop-i-preserved : goal.loop-i-preserved
-loop-i-preserved c = spelling-more c.args.word.now c.args.s.now c.args.at c.loop-i.i c.loop-i.invariant (omega arith) (rw c.if-starts_with.true at c.starts_with.ensures)
+loop-i-preserved c = spelling-more c.args.word.now c.args.s.now c.args.at c.loop-i.i c.loop-i.invariant (omega arith) (rw c.if-not-starts_with.false at c.starts_with.ensures)
 
-pub returns-else-starts_with : goal.returns-else-starts_with
-returns-else-starts_with c = spelling-other c.args.word.now c.args.s.now c.args.at c.loop-i.i c.loop-i.invariant (omega arith) (rw c.if-starts_with.false at c.starts_with.ensures)
+pub returns-then-not-starts_with : goal.returns-then-not-starts_with
+returns-then-not-starts_with c = spelling-other c.args.word.now c.args.s.now c.args.at c.loop-i.i c.loop-i.invariant (omega arith) (rw c.if-not-starts_with.true at c.starts_with.ensures)
 
 pub returns : goal.returns
 returns c = spelling-end c.args.word.now c.args.s.now c.args.at c.loop-i.i c.loop-i.invariant c.loop-i-test.false

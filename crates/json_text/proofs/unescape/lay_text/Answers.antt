@@ -38,14 +38,14 @@ returns-in_default c = laying-bad c.args.s.now c.args.at c.args.out.now _ c.args
     (omega (arith, c.if-s-end.false)) c.if-s-end-eq34.false (rw c.in_default.is at c.char.ensures)
 
 pub lay_point-e-requires : goal.lay_point-e-requires
-lay_point-e-requires c = let r = rw c.in-Is.is at c.char.ensures in omega (arith, r.within)
+lay_point-e-requires c = let r = rw c.in-Some.is at c.char.ensures in omega (arith, r.within)
 
 pub loop-i-smaller : goal.loop-i-smaller
-loop-i-smaller c = let r = rw c.in-Is.is at c.char.ensures in omega (arith, r.read.past, r.read.within, c.plain_end-end.ensures.forward, c.loop-i-test.true)
+loop-i-smaller c = let r = rw c.in-Some.is at c.char.ensures in omega (arith, r.read.past, r.read.within, c.plain_end-end.ensures.forward, c.loop-i-test.true)
 
 pub loop-i-preserved : goal.loop-i-preserved
 loop-i-preserved c =
-    let r = rw c.in-Is.is at c.char.ensures in
+    let r = rw c.in-Some.is at c.char.ensures in
     laying-turn c.args.s.now c.args.at c.args.out.now _ c.args.o _ _
     (laying-plain c.args.s.now c.args.at c.args.out.now c.loop-i.out c.args.o c.loop-i.i c.loop-i.e (omega arith) c.loop-i.invariant c.plain_end-end.ensures c.lay-p.ensures)
     (omega (arith, c.if-s-end.false)) c.if-s-end-eq34.false (omega arith) r c.lay_point-e.ensures

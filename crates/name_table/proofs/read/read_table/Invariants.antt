@@ -3,7 +3,4 @@ use Rattle.name_table.proofs.Tables.{Reading}
 use Rattle.name_table.proofs.read.read_table.Given as goal
 
 abbrev pub invariant-loop-next : goal.invariant-loop-next
-invariant-loop-next l = Reading l.s l.kind l.next l.at l.row l.sound × (l.next ≤ 9)
-
-abbrev pub decreases-loop-next : goal.decreases-loop-next
-decreases-loop-next l = 9 - l.next
+invariant-loop-next l = Reading l.s l.kind l.next l.at l.row l.sound

@@ -7,18 +7,16 @@ overflow_add-at c =
     let letter = rw c.if-starts_with.true at c.starts_with.ensures in
     omega (arith, letter.within)
 
-pub returns-in_default : goal.returns-in_default
-returns-in_default c =
-    let letter = rw c.if-starts_with.true at c.starts_with.ensures in
-    let number = rw c.in_default.is at c.item.ensures in
-    entry-no-kind c.args.kind letter number
+pub returns-in_err-behind : goal.returns-in_err-behind
+returns-in_err-behind c = rw c.from_residual.ensures (let letter = rw c.if-starts_with.true at c.starts_with.ensures in
+    let number = rw c.in_err-behind.was at c.item.ensures in
+    entry-no-kind c.args.kind letter number)
 
-pub returns-in_default-row_marks : goal.returns-in_default-row_marks
-returns-in_default-row_marks c =
-    let letter = rw c.if-starts_with.true at c.starts_with.ensures in
-    let number = rw c.in-Is.is at c.item.ensures in
-    let marks = rw c.in_default-row_marks.is at c.row_marks.ensures in
-    entry-no-marks c.args.kind letter number.0 marks
+pub returns-in_err-row : goal.returns-in_err-row
+returns-in_err-row c = rw c.from_residual-in_err-row.ensures (let letter = rw c.if-starts_with.true at c.starts_with.ensures in
+    let number = rw c.in_ok-behind.was at c.item.ensures in
+    let marks = rw c.in_err-row.was at c.row_marks.ensures in
+    entry-no-marks c.args.kind letter number.0 marks)
 
 pub overflow_add-result : goal.overflow_add-result
 overflow_add-result c =
@@ -28,16 +26,16 @@ overflow_add-result c =
 pub returns-then-starts_with-2 : goal.returns-then-starts_with-2
 returns-then-starts_with-2 c =
     let letter = rw c.if-starts_with.true at c.starts_with.ensures in
-    let number = rw c.in-Is.is at c.item.ensures in
-    let marks = rw c.in-Is-row_marks.is at c.row_marks.ensures in
+    let number = rw c.in_ok-behind.was at c.item.ensures in
+    let marks = rw c.in_ok-row.was at c.row_marks.ensures in
     let last = rw c.if-starts_with-2.true at c.starts_with-then-starts_with.ensures in
     entry-reads c.args.kind letter number.0 marks last
 
 pub returns-else-starts_with-2 : goal.returns-else-starts_with-2
 returns-else-starts_with-2 c =
     let letter = rw c.if-starts_with.true at c.starts_with.ensures in
-    let number = rw c.in-Is.is at c.item.ensures in
-    let marks = rw c.in-Is-row_marks.is at c.row_marks.ensures in
+    let number = rw c.in_ok-behind.was at c.item.ensures in
+    let marks = rw c.in_ok-row.was at c.row_marks.ensures in
     let last = rw c.if-starts_with-2.false at c.starts_with-then-starts_with.ensures in
     entry-no-end c.args.kind letter number.0 marks last
 

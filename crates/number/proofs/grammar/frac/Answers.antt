@@ -4,12 +4,12 @@ use native.Mathlib.Omega.{arith}
 use Rattle.number.proofs.Reading.{frac-point, frac-other, frac-end}
 use Rattle.number.proofs.grammar.frac.Goals as goal
 
-pub returns-in_default : goal.returns-in_default
-returns-in_default c = frac-point _ _ c.if-at-s.true c.if-s-at-eq46.true ∙ (rw c.in_default.is at c.digits.ensures)
+pub returns-in_err-end : goal.returns-in_err-end
+returns-in_err-end c = rw c.from_residual.ensures (frac-point _ _ c.if-at-s.true c.if-s-at-eq46.true ∙ (rw c.in_err-end.was at c.digits.ensures))
 
 pub returns-then-s-at-eq46 : goal.returns-then-s-at-eq46
 returns-then-s-at-eq46 c =
-    let d = rw c.in-To.is at c.digits.ensures in
+    let d = rw c.in_ok-end.was at c.digits.ensures in
     (frac-point _ _ c.if-at-s.true c.if-s-at-eq46.true ∙ d.0, omega (arith, d.1), d.2)
 
 pub returns-else-s-at-eq46 : goal.returns-else-s-at-eq46

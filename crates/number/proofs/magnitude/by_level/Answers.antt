@@ -3,14 +3,14 @@ use mathlib.Core.Path.{refl}
 use Rattle.number.specs.FirstDigit.{decided, compared_at}
 use Rattle.number.proofs.magnitude.by_level.Goals as goal
 
-pub returns-in-Below : goal.returns-in-Below
+pub returns-in-Less : goal.returns-in-Less
 unfolding decided compared_at
-returns-in-Below c = rw c.in-Below.is (refl, refl)
+returns-in-Less c = rw c.in-Less.is (refl, refl)
 
-pub returns-in-Even : goal.returns-in-Even
+pub returns-in-Equal : goal.returns-in-Equal
 unfolding decided compared_at
-returns-in-Even c = rw c.in-Even.is c.compare.ensures
+returns-in-Equal c = rw c.in-Equal.is c.compare.ensures
 
-pub returns-in-Above : goal.returns-in-Above
+pub returns-in-Greater : goal.returns-in-Greater
 unfolding decided compared_at
-returns-in-Above c = rw c.in-Above.is (refl, refl)
+returns-in-Greater c = rw c.in-Greater.is (refl, refl)

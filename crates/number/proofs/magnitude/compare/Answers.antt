@@ -1,5 +1,6 @@
 use Prim.Native.Nat.{◌-◌}
 use mathlib.Core.List.{map, ◌++◌}
+use mathlib.Core.Path.{◌≡◌}
 use native.Mathlib.Omega.{arith}
 use Rattle.number.specs.Bound.{bound}
 use Rattle.number.specs.Finite.{digit}
@@ -10,16 +11,17 @@ pub returns-then-d-b : goal.returns-then-d-b
 unfolding bound
 returns-then-d-b c =
     let a = c.args in
-    left-differs (map digit (a.high.now ++ a.low.now)) bound c.loop-i.i (omega arith) c.digit_at-d.ensures c.if-d-b.true c.loop-i.invariant.0
+    left-differs (map digit (a.high.now ++ a.low.now)) bound c.loop-i.i (omega arith) c.digit_at-d.ensures c.if-d-b.true c.loop-i.invariant
 
 pub loop-i-preserved : goal.loop-i-preserved
 unfolding bound
 loop-i-preserved c =
     let a = c.args in
-    (left-same (map digit (a.high.now ++ a.low.now)) bound c.loop-i.i (omega arith) c.digit_at-d.ensures c.if-d-b.false c.loop-i.invariant.0, omega arith)
+    left-same (map digit (a.high.now ++ a.low.now)) bound c.loop-i.i (omega arith) c.digit_at-d.ensures c.if-d-b.false c.loop-i.invariant
 
 pub returns : goal.returns
 unfolding bound
 returns c =
     let a = c.args in
-    left-none (map digit (a.high.now ++ a.low.now)) bound c.loop-i.i (omega arith) c.loop-i.invariant.0
+    let last : c.loop-i.i ≡ 309 = omega arith in
+    rw last at (left-none (map digit (a.high.now ++ a.low.now)) bound c.loop-i.i (omega arith) c.loop-i.invariant)

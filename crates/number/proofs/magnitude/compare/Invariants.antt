@@ -7,7 +7,4 @@ use Rattle.number.proofs.Digits.{Left}
 use Rattle.number.proofs.magnitude.compare.Given as goal
 
 abbrev pub invariant-loop-i : goal.invariant-loop-i
-invariant-loop-i l = Left (map digit (l.high ++ l.low)) bound l.i × (l.i ≤ 309)
-
-abbrev pub decreases-loop-i : goal.decreases-loop-i
-decreases-loop-i l = 309 - l.i
+invariant-loop-i l = Left (map digit (l.high ++ l.low)) bound l.i

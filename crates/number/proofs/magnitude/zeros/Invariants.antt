@@ -9,6 +9,3 @@ use Rattle.number.proofs.magnitude.zeros.Given as goal
 
 abbrev pub invariant-loop-i : goal.invariant-loop-i
 invariant-loop-i l = l.i + FirstDigit.zeros (map digit (drop l.i l.s)) ≡ FirstDigit.zeros (map digit l.s)
-
-abbrev pub decreases-loop-i : goal.decreases-loop-i
-decreases-loop-i l = length l.s - l.i

@@ -6,4 +6,4 @@ pub returns-in_default : goal.returns-in_default
 returns-in_default c = passes-round _ c.unbound-scope.ensures c.judge-a.ensures c.in_default.is
 
 pub returns : goal.returns
-returns c = refuses-round _ c.unbound-scope.ensures c.judge-a.ensures c.in-Defect.is c.refused_at.ensures
+returns c = refuses-round _ c.unbound-scope.ensures c.judge-a.ensures c.in-Err.is c.refused_at.ensures

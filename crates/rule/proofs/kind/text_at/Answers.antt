@@ -10,7 +10,7 @@ pub returns-in_default : goal.returns-in_default
 returns-in_default c = text-unread (rw c.in_default.is at c.item.ensures)
 
 pub overflow_add-result : goal.overflow_add-result
-overflow_add-result c = let e = rw c.in-Is.is at c.item.ensures in omega (arith, e.0.within)
+overflow_add-result c = let e = rw c.in-Some.is at c.item.ensures in omega (arith, e.0.within)
 
 pub returns : goal.returns
-returns c = let e = rw c.in-Is.is at c.item.ensures in text-known e.0
+returns c = let e = rw c.in-Some.is at c.item.ensures in text-known e.0

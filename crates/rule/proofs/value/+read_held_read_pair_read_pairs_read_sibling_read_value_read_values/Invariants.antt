@@ -1,7 +1,7 @@
 -- The readers of a value, of one among others, of what a value holds, of values side by side, of a key with its value and of an object's keys, which call each other.
 -- Each measure is five times the nesting that is left, and a little more for those that call another at the same nesting.
 -- The loops' invariant: what has been read is right for the whole if what is left is.
-use Prim.Native.Nat.{◌+◌, ◌*◌}
+use Prim.Native.Nat.{◌-◌, ◌+◌, ◌*◌}
 use mathlib.Core.Bool.{true}
 use mathlib.Core.Option.{none}
 use Rattle.rule.proofs.SiblingLaws.{Passing}
@@ -26,15 +26,9 @@ decreases-read_value l = 5 * l.depth
 abbrev pub decreases-read_values : goal.decreases-read_values
 decreases-read_values l = 5 * l.depth + 2
 
-abbrev pub invariant-read_pairs-loop-n : goal.invariant-read_pairs-loop-n
-invariant-read_pairs-loop-n l =
-    Passing (pairs-kind l.s l.depth) l.s l.initial.words l.words (true, none) (sofar l.s l.rise l.previous) l.count (2 * l.count) l.n (2 * l.n) l.c l.here
+abbrev pub invariant-read_pairs-loop : goal.invariant-read_pairs-loop
+invariant-read_pairs-loop l =
+    Passing (pairs-kind l.s l.depth) l.s l.initial.words l.words (true, none) (sofar l.s l.rise l.previous) l.count (2 * l.count) (l.count - l.counter) (2 * (l.count - l.counter)) l.c l.here
 
-abbrev pub decreases-read_pairs-loop-n : goal.decreases-read_pairs-loop-n
-decreases-read_pairs-loop-n l = l.n
-
-abbrev pub invariant-read_values-loop-n : goal.invariant-read_values-loop-n
-invariant-read_values-loop-n l = Passing (values-kind l.s l.depth) l.s l.initial.words l.words tt tt l.count l.count l.n l.n l.initial.here l.here
-
-abbrev pub decreases-read_values-loop-n : goal.decreases-read_values-loop-n
-decreases-read_values-loop-n l = l.n
+abbrev pub invariant-read_values-loop : goal.invariant-read_values-loop
+invariant-read_values-loop l = Passing (values-kind l.s l.depth) l.s l.initial.words l.words tt tt l.count l.count (l.count - l.counter) (l.count - l.counter) l.initial.here l.here

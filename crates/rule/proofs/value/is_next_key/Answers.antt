@@ -9,10 +9,10 @@ unfolding follows optional_of
 returns-in_default c = rw c.in_default.is
 
 pub returns-in-Less : goal.returns-in-Less
-returns-in-Less c = key-follows c.args.s.now c.args.key c.in-Is.is c.bytes_of.ensures c.bytes_of-2.ensures (rw c.in-Less.is at c.compare.ensures)
+returns-in-Less c = key-follows c.args.s.now c.args.key c.in-Some.is c.bytes_of.ensures c.bytes_of-2.ensures (rw c.in-Less.is at c.compare.ensures)
 
-pub returns-in-Same : goal.returns-in-Same
-returns-in-Same c = key-follows c.args.s.now c.args.key c.in-Is.is c.bytes_of.ensures c.bytes_of-2.ensures (rw c.in-Same.is at c.compare.ensures)
+pub returns-in-Equal : goal.returns-in-Equal
+returns-in-Equal c = key-follows c.args.s.now c.args.key c.in-Some.is c.bytes_of.ensures c.bytes_of-2.ensures (rw c.in-Equal.is at c.compare.ensures)
 
 pub returns-in-Greater : goal.returns-in-Greater
-returns-in-Greater c = key-follows c.args.s.now c.args.key c.in-Is.is c.bytes_of.ensures c.bytes_of-2.ensures (rw c.in-Greater.is at c.compare.ensures)
+returns-in-Greater c = key-follows c.args.s.now c.args.key c.in-Some.is c.bytes_of.ensures c.bytes_of-2.ensures (rw c.in-Greater.is at c.compare.ensures)

@@ -6,10 +6,9 @@ use Rattle.rule_book.proofs.sheets.next_sheet.Goals as goal
 pub decimal-requires : goal.decimal-requires
 decimal-requires c = omega (arith, c.type_inv)
 
-pub returns-in_default : goal.returns-in_default
-returns-in_default c =
-    let bad = rw c.in_default.is at c.decimal.ensures in
-    sheet-no-length c.args.file.now c.args.at bad
+pub returns-in_err-len : goal.returns-in_err-len
+returns-in_err-len c = rw c.from_residual.ensures (let bad = rw c.in_err-len.was at c.decimal.ensures in
+    sheet-no-length c.args.file.now c.args.at bad)
 
 pub overflow_add-start : goal.overflow_add-start
 overflow_add-start c =
@@ -28,18 +27,18 @@ overflow_add-result c =
 
 pub returns-then-len-file : goal.returns-then-len-file
 returns-then-len-file c =
-    let size = rw c.in-Is.is at c.decimal.ensures in
+    let size = rw c.in_ok-len.was at c.decimal.ensures in
     let comma = rw c.if-starts_with.true at c.starts_with.ensures in
     sheet-reads size comma c.if-len-file.true
 
 pub returns-else-len-file : goal.returns-else-len-file
 returns-else-len-file c =
-    let size = rw c.in-Is.is at c.decimal.ensures in
+    let size = rw c.in_ok-len.was at c.decimal.ensures in
     let comma = rw c.if-starts_with.true at c.starts_with.ensures in
     sheet-short size comma (omega arith)
 
 pub returns-else-starts_with : goal.returns-else-starts_with
 returns-else-starts_with c =
-    let size = rw c.in-Is.is at c.decimal.ensures in
+    let size = rw c.in_ok-len.was at c.decimal.ensures in
     let none-there = rw c.if-starts_with.false at c.starts_with.ensures in
     sheet-no-comma size none-there

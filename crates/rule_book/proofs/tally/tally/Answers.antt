@@ -17,18 +17,18 @@ read_schema-read-requires c = omega (arith, words-enough _ _ _ _ _ c.refused_set
 
 pub tally_sheets-requires : goal.tally_sheets-requires
 tally_sheets-requires c =
-    let count = rw c.in-Sheets.is at c.count_sheets.ensures in
+    let count = rw c.in-Some.is at c.count_sheets.ensures in
     let a = c.args in
     ready a.kind a.semantics a.label.now a.table.now a.schema.now a.book.now a.path.now a.scratch.now c.refused_settings-number.ensures c.if-number-ne0.false count c.read_schema-read.ensures
 
-pub returns-in-Refused : goal.returns-in-Refused
-returns-in-Refused c =
-    let count = rw c.in-Sheets.is at c.count_sheets.ensures in
-    let due = rw c.in-Refused.is at c.settle.ensures in
-    meets-table _ _ _ _ _ _ _ _ c.refused_settings-number.ensures c.if-number-ne0.false count due c.refused-in-Refused.ensures
+pub returns-in-Err : goal.returns-in-Err
+returns-in-Err c =
+    let count = rw c.in-Some.is at c.count_sheets.ensures in
+    let due = rw c.in-Err.is at c.settle.ensures in
+    meets-table _ _ _ _ _ _ _ _ c.refused_settings-number.ensures c.if-number-ne0.false count due c.refused-in-Err.ensures
 
-pub returns-in-Set : goal.returns-in-Set
-returns-in-Set c =
-    let count = rw c.in-Sheets.is at c.count_sheets.ensures in
-    let set = rw c.in-Set.is at c.settle.ensures in
+pub returns-in-Ok : goal.returns-in-Ok
+returns-in-Ok c =
+    let count = rw c.in-Some.is at c.count_sheets.ensures in
+    let set = rw c.in-Ok.is at c.settle.ensures in
     meets-tally _ _ _ _ _ _ _ _ c.refused_settings-number.ensures c.if-number-ne0.false count _ set c.read_schema-read.ensures c.tally_sheets.ensures

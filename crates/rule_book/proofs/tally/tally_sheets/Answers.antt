@@ -23,48 +23,48 @@ check_sheet-o-requires c = omega (arith, c.requires.enough, c.loop-at.invariant.
 
 pub offset_bounds-counts-number : goal.offset_bounds-counts-number
 offset_bounds-counts-number c =
-    let sheet = rw c.in-Is.is at c.next_sheet.ensures in
+    let sheet = rw c.in-Some.is at c.next_sheet.ensures in
     let ready = c.requires in
     omega (arith, number-low c.loop-at.invariant ready.small ready.room sheet c.bytes_of-sheet.ensures c.check_sheet-o.ensures)
 
 pub bounds-counts-number : goal.bounds-counts-number
 bounds-counts-number c =
-    let sheet = rw c.in-Is.is at c.next_sheet.ensures in
+    let sheet = rw c.in-Some.is at c.next_sheet.ensures in
     let ready = c.requires in
     omega (arith, number-low c.loop-at.invariant ready.small ready.room sheet c.bytes_of-sheet.ensures c.check_sheet-o.ensures)
 
 pub overflow_add-counts : goal.overflow_add-counts
 overflow_add-counts c =
-    let sheet = rw c.in-Is.is at c.next_sheet.ensures in
+    let sheet = rw c.in-Some.is at c.next_sheet.ensures in
     let ready = c.requires in
     omega (arith, c.type_inv.book, step_counts c.loop-at.invariant ready.small ready.room sheet c.bytes_of-sheet.ensures c.check_sheet-o.ensures)
 
 pub bounds-counts-number-in-loop-at : goal.bounds-counts-number-in-loop-at
 bounds-counts-number-in-loop-at c =
-    let sheet = rw c.in-Is.is at c.next_sheet.ensures in
+    let sheet = rw c.in-Some.is at c.next_sheet.ensures in
     let ready = c.requires in
     omega (arith, number-low c.loop-at.invariant ready.small ready.room sheet c.bytes_of-sheet.ensures c.check_sheet-o.ensures)
 
 pub overflow_add-passed : goal.overflow_add-passed
 overflow_add-passed c =
-    let sheet = rw c.in-Is.is at c.next_sheet.ensures in
+    let sheet = rw c.in-Some.is at c.next_sheet.ensures in
     let ready = c.requires in
     omega (arith, c.type_inv.book, step-passes c.loop-at.invariant ready.small ready.room sheet c.bytes_of-sheet.ensures c.check_sheet-o.ensures)
 
 pub overflow_add-sheets : goal.overflow_add-sheets
 overflow_add-sheets c =
-    let sheet = rw c.in-Is.is at c.next_sheet.ensures in
+    let sheet = rw c.in-Some.is at c.next_sheet.ensures in
     let ready = c.requires in
     omega (arith, c.type_inv.book, step-reads c.loop-at.invariant ready.small ready.room sheet c.bytes_of-sheet.ensures c.check_sheet-o.ensures)
 
 pub loop-at-smaller : goal.loop-at-smaller
 loop-at-smaller c =
-    let sheet = rw c.in-Is.is at c.next_sheet.ensures in
+    let sheet = rw c.in-Some.is at c.next_sheet.ensures in
     omega (arith, sheet.past, sheet.within)
 
 pub loop-at-preserved : goal.loop-at-preserved
 loop-at-preserved c =
-    let sheet = rw c.in-Is.is at c.next_sheet.ensures in
+    let sheet = rw c.in-Some.is at c.next_sheet.ensures in
     let ready = c.requires in
     tallying-step c.loop-at.invariant ready.small ready.room sheet c.bytes_of-sheet.ensures c.check_sheet-o.ensures
 

@@ -1,6 +1,6 @@
 -- The readers of a field, of its element and of siblings meet their contracts. The depth that is left falls from a field to its children;
 -- siblings are read in a loop, whose invariant says what was read so far and what the whole reads once the rest is known.
-use Prim.Native.Nat.{◌+◌, ◌-◌, ◌*◌}
+use Prim.Native.Nat.{◌+◌, ◌*◌}
 use Rattle.schema.specs.Fields.{cursor_of}
 use Rattle.schema.proofs.MemberSteps.{Sofar}
 use Rattle.schema.proofs.field.+read_element_read_field_read_members.Given as goal
@@ -16,6 +16,3 @@ decreases-read_members l = 3 * l.depth + 1
 
 abbrev pub invariant-read_members-loop-i : goal.invariant-read_members-loop-i
 invariant-read_members-loop-i l = Sofar l.sheet l.initial.words l.words l.depth l.first l.count (cursor_of l.next l.used l.at) l.to l.before l.i
-
-abbrev pub decreases-read_members-loop-i : goal.decreases-read_members-loop-i
-decreases-read_members-loop-i l = l.count - l.i

@@ -11,9 +11,9 @@ pub returns-in-Less : goal.returns-in-Less
 returns-in-Less c =
     rises-behind c.args.sheet.now c.args.i c.args.before (part_of c.args.sheet.now c.args.name) true c.if-i-eq0.false (rw (← c.bytes_of.ensures, ← c.bytes_of-2.ensures) (rw c.in-Less.is at c.compare.ensures).before-is)
 
-pub returns-in-Same : goal.returns-in-Same
-returns-in-Same c =
-    rises-behind c.args.sheet.now c.args.i c.args.before (part_of c.args.sheet.now c.args.name) false c.if-i-eq0.false (rw (← c.bytes_of.ensures, ← c.bytes_of-2.ensures) (rw c.in-Same.is at c.compare.ensures).before-is)
+pub returns-in-Equal : goal.returns-in-Equal
+returns-in-Equal c =
+    rises-behind c.args.sheet.now c.args.i c.args.before (part_of c.args.sheet.now c.args.name) false c.if-i-eq0.false (rw (← c.bytes_of.ensures, ← c.bytes_of-2.ensures) (rw c.in-Equal.is at c.compare.ensures).before-is)
 
 pub returns-in-Greater : goal.returns-in-Greater
 returns-in-Greater c =

@@ -10,9 +10,9 @@ returns-in_default c =
     headless-parts c.args.sheet.now c.args.words.now c.args.k _ (rw c.in_default.is at c.head_of.ensures)
 
 pub overflow_add-members : goal.overflow_add-members
-overflow_add-members c = omega (arith, to_count-small c.in-Is.head.items)
+overflow_add-members c = omega (arith, to_count-small c.in-Some.head.items)
 
 pub returns : goal.returns
 returns c =
-    let e = rw c.in-Is.is at c.head_of.ensures in
-    indexed-parts c.args.sheet.now c.args.words.now c.args.k c.in-Is.head c.in-Is.field-1 c.place_word.result (c.name_word.result % 4096) c.to_count.result c.element_at-element.result e c.place_word.ensures (rw c.name_word.ensures) c.to_count.ensures c.element_at-element.ensures
+    let e = rw c.in-Some.is at c.head_of.ensures in
+    indexed-parts c.args.sheet.now c.args.words.now c.args.k c.in-Some.head c.in-Some.field-0-1 c.place_word.result (c.name_word.result % 4096) c.to_count.result c.element_at-element.result e c.place_word.ensures (rw c.name_word.ensures) c.to_count.ensures c.element_at-element.ensures

@@ -25,9 +25,9 @@ loop-low-preserved c =
     let q = rw (c.in-Greater.is, c.bytes_of.ensures, c.name_of_slot-part.ensures) at c.compare.ensures in
     narrowed-upper c.args.sheet.now c.args.words.now c.args.holder.first c.args.holder.count c.args.name.now c.loop-low.low c.loop-low.high c.loop-low.invariant (c.loop-low.low + (c.loop-low.high - c.loop-low.low) / 2) (omega (arith, c.loop-low-test.true)) (omega (arith, c.loop-low-test.true)) q.behind-is
 
-pub returns-in-Same : goal.returns-in-Same
-returns-in-Same c =
-    let q = rw (c.in-Same.is, c.bytes_of.ensures, c.name_of_slot-part.ensures) at c.compare.ensures in
+pub returns-in-Equal : goal.returns-in-Equal
+returns-in-Equal c =
+    let q = rw (c.in-Equal.is, c.bytes_of.ensures, c.name_of_slot-part.ensures) at c.compare.ensures in
     narrowed-found c.args.sheet.now c.args.words.now c.args.holder.first c.args.holder.count c.args.name.now c.loop-low.low c.loop-low.high c.loop-low.invariant (c.loop-low.low + (c.loop-low.high - c.loop-low.low) / 2) (omega (arith, c.loop-low-test.true)) (omega (arith, c.loop-low-test.true)) c.args.holder.opened q.same-is
 
 pub returns : goal.returns

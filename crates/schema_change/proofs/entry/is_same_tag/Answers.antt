@@ -3,14 +3,14 @@ use borrow.Author.Rules.{rules}
 use Rattle.schema_change.proofs.EntryLaws.{tags-both, tags-first, tags-second, tags-neither}
 use Rattle.schema_change.proofs.entry.is_same_tag.Goals as goal
 
-pub returns-in-Is-y : goal.returns-in-Is-y
-returns-in-Is-y c = search (tags-both, rules)
+pub returns-in-Some-y : goal.returns-in-Some-y
+returns-in-Some-y c = search (tags-both, rules)
 
-pub returns-in-Absent-y : goal.returns-in-Absent-y
-returns-in-Absent-y c = search (tags-first, rules)
+pub returns-in-None-y : goal.returns-in-None-y
+returns-in-None-y c = search (tags-first, rules)
 
-pub returns-in-Is-y-2 : goal.returns-in-Is-y-2
-returns-in-Is-y-2 c = search (tags-second, rules)
+pub returns-in-Some-y-2 : goal.returns-in-Some-y-2
+returns-in-Some-y-2 c = search (tags-second, rules)
 
-pub returns-in-Absent-y-2 : goal.returns-in-Absent-y-2
-returns-in-Absent-y-2 c = search (tags-neither, rules)
+pub returns-in-None-y-2 : goal.returns-in-None-y-2
+returns-in-None-y-2 c = search (tags-neither, rules)

@@ -17,7 +17,7 @@ compare_elements-compare_fields-requires t c = search (enters-within, rules)
 pub compare_elements-returns-then-has : goal.compare_elements-returns-then-has
 compare_elements-returns-then-has t c =
     let pre = c.requires in
-    elements-both pre.0 pre.1 c.if-has.true c.enter.ensures c.in-Is.is c.enter-then-has.ensures c.in-Is-enter.is c.compare_fields.ensures
+    elements-both pre.0 pre.1 c.if-has.true c.enter.ensures c.in-Some.is c.enter-then-has.ensures c.in-Some-enter.is c.compare_fields.ensures
 
 pub compare_elements-returns : goal.compare_elements-returns
 compare_elements-returns t c = search (elements-absent, rules)

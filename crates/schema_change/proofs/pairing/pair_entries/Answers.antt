@@ -6,8 +6,8 @@ use Rattle.schema_change.proofs.pairing.pair_entries.Goals as goal
 pub returns-in-Less : goal.returns-in-Less
 returns-in-Less c = search (pair-less, rules)
 
-pub returns-in-Same : goal.returns-in-Same
-returns-in-Same c = search (pair_same, rules)
+pub returns-in-Equal : goal.returns-in-Equal
+returns-in-Equal c = search (pair_same, rules)
 
 pub returns-in-Greater : goal.returns-in-Greater
 returns-in-Greater c = search (pair-greater, rules)

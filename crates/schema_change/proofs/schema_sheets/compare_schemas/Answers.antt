@@ -14,5 +14,5 @@ compare_members-fields-requires c = search (head-within, rules)
 
 pub returns : goal.returns
 returns c =
-    schemas-go c.schema_head.ensures c.in-Is.is c.schema_head-2.ensures c.in-Is-schema_head.is c.mark_closes.ensures c.refute_if-mark.ensures
+    schemas-go c.schema_head.ensures c.in-Some.is c.schema_head-2.ensures c.in-Some-schema_head.is c.mark_closes.ensures c.refute_if-mark.ensures
     c.compare_arguments_marks-found.ensures c.compare_members-fields.ensures c.compare_arguments.ensures

@@ -14,10 +14,10 @@ pub overflow_add-n : goal.overflow_add-n
 overflow_add-n c = omega (arith, c.loop-at.invariant.reached)
 
 pub loop-at-smaller : goal.loop-at-smaller
-loop-at-smaller c = let known = rw c.in-Is.is at c.known_field.ensures in omega (arith, known.past, known.within)
+loop-at-smaller c = let known = rw c.in-Some.is at c.known_field.ensures in omega (arith, known.past, known.within)
 
 pub loop-at-preserved : goal.loop-at-preserved
-loop-at-preserved c = counting_more c.loop-at.invariant (omega arith) c.known_field.ensures c.in-Is.is refl
+loop-at-preserved c = counting_more c.loop-at.invariant (omega arith) c.known_field.ensures c.in-Some.is refl
 
 pub returns : goal.returns
 returns c = counting-end c.loop-at.invariant (omega arith)

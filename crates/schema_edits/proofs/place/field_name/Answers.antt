@@ -5,4 +5,4 @@ pub returns-in_default : goal.returns-in_default
 returns-in_default c = name-unread c.args.field.now _ c.known_field.ensures c.in_default.is
 
 pub returns : goal.returns
-returns c = name-known c.args.field.now _ c.known_field.ensures c.in-Is.is c.bytes_of.ensures
+returns c = name-known c.args.field.now _ c.known_field.ensures c.in-Some.is c.bytes_of.ensures

@@ -9,4 +9,4 @@ pub returns-in_default : goal.returns-in_default
 returns-in_default c = place-headless c.args.s.now _ c.args.name.now c.schema_head.ensures c.in_default.is
 
 pub returns : goal.returns
-returns c = placed c.args.s.now _ c.args.name.now c.schema_head.ensures c.in-Is.is c.find_place.result c.find_place.ensures
+returns c = placed c.args.s.now _ c.args.name.now c.schema_head.ensures c.in-Some.is c.find_place.result c.find_place.ensures

@@ -3,8 +3,8 @@ use Rattle.scope.proofs.BinderLaws.{known-number, unknown-number}
 use borrow.Author.Rules.{rules}
 use Rattle.scope.proofs.binder.element_number.Goals as goal
 
-pub returns-in-Known : goal.returns-in-Known
-returns-in-Known c = search (known-number, rules)
+pub returns-in-Some : goal.returns-in-Some
+returns-in-Some c = search (known-number, rules)
 
-pub returns-in-Unknown : goal.returns-in-Unknown
-returns-in-Unknown c = search (unknown-number, rules)
+pub returns-in-None : goal.returns-in-None
+returns-in-None c = search (unknown-number, rules)

@@ -12,8 +12,8 @@ returns-in-Fields c = search (root-fields, rules)
 pub returns-in-OldFields : goal.returns-in-OldFields
 returns-in-OldFields c = search (root-old-fields, rules)
 
-pub returns-in-Are : goal.returns-in-Are
-returns-in-Are c = search (root-args, rules)
+pub returns-in-Some : goal.returns-in-Some
+returns-in-Some c = search (root-args, rules)
 
 pub returns-in-Id : goal.returns-in-Id
 returns-in-Id c = search (root-id, rules)

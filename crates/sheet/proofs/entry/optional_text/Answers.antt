@@ -17,9 +17,9 @@ overflow_add-result c =
 pub returns-then-is_text : goal.returns-then-is_text
 returns-then-is_text c =
     let is-text = rw c.if-is_text.true at c.is_text.ensures in
-    optional-present c.args.len _ c.args.s.now c.args.at c.in-Of.is is-text
+    optional-present c.args.len _ c.args.s.now c.args.at c.in-Some.is is-text
 
 pub returns : goal.returns
 returns c =
     let is-text = rw c.if-is_text.false at c.is_text.ensures in
-    optional-refused c.args.len _ c.args.s.now c.args.at c.in-Of.is is-text
+    optional-refused c.args.len _ c.args.s.now c.args.at c.in-Some.is is-text

@@ -15,15 +15,14 @@ returns-then-is_dashed c =
     let is-dashed = rw c.if-is_dashed.true at c.is_dashed.ensures in
     length-dashed is-dashed
 
-pub returns-in_default : goal.returns-in_default
-returns-in_default c =
-    let is-dashed = rw c.if-is_dashed.false at c.is_dashed.ensures in
-    let item = rw c.in_default.is at c.item.ensures in
-    length-refused c.args.s.now c.args.at is-dashed item
+pub returns-in_err-n : goal.returns-in_err-n
+returns-in_err-n c = rw c.from_residual.ensures (let is-dashed = rw c.if-is_dashed.false at c.is_dashed.ensures in
+    let item = rw c.in_err-n.was at c.item.ensures in
+    length-refused c.args.s.now c.args.at is-dashed item)
 
 pub returns : goal.returns
 unfolding length_of
 returns c =
     let is-dashed = rw c.if-is_dashed.false at c.is_dashed.ensures in
-    let item = rw c.in-Is.is at c.item.ensures in
+    let item = rw c.in_ok-n.was at c.item.ensures in
     length-reads c.args.s.now c.args.at is-dashed item.0

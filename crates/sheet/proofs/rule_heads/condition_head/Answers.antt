@@ -5,18 +5,16 @@ use native.Mathlib.Omega.{arith}
 use Rattle.sheet.proofs.Heads.{condition-other, condition-no-number, condition-no-text, condition-reads, condition-code, condition-counted}
 use Rattle.sheet.proofs.rule_heads.condition_head.Goals as goal
 
-pub returns-in_default : goal.returns-in_default
-returns-in_default c =
-    let first = rw c.in_default.is at c.first.ensures in
-    condition-other c.args.s.now c.args.at first
+pub returns-in_err-op : goal.returns-in_err-op
+returns-in_err-op c = rw c.from_residual.ensures (let first = rw c.in_err-op.was at c.first.ensures in
+    condition-other c.args.s.now c.args.at first)
 
-pub returns-in_default-item : goal.returns-in_default-item
-returns-in_default-item c =
-    let first = rw c.in-Is.is at c.first.ensures in
-    let item = rw c.in_default-item.is at c.item.ensures in
+pub returns-in_err-n : goal.returns-in_err-n
+returns-in_err-n c = rw c.from_residual-in_err-n.ensures (let first = rw c.in_ok-op.was at c.first.ensures in
+    let item = rw c.in_err-n.was at c.item.ensures in
     let shape = c.shape_of-shape in
     let row = c.condition_row-row in
-    condition-no-number first.0 (shape_for shape.result) shape.ensures row.result row.ensures item
+    condition-no-number first.0 (shape_for shape.result) shape.ensures row.result row.ensures item)
 
 pub overflow_add-start : goal.overflow_add-start
 overflow_add-start c =
@@ -36,8 +34,8 @@ overflow_add-result-then-is_last_text c =
 pub returns-then-is_last_text : goal.returns-then-is_last_text
 unfolding part_of
 returns-then-is_last_text c =
-    let first = rw c.in-Is.is at c.first.ensures in
-    let item = rw c.in-Is-item.is at c.item.ensures in
+    let first = rw c.in_ok-op.was at c.first.ensures in
+    let item = rw c.in_ok-n.was at c.item.ensures in
     let is-last-text = rw c.if-is_last_text.true at c.is_last_text.ensures in
     let shape = c.shape_of-shape in
     let row = c.condition_row-row in
@@ -47,8 +45,8 @@ returns-then-is_last_text c =
 
 pub returns : goal.returns
 returns c =
-    let first = rw c.in-Is.is at c.first.ensures in
-    let item = rw c.in-Is-item.is at c.item.ensures in
+    let first = rw c.in_ok-op.was at c.first.ensures in
+    let item = rw c.in_ok-n.was at c.item.ensures in
     let is-last-text = rw c.if-is_last_text.false at c.is_last_text.ensures in
     let shape = c.shape_of-shape in
     let row = c.condition_row-row in

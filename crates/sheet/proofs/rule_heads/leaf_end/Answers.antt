@@ -34,7 +34,7 @@ pub returns-then-is_right : goal.returns-then-is_right
 unfolding part_of
 returns-then-is_right c =
     let type = c.leaf_type-number.ensures (omega (arith, c.if-number-eq0.false)) in
-    let length = rw c.in-Is.is at c.numeral.ensures in
+    let length = rw c.in-Some.is at c.numeral.ensures in
     let text = rw c.if-is_last_text.true at c.is_last_text.ensures in
     let right = rw (c.if-is_right.true, c.bytes_of.ensures) at c.is_right.ensures in
     λ h. leaf-reads type length.0 length.2 text c.leaf_most-most.ensures right

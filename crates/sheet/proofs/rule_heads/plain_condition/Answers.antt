@@ -30,8 +30,8 @@ overflow_add-result-then-is_last_text c = omega (arith, c.if-end-gt-FURTHEST.fal
 
 pub returns-then-is_last_text : goal.returns-then-is_last_text
 returns-then-is_last_text c =
-    let first = rw c.in-Is.is at c.first.ensures in
-    let item = rw c.in-Is-item.is at c.item.ensures in
+    let first = rw c.in-Some.is at c.first.ensures in
+    let item = rw c.in-Some-item.is at c.item.ensures in
     let text = rw c.if-is_last_text.true at c.is_last_text.ensures in
     let shape = c.shape_of-shape in
     let row = c.condition_row-row in

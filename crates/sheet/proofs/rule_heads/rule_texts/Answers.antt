@@ -4,16 +4,14 @@ use native.Mathlib.Omega.{arith}
 use Rattle.sheet.proofs.Heads.{rule-no-name-length, rule-no-message-length, rule-no-name, rule-no-message, rule-texts-read, rule-no-end, rule-no-comma}
 use Rattle.sheet.proofs.rule_heads.rule_texts.Goals as goal
 
-pub returns-in_default : goal.returns-in_default
-returns-in_default c =
-    let text-length = rw c.in_default.is at c.text_length.ensures in
-    rule-no-name-length c.args.s.now c.args.at text-length
+pub returns-in_err-name_len : goal.returns-in_err-name_len
+returns-in_err-name_len c = rw c.from_residual.ensures (let text-length = rw c.in_err-name_len.was at c.text_length.ensures in
+    rule-no-name-length c.args.s.now c.args.at text-length)
 
-pub returns-in_default-text_length : goal.returns-in_default-text_length
-returns-in_default-text_length c =
-    let text-length = rw c.in-Is.is at c.text_length.ensures in
-    let text-length2 = rw c.in_default-text_length.is at c.text_length-2.ensures in
-    rule-no-message-length text-length text-length2
+pub returns-in_err-message_len : goal.returns-in_err-message_len
+returns-in_err-message_len c = rw c.from_residual-in_err-message_len.ensures (let text-length = rw c.in_ok-name_len.was at c.text_length.ensures in
+    let text-length2 = rw c.in_err-message_len.was at c.text_length-2.ensures in
+    rule-no-message-length text-length text-length2)
 
 pub overflow_add-b : goal.overflow_add-b
 overflow_add-b c =
@@ -25,27 +23,25 @@ optional_text-requires c =
     let starts_with = rw c.if-starts_with.true at c.starts_with.ensures in
     starts_with.within
 
-pub returns-in_default-optional_text : goal.returns-in_default-optional_text
-returns-in_default-optional_text c =
-    let text-length = rw c.in-Is.is at c.text_length.ensures in
-    let text-length2 = rw c.in-Is-text_length.is at c.text_length-2.ensures in
+pub returns-in_err-name : goal.returns-in_err-name
+returns-in_err-name c = rw c.from_residual-in_err-name.ensures (let text-length = rw c.in_ok-name_len.was at c.text_length.ensures in
+    let text-length2 = rw c.in_ok-message_len.was at c.text_length-2.ensures in
     let starts_with = rw c.if-starts_with.true at c.starts_with.ensures in
-    let optional-text = rw c.in_default-optional_text.is at c.optional_text.ensures in
-    rule-no-name text-length text-length2 starts_with optional-text
+    let optional-text = rw c.in_err-name.was at c.optional_text.ensures in
+    rule-no-name text-length text-length2 starts_with optional-text)
 
 pub optional_text-requires-then-starts_with : goal.optional_text-requires-then-starts_with
 optional_text-requires-then-starts_with c =
-    let optional-text = rw c.in-Is-optional_text.is at c.optional_text.ensures in
+    let optional-text = rw c.in_ok-name.was at c.optional_text.ensures in
     optional-text.2
 
-pub returns-in_default-optional_text-2 : goal.returns-in_default-optional_text-2
-returns-in_default-optional_text-2 c =
-    let text-length = rw c.in-Is.is at c.text_length.ensures in
-    let text-length2 = rw c.in-Is-text_length.is at c.text_length-2.ensures in
+pub returns-in_err-message : goal.returns-in_err-message
+returns-in_err-message c = rw c.from_residual-in_err-message.ensures (let text-length = rw c.in_ok-name_len.was at c.text_length.ensures in
+    let text-length2 = rw c.in_ok-message_len.was at c.text_length-2.ensures in
     let starts_with = rw c.if-starts_with.true at c.starts_with.ensures in
-    let optional-text = rw c.in-Is-optional_text.is at c.optional_text.ensures in
-    let optional-text2 = rw c.in_default-optional_text-2.is at c.optional_text-then-starts_with.ensures in
-    rule-no-message text-length text-length2 starts_with c.in-Is-optional_text.c _ optional-text.0 optional-text2
+    let optional-text = rw c.in_ok-name.was at c.optional_text.ensures in
+    let optional-text2 = rw c.in_err-message.was at c.optional_text-then-starts_with.ensures in
+    rule-no-message text-length text-length2 starts_with c.in_ok-name.c _ optional-text.0 optional-text2)
 
 pub overflow_add-result : goal.overflow_add-result
 overflow_add-result c =
@@ -55,27 +51,27 @@ overflow_add-result c =
 pub returns-then-starts_with-2 : goal.returns-then-starts_with-2
 unfolding rule_of
 returns-then-starts_with-2 c =
-    let text-length = rw c.in-Is.is at c.text_length.ensures in
-    let text-length2 = rw c.in-Is-text_length.is at c.text_length-2.ensures in
+    let text-length = rw c.in_ok-name_len.was at c.text_length.ensures in
+    let text-length2 = rw c.in_ok-message_len.was at c.text_length-2.ensures in
     let starts_with = rw c.if-starts_with.true at c.starts_with.ensures in
-    let optional-text = rw c.in-Is-optional_text.is at c.optional_text.ensures in
-    let optional-text2 = rw c.in-Is-optional_text-2.is at c.optional_text-then-starts_with.ensures in
+    let optional-text = rw c.in_ok-name.was at c.optional_text.ensures in
+    let optional-text2 = rw c.in_ok-message.was at c.optional_text-then-starts_with.ensures in
     let starts-with2 = rw c.if-starts_with-2.true at c.starts_with-then-starts_with.ensures in
-    rule-texts-read text-length text-length2 starts_with c.in-Is-optional_text.c _ optional-text.0 c.in-Is-optional_text-2.end _ optional-text2.0 optional-text.1 optional-text2.1 starts-with2
+    rule-texts-read text-length text-length2 starts_with c.in_ok-name.c _ optional-text.0 c.in_ok-message.end _ optional-text2.0 optional-text.1 optional-text2.1 starts-with2
 
 pub returns-else-starts_with-2 : goal.returns-else-starts_with-2
 returns-else-starts_with-2 c =
-    let text-length = rw c.in-Is.is at c.text_length.ensures in
-    let text-length2 = rw c.in-Is-text_length.is at c.text_length-2.ensures in
+    let text-length = rw c.in_ok-name_len.was at c.text_length.ensures in
+    let text-length2 = rw c.in_ok-message_len.was at c.text_length-2.ensures in
     let starts_with = rw c.if-starts_with.true at c.starts_with.ensures in
-    let optional-text = rw c.in-Is-optional_text.is at c.optional_text.ensures in
-    let optional-text2 = rw c.in-Is-optional_text-2.is at c.optional_text-then-starts_with.ensures in
+    let optional-text = rw c.in_ok-name.was at c.optional_text.ensures in
+    let optional-text2 = rw c.in_ok-message.was at c.optional_text-then-starts_with.ensures in
     let starts-with2 = rw c.if-starts_with-2.false at c.starts_with-then-starts_with.ensures in
-    rule-no-end text-length text-length2 starts_with c.in-Is-optional_text.c _ optional-text.0 c.in-Is-optional_text-2.end _ optional-text2.0 starts-with2
+    rule-no-end text-length text-length2 starts_with c.in_ok-name.c _ optional-text.0 c.in_ok-message.end _ optional-text2.0 starts-with2
 
 pub returns-else-starts_with : goal.returns-else-starts_with
 returns-else-starts_with c =
-    let text-length = rw c.in-Is.is at c.text_length.ensures in
-    let text-length2 = rw c.in-Is-text_length.is at c.text_length-2.ensures in
+    let text-length = rw c.in_ok-name_len.was at c.text_length.ensures in
+    let text-length2 = rw c.in_ok-message_len.was at c.text_length-2.ensures in
     let starts_with = rw c.if-starts_with.false at c.starts_with.ensures in
     rule-no-comma text-length text-length2 starts_with

@@ -4,18 +4,16 @@ use native.Mathlib.Omega.{arith}
 use Rattle.sheet.proofs.Heads.{value-other, value-no-number, value-no-text, value-wrong, value-reads, value-code, value-counted}
 use Rattle.sheet.proofs.rule_heads.value_head.Goals as goal
 
-pub returns-in_default : goal.returns-in_default
-returns-in_default c =
-    let first = rw c.in_default.is at c.first.ensures in
-    value-other c.args.s.now c.args.at first
+pub returns-in_err-number : goal.returns-in_err-number
+returns-in_err-number c = rw c.from_residual.ensures (let first = rw c.in_err-number.was at c.first.ensures in
+    value-other c.args.s.now c.args.at first)
 
-pub returns-in_default-item : goal.returns-in_default-item
-returns-in_default-item c =
-    let first = rw c.in-Is.is at c.first.ensures in
-    let item = rw c.in_default-item.is at c.item.ensures in
+pub returns-in_err-n : goal.returns-in_err-n
+returns-in_err-n c = rw c.from_residual-in_err-n.ensures (let first = rw c.in_ok-number.was at c.first.ensures in
+    let item = rw c.in_err-n.was at c.item.ensures in
     let kind = c.kind_of-kind in
     let row = c.value_row-row in
-    value-no-number first.0 kind.result kind.ensures row.result row.ensures item
+    value-no-number first.0 kind.result kind.ensures row.result row.ensures item)
 
 pub overflow_add-start : goal.overflow_add-start
 overflow_add-start c =
@@ -35,8 +33,8 @@ overflow_add-result-then-is_right c =
 pub returns-then-is_right : goal.returns-then-is_right
 unfolding part_of
 returns-then-is_right c =
-    let first = rw c.in-Is.is at c.first.ensures in
-    let item = rw c.in-Is-item.is at c.item.ensures in
+    let first = rw c.in_ok-number.was at c.first.ensures in
+    let item = rw c.in_ok-n.was at c.item.ensures in
     let is-last-text = rw c.if-is_last_text.true at c.is_last_text.ensures in
     let kind = c.kind_of-kind in
     let row = c.value_row-row in
@@ -48,8 +46,8 @@ returns-then-is_right c =
 pub returns-else-is_right : goal.returns-else-is_right
 unfolding part_of
 returns-else-is_right c =
-    let first = rw c.in-Is.is at c.first.ensures in
-    let item = rw c.in-Is-item.is at c.item.ensures in
+    let first = rw c.in_ok-number.was at c.first.ensures in
+    let item = rw c.in_ok-n.was at c.item.ensures in
     let is-last-text = rw c.if-is_last_text.true at c.is_last_text.ensures in
     let kind = c.kind_of-kind in
     let row = c.value_row-row in
@@ -59,8 +57,8 @@ returns-else-is_right c =
 
 pub returns-else-is_last_text : goal.returns-else-is_last_text
 returns-else-is_last_text c =
-    let first = rw c.in-Is.is at c.first.ensures in
-    let item = rw c.in-Is-item.is at c.item.ensures in
+    let first = rw c.in_ok-number.was at c.first.ensures in
+    let item = rw c.in_ok-n.was at c.item.ensures in
     let is-last-text = rw c.if-is_last_text.false at c.is_last_text.ensures in
     let kind = c.kind_of-kind in
     let row = c.value_row-row in

@@ -9,28 +9,26 @@ overflow_add-at c =
     let is-dashed = rw c.if-is_dashed.true at c.is_dashed.ensures in
     omega (arith, is-dashed.within)
 
-pub returns-in_default : goal.returns-in_default
-returns-in_default c =
-    let is-dashed = rw c.if-is_dashed.true at c.is_dashed.ensures in
-    let item = rw c.in_default.is at c.item.ensures in
-    arguments-counted is-dashed item
+pub returns-in_err-next : goal.returns-in_err-next
+returns-in_err-next c = rw c.from_residual.ensures (let is-dashed = rw c.if-is_dashed.true at c.is_dashed.ensures in
+    let item = rw c.in_err-next.was at c.item.ensures in
+    arguments-counted is-dashed item)
 
 pub returns-then-is_dashed : goal.returns-then-is_dashed
 unfolding arguments_of argument_count
 returns-then-is_dashed c =
     let is-dashed = rw c.if-is_dashed.true at c.is_dashed.ensures in
-    let item = rw c.in-Is.is at c.item.ensures in
+    let item = rw c.in_ok-next.was at c.item.ensures in
     (arguments-absent is-dashed item.0, omega arith)
 
-pub returns-in_default-holder_head : goal.returns-in_default-holder_head
-returns-in_default-holder_head c =
-    let is-dashed = rw c.if-is_dashed.false at c.is_dashed.ensures in
-    let holder-head = rw c.in_default-holder_head.is at c.holder_head.ensures in
-    arguments-refused c.args.s.now c.args.at is-dashed holder-head
+pub returns-in_err-head : goal.returns-in_err-head
+returns-in_err-head c = rw c.from_residual-in_err-head.ensures (let is-dashed = rw c.if-is_dashed.false at c.is_dashed.ensures in
+    let holder-head = rw c.in_err-head.was at c.holder_head.ensures in
+    arguments-refused c.args.s.now c.args.at is-dashed holder-head)
 
 pub returns : goal.returns
 unfolding arguments_of argument_count
 returns c =
     let is-dashed = rw c.if-is_dashed.false at c.is_dashed.ensures in
-    let holder-head = rw c.in-Is-holder_head.is at c.holder_head.ensures in
+    let holder-head = rw c.in_ok-head.was at c.holder_head.ensures in
     (arguments-reads c.args.s.now c.args.at is-dashed holder-head.0, holder-head.1)

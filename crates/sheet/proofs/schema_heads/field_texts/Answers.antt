@@ -5,16 +5,14 @@ use Rattle.sheet.proofs.Heads.{texts-no-length, texts-no-tag-length, texts-no-ta
 use Rattle.sheet.proofs.Sizes.{texts-placed}
 use Rattle.sheet.proofs.schema_heads.field_texts.Goals as goal
 
-pub returns-in_default : goal.returns-in_default
-returns-in_default c =
-    let item = rw c.in_default.is at c.item.ensures in
-    texts-no-length c.args.s.now c.args.at item
+pub returns-in_err-len : goal.returns-in_err-len
+returns-in_err-len c = rw c.from_residual.ensures (let item = rw c.in_err-len.was at c.item.ensures in
+    texts-no-length c.args.s.now c.args.at item)
 
-pub returns-in_default-text_length : goal.returns-in_default-text_length
-returns-in_default-text_length c =
-    let item = rw c.in-Is.is at c.item.ensures in
-    let text-length = rw c.in_default-text_length.is at c.text_length.ensures in
-    texts-no-tag-length item.0 text-length
+pub returns-in_err-tag_len : goal.returns-in_err-tag_len
+returns-in_err-tag_len c = rw c.from_residual-in_err-tag_len.ensures (let item = rw c.in_ok-len.was at c.item.ensures in
+    let text-length = rw c.in_err-tag_len.was at c.text_length.ensures in
+    texts-no-tag-length item.0 text-length)
 
 pub overflow_add-start : goal.overflow_add-start
 overflow_add-start c =
@@ -36,14 +34,13 @@ optional_text-requires c =
     let is-text = rw c.if-is_text.true at c.is_text.ensures in
     is-text.1
 
-pub returns-in_default-optional_text : goal.returns-in_default-optional_text
-returns-in_default-optional_text c =
-    let item = rw c.in-Is.is at c.item.ensures in
-    let text-length = rw c.in-Is-text_length.is at c.text_length.ensures in
+pub returns-in_err-tag : goal.returns-in_err-tag
+returns-in_err-tag c = rw c.from_residual-in_err-tag.ensures (let item = rw c.in_ok-len.was at c.item.ensures in
+    let text-length = rw c.in_ok-tag_len.was at c.text_length.ensures in
     let starts_with = rw c.if-starts_with.true at c.starts_with.ensures in
     let is-text = rw c.if-is_text.true at c.is_text.ensures in
-    let optional-text = rw c.in_default-optional_text.is at c.optional_text.ensures in
-    texts-no-tag item.0 text-length starts_with is-text optional-text
+    let optional-text = rw c.in_err-tag.was at c.optional_text.ensures in
+    texts-no-tag item.0 text-length starts_with is-text optional-text)
 
 pub overflow_add-result : goal.overflow_add-result
 overflow_add-result c =
@@ -53,37 +50,37 @@ overflow_add-result c =
 pub returns-then-starts_with-2 : goal.returns-then-starts_with-2
 unfolding part_of
 returns-then-starts_with-2 c =
-    let item = rw c.in-Is.is at c.item.ensures in
-    let text-length = rw c.in-Is-text_length.is at c.text_length.ensures in
+    let item = rw c.in_ok-len.was at c.item.ensures in
+    let text-length = rw c.in_ok-tag_len.was at c.text_length.ensures in
     let starts_with = rw c.if-starts_with.true at c.starts_with.ensures in
     let is-text = rw c.if-is_text.true at c.is_text.ensures in
-    let optional-text = rw c.in-Is-optional_text.is at c.optional_text.ensures in
+    let optional-text = rw c.in_ok-tag.was at c.optional_text.ensures in
     let starts-with2 = rw c.if-starts_with-2.true at c.starts_with-then-is_text.ensures in (
-      texts-read item.0 text-length starts_with is-text c.in-Is-optional_text.end _ optional-text.0 optional-text.1 starts-with2,
+      texts-read item.0 text-length starts_with is-text c.in_ok-tag.end _ optional-text.0 optional-text.1 starts-with2,
       texts-placed item.0 item.2 text-length,
     )
 
 pub returns-else-starts_with-2 : goal.returns-else-starts_with-2
 returns-else-starts_with-2 c =
-    let item = rw c.in-Is.is at c.item.ensures in
-    let text-length = rw c.in-Is-text_length.is at c.text_length.ensures in
+    let item = rw c.in_ok-len.was at c.item.ensures in
+    let text-length = rw c.in_ok-tag_len.was at c.text_length.ensures in
     let starts_with = rw c.if-starts_with.true at c.starts_with.ensures in
     let is-text = rw c.if-is_text.true at c.is_text.ensures in
-    let optional-text = rw c.in-Is-optional_text.is at c.optional_text.ensures in
+    let optional-text = rw c.in_ok-tag.was at c.optional_text.ensures in
     let starts-with2 = rw c.if-starts_with-2.false at c.starts_with-then-is_text.ensures in
-    texts-no-end item.0 text-length starts_with is-text c.in-Is-optional_text.end _ optional-text.0 starts-with2
+    texts-no-end item.0 text-length starts_with is-text c.in_ok-tag.end _ optional-text.0 starts-with2
 
 pub returns-else-is_text : goal.returns-else-is_text
 returns-else-is_text c =
-    let item = rw c.in-Is.is at c.item.ensures in
-    let text-length = rw c.in-Is-text_length.is at c.text_length.ensures in
+    let item = rw c.in_ok-len.was at c.item.ensures in
+    let text-length = rw c.in_ok-tag_len.was at c.text_length.ensures in
     let starts_with = rw c.if-starts_with.true at c.starts_with.ensures in
     let is-text = rw c.if-is_text.false at c.is_text.ensures in
     texts-no-name item.0 text-length starts_with is-text
 
 pub returns-else-starts_with : goal.returns-else-starts_with
 returns-else-starts_with c =
-    let item = rw c.in-Is.is at c.item.ensures in
-    let text-length = rw c.in-Is-text_length.is at c.text_length.ensures in
+    let item = rw c.in_ok-len.was at c.item.ensures in
+    let text-length = rw c.in_ok-tag_len.was at c.text_length.ensures in
     let starts_with = rw c.if-starts_with.false at c.starts_with.ensures in
     texts-no-comma item.0 text-length starts_with

@@ -2,10 +2,10 @@
 use Rattle.sheet.specs.Places.{tag_at}
 use Rattle.sheet.proofs.schema_heads.tag_at.Goals as goal
 
-pub returns-in-Of : goal.returns-in-Of
+pub returns-in-Some : goal.returns-in-Some
 unfolding tag_at
-returns-in-Of c = rw c.in-Of.is
+returns-in-Some c = rw c.in-Some.is
 
-pub returns-in-Absent : goal.returns-in-Absent
+pub returns-in-None : goal.returns-in-None
 unfolding tag_at
-returns-in-Absent c = rw c.in-Absent.is
+returns-in-None c = rw c.in-None.is

@@ -10,8 +10,8 @@ returns-in_default c = search rules
 
 pub returns-then-family-eq1 : goal.returns-then-family-eq1
 unfolding over_place_in over_by
-returns-then-family-eq1 c = place-body c.in-In.is c.if-family-eq1.true
+returns-then-family-eq1 c = place-body c.in-Some.is c.if-family-eq1.true
 
 pub returns-else-family-eq1 : goal.returns-else-family-eq1
 unfolding over_place_in over_by
-returns-else-family-eq1 c = place_none c.in-In.is c.if-family-eq1.false
+returns-else-family-eq1 c = place_none c.in-Some.is c.if-family-eq1.false

@@ -7,10 +7,10 @@ returns-in_default c =
 
 pub returns-then-sound : goal.returns-then-sound
 returns-then-sound c =
-    let has = rw c.in-Is.is at c.lent_table.ensures in
+    let has = rw c.in-Some.is at c.lent_table.ensures in
     table-sets c.args.kind c.args.semantics c.args.table.now has _ c.if-sound.true c.setting_of.ensures
 
 pub returns : goal.returns
 returns c =
-    let has = rw c.in-Is.is at c.lent_table.ensures in
+    let has = rw c.in-Some.is at c.lent_table.ensures in
     table-unsound c.args.kind c.args.semantics c.args.table.now has c.if-sound.false

@@ -1,47 +1,36 @@
-use Prim.Native.Nat.{◌-◌}
-use mathlib.Core.Path.{refl, sym, ◌∙◌}
+use mathlib.Core.Path.{◌≡◌, refl, sym, ◌∙◌}
+use lib.ListN.{length}
 use native.Mathlib.Omega.{arith}
 use Rattle.text.specs.DecimalLaws.{is_digit-range}
 use Rattle.text.proofs.Numerals.{digits-end, digits-stop, digits_more, digits-beyond}
 use Rattle.text.proofs.numeral.digits.Goals as goal
 
 pub loop-i-init : goal.loop-i-init
-loop-i-init c = (refl, omega arith, omega arith)
+loop-i-init c = refl
+
+pub returns-then-not-is_digit : goal.returns-then-not-is_digit
+returns-then-not-is_digit c =
+    (sym c.loop-i.invariant ∙ digits-stop c.loop-i.value c.args.s.now c.loop-i.i (omega arith) (sym c.is_digit.ensures ∙ c.if-not-is_digit.true), omega arith, omega arith)
 
 pub returns-then-most-value : goal.returns-then-most-value
 returns-then-most-value c =
     let a = c.args in
     let l = c.loop-i in
-    digits-beyond l.value a.high a.first a.s.now l.i a.at c.loop-i-test.true (sym c.is_digit.ensures ∙ c.if-is_digit.true) (omega arith) l.invariant.0
+    digits-beyond l.value a.high a.first a.s.now l.i a.at (omega arith) (sym c.is_digit.ensures ∙ c.if-not-is_digit.false) (omega arith) l.invariant
 
 pub overflow_mul-value : goal.overflow_mul-value
 overflow_mul-value c = omega arith
 
-pub overflow_cast-value : goal.overflow_cast-value
-overflow_cast-value c = omega (arith, c.shared_slice_known-in-loop-i-1.given c.loop-i.i)
-
 pub overflow_sub-value : goal.overflow_sub-value
-overflow_sub-value c = omega (arith, is_digit-range _ (rw c.if-is_digit.true at (sym c.is_digit.ensures)))
-
-pub overflow_add-value : goal.overflow_add-value
-overflow_add-value c = omega (arith, c.shared_slice_known-in-loop-i-1.given c.loop-i.i)
+overflow_sub-value c = omega (arith, is_digit-range _ (sym c.is_digit.ensures ∙ c.if-not-is_digit.false))
 
 pub loop-i-preserved : goal.loop-i-preserved
 loop-i-preserved c =
-    let a = c.args in
-    let l = c.loop-i in
-    let d = sym c.is_digit.ensures ∙ c.if-is_digit.true in (
-      sym (digits_more l.value a.s.now l.i c.loop-i-test.true d) ∙ l.invariant.0,
-      omega arith,
-      omega arith,
-    )
-
-pub returns-else-is_digit : goal.returns-else-is_digit
-returns-else-is_digit c =
-    let l = c.loop-i in
-    (sym l.invariant.0 ∙ digits-stop l.value c.args.s.now l.i c.loop-i-test.true (sym c.is_digit.ensures ∙ c.if-is_digit.false), l.invariant.1, l.invariant.2)
+    let d = sym c.is_digit.ensures ∙ c.if-not-is_digit.false in
+    sym (digits_more c.loop-i.value c.args.s.now c.loop-i.i (omega arith) d) ∙ c.loop-i.invariant
 
 pub returns : goal.returns
 returns c =
     let l = c.loop-i in
-    (sym l.invariant.0 ∙ digits-end l.value c.args.s.now l.i c.loop-i-test.false, l.invariant.1, l.invariant.2)
+    let end : l.i ≡ length c.args.s.now = omega arith in
+    (rw end at (sym l.invariant ∙ digits-end l.value c.args.s.now l.i (omega arith)), omega arith, omega arith)

@@ -1,5 +1,4 @@
 -- `text::numeral::digits` meets its contract. The digits from `i` on, after `value`, are those from `at` on, after `first`.
--- The measure is what is left of the bytes.
 use Prim.Native.Nat.{◌≤◌, ◌-◌}
 use mathlib.Core.Path.{◌≡◌}
 use lib.ListN.{length, drop}
@@ -7,8 +6,4 @@ use Rattle.text.specs.Numeral.{digits}
 use Rattle.text.proofs.numeral.digits.Given as goal
 
 abbrev pub invariant-loop-i : goal.invariant-loop-i
-invariant-loop-i l =
-    (digits l.value (drop l.i l.s) ≡ digits l.first (drop l.at l.s)) × (l.at ≤ l.i) × (l.i ≤ length l.s)
-
-abbrev pub decreases-loop-i : goal.decreases-loop-i
-decreases-loop-i l = length l.s - l.i
+invariant-loop-i l = digits l.value (drop l.i l.s) ≡ digits l.first (drop l.at l.s)

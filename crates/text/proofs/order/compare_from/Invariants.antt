@@ -1,11 +1,7 @@
 -- `text::order::compare_from` meets its contract. However the bytes from `i` on compare, so do the texts.
--- The measure is what is left of the shorter text.
 use Prim.Native.Nat.{◌≤◌, ◌-◌}
 use Rattle.text.proofs.Comparing.{Goes}
 use Rattle.text.proofs.order.compare_from.Given as goal
 
 abbrev pub invariant-loop-i : goal.invariant-loop-i
-invariant-loop-i l = (l.i ≤ l.n) × Goes l.a l.b l.i
-
-abbrev pub decreases-loop-i : goal.decreases-loop-i
-decreases-loop-i l = l.n - l.i
+invariant-loop-i l = Goes l.a l.b l.i

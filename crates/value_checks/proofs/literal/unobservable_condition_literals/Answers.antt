@@ -30,7 +30,7 @@ pub loop-i-preserved : goal.loop-i-preserved
 loop-i-preserved c = (
   omega (arith, c.children_from-next.ensures.past),
   omega (arith, c.children_from-next.ensures.most, c.behind.ensures.most),
-  left-next c.loop-i-test.true c.start_of.ensures c.operator_at-op.ensures c.behind.ensures c.children_from-next.ensures (goes-passed (ObservedJudged _ _ _ _ _ _) c.in-Pass.is c.validate_observed-r.ensures) c.loop-i.invariant.0 c.loop-i.invariant.2,
+  left-next c.loop-i-test.true c.start_of.ensures c.operator_at-op.ensures c.behind.ensures c.children_from-next.ensures (goes-passed (ObservedJudged _ _ _ _ _ _) c.in-Ok.is c.validate_observed-r.ensures) c.loop-i.invariant.0 c.loop-i.invariant.2,
 )
 
 pub returns : goal.returns

@@ -5,7 +5,4 @@ use Rattle.value_checks.specs.Literals.{LiteralsJudged}
 use Rattle.value_checks.proofs.literal.validate_literals.Given as goal
 
 abbrev pub invariant-loop-i : goal.invariant-loop-i
-invariant-loop-i l = (l.start ≤ l.i) × (l.i - l.start ≤ l.end - l.start) × LiteralsJudged l.rule l.words l.start (l.i - l.start) (going l.initial.so_far) (going l.so_far)
-
-abbrev pub decreases-loop-i : goal.decreases-loop-i
-decreases-loop-i l = l.end - l.i
+invariant-loop-i l = (l.i - l.start ≤ l.end - l.start) × LiteralsJudged l.rule l.words l.start (l.i - l.start) (going l.initial.so_far) (going l.so_far)

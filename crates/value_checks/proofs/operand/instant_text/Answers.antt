@@ -13,4 +13,4 @@ pub returns-in_default : goal.returns-in_default
 returns-in_default c = instant-unread _ (sym c.begins_with_dollar.ensures ∙ c.if-begins_with_dollar.false) (rw c.in_default.is at c.parse.ensures)
 
 pub returns : goal.returns
-returns c = instant-read _ (sym c.begins_with_dollar.ensures ∙ c.if-begins_with_dollar.false) (rw c.in-Instant.is at c.parse.ensures)
+returns c = instant-read _ (sym c.begins_with_dollar.ensures ∙ c.if-begins_with_dollar.false) (rw c.in-Some.is at c.parse.ensures)

@@ -6,16 +6,9 @@ use Rattle.value_checks.proofs.operand.validate_instant.Goals as goal
 pub pass-requires : goal.pass-requires
 pass-requires c = c.requires.0
 
-pub pass-requires-in-Literal : goal.pass-requires-in-Literal
-pass-requires-in-Literal c = c.requires.0
-
-pub returns-in-Reference : goal.returns-in-Reference
+pub returns-in-Ok : goal.returns-in-Ok
 unfolding form_of
-returns-in-Reference c = instant-passes c.instant_form.ensures (rw c.in-Reference.is) c.pass.ensures
+returns-in-Ok c = instant-passes c.instant_form.ensures (rw c.in-Ok.is) c.pass.ensures
 
-pub returns-in-Literal : goal.returns-in-Literal
-unfolding form_of
-returns-in-Literal c = instant-passes c.instant_form.ensures (rw c.in-Literal.is) c.pass-in-Literal.ensures
-
-pub returns-in-Bad : goal.returns-in-Bad
-returns-in-Bad c = instant-fails c.instant_form.ensures c.in-Bad.is c.fail.ensures
+pub returns-in-Err : goal.returns-in-Err
+returns-in-Err c = instant-fails c.instant_form.ensures c.in-Err.is c.fail.ensures

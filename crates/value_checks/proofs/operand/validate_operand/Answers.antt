@@ -15,10 +15,10 @@ pub validate_references-r-requires : goal.validate_references-r-requires
 validate_references-r-requires c = (record { fits = omega (arith, c.requires.0.fits, c.requires.1, c.validate_side-a.ensures.at_most) }, c.requires.2)
 
 pub returns-in_default-verdict : goal.returns-in_default-verdict
-returns-in_default-verdict c = operand-stopped c.requires.1 (goes-passed (ValueJudged _ _ _ _ _ _) c.in-Pass.is c.validate_side-a.ensures) c.validate_references-r.ensures c.in_default-verdict.is
+returns-in_default-verdict c = operand-stopped c.requires.1 (goes-passed (ValueJudged _ _ _ _ _ _) c.in-Ok.is c.validate_side-a.ensures) c.validate_references-r.ensures c.in_default-verdict.is
 
 pub validate_form-requires : goal.validate_form-requires
 validate_form-requires c = (record { fits = omega (arith, c.requires.0.fits, c.requires.1, c.validate_side-a.ensures.at_most, c.validate_references-r.ensures.at_most) }, omega (arith, c.requires.1, c.requires.2))
 
 pub returns : goal.returns
-returns c = operand-judged c.requires.1 (goes-passed (ValueJudged _ _ _ _ _ _) c.in-Pass.is c.validate_side-a.ensures) (goes-passed (ReferencesIn _ _ _ _) c.in-Pass-verdict.is c.validate_references-r.ensures) c.validate_form.ensures
+returns c = operand-judged c.requires.1 (goes-passed (ValueJudged _ _ _ _ _ _) c.in-Ok.is c.validate_side-a.ensures) (goes-passed (ReferencesIn _ _ _ _) c.in-Ok-verdict.is c.validate_references-r.ensures) c.validate_form.ensures

@@ -21,7 +21,7 @@ pub loop-i-preserved : goal.loop-i-preserved
 loop-i-preserved c = (
   omega (arith, c.behind-next.ensures.past c.loop-i-test.true, c.loop-i.invariant.0),
   omega (arith, c.behind-next.ensures.most),
-  operands_next c.loop-i-test.true c.behind-next.ensures (goes-passed (OperandJudged _ _ _ _ _ _) c.in-Pass.is c.validate_operand-r.ensures) c.loop-i.invariant.0 c.loop-i.invariant.2,
+  operands_next c.loop-i-test.true c.behind-next.ensures (goes-passed (OperandJudged _ _ _ _ _ _) c.in-Ok.is c.validate_operand-r.ensures) c.loop-i.invariant.0 c.loop-i.invariant.2,
 )
 
 pub returns : goal.returns

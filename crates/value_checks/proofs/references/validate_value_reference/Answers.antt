@@ -20,7 +20,7 @@ pub returns-in_default : goal.returns-in_default
 returns-in_default c = reference-passes c.start_of-at.ensures c.has_type.ensures c.if-has_type.true c.text_at.ensures c.bytes_of-text.ensures (rw c.if-is_reference.true at c.is_reference.ensures) c.validate_reference-found.ensures c.in_default.is c.pass.ensures
 
 pub returns-then-is_reference : goal.returns-then-is_reference
-returns-then-is_reference c = reference-fails c.start_of-at.ensures c.has_type.ensures c.if-has_type.true c.text_at.ensures c.bytes_of-text.ensures (rw c.if-is_reference.true at c.is_reference.ensures) c.validate_reference-found.ensures c.in-No.is c.fail.ensures
+returns-then-is_reference c = reference-fails c.start_of-at.ensures c.has_type.ensures c.if-has_type.true c.text_at.ensures c.bytes_of-text.ensures (rw c.if-is_reference.true at c.is_reference.ensures) c.validate_reference-found.ensures c.in-Err.is c.fail.ensures
 
 pub returns-then-has_type : goal.returns-then-has_type
 returns-then-has_type c = rw c.going.ensures (reference-none c.start_of-at.ensures c.has_type.ensures c.if-has_type.true c.text_at.ensures c.bytes_of-text.ensures (rw c.if-is_reference.false at c.is_reference.ensures))

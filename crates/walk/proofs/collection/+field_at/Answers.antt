@@ -8,11 +8,11 @@ slice_bounds-field_step-end t c = search (end-length, rules)
 pub returns-then-end-path : goal.returns-then-end-path
 returns-then-end-path t c = search (field-last, rules)
 
-pub returns-in-Refuse : goal.returns-in-Refuse
-returns-in-Refuse t c = search (field-refused, rules)
+pub returns-in-Err : goal.returns-in-Err
+returns-in-Err t c = search (field-refused, rules)
 
-pub returns-in-Free : goal.returns-in-Free
-returns-in-Free t c = search (field-free, rules)
+pub returns-in-Ok-None : goal.returns-in-Ok-None
+returns-in-Ok-None t c = search (field-free, rules)
 
-pub returns-in-Into : goal.returns-in-Into
-returns-in-Into t c = search (field-into, rules)
+pub returns-in-Ok-Some : goal.returns-in-Ok-Some
+returns-in-Ok-Some t c = search (field-into, rules)

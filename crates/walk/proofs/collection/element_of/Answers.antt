@@ -3,11 +3,11 @@ use Rattle.walk.proofs.CollectionLaws.{of-known, of-refused, of-unknown}
 use borrow.Author.Rules.{rules}
 use Rattle.walk.proofs.collection.element_of.Goals as goal
 
-pub returns-in-Known : goal.returns-in-Known
-returns-in-Known c = search (of-known, rules)
+pub returns-in-Ok-Some : goal.returns-in-Ok-Some
+returns-in-Ok-Some c = search (of-known, rules)
 
-pub returns-in-Unknown : goal.returns-in-Unknown
-returns-in-Unknown c = search (of-unknown, rules)
+pub returns-in-Ok-None : goal.returns-in-Ok-None
+returns-in-Ok-None c = search (of-unknown, rules)
 
-pub returns-in-No : goal.returns-in-No
-returns-in-No c = search (of-refused, rules)
+pub returns-in-Err : goal.returns-in-Err
+returns-in-Err c = search (of-refused, rules)

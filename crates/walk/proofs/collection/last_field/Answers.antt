@@ -3,11 +3,11 @@ use Rattle.walk.proofs.PathLaws.{last-field-free, last-field-into, last-field-re
 use borrow.Author.Rules.{rules}
 use Rattle.walk.proofs.collection.last_field.Goals as goal
 
-pub returns-in-Refuse : goal.returns-in-Refuse
-returns-in-Refuse c = search (last-field-refuse, rules)
+pub returns-in-Err : goal.returns-in-Err
+returns-in-Err c = search (last-field-refuse, rules)
 
-pub returns-in-Free : goal.returns-in-Free
-returns-in-Free c = search (last-field-free, rules)
+pub returns-in-Ok-None : goal.returns-in-Ok-None
+returns-in-Ok-None c = search (last-field-free, rules)
 
-pub returns-in-Into : goal.returns-in-Into
-returns-in-Into c = search (last-field-into, rules)
+pub returns-in-Ok-Some : goal.returns-in-Ok-Some
+returns-in-Ok-Some c = search (last-field-into, rules)

@@ -5,7 +5,4 @@ use Rattle.walk.proofs.Dots.{Passed}
 use Rattle.walk.proofs.path.end_after.Given as goal
 
 abbrev pub invariant-loop-i : goal.invariant-loop-i
-invariant-loop-i l = (l.i ≤ length l.path) × Passed l.path l.i
-
-abbrev pub decreases-loop-i : goal.decreases-loop-i
-decreases-loop-i l = length l.path - l.i
+invariant-loop-i l = Passed l.path l.i

@@ -3,11 +3,11 @@ use Rattle.walk.proofs.Digits.{digit-passed, digits-broken, digits-ended}
 use borrow.Author.Rules.{rules}
 use Rattle.walk.proofs.path.is_digits.Goals as goal
 
-pub loop-i-preserved : goal.loop-i-preserved
-loop-i-preserved c = search (digit-passed, rules)
+pub loop-b-preserved : goal.loop-b-preserved
+loop-b-preserved c = search (digit-passed, rules)
 
-pub returns-else-is_digit : goal.returns-else-is_digit
-returns-else-is_digit c = search (digits-broken, rules)
+pub returns-then-not-is_digit : goal.returns-then-not-is_digit
+returns-then-not-is_digit c = search (digits-broken, rules)
 
 pub returns : goal.returns
 returns c = search (digits-ended, rules)

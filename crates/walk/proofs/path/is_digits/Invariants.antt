@@ -4,8 +4,5 @@ use lib.ListN.{length}
 use Rattle.walk.proofs.Digits.{SoFar}
 use Rattle.walk.proofs.path.is_digits.Given as goal
 
-abbrev pub invariant-loop-i : goal.invariant-loop-i
-invariant-loop-i l = (l.i ≤ length l.segment) × SoFar l.segment l.i
-
-abbrev pub decreases-loop-i : goal.decreases-loop-i
-decreases-loop-i l = length l.segment - l.i
+abbrev pub invariant-loop-b : goal.invariant-loop-b
+invariant-loop-b l = SoFar l.segment l.b-index

@@ -3,8 +3,8 @@ use Rattle.walk.proofs.StepLaws.{tag-none, tag_same}
 use borrow.Author.Rules.{rules}
 use Rattle.walk.proofs.step.is_tag.Goals as goal
 
-pub returns-in-Is : goal.returns-in-Is
-returns-in-Is c = search (tag_same, rules)
+pub returns-in-Some : goal.returns-in-Some
+returns-in-Some c = search (tag_same, rules)
 
-pub returns-in-Absent : goal.returns-in-Absent
-returns-in-Absent c = search (tag-none, rules)
+pub returns-in-None : goal.returns-in-None
+returns-in-None c = search (tag-none, rules)

@@ -3,8 +3,8 @@ use Rattle.walk.proofs.StepLaws.{item-free, item-into}
 use borrow.Author.Rules.{rules}
 use Rattle.walk.proofs.step.item_step.Goals as goal
 
-pub returns-in-At : goal.returns-in-At
-returns-in-At c = search (item-into, rules)
+pub returns-in-Some : goal.returns-in-Some
+returns-in-Some c = search (item-into, rules)
 
-pub returns-in-Absent : goal.returns-in-Absent
-returns-in-Absent c = search (item-free, rules)
+pub returns-in-None : goal.returns-in-None
+returns-in-None c = search (item-free, rules)

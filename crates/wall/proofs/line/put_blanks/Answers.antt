@@ -1,18 +1,17 @@
 use Rattle.wall.proofs.LineSteps.{no-blanks, more-blanks, all-blanks}
 use Rattle.buffer.specs.WroteLaws.{wrote_kept}
-use Prim.Native.Nat.{◌-◌}
 use native.Mathlib.Omega.{arith}
 use borrow.Author.Rules.{rules}
 use Rattle.wall.proofs.line.put_blanks.Goals as goal
 
-pub loop-i-init : goal.loop-i-init
-loop-i-init c = (omega arith, no-blanks _ _)
+pub loop-init : goal.loop-init
+loop-init c = no-blanks _ _
 
-pub loop-i-preserved : goal.loop-i-preserved
-loop-i-preserved c = (search rules, search (more-blanks, rules))
+pub loop-preserved : goal.loop-preserved
+loop-preserved c = search (more-blanks, rules)
 
 pub shape_of-out : goal.shape_of-out
-shape_of-out c = wrote_kept c.loop-i.invariant.1
+shape_of-out c = wrote_kept c.loop.invariant
 
 pub returns : goal.returns
-returns c = search (all-blanks, rules)
+returns c = all-blanks c.loop.counter c.args.count (omega arith) (omega arith) c.loop.invariant

@@ -1,13 +1,9 @@
--- `wall::line::put_shown` meets its contract: after `i` turns the first `i` bytes are written. The measure is what is left of the bytes.
+-- `wall::line::put_shown` meets its contract: after some turns the bytes so far are written.
 use Rattle.wall.specs.Pages.{shown}
 use Rattle.buffer.specs.Wrote.{Wrote}
-use lib.ListN.{length, take}
+use lib.ListN.{take}
 use mathlib.Core.List.{map}
-use Prim.Native.Nat.{◌≤◌, ◌-◌}
 use Rattle.wall.proofs.line.put_shown.Given as goal
 
-abbrev pub invariant-loop-i : goal.invariant-loop-i
-invariant-loop-i l = (l.i ≤ length l.bytes) × Wrote l.initial.out l.out l.at (map shown (take l.i l.bytes)) l.next
-
-abbrev pub decreases-loop-i : goal.decreases-loop-i
-decreases-loop-i l = length l.bytes - l.i
+abbrev pub invariant-loop-b : goal.invariant-loop-b
+invariant-loop-b l = Wrote l.initial.out l.out l.at (map shown (take l.b-index l.bytes)) l.next

@@ -1,6 +1,5 @@
 use Rattle.buffer.specs.WroteLaws.{wrote_kept}
 use mathlib.Core.Path.{◌∙◌}
-use Prim.Native.Nat.{◌-◌}
 use Rattle.wall.proofs.PageSteps.{one_at_most, paging-start, paging-step, paging-end}
 use native.Mathlib.Omega.{arith}
 use Rattle.wall.proofs.page.put_page.Goals as goal

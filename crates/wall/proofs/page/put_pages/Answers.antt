@@ -1,5 +1,4 @@
 use mathlib.Core.Path.{◌∙◌}
-use Prim.Native.Nat.{◌-◌}
 use Rattle.wall.proofs.PageSteps.{given-ready, printing-start, printing-step, printing-end}
 use native.Mathlib.Omega.{arith}
 use Rattle.wall.proofs.page.put_pages.Goals as goal

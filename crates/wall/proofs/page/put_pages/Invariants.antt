@@ -1,14 +1,8 @@
 -- `wall::page::put_pages` meets its contract. What is written and the pages that are left make the whole.
--- The measure is how many pages are left.
 use Rattle.single_check.specs.Settings.{setting_by}
-use Prim.Native.Nat.{◌-◌}
 use Rattle.wall.proofs.PageSteps.{Printing}
 use Rattle.wall.proofs.page.put_pages.Given as goal
 
 abbrev pub invariant-loop-page : goal.invariant-loop-page
 invariant-loop-page l =
     Printing (setting_by l.setting) l.label l.schema l.read l.book l.count l.initial.path l.initial.scratch l.initial.pages l.path l.scratch l.pages l.sheet l.line l.page
-
-abbrev pub decreases-loop-page : goal.decreases-loop-page
-decreases-loop-page l =
-    l.count - l.page

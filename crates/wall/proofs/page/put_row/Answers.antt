@@ -11,5 +11,5 @@ pub check_sheet-o-requires : goal.check_sheet-o-requires
 check_sheet-o-requires c = omega (arith, c.requires.enough)
 
 pub returns : goal.returns
-returns c = let there = rw c.in-Is.is at c.next_sheet.ensures in
+returns c = let there = rw c.in-Some.is at c.next_sheet.ensures in
     row_line c.args.serial c.requires there c.bytes_of.ensures c.check_sheet-o.ensures c.put_line-line.ensures c.one_if_accepted.ensures
