@@ -52,9 +52,8 @@ enum Step {
 fn head(s: &[u8]) -> usize
     ensures { result ≤ length s.now }
 {
-    let mut at = 0;
     let mut in_comment = false;
-    while at < s.len() {
+    for at in 0..s.len() {
         if s[at] == b'#' {
             in_comment = true;
         }
@@ -64,9 +63,8 @@ fn head(s: &[u8]) -> usize
         if s[at] == b'\n' {
             in_comment = false;
         }
-        at += 1;
     }
-    at
+    s.len()
 }
 
 // A number with one more digit; `TOO_LARGE` where the byte is not a digit.
@@ -89,18 +87,16 @@ fn count(s: &[u8], at: usize, stop: u8) -> Numeral
     ensures { (result.value ≤ 1000000) × (result.next ≤ length s.now) }
 {
     let mut value = 0;
-    let mut i = at;
-    while i < s.len() {
+    for i in at..s.len() {
         let b = s[i];
         if b == stop {
             return Numeral { value, next: i + 1 };
         }
         value = grown(value, b);
-        i += 1;
     }
     Numeral {
         value: TOO_LARGE,
-        next: i,
+        next: s.len(),
     }
 }
 
@@ -147,11 +143,7 @@ fn replay(s: &[u8]) -> Option<(bool, usize)>
 fn shift(buffer: &mut [u8], start: usize, end: usize)
     requires { (start ≤ end) × (end ≤ length buffer.old) }
 {
-    let mut i = start;
-    while i < end {
-        buffer[i - start] = buffer[i];
-        i += 1;
-    }
+    buffer.copy_within(start..end, 0);
 }
 
 // Reads on where less than a case may be left. `w` is what is read and not yet replayed.
@@ -229,14 +221,12 @@ fn run<R: Read>(rt: &impl Print, reader: &mut R, buffer: &mut [u8], from: Part) 
     requires { Within buffer.old from }
 {
     let mut w = from;
-    let mut cases: u64 = 0;
     let mut agreed: u64 = 0;
-    while cases < MAX_CASES {
+    for cases in 0..MAX_CASES {
         let s = advance(reader, buffer, w)?;
         match s {
             Step::Replayed(agrees, left) => {
-                cases += 1;
-                agreed += tallied(rt, agrees, cases)?;
+                agreed += tallied(rt, agrees, cases + 1)?;
                 w = left;
             }
             Step::Last(all_read) => {
@@ -244,7 +234,7 @@ fn run<R: Read>(rt: &impl Print, reader: &mut R, buffer: &mut [u8], from: Part) 
             }
         }
     }
-    report(rt, cases, agreed, false)
+    report(rt, MAX_CASES, agreed, false)
 }
 
 // Room for a piece of the list, of zeros.

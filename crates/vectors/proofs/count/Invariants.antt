@@ -1,10 +1,6 @@
--- `vectors::count` ends within the bytes, and its number stays small.
-use Prim.Native.Nat.{◌≤◌, ◌-◌}
-use lib.ListN.{length}
+-- `vectors::count`: its number stays small.
+use Prim.Native.Nat.{◌≤◌}
 use Rattle.vectors.proofs.count.Given as goal
 
 abbrev pub invariant-loop-i : goal.invariant-loop-i
-invariant-loop-i l = (l.i ≤ length l.s) × (l.value ≤ 1000000)
-
-abbrev pub decreases-loop-i : goal.decreases-loop-i
-decreases-loop-i l = length l.s - l.i
+invariant-loop-i l = l.value ≤ 1000000

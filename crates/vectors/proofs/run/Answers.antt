@@ -8,4 +8,4 @@ overflow_add-agreed g c = omega (arith, tally c.in-Replayed.agrees c.in_ok-agree
 pub loop-cases-preserved : goal.loop-cases-preserved
 loop-cases-preserved g c =
     let left = rw c.in-Replayed.is at c.in_ok-s.ensures.ok in
-    (left.within, omega (arith, tally c.in-Replayed.agrees c.in_ok-agreed-in-Replayed.ensures.ok), omega arith, omega (arith, c.advance.auto))
+    (left.within, omega (arith, tally c.in-Replayed.agrees c.in_ok-agreed-in-Replayed.ensures.ok), omega (arith, c.advance.auto))
