@@ -3,13 +3,12 @@
 
 usage: python3 tools/places.py [-v] [ROOT]    at the top of the repository, or of another checkout of it; -v lists them
 
-enums     own enums, and of those the ones with two variants of which one or both have a payload, the shape of Option or Result, or three of which the
-          last two can be an Option inside a Result
+enums     own enums, and of those the ones with two variants of which one or both have a payload, the shape of Option or Result
 loops     `while` and `loop`, and of those the ones whose condition names a variable that the body moves by one; `for`
 codes     parameters and fields named op, operator, kind, number or refusal whose type is a plain number
-twins     private functions whose bodies are the same but for one name, type or number
-by hand   functions that give back an order or compare two values of one type by hand
-pairs     parameters that travel together: functions that take both of `schema, words`, `rule, words`, `heads, texts`, `out, o`
+twins     groups of functions whose bodies are the same but for names and numbers
+by hand   functions that give back an order and find it by hand, and those that give each variant of an enum a number
+pairs     parameters that travel together: functions that take both of `schema, words`, `rule, words`, `heads, texts`, `text, out`
 """
 import collections
 import glob
