@@ -13,4 +13,4 @@ pub returns-then-out-end : goal.returns-then-out-end
 returns-then-out-end c = swapped-over c.args.out.now c.args.from c.args.middle c.args.end (omega arith) (omega arith)
 
 pub returns : goal.returns
-returns c = swapped-rotated c.args.out.now _ c.args.from c.args.middle c.args.end (omega arith) (omega arith) (omega arith) (omega arith) c.rotate_left.ensures.after
+returns c = swapped-rotated c.args.out.now _ c.args.from c.args.middle c.args.end (omega arith) (omega arith) (omega arith) (omega arith) c.rotate.ensures
