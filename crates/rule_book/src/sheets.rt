@@ -25,7 +25,10 @@ pub fn count_sheets(file: &[u8]) -> Option<usize>
     let mut at: usize = 0;
     let mut count: usize = 0;
     while at < file.len() {
-        let (_, next) = next_sheet(file, at)?;
+        // No `?`, so that an edit can hand over the count of what came before.
+        let Some((_, next)) = next_sheet(file, at) else {
+            return None;
+        };
         at = next;
         count += 1;
     }
